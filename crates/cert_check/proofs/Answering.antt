@@ -20,12 +20,12 @@ use Rattle.tree_type.proofs.NodeTrees.{said, tree_is, said_reduced, said_two_sum
 use Rattle.tree_type.specs.declared.tree.Kind.{Kind}
 use Rattle.tree_type.specs.declared.tree.Kind.TheVariants as kind
 use Rattle.tree_type.specs.Invariant.{AreLines, AreTreesWithin, IsTreeFor}
-use Rattle.tree_type.specs.Places.{due_child, places_below, Due, AllLines, MadePivot, matrix_after, pivots_below, Place, places, places_from, lines_of_each}
+use Rattle.tree_type.specs.Places.{due_child, Due, AllLines, MadePivot, matrix_after, pivots_below, Place, places, places_from, lines_of_each}
 use Rattle.tree_type.specs.Soundness.{HasItsSizes, HasItsLines, Demands, MayStand, Keeps, KeepsAll, rule_number, BreaksFirst, IsFirstBroken}
 use Rattle.tree_type.proofs.PlacedLines.{lines_within}
 use Rattle.pivots.specs.declared.place.PlacedPivot.{PlacedPivot}
 use Rattle.pivots.specs.PivotedParts.{pivoted_part}
-use Rattle.cert_check.specs.Answers.{Answers, AnswersOn, AnswersFrom, AnswersBelow, Stands, nodes_below, place_of, IsAfter, has_pivot, IsRuleAt, IsOwnRule, trees_below, due_from, due_child_of, unless, KeepsOwn}
+use Rattle.cert_check.specs.Answers.{Answers, AnswersOn, AnswersOnBoth, AnswersFrom, AnswersBelow, Stands, nodes_below, place_of, IsAfter, has_pivot, IsRuleAt, IsOwnRule, trees_below, due_from, due_child_of, unless, KeepsOwn}
 
 pub opened : (path : List ℕ) (pivots : List MadePivot) (due : Due) (tree : Tree) → places_from path pivots due tree ≡ place_of path pivots due tree ∷ nodes_below path pivots tree
 opened path pivots due (Branch lines finding trees) = refl
@@ -302,22 +302,13 @@ module _ (here : Matrix) (below_pivot : Bool) (path : List ℕ) (tree : Tree) (l
       (subst (λ nodes. AnswersOn m nodes answer) (sym (append-nil (places_from (path ++ 0 ∷ []) below (due_child lines f 0) child)))
       (subst (λ t. AnswersOn m (places_from (path ++ 0 ∷ []) below (due_child_of t 0) child) answer) e (h m below (goes m pivots after))))
 
-  -- the first of two children refuses
-  pub first_refused : (one two : Tree) (refusal : Refusal) → tree ≡ Branch lines f (MoreTrees one (MoreTrees two NoTrees))
-      → AnswersFrom next below_next (path ++ 0 ∷ []) (due_child_of tree 0) one (Some refusal) → AnswersBelow here below_pivot path tree (Some refusal)
-  first_refused one two refusal e h = λ m pivots after.
+  -- the answer on two children is that on all nodes below
+  pub both_children : (one two : Tree) (answer : Option Refusal) → tree ≡ Branch lines f (MoreTrees one (MoreTrees two NoTrees))
+      → AnswersOnBoth next below_next path tree one two answer → AnswersBelow here below_pivot path tree answer
+  both_children one two answer e h = λ m pivots after.
       let below = pivots_below lines f pivots in
-      subst (λ t. AnswersOn m (nodes_below path pivots t) (Some refusal)) (sym e)
-      (broken_before m (places_from (path ++ 0 ∷ []) below (due_child lines f 0) one) (places_below path below lines f 1 (MoreTrees two NoTrees)) refusal
-      (subst (λ t. AnswersOn m (places_from (path ++ 0 ∷ []) below (due_child_of t 0) one) (Some refusal)) e (h m below (goes m pivots after))))
-
-  -- the first keeps all rules, and the second decides
-  pub second_decides : (one two : Tree) (answer : Option Refusal) → tree ≡ Branch lines f (MoreTrees one (MoreTrees two NoTrees))
-      → AnswersFrom next below_next (path ++ 0 ∷ []) (due_child_of tree 0) one None → AnswersFrom next below_next (path ++ 1 ∷ []) (due_child_of tree 1) two answer → AnswersBelow here below_pivot path tree answer
-  second_decides one two answer e h k = λ m pivots after.
-      let below = pivots_below lines f pivots in
+      let first = places_from (path ++ 0 ∷ []) below (due_child lines f 0) one in
+      let second = places_from (path ++ 1 ∷ []) below (due_child lines f 1) two in
       subst (λ t. AnswersOn m (nodes_below path pivots t) answer) (sym e)
-      (answers_after m (places_from (path ++ 0 ∷ []) below (due_child lines f 0) one) (places_from (path ++ 1 ∷ []) below (due_child lines f 1) two ++ []) answer
-      (subst (λ t. AnswersOn m (places_from (path ++ 0 ∷ []) below (due_child_of t 0) one) None) e (h m below (goes m pivots after)))
-      (subst (λ nodes. AnswersOn m nodes answer) (sym (append-nil (places_from (path ++ 1 ∷ []) below (due_child lines f 1) two)))
-      (subst (λ t. AnswersOn m (places_from (path ++ 1 ∷ []) below (due_child_of t 1) two) answer) e (k m below (goes m pivots after)))))
+      (subst (λ nodes. AnswersOn m (first ++ nodes) answer) (sym (append-nil second))
+      (subst (λ t. AnswersOn m (places_from (path ++ 0 ∷ []) below (due_child_of t 0) one ++ places_from (path ++ 1 ∷ []) below (due_child_of t 1) two) answer) e (h m below (goes m pivots after))))

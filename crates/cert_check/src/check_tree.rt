@@ -5,7 +5,7 @@ ghost use Rattle.tree_type.specs.DecompositionTrees.{tree_of};
 ghost use Rattle.tree_type.specs.Invariant.{AreLines};
 ghost use Rattle.tree_type.specs.Places.{AllLines};
 ghost use Rattle.tree_type.specs.Soundness.{HasItsLines};
-ghost use Rattle.cert_check.specs.Answers.{Answers, AnswersBelow, AnswersFrom, IsOwnRule, IsRuleAt, KeepsOwn, Stands, due_from, due_child_of};
+ghost use Rattle.cert_check.specs.Answers.{Answers, AnswersBelow, AnswersFrom, AnswersOnBoth, IsOwnRule, IsRuleAt, KeepsOwn, Stands, due_from, due_child_of};
 
 use crate::due_lines::due_lines;
 use crate::leaf_rules::unless;
@@ -68,22 +68,12 @@ fn check_below(
             one_child,
             two_child,
             ..
-        } => {
-            if let Some(refusal) = check_child(alloc, matrix, pivoted, path, one_child, node, 0)? {
-                return Ok(Some(refusal));
-            }
-            check_child(alloc, matrix, pivoted, path, two_child, node, 1)
-        }
+        } => check_both(alloc, matrix, pivoted, path, one_child, two_child, node),
         Kind::ThreeSum {
             one_child,
             two_child,
             ..
-        } => {
-            if let Some(refusal) = check_child(alloc, matrix, pivoted, path, one_child, node, 0)? {
-                return Ok(Some(refusal));
-            }
-            check_child(alloc, matrix, pivoted, path, two_child, node, 1)
-        }
+        } => check_both(alloc, matrix, pivoted, path, one_child, two_child, node),
         Kind::OneSum { children } => {
             let nodes = children.as_slice();
             let most = matrix.rows() + matrix.columns();
@@ -108,6 +98,28 @@ fn check_below(
         | Kind::Enumerated
         | Kind::Violator { .. }
         | Kind::Undecided => Ok(None),
+    }
+}
+
+/// The same of the two children of a sum: the second one is checked only where the first and all below it keep the rules.
+#[cycle(check)]
+fn check_both(
+    alloc: Global,
+    matrix: &Matrix,
+    pivoted: bool,
+    path: &PathList,
+    one_child: &Node,
+    two_child: &Node,
+    parent: &Node,
+) -> Result<Option<Refusal>, Memory>
+    requires first { Stands matrix.now (tree_of one_child.now) }
+    requires second { Stands matrix.now (tree_of two_child.now) }
+    ensures { IfOk result (AnswersOnBoth matrix.now pivoted path.now (tree_of parent.now)
+        (tree_of one_child.now) (tree_of two_child.now)) }
+{
+    match check_child(alloc, matrix, pivoted, path, one_child, parent, 0)? {
+        Some(refusal) => Ok(Some(refusal)),
+        None => check_child(alloc, matrix, pivoted, path, two_child, parent, 1),
     }
 }
 

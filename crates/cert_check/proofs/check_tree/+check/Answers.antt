@@ -1,11 +1,11 @@
 use Rattle.std.proofs.Common.{rules, true, ◌≡◌, ◌+◌, ◌++◌, [], ◌∷◌, suc, drop, length, List, ℕ, Some, None, ap, sym, subst, arith}
-use Rattle.tree_type.specs.DecompositionTrees.{tree_of, Reduced, TwoSum, ThreeSum, Pivoted, one_tree, NoTrees}
+use Rattle.tree_type.specs.DecompositionTrees.{tree_of, Reduced, TwoSum, ThreeSum, Pivoted, Branch, one_tree, two_trees, NoTrees}
 use Rattle.tree_type.specs.Places.{places_from}
 use Rattle.tree_type.specs.Soundness.{IsFirstBroken}
 use Rattle.tree_type.specs.declared.tree.Node.{the_lemmas}
-use Rattle.cert_check.specs.Answers.{AnswersOn, AnswersFrom, AnswersBelow, IsRuleAt, KeepsOwn, Stands, nodes_below, due_child_of}
+use Rattle.cert_check.specs.Answers.{AnswersOn, AnswersOnBoth, AnswersFrom, AnswersBelow, IsRuleAt, KeepsOwn, Stands, nodes_below, due_child_of}
 use Rattle.pivots.specs.PivotedParts.{pivoted_part, IsPivotedPart}
-use Rattle.cert_check.proofs.Answering.{broken_here, answers_below, if_ok, reduced_is, two_sum_is, three_sum_is, pivoted_is, goes_pivoted, only_child, first_stands, second_stands, first_refused, second_decides}
+use Rattle.cert_check.proofs.Answering.{answers_after, answers_below, broken_before, broken_here, both_children, if_ok, reduced_is, two_sum_is, three_sum_is, pivoted_is, goes_pivoted, only_child, first_stands, second_stands}
 use Rattle.cert_check.proofs.OwnRules.{own_lines, own_pivot}
 use Rattle.cert_check.proofs.PivotedMatrices.{stands_pivoted}
 use Rattle.cert_check.proofs.Children.{few_children, left_stands, left_refused, left_next, left_none, AreLeft, all_left, child_first, unnamed}
@@ -42,83 +42,93 @@ check_below-check_child-requires t c = (
       (first_stands c.args.matrix.now c.args.node.now.lines (Reduced c.in-Reduced.steps) (tree_of c.in-Reduced.child.value) NoTrees (subst (Stands c.args.matrix.now) (reduced_is c.args.node.now c.in-Reduced.steps c.in-Reduced.child c.in-Reduced.is) c.requires.stands)),
 )
 
-pub check_below-check_child-requires-in-TwoSum : goal.check_below-check_child-requires-in-TwoSum
-check_below-check_child-requires-in-TwoSum t c = (
-  search (rules, the_lemmas),
-  subst (λ node. Stands c.args.matrix.now (tree_of node)) (sym c.deref-in-TwoSum.ensures)
-      (first_stands c.args.matrix.now c.args.node.now.lines (TwoSum c.in-TwoSum.two) (tree_of c.in-TwoSum.one_child.value) (one_tree (tree_of c.in-TwoSum.two_child.value))
-      (subst (Stands c.args.matrix.now) (two_sum_is c.args.node.now c.in-TwoSum.two c.in-TwoSum.one_child c.in-TwoSum.two_child c.in-TwoSum.is) c.requires.stands)),
-)
+pub check_below-check_both-requires : goal.check_below-check_both-requires
+check_below-check_both-requires t c =
+    let here = c.args.matrix.now in
+    let node = c.args.node.now in
+    let said = TwoSum c.in-TwoSum.two in
+    let one = c.in-TwoSum.one_child in
+    let two = c.in-TwoSum.two_child in
+    let stands : Stands here (Branch node.lines said (two_trees (tree_of one.value) (tree_of two.value))) = subst (Stands here) (two_sum_is node c.in-TwoSum.two one two c.in-TwoSum.is) c.requires.stands in (
+      search (rules, the_lemmas),
+      (
+        subst (λ child. Stands here (tree_of child)) (sym c.deref-in-TwoSum.ensures) (first_stands here node.lines said (tree_of one.value) (one_tree (tree_of two.value)) stands),
+        subst (λ child. Stands here (tree_of child)) (sym c.deref-in-TwoSum-2.ensures) (second_stands here node.lines said (tree_of one.value) (tree_of two.value) NoTrees stands),
+      ),
+    )
 
-pub check_below-check_child-requires-in-TwoSum-2 : goal.check_below-check_child-requires-in-TwoSum-2
-check_below-check_child-requires-in-TwoSum-2 t c = (
-  search (rules, the_lemmas),
-  subst (λ node. Stands c.args.matrix.now (tree_of node)) (sym c.deref-in-TwoSum-2.ensures)
-      (second_stands c.args.matrix.now c.args.node.now.lines (TwoSum c.in-TwoSum.two) (tree_of c.in-TwoSum.one_child.value) (tree_of c.in-TwoSum.two_child.value) NoTrees
-      (subst (Stands c.args.matrix.now) (two_sum_is c.args.node.now c.in-TwoSum.two c.in-TwoSum.one_child c.in-TwoSum.two_child c.in-TwoSum.is) c.requires.stands)),
-)
-
-pub check_below-returns-in-Some : goal.check_below-returns-in-Some
-check_below-returns-in-Some t c =
+pub check_below-returns-in-TwoSum : goal.check_below-returns-in-TwoSum
+check_below-returns-in-TwoSum t c =
     let here = c.args.matrix.now in
     let below = c.args.pivoted in
-    let tree = tree_of c.args.node.now in
-    first_refused here below c.args.path.now tree c.args.node.now.lines (TwoSum c.in-TwoSum.two) here below (λ m pivots after. after) (tree_of c.in-TwoSum.one_child.value) (tree_of c.in-TwoSum.two_child.value) c.in-Some.refusal
-    (two_sum_is c.args.node.now c.in-TwoSum.two c.in-TwoSum.one_child c.in-TwoSum.two_child c.in-TwoSum.is)
-    (subst (λ node. AnswersFrom here below (c.args.path.now ++ 0 ∷ []) (due_child_of tree 0) (tree_of node) (Some c.in-Some.refusal)) c.deref-in-TwoSum.ensures
-    (subst (AnswersFrom here below (c.args.path.now ++ 0 ∷ []) (due_child_of tree 0) (tree_of c.deref-in-TwoSum.result.now)) c.in-Some.is c.in_ok-refusal-in-TwoSum.ensures))
+    let path = c.args.path.now in
+    let node = c.args.node.now in
+    let one = c.in-TwoSum.one_child in
+    let two = c.in-TwoSum.two_child in
+    if_ok (AnswersOnBoth here below path (tree_of node) (tree_of c.deref-in-TwoSum.result.now) (tree_of c.deref-in-TwoSum-2.result.now)) (AnswersBelow here below path (tree_of node))
+    (λ answer h. both_children here below path (tree_of node) node.lines (TwoSum c.in-TwoSum.two) here below (λ m pivots after. after) (tree_of one.value) (tree_of two.value) answer
+    (two_sum_is node c.in-TwoSum.two one two c.in-TwoSum.is)
+    (subst (λ child. AnswersOnBoth here below path (tree_of node) (tree_of child) (tree_of two.value) answer) c.deref-in-TwoSum.ensures
+    (subst (λ child. AnswersOnBoth here below path (tree_of node) (tree_of c.deref-in-TwoSum.result.now) (tree_of child) answer) c.deref-in-TwoSum-2.ensures h)))
+    c.check_both.result c.check_both.ensures
 
-pub check_below-returns-in_default : goal.check_below-returns-in_default
-check_below-returns-in_default t c =
+pub check_below-check_both-requires-in-ThreeSum : goal.check_below-check_both-requires-in-ThreeSum
+check_below-check_both-requires-in-ThreeSum t c =
+    let here = c.args.matrix.now in
+    let node = c.args.node.now in
+    let said = ThreeSum c.in-ThreeSum.three in
+    let one = c.in-ThreeSum.one_child in
+    let two = c.in-ThreeSum.two_child in
+    let stands : Stands here (Branch node.lines said (two_trees (tree_of one.value) (tree_of two.value))) = subst (Stands here) (three_sum_is node c.in-ThreeSum.three one two c.in-ThreeSum.is) c.requires.stands in (
+      search (rules, the_lemmas),
+      (
+        subst (λ child. Stands here (tree_of child)) (sym c.deref-in-ThreeSum.ensures) (first_stands here node.lines said (tree_of one.value) (one_tree (tree_of two.value)) stands),
+        subst (λ child. Stands here (tree_of child)) (sym c.deref-in-ThreeSum-2.ensures) (second_stands here node.lines said (tree_of one.value) (tree_of two.value) NoTrees stands),
+      ),
+    )
+
+pub check_below-returns-in-ThreeSum : goal.check_below-returns-in-ThreeSum
+check_below-returns-in-ThreeSum t c =
     let here = c.args.matrix.now in
     let below = c.args.pivoted in
-    let tree = tree_of c.args.node.now in
-    if_ok (AnswersFrom here below (c.args.path.now ++ 1 ∷ []) (due_child_of tree 1) (tree_of c.deref-in-TwoSum-2.result.now)) (AnswersBelow here below c.args.path.now tree)
-    (λ answer h. second_decides here below c.args.path.now tree c.args.node.now.lines (TwoSum c.in-TwoSum.two) here below (λ m pivots after. after) (tree_of c.in-TwoSum.one_child.value) (tree_of c.in-TwoSum.two_child.value) answer
-    (two_sum_is c.args.node.now c.in-TwoSum.two c.in-TwoSum.one_child c.in-TwoSum.two_child c.in-TwoSum.is)
-    (subst (λ node. AnswersFrom here below (c.args.path.now ++ 0 ∷ []) (due_child_of tree 0) (tree_of node) None) c.deref-in-TwoSum.ensures
-    (subst (AnswersFrom here below (c.args.path.now ++ 0 ∷ []) (due_child_of tree 0) (tree_of c.deref-in-TwoSum.result.now)) c.in_default.is c.in_ok-refusal-in-TwoSum.ensures))
-    (subst (λ node. AnswersFrom here below (c.args.path.now ++ 1 ∷ []) (due_child_of tree 1) (tree_of node) answer) c.deref-in-TwoSum-2.ensures h))
-    c.check_child-in-TwoSum-2.result c.check_child-in-TwoSum-2.ensures
+    let path = c.args.path.now in
+    let node = c.args.node.now in
+    let one = c.in-ThreeSum.one_child in
+    let two = c.in-ThreeSum.two_child in
+    if_ok (AnswersOnBoth here below path (tree_of node) (tree_of c.deref-in-ThreeSum.result.now) (tree_of c.deref-in-ThreeSum-2.result.now)) (AnswersBelow here below path (tree_of node))
+    (λ answer h. both_children here below path (tree_of node) node.lines (ThreeSum c.in-ThreeSum.three) here below (λ m pivots after. after) (tree_of one.value) (tree_of two.value) answer
+    (three_sum_is node c.in-ThreeSum.three one two c.in-ThreeSum.is)
+    (subst (λ child. AnswersOnBoth here below path (tree_of node) (tree_of child) (tree_of two.value) answer) c.deref-in-ThreeSum.ensures
+    (subst (λ child. AnswersOnBoth here below path (tree_of node) (tree_of c.deref-in-ThreeSum.result.now) (tree_of child) answer) c.deref-in-ThreeSum-2.ensures h)))
+    c.check_both-in-ThreeSum.result c.check_both-in-ThreeSum.ensures
 
-pub check_below-check_child-requires-in-ThreeSum : goal.check_below-check_child-requires-in-ThreeSum
-check_below-check_child-requires-in-ThreeSum t c = (
-  search (rules, the_lemmas),
-  subst (λ node. Stands c.args.matrix.now (tree_of node)) (sym c.deref-in-ThreeSum.ensures)
-      (first_stands c.args.matrix.now c.args.node.now.lines (ThreeSum c.in-ThreeSum.three) (tree_of c.in-ThreeSum.one_child.value) (one_tree (tree_of c.in-ThreeSum.two_child.value))
-      (subst (Stands c.args.matrix.now) (three_sum_is c.args.node.now c.in-ThreeSum.three c.in-ThreeSum.one_child c.in-ThreeSum.two_child c.in-ThreeSum.is) c.requires.stands)),
-)
+pub check_both-check_child-requires-in-None : goal.check_both-check_child-requires-in-None
+check_both-check_child-requires-in-None t c = (search (rules, the_lemmas), c.requires.second)
 
-pub check_below-check_child-requires-in-ThreeSum-2 : goal.check_below-check_child-requires-in-ThreeSum-2
-check_below-check_child-requires-in-ThreeSum-2 t c = (
-  search (rules, the_lemmas),
-  subst (λ node. Stands c.args.matrix.now (tree_of node)) (sym c.deref-in-ThreeSum-2.ensures)
-      (second_stands c.args.matrix.now c.args.node.now.lines (ThreeSum c.in-ThreeSum.three) (tree_of c.in-ThreeSum.one_child.value) (tree_of c.in-ThreeSum.two_child.value) NoTrees
-      (subst (Stands c.args.matrix.now) (three_sum_is c.args.node.now c.in-ThreeSum.three c.in-ThreeSum.one_child c.in-ThreeSum.two_child c.in-ThreeSum.is) c.requires.stands)),
-)
+pub check_both-returns-in-Some : goal.check_both-returns-in-Some
+check_both-returns-in-Some t c =
+    let path = c.args.path.now in
+    let parent = tree_of c.args.parent.now in
+    let one = tree_of c.args.one_child.now in
+    let first : AnswersFrom c.args.matrix.now c.args.pivoted (path ++ 0 ∷ []) (due_child_of parent 0) one (Some c.in-Some.refusal) =
+    subst (AnswersFrom c.args.matrix.now c.args.pivoted (path ++ 0 ∷ []) (due_child_of parent 0) one) c.in-Some.is c.in_ok-refusal.ensures in
+    λ m pivots after.
+    broken_before m (places_from (path ++ 0 ∷ []) pivots (due_child_of parent 0) one) (places_from (path ++ 1 ∷ []) pivots (due_child_of parent 1) (tree_of c.args.two_child.now)) c.in-Some.refusal (first m pivots after)
 
-pub check_below-returns-in-Some-2 : goal.check_below-returns-in-Some-2
-check_below-returns-in-Some-2 t c =
+pub check_both-returns-in-None : goal.check_both-returns-in-None
+check_both-returns-in-None t c =
     let here = c.args.matrix.now in
     let below = c.args.pivoted in
-    let tree = tree_of c.args.node.now in
-    first_refused here below c.args.path.now tree c.args.node.now.lines (ThreeSum c.in-ThreeSum.three) here below (λ m pivots after. after) (tree_of c.in-ThreeSum.one_child.value) (tree_of c.in-ThreeSum.two_child.value) c.in-Some-2.refusal
-    (three_sum_is c.args.node.now c.in-ThreeSum.three c.in-ThreeSum.one_child c.in-ThreeSum.two_child c.in-ThreeSum.is)
-    (subst (λ node. AnswersFrom here below (c.args.path.now ++ 0 ∷ []) (due_child_of tree 0) (tree_of node) (Some c.in-Some-2.refusal)) c.deref-in-ThreeSum.ensures
-    (subst (AnswersFrom here below (c.args.path.now ++ 0 ∷ []) (due_child_of tree 0) (tree_of c.deref-in-ThreeSum.result.now)) c.in-Some-2.is c.in_ok-refusal-in-ThreeSum.ensures))
-
-pub check_below-returns-in_default-2 : goal.check_below-returns-in_default-2
-check_below-returns-in_default-2 t c =
-    let here = c.args.matrix.now in
-    let below = c.args.pivoted in
-    let tree = tree_of c.args.node.now in
-    if_ok (AnswersFrom here below (c.args.path.now ++ 1 ∷ []) (due_child_of tree 1) (tree_of c.deref-in-ThreeSum-2.result.now)) (AnswersBelow here below c.args.path.now tree)
-    (λ answer h. second_decides here below c.args.path.now tree c.args.node.now.lines (ThreeSum c.in-ThreeSum.three) here below (λ m pivots after. after) (tree_of c.in-ThreeSum.one_child.value) (tree_of c.in-ThreeSum.two_child.value) answer
-    (three_sum_is c.args.node.now c.in-ThreeSum.three c.in-ThreeSum.one_child c.in-ThreeSum.two_child c.in-ThreeSum.is)
-    (subst (λ node. AnswersFrom here below (c.args.path.now ++ 0 ∷ []) (due_child_of tree 0) (tree_of node) None) c.deref-in-ThreeSum.ensures
-    (subst (AnswersFrom here below (c.args.path.now ++ 0 ∷ []) (due_child_of tree 0) (tree_of c.deref-in-ThreeSum.result.now)) c.in_default-2.is c.in_ok-refusal-in-ThreeSum.ensures))
-    (subst (λ node. AnswersFrom here below (c.args.path.now ++ 1 ∷ []) (due_child_of tree 1) (tree_of node) answer) c.deref-in-ThreeSum-2.ensures h))
-    c.check_child-in-ThreeSum-2.result c.check_child-in-ThreeSum-2.ensures
+    let path = c.args.path.now in
+    let parent = tree_of c.args.parent.now in
+    let one = tree_of c.args.one_child.now in
+    let two = tree_of c.args.two_child.now in
+    let first : AnswersFrom here below (path ++ 0 ∷ []) (due_child_of parent 0) one None =
+    subst (AnswersFrom here below (path ++ 0 ∷ []) (due_child_of parent 0) one) c.in-None.is c.in_ok-refusal.ensures in
+    if_ok (AnswersFrom here below (path ++ 1 ∷ []) (due_child_of parent 1) two) (AnswersOnBoth here below path parent one two)
+    (λ answer second m pivots after.
+    answers_after m (places_from (path ++ 0 ∷ []) pivots (due_child_of parent 0) one) (places_from (path ++ 1 ∷ []) pivots (due_child_of parent 1) two) answer (first m pivots after) (second m pivots after))
+    c.check_child-in-None.result c.check_child-in-None.ensures
 
 pub check_below-prove-unreachable-requires : goal.check_below-prove-unreachable-requires
 check_below-prove-unreachable-requires t c =
@@ -134,8 +144,8 @@ check_below-check_child-requires-in-loop-child t c =
           c.child-item.result (drop i nodes) (drop (i + 1) nodes) (child_first nodes i c.child-item.result c.loop-child-test.true c.child-item.is) c.loop-child.invariant.left,
     )
 
-pub check_below-returns-in-Some-3 : goal.check_below-returns-in-Some-3
-check_below-returns-in-Some-3 t c =
+pub check_below-returns-in-Some : goal.check_below-returns-in-Some
+check_below-returns-in-Some t c =
     let nodes = c.as_slice-nodes.result.now in
     let i = c.loop-child.child-index in
     let here = c.args.matrix.now in
@@ -143,8 +153,8 @@ check_below-returns-in-Some-3 t c =
     let tree = tree_of c.args.node.now in
     let due = due_child_of tree c.loop-child.number in
     left_refused here below c.args.path.now c.args.node.now.lines tree c.loop-child.number due (unnamed c.args.node.now c.in-OneSum.children c.loop-child.number c.in-OneSum.is)
-    c.child-item.result (drop i nodes) (drop (i + 1) nodes) (child_first nodes i c.child-item.result c.loop-child-test.true c.child-item.is) c.loop-child.invariant.left c.in-Some-3.refusal
-    (subst (AnswersFrom here below (c.args.path.now ++ c.loop-child.number ∷ []) due (tree_of c.child-item.result)) c.in-Some-3.is c.in_ok-refusal-in-OneSum.ensures)
+    c.child-item.result (drop i nodes) (drop (i + 1) nodes) (child_first nodes i c.child-item.result c.loop-child-test.true c.child-item.is) c.loop-child.invariant.left c.in-Some.refusal
+    (subst (AnswersFrom here below (c.args.path.now ++ c.loop-child.number ∷ []) due (tree_of c.child-item.result)) c.in-Some.is c.in_ok-refusal-in-OneSum.ensures)
 
 pub check_below-loop-child-preserved : goal.check_below-loop-child-preserved
 check_below-loop-child-preserved t c =
@@ -159,7 +169,7 @@ check_below-loop-child-preserved t c =
       same = (let e = c.loop-child.invariant.same in omega (arith, e));
       left = left_next here below c.args.path.now c.args.node.now.lines tree c.loop-child.number due (unnamed c.args.node.now c.in-OneSum.children c.loop-child.number c.in-OneSum.is)
           c.child-item.result (drop i nodes) (drop (i + 1) nodes) (child_first nodes i c.child-item.result c.loop-child-test.true c.child-item.is) c.loop-child.invariant.left (c.loop-child.number + 1) next
-          (subst (AnswersFrom here below (c.args.path.now ++ c.loop-child.number ∷ []) due (tree_of c.child-item.result)) c.in_default-3.is c.in_ok-refusal-in-OneSum.ensures);
+          (subst (AnswersFrom here below (c.args.path.now ++ c.loop-child.number ∷ []) due (tree_of c.child-item.result)) c.in_default.is c.in_ok-refusal-in-OneSum.ensures);
     }
 
 pub check_below-loop-child-init : goal.check_below-loop-child-init

@@ -3,7 +3,7 @@ use Rattle.std.proofs.lemmas.Bool.{true≢false}
 use Rattle.tree_type.specs.declared.refusal.Rule.TheVariants as rule
 use Rattle.tree_type.specs.DecompositionTrees.{tree_of}
 use Rattle.tree_type.specs.Soundness.{HasItsLines}
-use Rattle.cert_check.specs.Answers.{due_from, unless, IsOwnRule, IsRuleAt, KeepsOwn}
+use Rattle.cert_check.specs.Answers.{due_from, IsOwnRule, IsRuleAt, KeepsOwn}
 use Rattle.cert_check.proofs.Answering.{own_refused, standing_decides, own_stays, lines_at, sizes_due, lines_is}
 use Rattle.cert_check.proofs.check_tree.rule_at.Goals as goal
 
