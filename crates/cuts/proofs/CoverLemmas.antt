@@ -1,11 +1,11 @@
 -- What is known of all cuts with some lines in side one and some in side two.
-use Rattle.std.proofs.Common.{Result, Ok, Err, IfOk, OnOk, ℕ, zero, suc, Bool, true, false, not, ◌≡◌, ◌≢◌, ◌<◌, ◌≤◌, ◌+◌, ◌∙◌, sym, ap, refl, arith, get_or, List, ◌⊎◌, inl, inr, nat_eq, pos, ◌*ℤ◌, ◌||◌}
+use Rattle.std.proofs.Common.{ℕ, zero, suc, Bool, true, false, not, ◌≡◌, ◌≢◌, ◌<◌, ◌≤◌, ◌+◌, ◌∙◌, sym, ap, refl, arith, get_or, List, ◌⊎◌, inl, inr, nat_eq, pos, ◌*ℤ◌, ◌||◌}
 use Rattle.cmr_base.specs.declared.line.Line.{Line}
 use Rattle.cmr_base.specs.declared.line.Line.TheVariants.{Row, Column}
 use Rattle.cmr_base.specs.Matrix.{Matrix, height, entry, transposed, IsMatrix}
 use Rattle.cmr_base.specs.Separations.{Lines, opposite}
 use Rattle.cmr_base.specs.Trees.{support}
-use Rattle.cmr_base.proofs.Booleans.{two_cases, same_or_not, ne_of, and_is, true_is, nonzero_is, not_both, not_is, is_not, false_is, is_and, is_eq, or_left, or_right}
+use Rattle.cmr_base.proofs.Booleans.{two_cases, same_or_not, ne_of, and_is, true_is, nonzero_is, not_both, not_is, is_not, is_and, is_eq, or_left, or_right}
 use Rattle.cmr_base.proofs.LineCounts.{outside_is}
 use Rattle.cmr_base.proofs.NextNonzeros.{column_in}
 use Rattle.cmr_base.proofs.Parts.{height-transposed, is_matrix-transposed}
@@ -77,10 +77,6 @@ within_sum m H X H' T adds h x z l e = elim (adds z l e) [
   | inl old ↦ h z l old
   | inr new ↦ x z l new
 ]
-
--- all lines but those of H are in P
-pub covers_rest : (m : Matrix) (H K P : Lines) → ((x : Line) → IsLineOf m x → H x ≡ false → P x ≡ true) → Covers m H K P
-covers_rest m H K P rest T w x l out = rest x l (false_is (H x) (λ h. not_both (T x) (w.one x l h) out))
 
 -- ---- all lines of a set are in another, or one is not
 
@@ -348,9 +344,3 @@ patterns_few m lines patterns is has few = record {
   columns_at_most = has.most_columns;
   few = few;
 }
-
--- two states were searched, the second after the first
-pub covers_both : {E : Type 0} (m : Matrix) (H K H1 K1 H2 K2 P1 P2 : Lines) (second : Result Bool E) → ((P : Lines) → Covers m H1 K1 P → Covers m H2 K2 P → Covers m H K P) → Covers m H1 K1 P1 → OnOk second (AreWithin m P1 P2)
-    → IfOk second (λ covered. covered ≡ true → Covers m H2 K2 P2) → IfOk second (λ covered. covered ≡ true → Covers m H K P2)
-covers_both m H K H1 K1 H2 K2 P1 P2 (Ok covered) step h1 more h2 = λ e. step P2 (covers_more m H1 K1 P1 P2 more h1) (h2 e)
-covers_both m H K H1 K1 H2 K2 P1 P2 (Err e) step h1 more h2 = h2

@@ -1,5 +1,5 @@
 -- Lines that a cut has on one side, since each is unlike a line of the other side.
-use Rattle.std.proofs.Common.{Result, Ok, Err, IfOk, OnOk, ℕ, Bool, true, false, not, List, ◌≡◌, ◌≢◌, ap, subst, inl, inr, get_or}
+use Rattle.std.proofs.Common.{ℕ, Bool, true, false, not, List, ◌≡◌, ◌≢◌, ap, subst, inl, inr, get_or}
 use Rattle.cmr_base.specs.declared.line.Line.{Line}
 use Rattle.cmr_base.specs.declared.line.Line.TheVariants.{Row, Column}
 use Rattle.cmr_base.specs.ColumnSets.{has_column}
@@ -68,13 +68,3 @@ covers_forced_beside m side more far P so h T w = h T (record {
   one = w.one;
   two = λ z l e. not_is (T z) (so.forced (opposite T) (other_is_cut m T w.cut) (λ y k f. ap not (w.two y k f)) (λ y k f. ap not (w.one y k f)) z l e);
 })
-
--- one state was searched in place of another
-pub covers_as : {E : Type 0} (m : Matrix) (H K H1 K1 P : Lines) (found : Result Bool E) → (Covers m H1 K1 P → Covers m H K P) → IfOk found (λ covered. covered ≡ true → Covers m H1 K1 P) → IfOk found (λ covered. covered ≡ true → Covers m H K P)
-covers_as m H K H1 K1 P (Ok covered) step h = λ e. step (h e)
-covers_as m H K H1 K1 P (Err e) step h = h
-
--- what two searches mark, one after the other
-pub within_both : {E : Type 0} (m : Matrix) (P P1 P2 : Lines) (second : Result Bool E) → AreWithin m P P1 → OnOk second (AreWithin m P1 P2) → OnOk second (AreWithin m P P2)
-within_both m P P1 P2 (Ok covered) first next = λ x l e. next x l (first x l e)
-within_both m P P1 P2 (Err e) first next = next
