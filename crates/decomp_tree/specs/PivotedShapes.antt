@@ -9,6 +9,8 @@ use Rattle.pivots.specs.declared.drawn.DrawnPlace.{DrawnPlace}
 use Rattle.pivots.specs.declared.place.PlacedPivot.{PlacedPivot}
 use Rattle.pivots.specs.DrawnPlaces.{drawn_place}
 use Rattle.pivots.specs.PivotedParts.{pivoted_part, AreAmong, IsTernaryPivot, ShowsFirstTwoIn}
+use Rattle.tree_type.specs.declared.finding.Finding.{Finding as Held}
+use Rattle.tree_type.specs.declared.finding.Finding.TheVariants as held
 use Rattle.tree_type.specs.DecompositionTrees.{Tree, Branch, NoTrees, Undecided, Violator, Pivoted, one_tree}
 use Rattle.tree_type.specs.Verdicts.{Verdict, Yes, No, Open, verdict_of}
 use Rattle.decomp_tree.specs.Refined.{Refines}
@@ -35,6 +37,12 @@ IsToldBeforePivot m lines place after Yes tree = tree ≡ Branch lines (Pivoted 
 IsToldBeforePivot m lines place after (No fault) tree =
     (before : LineSet) × AreBefore m place fault before × (tree ≡ Branch lines (Violator before) NoTrees)
 IsToldBeforePivot m lines place after (Open left) tree = tree ≡ undecided lines
+
+-- What is said of the lines before a pivot where the tree after it has this verdict: nothing where it is a yes.
+abbrev pub SaysBeforePivot : Matrix → PlacedPivot → Verdict → Option Held → Type 0
+SaysBeforePivot m place Yes said = said ≡ None
+SaysBeforePivot m place (No fault) said = (before : LineSet) × AreBefore m place fault before × (said ≡ Some (held.Violator before))
+SaysBeforePivot m place (Open left) said = said ≡ Some held.Undecided
 
 -- A pivot at a place that is drawn, if there is one, and then the tree of the submatrix after it, which goes on from the next
 -- state.

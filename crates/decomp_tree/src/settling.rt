@@ -72,7 +72,7 @@ fn settle<R: Threads + Sync>(
 {
     let front = drawn.front;
     if let Some(fault) = late_fault(alloc, matrix, &front.lines, &front.finding, drawn.is_free)? {
-        push_fault(alloc, front, fault, nodes)?;
+        push_fault(alloc, lines_of(front), fault, nodes)?;
         return Ok(());
     }
     if is_undecided(&front.finding) {
@@ -156,18 +156,25 @@ fn push_node(
     Ok(())
 }
 
-// Puts a leaf with a cycle fault behind others.
+// The lines of a front alone.
+fn lines_of(front: Box<Front>) -> LineSet
+    ensures { result ≡ front.value.lines }
+{
+    let Front { lines, .. } = Box::into_inner(front);
+    lines
+}
+
+// Puts the leaf of some lines with a cycle fault behind others.
 #[inline(never)]
 fn push_fault(
     alloc: Global,
-    front: Box<Front>,
+    lines: LineSet,
     fault: LineSet,
     nodes: &mut Vec<Node>,
 ) -> Result<(), Memory>
     ensures { OnOk result (map tree_of nodes.new.items
-        ≡ map tree_of nodes.old.items ++ Branch front.value.lines (Cycle fault) NoTrees ∷ []) }
+        ≡ map tree_of nodes.old.items ++ Branch lines (Cycle fault) NoTrees ∷ []) }
 {
-    let front = Box::into_inner(front);
-    nodes.push(join_node(alloc, front.lines, Finding::Cycle(fault), Vec::new(alloc))?)?;
+    nodes.push(join_node(alloc, lines, Finding::Cycle(fault), Vec::new(alloc))?)?;
     Ok(())
 }

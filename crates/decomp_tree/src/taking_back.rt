@@ -5,7 +5,7 @@ ghost use Rattle.tree_type.specs.DecompositionTrees.{Branch, NoTrees, Pivoted, o
 ghost use Rattle.tree_type.specs.Invariant.{AreLines, HasChildren};
 ghost use Rattle.tree_type.specs.Findings.{finding_shown};
 ghost use Rattle.tree_type.specs.Verdicts.{verdict_of};
-ghost use Rattle.decomp_tree.specs.PivotedShapes.{IsToldBeforePivot, HasFaultAmong};
+ghost use Rattle.decomp_tree.specs.PivotedShapes.{HasFaultAmong, IsToldBeforePivot, SaysBeforePivot};
 
 use cmr_base::{LineSet, Matrix, Memory};
 use pivots::{PlacedPivot, violator_before_part};
@@ -27,12 +27,34 @@ pub fn taken_back(
     ensures { IfOk result (λ node. IsToldBeforePivot matrix.now lines.now place (tree_of after)
         (verdict_of (tree_of after)) (tree_of node)) }
 {
-    let before = match verdict_at(&after) {
-        VerdictOf::Yes => return above(alloc, lines, place, after),
-        VerdictOf::No(fault) => violator_before_part(alloc, matrix, lines, place, fault)?,
-        VerdictOf::Undecided(_) => return leaf(alloc, lines, Finding::Undecided),
-    };
-    leaf(alloc, lines, Finding::Violator(before))
+    match finding_before(alloc, matrix, lines, place, &after)? {
+        Some(finding) => leaf(alloc, lines, finding),
+        None => above(alloc, lines, place, after),
+    }
+}
+
+// What the tree says of the lines before the pivot, where it says anything but yes.
+fn finding_before(
+    alloc: Global,
+    matrix: &Matrix,
+    lines: &LineSet,
+    place: PlacedPivot,
+    after: &Node,
+) -> Result<Option<Finding>, Memory>
+    requires lines { AreLines matrix.now lines.now }
+    requires place { IsPlaceIn matrix.now lines.now place }
+    requires fault { HasFaultAmong lines.now (verdict_of (tree_of after.now)) }
+    ensures { IfOk result
+        (SaysBeforePivot matrix.now place (verdict_of (tree_of after.now))) }
+{
+    match verdict_at(after) {
+        VerdictOf::Yes => Ok(None),
+        VerdictOf::No(fault) => {
+            let before = violator_before_part(alloc, matrix, lines, place, fault)?;
+            Ok(Some(Finding::Violator(before)))
+        }
+        VerdictOf::Undecided(_) => Ok(Some(Finding::Undecided)),
+    }
 }
 
 // The pivoted node above a tree.

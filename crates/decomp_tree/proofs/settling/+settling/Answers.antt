@@ -8,7 +8,7 @@ use Rattle.cmr_base.proofs.Lists.{no_items}
 use Rattle.pivots.specs.PivotedParts.{IsPivotedPart}
 use Rattle.tree_type.specs.Findings.{finding_shown}
 use Rattle.tree_type.specs.Invariant.{size_of}
-use Rattle.tree_type.specs.DecompositionTrees.{Branch, NoTrees, Violator, tree_of}
+use Rattle.tree_type.specs.DecompositionTrees.{Branch, Cycle, NoTrees, Violator, tree_of}
 use Rattle.tree_type.specs.Verdicts.{verdict_of}
 use Rattle.tree_type.specs.declared.tree.Node.{Node}
 use Rattle.decomp_tree.specs.declared.drafts.Draft.{Draft}
@@ -76,7 +76,8 @@ settle-returns-in-Some g t c =
     let m = c.args.matrix.now in
     let found = subst (λ (o : Option LineSet). MatchOption o (HasNoLateFault m c.deref.result.now.lines (finding_shown c.deref-2.result.now.finding)) (λ fault. IsNamedFault m c.deref.result.now.lines fault × (is_unsearched (finding_shown c.deref-2.result.now.finding) ≡ true))) c.in-Some.is c.in_ok-fault.ensures in
     fault_settled c.args.limits.lines m c.args.drawn c.requires.drafted c.args.pivots c.args.state c.requires.shape (lines_in c.args.limits.lines m c.args.drawn c.requires.drafted c.requires.lines) c.in-Some.fault
-    (subst (λ (front : Front). IsNamedFault m front.lines c.in-Some.fault) c.deref.ensures found.0) (map tree_of c.args.nodes.now.items) (map tree_of c.push_fault.new.nodes.items) c.in_ok-push_fault.ensures
+    (subst (λ (front : Front). IsNamedFault m front.lines c.in-Some.fault) c.deref.ensures found.0) (map tree_of c.args.nodes.now.items) (map tree_of c.push_fault.new.nodes.items)
+    (subst (λ (lines : LineSet). map tree_of c.push_fault.new.nodes.items ≡ map tree_of c.args.nodes.now.items ++ Branch lines (Cycle c.in-Some.fault) NoTrees ∷ []) c.lines_of.ensures c.in_ok-push_fault.ensures)
 
 pub settle-returns-then-is_undecided : goal.settle-returns-then-is_undecided
 settle-returns-then-is_undecided g t c =
