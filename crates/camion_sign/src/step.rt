@@ -19,7 +19,7 @@ pub enum SignStep {
 }
 
 impl SignStep {
-    // The row and the column of the one that it signs.
+    /// The row and the column of the one that it signs.
     pub fn place(&self) -> (u32, u32)
         ensures row { result.0 ≡ step_row self.now }
         ensures column { result.1 ≡ step_column self.now }

@@ -94,11 +94,11 @@ KeepsOwn here tree (Some broken) = Unit {0}
 abbrev pub AnswersFrom : Matrix → Bool → List ℕ → Due → Tree → Option Refusal → Type 0
 AnswersFrom here below_pivot path due tree answer = (m : Matrix) (pivots : List MadePivot) → IsAfter m pivots here below_pivot → AnswersOn m (places_from path pivots due tree) answer
 
+abbrev pub AnswersBelow : Matrix → Bool → List ℕ → Tree → Option Refusal → Type 0
+AnswersBelow here below_pivot path tree answer = (m : Matrix) (pivots : List MadePivot) → IsAfter m pivots here below_pivot → AnswersOn m (nodes_below path pivots tree) answer
+
 -- the answer on the two children of a node and those below them
 abbrev pub AnswersOnBoth : Matrix → Bool → List ℕ → Tree → Tree → Tree → Option Refusal → Type 0
 AnswersOnBoth here below_pivot path parent one two answer =
     (m : Matrix) (pivots : List MadePivot) → IsAfter m pivots here below_pivot
     → AnswersOn m (places_from (path ++ 0 ∷ []) pivots (due_child_of parent 0) one ++ places_from (path ++ 1 ∷ []) pivots (due_child_of parent 1) two) answer
-
-abbrev pub AnswersBelow : Matrix → Bool → List ℕ → Tree → Option Refusal → Type 0
-AnswersBelow here below_pivot path tree answer = (m : Matrix) (pivots : List MadePivot) → IsAfter m pivots here below_pivot → AnswersOn m (nodes_below path pivots tree) answer
