@@ -1,4 +1,5 @@
 //! Testing whether a matrix is balanced.
+ghost use Rattle.balance.specs.BalanceFaults.{IsBalanced};
 ghost use Rattle.balance.specs.SearchedFaults.{HasSearchedFaults};
 ghost use Rattle.clap.specs.Words.{app_of, found_of, rows_of};
 ghost use Rattle.std.specs.Prelude.{◌≡◌, IfOk, IsTrue, false, true};
@@ -13,7 +14,7 @@ ghost use Rattle.cmr_front.specs.Run.{Means, RunsOver, work};
 ghost use Rattle.cmr_front.specs.Status.{answer_status};
 ghost use Rattle.cmr_front.specs.Words.ReadWords.{Gives};
 ghost use Rattle.cmr_front.specs.declared.status.Answer.{Answer};
-ghost use Rattle.cmr_reach.specs.Balanced.{BalancedDecides, IsInRanges, IsUntold, balanced_app, balanced_order, balanced_order_in, balanced_order_of, balanced_tool, search_report};
+ghost use Rattle.cmr_reach.specs.Balanced.{BalancedDecides, IsDecomposed, IsInRanges, IsUntold, balanced_app, balanced_order, balanced_order_in, balanced_order_of, balanced_tool, search_report};
 
 use crate::faults::{fault_outcome, open_outcome, yes_outcome};
 use balance::{LeastSubmatrix, least_balance_fault};
@@ -160,27 +161,37 @@ fn without_cycle_fault<'a, R: Threads + Sync>(
     ensures { IfOk result (λ outcome.
         BalancedDecides (balanced_order_of options.now) matrix.now (outcome_report outcome)) }
 {
-    let tree = decompose(
-        rt,
-        alloc,
-        matrix,
-        options.lines,
-        options.pivots,
-        Workers::new(options.workers),
-    )?;
-    if says_yes(&tree) {
+    if is_decomposed(rt, alloc, options, matrix)? {
         yes_outcome(alloc, LABEL)
     } else {
         search(rt, alloc, options, matrix)
     }
 }
 
+// Whether the decomposition says that the matrix is totally unimodular.
+fn is_decomposed<R: Threads + Sync>(
+    rt: &R,
+    alloc: Global,
+    options: &BalancedOptions<'_>,
+    matrix: &Matrix,
+) -> Result<bool, Memory>
+    requires ranges { IsInRanges (balanced_order_of options.now) }
+    requires shape { IsMatrix matrix.now }
+    ensures yes { IfOk result (λ says. says ≡ true
+        → IsDecomposed options.now.lines options.now.pivots matrix.now × IsBalanced matrix.now) }
+    ensures no { IfOk result (λ says. says ≡ false
+        → ¬ (IsDecomposed options.now.lines options.now.pivots matrix.now)) }
+{
+    let workers = Workers::new(options.workers);
+    let tree = decompose(rt, alloc, matrix, options.lines, options.pivots, workers)?;
+    let _root = tree.root();
+    Ok(says_yes(&tree))
+}
+
 fn says_yes(tree: &DecTree) -> bool
-    ensures is_tree { IsDecTree tree.now }
     ensures yes { result ≡ true → verdict_of (tree_of tree.now.root) ≡ verdicts.Yes }
     ensures no { result ≡ false → ¬ (verdict_of (tree_of tree.now.root) ≡ verdicts.Yes) }
 {
-    let _root = tree.root();
     match verdict(tree) {
         VerdictOf::Yes => true,
         VerdictOf::No(_) | VerdictOf::Undecided(_) => false,

@@ -151,10 +151,10 @@ fn decide_on<'a>(
     ensures { IsDecision (PartsReports (parts_order_of options.now) matrix.now tree.now) result }
 {
     let matrix = read_matrix(alloc, options.matrix, options.form, false, matrix)?;
-    decide_on_tree(alloc, options, &matrix, tree)
+    decide_tree(alloc, options, &matrix, tree)
 }
 
-fn decide_on_tree<'a>(
+fn decide_tree<'a>(
     alloc: Global,
     options: &PartsOptions<'a>,
     matrix: &Matrix,
@@ -166,7 +166,19 @@ fn decide_on_tree<'a>(
         result }
 {
     let tree = read_tree_file(alloc, options.tree, tree)?;
-    Ok(check_and_part(alloc, options, matrix, &tree)?)
+    decide_on_tree(alloc, options, matrix, &tree)
+}
+
+fn decide_on_tree<'a>(
+    alloc: Global,
+    options: &PartsOptions<'a>,
+    matrix: &Matrix,
+    tree: &DecTree,
+) -> Result<Outcome<'a>, Stop<'a>>
+    ensures { IsDecision
+        (PartsDecides (parts_order_of options.now) matrix.now (plain_of tree.now)) result }
+{
+    Ok(check_and_part(alloc, options, matrix, tree)?)
 }
 
 fn check_and_part<'a>(
