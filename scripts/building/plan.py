@@ -14,8 +14,10 @@ MOST_JOBS = 4
 DIVIDED = 0.85
 # A proof that takes less than this share of the first one's time takes no processor from it.
 QUICK = 0.1
-# With so many processors the crate with the longest way gets two jobs, also where one processor is free.
+# With so many processors the crate with the longest way gets two jobs, and so does each whose proof takes so many seconds, also where one
+# processor is free.
 MANY_PROCESSORS = 4
+LONG = 240.0
 
 
 def read_seconds(file: Path = SECONDS) -> dict[str, float]:
@@ -57,8 +59,9 @@ class Plan:
     def next(self, built: Collection[str], running: Mapping[str, int], processors: int) -> Iterator[tuple[str, int]]:
         """The crates to begin with so many processors, and the jobs of each. `running` has the jobs of those that run.
 
-        Those with the longest ways come first. Each gets one processor, and the first of them those that the others leave: at least two
-        where there are many and no crate with a longer way runs, and also those of proofs that take a small share of its own time.
+        Those with the longest ways come first. Each gets one processor, and the first of them those that the others leave, and also those
+        of proofs that take a small share of its own time. Where there are many, it gets at least two if its proof is long or no crate with
+        a longer way runs.
         """
         done, free = set(built), processors - sum(running.values())
         longest = max((self._ways[it] for it in running), default=0.0)
@@ -66,7 +69,8 @@ class Plan:
         ready.sort(key=lambda it: -self._ways[it])
         while ready and free > 0:
             first, *others = ready
-            least = 2 if processors >= MANY_PROCESSORS and self._ways[first] > longest else 1
+            needs_two = self._ways[first] > longest or self.seconds[first] >= LONG
+            least = 2 if processors >= MANY_PROCESSORS and needs_two else 1
             slow = [it for it in others if self.seconds[it] >= QUICK * self.seconds[first]]
             jobs = min(MOST_JOBS, max(least, free - len(slow)))
             longest = max(longest, self._ways[first])

@@ -47,6 +47,12 @@ class PlanTest(unittest.TestCase):
         self.assertEqual(self.next(["base"], {"left": 3}, 4), [("right", 1)])
         self.assertEqual(self.next(["base"], {"right": 2}, 3), [("left", 1)])
 
+    def test_a_long_one_gets_two_of_four(self):
+        plan = Plan({"long": [], "longer": [], "cmr": ["long", "longer"]}, {"long": 240, "longer": 400, "cmr": 1})
+        self.assertEqual(list(plan.next([], {}, 4)), [("longer", 3), ("long", 2)])
+        self.assertEqual(list(plan.next([], {"longer": 3}, 4)), [("long", 2)])
+        self.assertEqual(list(plan.next([], {"longer": 2}, 3)), [("long", 1)])
+
     def test_a_quick_one_waits(self):
         plan = Plan({"long": [], "quick": [], "cmr": ["long", "quick"]}, {"long": 99, "quick": 2, "cmr": 1})
         self.assertEqual(list(plan.next([], {}, 2)), [("long", 2)])
