@@ -29,7 +29,7 @@ pub passed_on : (D : Result Outcome Stop → Type 0) (r : Result Outcome Stop) (
 passed_on D (Ok outcome) stop h d = let e = h.0 in cc
 passed_on D (Err e) stop h d = subst (λ s. D (Err s)) (sym h.1) d
 
-rose_from : (before mid now : ℕ) → before ≤ mid → Rose mid now → Rose before now
+pub rose_from : (before mid now : ℕ) → before ≤ mid → Rose mid now → Rose before now
 rose_from before mid now h (inl up) = inl (omega arith)
 rose_from before mid now h (inr last) = inr last
 

@@ -1,5 +1,5 @@
 -- Lines that a cut has on one side, since each is unlike a line of the other side.
-use Rattle.std.proofs.Common.{ℕ, Bool, true, false, not, List, ◌≡◌, ◌≢◌, ap, subst, inl, inr, get_or}
+use Rattle.std.proofs.Common.{ℕ, true, false, not, List, ◌≡◌, ◌≢◌, ap, subst, inl, inr, get_or}
 use Rattle.cmr_base.specs.declared.line.Line.{Line}
 use Rattle.cmr_base.specs.declared.line.Line.TheVariants.{Row, Column}
 use Rattle.cmr_base.specs.ColumnSets.{has_column}

@@ -1,10 +1,13 @@
 -- What a search does by other searches.
-use Rattle.std.proofs.Common.{Result, Ok, Err, IfOk, Bool, true, ◌≡◌}
+use Rattle.std.proofs.Common.{Result, Ok, Err, IfOk, Bool, true, false, ◌≡◌, inl, inr, refl}
+use Rattle.cmr_base.specs.Components.{IsLineOf}
+use Rattle.cmr_base.specs.declared.line.Line.{Line}
 use Rattle.cmr_base.specs.Matrix.{Matrix}
 use Rattle.cmr_base.specs.Separations.{Lines}
+use Rattle.cmr_base.proofs.Booleans.{not_both, two_cases}
 use Rattle.cuts.specs.declared.line_words.LineWords.{LineWords}
 use Rattle.cuts.specs.declared.sides.Side.{Side}
-use Rattle.cuts.specs.Covers.{Covers}
+use Rattle.cuts.specs.Covers.{AreWithin, Covers}
 use Rattle.cuts.specs.CutSearches.{HasMarked}
 use Rattle.cuts.specs.WordSets.{HasWords, as_set}
 use Rattle.cuts.proofs.CoverLemmas.{covers_more}
@@ -33,3 +36,20 @@ searched_both m one two first_one first_two second_one second_two before between
   covers = λ e. both (as_set after) (covers_more m (as_set first_one.lines) (as_set first_two.lines) (as_set between) (as_set after) h2.more (h1.covers is)) (h2.covers e);
 }
 searched_both m one two first_one first_two second_one second_two before between after covered (Err e) both is h1 h2 = h2
+
+-- no cut has a line in side one and in side two
+pub covers_shared : (m : Matrix) (one two : Side) (P : Lines) → (x : Line) × IsLineOf m x × (as_set one.lines x ≡ true) × (as_set two.lines x ≡ true) → Covers m (as_set one.lines) (as_set two.lines) P
+covers_shared m one two P (x, lx, ex, tx) T w y l e = absurd (not_both (T x) (w.one x lx ex) (w.two x lx tx))
+
+-- all lines are marked that are not among those of side one
+pub marked_rest : (m : Matrix) (one two : Side) (before after : LineWords) → HasWords m after → AreWithin m (as_set before) (as_set after) → ((x : Line) → IsLineOf m x → as_set one.lines x ≡ false → as_set after x ≡ true)
+    → HasMarked m one two before after true
+marked_rest m one two before after size more rest = record {
+  size = size;
+  more = more;
+  covers = λ e T w x l f. elim (two_cases (as_set one.lines x)) [ inl t ↦ absurd (not_both (T x) (w.one x l t) f) | inr g ↦ rest x l g ];
+}
+
+-- a search gives up where one that it began did
+pub gave_up : (m : Matrix) (one two other_one other_two : Side) (before after : LineWords) (covered : Bool) → HasMarked m other_one other_two before after covered → HasMarked m one two before after false
+gave_up m one two other_one other_two before after covered h = record { size = h.size; more = h.more; covers = λ e. absurd (not_both false e refl) }

@@ -1,8 +1,11 @@
 -- Lines that are left out one after another.
-use Rattle.std.specs.Prelude.{◌||◌, ◌+◌, ◌-◌, ℕ, Bool, cond, nat_lt, nat_le, List, [], ◌∷◌, map}
+use Rattle.std.specs.Prelude.{◌≡◌, ◌||◌, ◌+◌, ◌-◌, ℕ, Bool, cond, nat_lt, nat_le, List, [], ◌∷◌, map}
 use Rattle.std.specs.List.{range_with_len}
 use Rattle.cmr_base.specs.declared.line.Line.{Line}
 use Rattle.cmr_base.specs.declared.line.Line.TheVariants.{Row, Column}
+use Rattle.cmr_base.specs.declared.line_set.LineSet.{LineSet}
+use Rattle.cmr_base.specs.Matrix.{Matrix, height}
+use Rattle.cmr_base.specs.LineSets.{submatrix}
 use Rattle.cmr_base.specs.Reductions.{rows_without, columns_without}
 
 -- the line with a number, where the columns are counted on after the rows
@@ -22,6 +25,18 @@ rows_left rows (line ∷ lines) = rows_left (rows_without rows line) lines
 abbrev pub columns_left : List ℕ → List Line → List ℕ
 columns_left columns [] = columns
 columns_left columns (line ∷ lines) = columns_left (columns_without columns line) lines
+
+-- the submatrix that stays without so many lines from a number on
+abbrev pub left_submatrix : Matrix → LineSet → ℕ → ℕ → Matrix
+left_submatrix m lines from count =
+    let gone = lines_between (height m) from count in
+    submatrix m (rows_left lines.rows gone) (columns_left lines.columns gone)
+
+-- what stays lacks the property
+pub record AreLeft (P : Matrix → Type 0) (m : Matrix) (lines : LineSet) (from count : ℕ) (fewer : LineSet) : Type 0 where
+  pub rows : fewer.rows ≡ rows_left lines.rows (lines_between (height m) from count)
+  pub columns : fewer.columns ≡ columns_left lines.columns (lines_between (height m) from count)
+  pub lacks : ¬ P (left_submatrix m lines from count)
 
 -- counted on after others, it is not one of so many numbers from one on
 abbrev pub is_outside : ℕ → ℕ → ℕ → ℕ → Bool

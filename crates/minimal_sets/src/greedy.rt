@@ -4,7 +4,7 @@ ghost use Rattle.std.specs.List.Sorted.{IsStrictlyIncreasing};
 ghost use Rattle.cmr_base.specs.Matrix.{IsMatrix, height};
 ghost use Rattle.cmr_base.specs.LineSets.{AllBelow, IsRowSet, IsColumnSet, submatrix};
 ghost use Rattle.cmr_base.specs.GreedySets.{IsHereditary, IsGreedyFrom, IsGreedySet, IsMinimalWithout};
-ghost use Rattle.minimal_sets.specs.LeftOut.{lines_between, rows_left, columns_left, is_outside};
+ghost use Rattle.minimal_sets.specs.LeftOut.{lines_between, rows_left, columns_left, left_submatrix, AreLeft, is_outside};
 
 use crate::property::Property;
 use cmr_base::{Indices, LineSet, MAX_COLUMNS, MAX_ROWS, Matrix, Memory};
@@ -54,25 +54,48 @@ fn leave_out<P: Property>(
         (lines_between (height matrix.now) 0 (height matrix.now + matrix.now.width))
         lines.rows lines.columns left.rows left.columns) }
 {
-    let rows = matrix.rows();
-    let end = rows + matrix.columns();
+    let end = matrix.rows() + matrix.columns();
     let mut left = lines;
     let mut next = 0;
     let mut tried = 1;
     'lines: while next < end {
         let count = tried.min(end - next);
-        let fewer = without_run(alloc, &left, rows, next, count)?;
-        if !property.holds_on(alloc, matrix, &fewer)? {
-            left = fewer;
-            next += count;
-            tried = 2 * count;
-        } else if count > 1 {
-            tried = count / 2;
-        } else {
-            next += 1;
+        match lacking_without(alloc, matrix, property, &left, next, count)? {
+            Some(fewer) => {
+                left = fewer;
+                next += count;
+                tried = 2 * count;
+            }
+            None if count > 1 => tried = count / 2,
+            None => next += 1,
         }
     }
     Ok(left)
+}
+
+// The set without so many lines from a number on, where what then stays still lacks the property.
+fn lacking_without<P: Property>(
+    alloc: Global,
+    matrix: &Matrix,
+    property: &P,
+    lines: &LineSet,
+    from: u32,
+    count: u32,
+) -> Result<Option<LineSet>, Memory>
+    requires shape { IsMatrix matrix.now }
+    requires domain { P.domain property.now matrix.now }
+    requires rows { IsRowSet matrix.now lines.now.rows }
+    requires columns { IsColumnSet matrix.now lines.now.columns }
+    requires few { from + count ≤ height matrix.now + matrix.now.width }
+    ensures { IfOk result (λ found. MatchOption found
+        (P.holds property.now (left_submatrix matrix.now lines.now from count))
+        (AreLeft (P.holds property.now) matrix.now lines.now from count)) }
+{
+    let fewer = without_run(alloc, lines, matrix.rows(), from, count)?;
+    if property.holds_on(alloc, matrix, &fewer)? {
+        return Ok(None);
+    }
+    Ok(Some(fewer))
 }
 
 // The set without so many lines from a number on, where the columns are counted on after the rows.

@@ -9,13 +9,9 @@ use Rattle.cmr_base.specs.Signing.{IsSign}
 use Rattle.cmr_base.specs.Supports.{AgreeUpToSigns, HaveOneSupport}
 use Rattle.cmr_base.proofs.Integers.{products, sums, mul_assoc, mul_comm, mul-zero, one-mul}
 use Rattle.cmr_base.proofs.SignEntries.{sign_is_entry}
-use Rattle.ghouila.proofs.Bytes.{kept_entry, product_bytes}
+use Rattle.ghouila.proofs.Bytes.{product_bytes}
 use Rattle.ghouila.proofs.SignProducts.{sign-mul, sign_square}
 use Rattle.network_orient.specs.SignedGroups.{AreSignedGroups, IsCoarser, IsMerged, IsRowJoined, IsRowMultiplied, group_of, sign_of, row_sign_by}
-
--- as signed bytes
-pub kept_sign : (z : ℤ) → IsSign z → IsSign (to_z w8 (of_z w8 z))
-kept_sign z sign = subst IsSign (sym (kept_entry z (sign_is_entry z sign))) sign
 
 -- each column in a group of its own
 pub own_groups : (m n : Matrix) → AreSignedGroups m n (first_lines m.width) (replicate m.width (pos 1))

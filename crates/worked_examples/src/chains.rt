@@ -1,14 +1,12 @@
 // Signings of 0/1 matrices, with the chains that leave no choice but the signs of whole lines.
 use crate::given::{
-    Lines, binary, bytes, dense, found_text, is, is_text, line_set, matrix, row_text,
+    Lines, are_texts, binary, bytes, dense, found_text, is_text, line_set, matrix, row_text,
 };
 use camion_sign::{
-    Chain, ChainError, ChainKind, chain_signs, check_chain, cycle_fault, read_chain, sign,
-    write_chain,
+    Chain, ChainError, chain_signs, check_chain, cycle_fault, read_chain, sign, write_chain,
 };
 use cmr_base::Matrix;
 use std::alloc::Global;
-use std::process::Abort;
 use std::test::Fail;
 
 const FANO: &str = "3 4/1 1 0 1/1 0 1 1/0 1 1 1/";
@@ -34,7 +32,12 @@ fn chain_of(alloc: Global, matrix: &Matrix, lines: Lines<'_>) -> Result<Vec<u8>,
 #[test]
 fn signed_matrices(rt: HostRuntime) -> Result<(), Fail> {
     let fano = matrix(rt.alloc(), FANO)?;
-    is_text(&rt, &signed(rt.alloc(), &fano)?, SIGNED_FANO)?;
+    is_text(&rt, &signed(rt.alloc(), &fano)?, SIGNED_FANO)
+}
+
+#[test]
+fn chains_of_signings(rt: HostRuntime) -> Result<(), Fail> {
+    let fano = matrix(rt.alloc(), FANO)?;
     is_text(
         &rt,
         &chain_of(rt.alloc(), &fano, (&[1, 2], &[2, 3]))?,
@@ -117,45 +120,22 @@ fn chains_of_other_sizes_or_of_few_steps(rt: HostRuntime) -> Result<(), Fail> {
     Ok(())
 }
 
-fn chain_fault(alloc: Global, text: &str) -> Result<Option<ChainError>, Fail> {
-    Ok(read_chain(alloc, &bytes(alloc, text)?).err())
-}
-
-fn is_fault<R: Abort>(rt: &R, found: Option<ChainError>, expected: ChainKind, at: usize) {
-    match found {
-        Some(ChainError::Fault { kind, place }) => is(rt, kind == expected && place == at, true),
-        _ => is(rt, false, true),
+// The kind of the first fault, and its place.
+fn chain_fault(alloc: Global, text: &str) -> Result<Vec<u8>, Fail> {
+    match read_chain(alloc, &bytes(alloc, text)?) {
+        Err(ChainError::Fault { kind, place }) => row_text(
+            alloc,
+            &format!(in alloc; "{kind:?}")?,
+            &[place.min(99_999) as u32],
+        ),
+        Err(fault) => Err(fault.into()),
+        Ok(_) => bytes(alloc, "none/"),
     }
 }
 
 #[test]
 fn faults_of_texts(rt: HostRuntime) -> Result<(), Fail> {
-    for (text, kind, place) in [
-        ("", ChainKind::Short, 0),
-        ("cmr-tree 1/", ChainKind::WrongVersion, 0),
-        ("cmr-chain 2/", ChainKind::WrongVersion, 10),
-        ("cmr-chain 1/x", ChainKind::NotNumber, 12),
-        ("cmr-chain 1/2147483648", ChainKind::TooBig, 12),
-        ("cmr-chain 1/1001", ChainKind::OutOfRange, 12),
-        ("cmr-chain 1/2 2 5", ChainKind::OutOfRange, 16),
-        (
-            "cmr-chain 1/2 2 1/violator 0 0/",
-            ChainKind::UnknownStep,
-            18,
-        ),
-        ("cmr-chain 1/2 2 0/free 1 1/", ChainKind::UnknownStep, 18),
-        ("cmr-chain 1/2 2 1/free 3 1/", ChainKind::OutOfRange, 23),
-        (
-            "cmr-chain 1/2 2 0/violator 2 0 2 1/",
-            ChainKind::NotRising,
-            33,
-        ),
-        ("cmr-chain 1/2 2 0/violator 0 0/x", ChainKind::Extra, 31),
-        ("cmr-chain 1/2 2 0/", ChainKind::Short, 18),
-    ] {
-        is_fault(&rt, chain_fault(rt.alloc(), text)?, kind, place);
-    }
-    Ok(())
+    are_texts(&rt, FAULTS, chain_fault)
 }
 
 fn fault_text(alloc: Global, text: &str) -> Result<Vec<u8>, Fail> {
@@ -164,25 +144,40 @@ fn fault_text(alloc: Global, text: &str) -> Result<Vec<u8>, Fail> {
 
 #[test]
 fn cycle_faults(rt: HostRuntime) -> Result<(), Fail> {
-    for (text, expected) in [
-        ("2 2/1 1/1 -1/", "0 1/0 1/"),
-        ("3 3/1 1 0/0 1 1/1 0 1/", "0 1 2/0 1 2/"),
-        ("3 3/1 1 0/0 1 1/1 0 -1/", "none/"),
-        ("0 0/", "none/"),
-        // Every cycle is good, though the whole matrix is a violator.
-        ("4 4/1 1 0 0/1 0 1 0/1 0 0 1/1 1 1 1/", "none/"),
-        // Of several paths the shortest is taken, and the least of these, and none that passes a column of its row.
-        ("3 2/1 1/1 1/1 -1/", "0 2/0 1/"),
-        ("4 3/1 0 1/0 1 1/1 1 0/1 -1 0/", "0 1 2/0 1 2/"),
-        ("4 3/1 0 -1/0 1 1/1 1 0/1 -1 0/", "2 3/0 1/"),
-        ("3 3/1 1 0/0 1 1/1 1 -1/", "1 2/1 2/"),
-        // The same lines in another order have other places, and so have those of the transposed matrix.
-        ("4 3/1 1 1/0 1 1/1 0 1/1 1 0/", "none/"),
-        ("4 3/0 1 1/1 0 1/1 1 0/1 1 1/", "0 1 2/0 1 2/"),
-        ("3 4/1 0 1 1/1 1 0 1/1 1 1 0/", "0 1 2/1 2 3/"),
-        (SIGNED_FANO, "1 2/2 3/"),
-    ] {
-        is_text(&rt, &fault_text(rt.alloc(), text)?, expected)?;
-    }
-    Ok(())
+    are_texts(&rt, CYCLE_FAULTS, fault_text)
 }
+
+// A text that is no chain, and its first fault.
+const FAULTS: &str = "\
+; Short 0/
+cmr-tree 1/; WrongVersion 0/
+cmr-chain 2/; WrongVersion 10/
+cmr-chain 1/x; NotNumber 12/
+cmr-chain 1/2147483648; TooBig 12/
+cmr-chain 1/1001; OutOfRange 12/
+cmr-chain 1/2 2 5; OutOfRange 16/
+cmr-chain 1/2 2 1/violator 0 0/; UnknownStep 18/
+cmr-chain 1/2 2 0/free 1 1/; UnknownStep 18/
+cmr-chain 1/2 2 1/free 3 1/; OutOfRange 23/
+cmr-chain 1/2 2 0/violator 2 0 2 1/; NotRising 33/
+cmr-chain 1/2 2 0/violator 0 0/x; Extra 31/
+cmr-chain 1/2 2 0/; Short 18/";
+
+// A matrix, and its first cycle fault. In the fifth one every cycle is good, though the whole matrix is a violator. Then
+// come four with several paths, of which the shortest is taken, and the least of these, and none that passes a column of
+// its row. In the next three the same lines stand in another order and so have other places, and then those of the
+// transposed matrix.
+const CYCLE_FAULTS: &str = "\
+2 2/1 1/1 -1/; 0 1/0 1/
+3 3/1 1 0/0 1 1/1 0 1/; 0 1 2/0 1 2/
+3 3/1 1 0/0 1 1/1 0 -1/; none/
+0 0/; none/
+4 4/1 1 0 0/1 0 1 0/1 0 0 1/1 1 1 1/; none/
+3 2/1 1/1 1/1 -1/; 0 2/0 1/
+4 3/1 0 1/0 1 1/1 1 0/1 -1 0/; 0 1 2/0 1 2/
+4 3/1 0 -1/0 1 1/1 1 0/1 -1 0/; 2 3/0 1/
+3 3/1 1 0/0 1 1/1 1 -1/; 1 2/1 2/
+4 3/1 1 1/0 1 1/1 0 1/1 1 0/; none/
+4 3/0 1 1/1 0 1/1 1 0/1 1 1/; 0 1 2/0 1 2/
+3 4/1 0 1 1/1 1 0 1/1 1 1 0/; 0 1 2/1 2 3/
+3 4/1 1 0 1/1 0 1 1/0 1 -1 1/; 1 2/2 3/";

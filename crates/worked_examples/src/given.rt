@@ -155,6 +155,20 @@ pub fn is_text<R: Abort + AllocGlobal>(rt: &R, found: &[u8], text: &str) -> Resu
     Ok(())
 }
 
+/// Stops the test where the answer to a row of a table is another one. A row has what is asked, and behind `; ` the answer.
+pub fn are_texts<R, F>(rt: &R, table: &str, answer: F) -> Result<(), Fail>
+where
+    R: Abort + AllocGlobal,
+    F: Fn(Global, &str) -> Result<Vec<u8>, Fail>,
+    requires { F.IsAlwaysCallable answer }
+{
+    for row in table.split('\n') {
+        let (asked, expected) = row.split_once("; ").ok_or("no answer")?;
+        is_text(rt, &answer(rt.alloc(), asked)?, expected)?;
+    }
+    Ok(())
+}
+
 /// Stops the test where an answer is another one.
 pub fn is<R: Abort>(rt: &R, found: bool, expected: bool) {
     assert!(rt; found == expected);

@@ -1,40 +1,25 @@
 // Graph texts: bad ones with their faults, and good ones with their matrices.
-use crate::given::{bytes, dense, is, is_text};
-use graph_text::{GraphError, GraphKind, matrix_of, read_graph, write_graph};
+use crate::given::{are_texts, bytes, dense, is_text, row_text};
+use graph_text::{GraphError, matrix_of, read_graph, write_graph};
 use std::alloc::Global;
-use std::process::Abort;
 use std::test::Fail;
 
-fn is_fault<R: Abort>(rt: &R, found: Option<GraphError>, expected: GraphKind, at: usize) {
-    match found {
-        Some(GraphError::Fault { kind, place }) => is(rt, kind == expected && place == at, true),
-        _ => is(rt, false, true),
+// The kind of the first fault, and its place.
+fn graph_fault(alloc: Global, text: &str) -> Result<Vec<u8>, Fail> {
+    match read_graph(alloc, &bytes(alloc, text)?) {
+        Err(GraphError::Fault { kind, place }) => row_text(
+            alloc,
+            &format!(in alloc; "{kind:?}")?,
+            &[place.min(99_999) as u32],
+        ),
+        Err(fault) => Err(fault.into()),
+        Ok(_) => bytes(alloc, "none/"),
     }
-}
-
-fn graph_fault(alloc: Global, text: &str) -> Result<Option<GraphError>, Fail> {
-    Ok(read_graph(alloc, &bytes(alloc, text)?).err())
 }
 
 #[test]
 fn faults_of_graph_texts(rt: HostRuntime) -> Result<(), Fail> {
-    for (text, kind, place) in [
-        ("0 1/", GraphKind::Short, 4),
-        ("0 x r1/", GraphKind::NotNumber, 2),
-        ("0 2147483648 r1/", GraphKind::TooBig, 2),
-        ("0 1 r2/", GraphKind::BadElement, 4),
-        ("0 1 r01/", GraphKind::BadElement, 4),
-        ("0 1 r1/0 1 c1/1 2 r2/", GraphKind::BadElement, 18),
-        ("0 2 r1/", GraphKind::OutOfRange, 2),
-        ("0 1 c1/", GraphKind::OutOfRange, 2),
-        // A loop, two arcs between two nodes, and a cycle beside a lone node.
-        ("0 0 r1/", GraphKind::NotTree, 7),
-        ("0 1 r1/0 1 r2/", GraphKind::NotTree, 14),
-        ("0 1 r1/1 2 r2/2 0 r3/", GraphKind::NotTree, 21),
-    ] {
-        is_fault(&rt, graph_fault(rt.alloc(), text)?, kind, place);
-    }
-    Ok(())
+    are_texts(&rt, FAULTS, graph_fault)
 }
 
 // The canonical text of the graph that was read.
@@ -73,3 +58,18 @@ fn matrices_of_graph_texts(rt: HostRuntime) -> Result<(), Fail> {
     }
     Ok(())
 }
+
+// A text that is no graph, and its first fault. The last three have a loop, two arcs between two nodes, and a cycle beside
+// a lone node.
+const FAULTS: &str = "\
+0 1/; Short 4/
+0 x r1/; NotNumber 2/
+0 2147483648 r1/; TooBig 2/
+0 1 r2/; BadElement 4/
+0 1 r01/; BadElement 4/
+0 1 r1/0 1 c1/1 2 r2/; BadElement 18/
+0 2 r1/; OutOfRange 2/
+0 1 c1/; OutOfRange 2/
+0 0 r1/; NotTree 7/
+0 1 r1/0 1 r2/; NotTree 14/
+0 1 r1/1 2 r2/2 0 r3/; NotTree 21/";

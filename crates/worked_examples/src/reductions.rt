@@ -1,5 +1,5 @@
 // Series-parallel reductions: their steps, what they leave, and minimal submatrices that are not series-parallel.
-use crate::given::{found_text, is, is_text, lines_text, matrix};
+use crate::given::{are_texts, found_text, is, lines_text, matrix};
 use cmr_base::{Line, LineSet, Matrix, Memory, Reason, Step};
 use sp_reduce::{is_reducible_line, minimal_not_sp, reduce};
 use std::alloc::Global;
@@ -44,8 +44,15 @@ fn steps_text(alloc: Global, steps: &[Step]) -> Result<Vec<u8>, Fail> {
     Ok(text.into_bytes())
 }
 
-// The steps, and the lines that are left.
-fn reduced(alloc: Global, matrix: &Matrix, binary: bool) -> Result<Vec<u8>, Fail> {
+// The steps, the lines that are left, and those of a minimal submatrix that is not series-parallel.
+fn reduced(alloc: Global, text: &str, binary: bool) -> Result<Vec<u8>, Fail> {
+    let matrix = matrix(alloc, text)?;
+    let mut found = steps_and_rest(alloc, &matrix, binary)?;
+    found.extend_from_slice(&minimal(alloc, &matrix, binary)?)?;
+    Ok(found)
+}
+
+fn steps_and_rest(alloc: Global, matrix: &Matrix, binary: bool) -> Result<Vec<u8>, Fail> {
     let found = reduce(alloc, matrix, binary)?;
     let mut text = steps_text(alloc, found.steps.as_slice())?;
     text.extend_from_slice(&lines_text(alloc, &found.rest)?)?;
@@ -56,46 +63,22 @@ fn minimal(alloc: Global, matrix: &Matrix, binary: bool) -> Result<Vec<u8>, Fail
     found_text(alloc, &minimal_not_sp(alloc, matrix, binary)?)
 }
 
+fn reduced_with_signs(alloc: Global, text: &str) -> Result<Vec<u8>, Fail> {
+    reduced(alloc, text, false)
+}
+
+fn reduced_support(alloc: Global, text: &str) -> Result<Vec<u8>, Fail> {
+    reduced(alloc, text, true)
+}
+
 #[test]
-fn reductions(rt: HostRuntime) -> Result<(), Fail> {
-    for (text, binary, steps, least) in [
-        (
-            "2 2/1 0/0 1/",
-            false,
-            "row 0 unit column 0/row 1 unit column 1/column 0 zero/column 1 zero///",
-            "none/",
-        ),
-        (
-            "2 3/1 1 1/-1 -1 -1/",
-            false,
-            "row 0 negative row 1/column 0 unit row 1/column 1 unit row 1/row 1 unit column 2/column 2 zero///",
-            "none/",
-        ),
-        (
-            "2 3/1 1 1/-1 -1 -1/",
-            true,
-            "column 0 copy column 1/column 1 copy column 2/row 0 unit column 2/row 1 unit column 2/column 2 zero///",
-            "none/",
-        ),
-        (
-            "4 4/1 1 0 0/0 1 1 0/1 0 1 1/1 0 1 0/",
-            true,
-            "column 3 unit row 2/row 2 copy row 3/0 1 3/0 1 2/",
-            "0 1 3/0 1 2/",
-        ),
-        // Two triangles: the later one stays.
-        (
-            "6 6/1 1 0 0 0 0/0 1 1 0 0 0/1 0 1 0 0 0/0 0 0 1 1 0/0 0 0 0 1 1/0 0 0 1 0 1/",
-            false,
-            "0 1 2 3 4 5/0 1 2 3 4 5/",
-            "3 4 5/3 4 5/",
-        ),
-    ] {
-        let matrix = matrix(rt.alloc(), text)?;
-        is_text(&rt, &reduced(rt.alloc(), &matrix, binary)?, steps)?;
-        is_text(&rt, &minimal(rt.alloc(), &matrix, binary)?, least)?;
-    }
-    Ok(())
+fn reductions_with_signs(rt: HostRuntime) -> Result<(), Fail> {
+    are_texts(&rt, WITH_SIGNS, reduced_with_signs)
+}
+
+#[test]
+fn reductions_of_supports(rt: HostRuntime) -> Result<(), Fail> {
+    are_texts(&rt, SUPPORTS, reduced_support)
 }
 
 fn is_reducible<R: Abort + AllocGlobal>(rt: &R, line: Line, binary: bool) -> Result<bool, Fail> {
@@ -116,3 +99,13 @@ fn lines(rt: HostRuntime) -> Result<(), Fail> {
     is(&rt, is_reducible(&rt, Line::Column(1), true)?, true);
     Ok(())
 }
+
+// The last one has two triangles, of which the later one stays.
+const WITH_SIGNS: &str = "\
+2 2/1 0/0 1/; row 0 unit column 0/row 1 unit column 1/column 0 zero/column 1 zero///none/
+2 3/1 1 1/-1 -1 -1/; row 0 negative row 1/column 0 unit row 1/column 1 unit row 1/row 1 unit column 2/column 2 zero///none/
+6 6/1 1 0 0 0 0/0 1 1 0 0 0/1 0 1 0 0 0/0 0 0 1 1 0/0 0 0 0 1 1/0 0 0 1 0 1/; 0 1 2 3 4 5/0 1 2 3 4 5/3 4 5/3 4 5/";
+
+const SUPPORTS: &str = "\
+2 3/1 1 1/-1 -1 -1/; column 0 copy column 1/column 1 copy column 2/row 0 unit column 2/row 1 unit column 2/column 2 zero///none/
+4 4/1 1 0 0/0 1 1 0/1 0 1 1/1 0 1 0/; column 3 unit row 2/row 2 copy row 3/0 1 3/0 1 2/0 1 3/0 1 2/";

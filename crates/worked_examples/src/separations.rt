@@ -4,7 +4,7 @@ ghost use Rattle.cmr_base.specs.Matrix.{height};
 ghost use Rattle.cuts.specs.LineCuts.{HasNames};
 
 use crate::given::{bytes, is_text, lines_text, matrix, named_lines_text, row_text, sparse};
-use cmr_base::{LineSet, LineSetPair, Matrix, Memory, RowsAndColumns, Three};
+use cmr_base::{LineSet, LineSetPair, Matrix, RowsAndColumns, Three};
 use cuts::{Groups, groups_of};
 use std::alloc::Global;
 use std::process::Abort;
@@ -315,34 +315,41 @@ fn pair_text(alloc: Global, pair: &LineSetPair) -> Result<Vec<u8>, Fail> {
     Ok(text)
 }
 
-// The children of the first two-separation of a matrix.
-fn two_children(alloc: Global, matrix: &Matrix) -> Result<Option<LineSetPair>, Memory> {
+// The lines of the children of the first two-separation.
+fn two_children(alloc: Global, matrix: &Matrix) -> Result<Vec<u8>, Fail> {
     let lines = LineSet::all(alloc, matrix.rows(), matrix.columns())?;
     match two_separation(alloc, matrix)? {
-        Some(two) => Ok(Some(two_parts(alloc, &lines, &two)?)),
-        None => Ok(None),
+        Some(two) => pair_text(alloc, &two_parts(alloc, &lines, &two)?),
+        None => bytes(alloc, "none/"),
     }
 }
 
-// The children of the first three-separation of a matrix.
+// The lines of the children of the first three-separation.
 fn three_children<R: Threads + Sync + AllocGlobal>(
     rt: &R,
     matrix: &Matrix,
-) -> Result<Option<LineSetPair>, Memory> {
-    let alloc = rt.alloc();
-    let lines = LineSet::all(alloc, matrix.rows(), matrix.columns())?;
-    match three_separation(rt, alloc, matrix, 1)? {
-        Some(three) => Ok(Some(three_parts(alloc, &lines, &three)?)),
-        None => Ok(None),
+) -> Result<Vec<u8>, Fail> {
+    let lines = LineSet::all(rt.alloc(), matrix.rows(), matrix.columns())?;
+    match three_separation(rt, rt.alloc(), matrix, 1)? {
+        Some(three) => pair_text(rt.alloc(), &three_parts(rt.alloc(), &lines, &three)?),
+        None => bytes(rt.alloc(), "none/"),
     }
 }
 
-// Each child has its side, and of the other side the row or the column, or the connector.
+// Each child has its side, and of the other side the row or the column.
 #[test]
-fn children(rt: HostRuntime) -> Result<(), Fail> {
+fn children_of_a_two_sum(rt: HostRuntime) -> Result<(), Fail> {
     let sum = matrix(rt.alloc(), "4 4/1 1 0 0/1 -1 0 0/0 1 1 1/0 1 1 -1/")?;
-    let pair = two_children(rt.alloc(), &sum)?.ok_or("no two-separation")?;
-    is_text(&rt, &pair_text(rt.alloc(), &pair)?, "0 2 3/1 2 3/0 1/0 1/")?;
+    is_text(
+        &rt,
+        &two_children(rt.alloc(), &sum)?,
+        "0 2 3/1 2 3/0 1/0 1/",
+    )
+}
+
+// Each child has its side, and of the other side the connector.
+#[test]
+fn children_of_three_sums(rt: HostRuntime) -> Result<(), Fail> {
     for (text, expected) in [
         (
             "7 7/1 1 1 0 1 1 0/0 0 0 -1 1 1 0/1 0 1 1 0 0 0/0 0 0 0 1 0 1/0 1 1 0 1 0 0/0 1 1 0 1 0 1/0 0 0 0 0 -1 1/",
@@ -353,9 +360,8 @@ fn children(rt: HostRuntime) -> Result<(), Fail> {
             "0 1 2 3/0 1 2/0 2 3/0 1 2 3/",
         ),
     ] {
-        let matrix = matrix(rt.alloc(), text)?;
-        let pair = three_children(&rt, &matrix)?.ok_or("no three-separation")?;
-        is_text(&rt, &pair_text(rt.alloc(), &pair)?, expected)?;
+        let sum = matrix(rt.alloc(), text)?;
+        is_text(&rt, &three_children(&rt, &sum)?, expected)?;
     }
     Ok(())
 }

@@ -1,5 +1,5 @@
 // Rows that a row splits.
-use crate::given::{bytes, is_text, matrix, row_text};
+use crate::given::{are_texts, bytes, matrix, row_text};
 use bridge_split::{SplitCase, split};
 use cmr_base::PartList;
 use std::alloc::Global;
@@ -27,35 +27,13 @@ fn case_text(alloc: Global, case: &SplitCase) -> Result<Vec<u8>, Fail> {
     }
 }
 
+fn case_in(alloc: Global, text: &str) -> Result<Vec<u8>, Fail> {
+    case_text(alloc, &split(alloc, &matrix(alloc, text)?)?)
+}
+
 #[test]
 fn cases(rt: HostRuntime) -> Result<(), Fail> {
-    for (text, expected) in [
-        // A spanning star of the complete graph on five nodes, and the transposed matrix, which is not graphic.
-        (
-            "4 6/1 1 1 0 0 0/1 0 0 1 1 0/0 1 0 1 0 1/0 0 1 0 1 1/",
-            "star/",
-        ),
-        (
-            "6 4/1 1 0 0/1 0 1 0/1 0 0 1/0 1 1 0/0 1 0 1/0 0 1 1/",
-            "all connected 0/",
-        ),
-        // Each of the rows below is a part, and the first two of them disagree.
-        (
-            "4 3/1 1 1/1 1 0/0 1 1/0 0 1/",
-            "parts 0/part 1/part 2/part 3/",
-        ),
-        // The second row is the first that splits. The first and the last row are one part.
-        (
-            "4 5/1 0 0 0 1/1 1 1 1 0/1 1 1 0 0/0 0 1 1 1/",
-            "parts 1/part 0 3/part 2/",
-        ),
-        // Each two of the three disagree.
-        ("4 3/1 1 1/1 1 0/0 1 1/1 0 1/", "odd three 0/"),
-    ] {
-        let found = split(rt.alloc(), &matrix(rt.alloc(), text)?)?;
-        is_text(&rt, &case_text(rt.alloc(), &found)?, expected)?;
-    }
-    Ok(())
+    are_texts(&rt, CASES, case_in)
 }
 
 // Parts that disagree are on different sides.
@@ -70,3 +48,13 @@ fn sides(rt: HostRuntime) -> Result<(), Fail> {
     }
     Err(Fail::from("no row splits the others"))
 }
+
+// A spanning star of the complete graph on five nodes, and the transposed matrix, which is not graphic; a matrix of which
+// each of the rows below the first is a part, and the first two of them disagree; one whose second row is the first that
+// splits, and whose first and last row are one part; and one of three parts of which each two disagree.
+const CASES: &str = "\
+4 6/1 1 1 0 0 0/1 0 0 1 1 0/0 1 0 1 0 1/0 0 1 0 1 1/; star/
+6 4/1 1 0 0/1 0 1 0/1 0 0 1/0 1 1 0/0 1 0 1/0 0 1 1/; all connected 0/
+4 3/1 1 1/1 1 0/0 1 1/0 0 1/; parts 0/part 1/part 2/part 3/
+4 5/1 0 0 0 1/1 1 1 1 0/1 1 1 0 0/0 0 1 1 1/; parts 1/part 0 3/part 2/
+4 3/1 1 1/1 1 0/0 1 1/1 0 1/; odd three 0/";

@@ -63,22 +63,31 @@ const CIRCULANTS: &str =
     "9 9/1 -1 0 0 -1 1 0 0 1/-1 1 -1 0 0 0 0 0 0/0 -1 1 -1 0 0 0 0 0/0 0 -1 1 -1 1 0 0 1/-1 0 0 -1 1 -1 0 0 -1/0 0 0 0 -1 1 -1 0 0/0 0 0 0 0 -1 1 -1 0/0 0 0 0 0 0 -1 1 -1/0 0 0 0 -1 0 0 -1 1/";
 
 #[test]
-fn one_sums_and_two_sums(rt: HostRuntime) -> Result<(), Fail> {
-    for (sum, first, second, expected) in [
-        (Sum::One, "1 1/1/", "1 1/-1/", "2 2/1 0/0 -1/"),
+fn one_sums(rt: HostRuntime) -> Result<(), Fail> {
+    for (first, second, expected) in [
+        ("1 1/1/", "1 1/-1/", "2 2/1 0/0 -1/"),
         // Without rows, without columns, and without lines.
-        (Sum::One, "0 2/", "1 0//", "1 2/0 0/"),
-        (Sum::One, "1 1/-1/", "0 0/", "1 1/-1/"),
-        (Sum::One, "0 0/", "0 0/", "0 0/"),
-        (Sum::Two, CIRCULANT, CIRCULANT, CIRCULANTS),
-        // The last column of the first matrix and the first row of the second are all that they have.
-        (Sum::Two, "2 1/1/-1/", "1 2/1 -1/", "2 2/1 -1/-1 1/"),
-        (Sum::Two, "0 2/", "1 1/1/", "0 2/"),
-        (Sum::Two, "1 2/-1 1/", "1 0//", "1 1/-1/"),
-        (Sum::Two, "2 0///", "1 1/1/", "bad connector/"),
-        (Sum::Two, CIRCULANT, "0 5/", "bad connector/"),
+        ("0 2/", "1 0//", "1 2/0 0/"),
+        ("1 1/-1/", "0 0/", "1 1/-1/"),
+        ("0 0/", "0 0/", "0 0/"),
     ] {
-        is_sum(&rt, sum, (first, second), expected)?;
+        is_sum(&rt, Sum::One, (first, second), expected)?;
+    }
+    Ok(())
+}
+
+#[test]
+fn two_sums(rt: HostRuntime) -> Result<(), Fail> {
+    for (first, second, expected) in [
+        (CIRCULANT, CIRCULANT, CIRCULANTS),
+        // The last column of the first matrix and the first row of the second are all that they have.
+        ("2 1/1/-1/", "1 2/1 -1/", "2 2/1 -1/-1 1/"),
+        ("0 2/", "1 1/1/", "0 2/"),
+        ("1 2/-1 1/", "1 0//", "1 1/-1/"),
+        ("2 0///", "1 1/1/", "bad connector/"),
+        (CIRCULANT, "0 5/", "bad connector/"),
+    ] {
+        is_sum(&rt, Sum::Two, (first, second), expected)?;
     }
     Ok(())
 }

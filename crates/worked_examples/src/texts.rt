@@ -1,83 +1,65 @@
 // Matrix and submatrix texts: bad ones with their first faults, and canonical ones, which come back as they are.
 ghost use Rattle.std.specs.Prelude.{◌≤◌};
 
-use crate::given::{bytes, dense, is, is_text, matrix, sparse};
+use crate::given::{are_texts, bytes, dense, is_text, matrix, row_text, sparse};
 use matrix_text::{
-    TextError, TextKind, read_dense, read_sparse, read_submatrix, write_sparse, write_submatrix,
+    TextError, read_dense, read_sparse, read_submatrix, write_sparse, write_submatrix,
 };
 use std::alloc::Global;
-use std::process::Abort;
 use std::test::Fail;
 
-fn is_fault<R: Abort>(rt: &R, found: Option<TextError>, expected: TextKind, at: usize) {
-    match found {
-        Some(TextError::Fault { kind, place }) => is(rt, kind == expected && place == at, true),
-        _ => is(rt, false, true),
+// The kind of the first fault, and its place.
+fn fault_text(alloc: Global, fault: Option<TextError>) -> Result<Vec<u8>, Fail> {
+    match fault {
+        Some(TextError::Fault { kind, place }) => row_text(
+            alloc,
+            &format!(in alloc; "{kind:?}")?,
+            &[place.min(99_999) as u32],
+        ),
+        Some(fault) => Err(fault.into()),
+        None => bytes(alloc, "none/"),
     }
 }
 
-fn dense_fault(alloc: Global, text: &str, binary: bool) -> Result<Option<TextError>, Fail> {
-    Ok(read_dense(alloc, &bytes(alloc, text)?, binary).err())
+fn dense_fault(alloc: Global, text: &str) -> Result<Vec<u8>, Fail> {
+    fault_text(alloc, read_dense(alloc, &bytes(alloc, text)?, false).err())
 }
 
-fn sparse_fault(alloc: Global, text: &str) -> Result<Option<TextError>, Fail> {
-    Ok(read_sparse(alloc, &bytes(alloc, text)?, false).err())
+// Where entries are 0 or 1 alone.
+fn binary_fault(alloc: Global, text: &str) -> Result<Vec<u8>, Fail> {
+    fault_text(alloc, read_dense(alloc, &bytes(alloc, text)?, true).err())
+}
+
+fn sparse_fault(alloc: Global, text: &str) -> Result<Vec<u8>, Fail> {
+    fault_text(alloc, read_sparse(alloc, &bytes(alloc, text)?, false).err())
 }
 
 // In a matrix with two rows and two columns.
-fn submatrix_fault(alloc: Global, text: &str) -> Result<Option<TextError>, Fail> {
-    Ok(read_submatrix(alloc, &bytes(alloc, text)?, 2, 2).err())
+fn submatrix_fault(alloc: Global, text: &str) -> Result<Vec<u8>, Fail> {
+    fault_text(
+        alloc,
+        read_submatrix(alloc, &bytes(alloc, text)?, 2, 2).err(),
+    )
 }
 
 #[test]
 fn faults_of_dense_texts(rt: HostRuntime) -> Result<(), Fail> {
-    for (text, binary, kind, place) in [
-        ("2 2/1 0/0 2/", false, TextKind::BadEntry, 10),
-        ("2 2/", false, TextKind::Short, 4),
-        ("1 1/1 0/", false, TextKind::Extra, 6),
-        ("1001 1/", false, TextKind::TooManyRows, 0),
-        ("1 1001/", false, TextKind::TooManyColumns, 2),
-        ("99999999999 1/", false, TextKind::TooBig, 0),
-        ("2147483648 1/", false, TextKind::TooBig, 0),
-        ("2147483647 1/", false, TextKind::TooManyRows, 0),
-        ("1 1/x/", false, TextKind::NotNumber, 4),
-        ("1 1/+-1/", false, TextKind::NotNumber, 4),
-        ("", false, TextKind::Short, 0),
-        ("1 2/1 -1/", true, TextKind::NotBinary, 6),
-    ] {
-        is_fault(&rt, dense_fault(rt.alloc(), text, binary)?, kind, place);
-    }
-    Ok(())
+    are_texts(&rt, DENSE_FAULTS, dense_fault)
+}
+
+#[test]
+fn faults_of_binary_texts(rt: HostRuntime) -> Result<(), Fail> {
+    are_texts(&rt, "1 2/1 -1/; NotBinary 6/", binary_fault)
 }
 
 #[test]
 fn faults_of_sparse_texts(rt: HostRuntime) -> Result<(), Fail> {
-    for (text, kind, place) in [
-        ("2 2 2/1 1 1/1 1 -1/", TextKind::TwiceNamed, 14),
-        ("2 2 2/1 1 0/1 1 1/", TextKind::TwiceNamed, 14),
-        ("2 2 1/3 1 1/", TextKind::RowOutOfRange, 6),
-        ("2 2 1/1 0 1/", TextKind::ColumnOutOfRange, 8),
-        ("1000 1000 2147483647/", TextKind::Short, 21),
-        ("0 0 2147483647/", TextKind::Short, 15),
-        ("0 0 2147483648/", TextKind::TooBig, 4),
-    ] {
-        is_fault(&rt, sparse_fault(rt.alloc(), text)?, kind, place);
-    }
-    Ok(())
+    are_texts(&rt, SPARSE_FAULTS, sparse_fault)
 }
 
 #[test]
 fn faults_of_submatrix_texts(rt: HostRuntime) -> Result<(), Fail> {
-    for (text, kind, place) in [
-        ("3 2 0 0/", TextKind::OtherSize, 0),
-        ("2 2 3 0/", TextKind::RowOutOfRange, 4),
-        ("2 2 0 3/", TextKind::ColumnOutOfRange, 6),
-        ("2 2 2 2/2 1/1 2/", TextKind::NotRising, 10),
-        ("2 2 2 2/2 0/1 2/", TextKind::RowOutOfRange, 10),
-    ] {
-        is_fault(&rt, submatrix_fault(rt.alloc(), text)?, kind, place);
-    }
-    Ok(())
+    are_texts(&rt, SUBMATRIX_FAULTS, submatrix_fault)
 }
 
 #[test]
@@ -126,3 +108,33 @@ fn submatrix_texts(rt: HostRuntime) -> Result<(), Fail> {
         "0 0 0 0///",
     )
 }
+
+// A text that has no matrix, and its first fault.
+const DENSE_FAULTS: &str = "\
+2 2/1 0/0 2/; BadEntry 10/
+2 2/; Short 4/
+1 1/1 0/; Extra 6/
+1001 1/; TooManyRows 0/
+1 1001/; TooManyColumns 2/
+99999999999 1/; TooBig 0/
+2147483648 1/; TooBig 0/
+2147483647 1/; TooManyRows 0/
+1 1/x/; NotNumber 4/
+1 1/+-1/; NotNumber 4/
+; Short 0/";
+
+const SPARSE_FAULTS: &str = "\
+2 2 2/1 1 1/1 1 -1/; TwiceNamed 14/
+2 2 2/1 1 0/1 1 1/; TwiceNamed 14/
+2 2 1/3 1 1/; RowOutOfRange 6/
+2 2 1/1 0 1/; ColumnOutOfRange 8/
+1000 1000 2147483647/; Short 21/
+0 0 2147483647/; Short 15/
+0 0 2147483648/; TooBig 4/";
+
+const SUBMATRIX_FAULTS: &str = "\
+3 2 0 0/; OtherSize 0/
+2 2 3 0/; RowOutOfRange 4/
+2 2 0 3/; ColumnOutOfRange 6/
+2 2 2 2/2 1/1 2/; NotRising 10/
+2 2 2 2/2 0/1 2/; RowOutOfRange 10/";

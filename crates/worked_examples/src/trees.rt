@@ -1,5 +1,5 @@
 // Texts of decomposition trees, and what the trees say.
-use crate::given::{bytes, is, is_text, named_lines_text, row_text};
+use crate::given::{are_texts, bytes, is_text, named_lines_text, row_text};
 use std::alloc::Global;
 use std::process::Abort;
 use std::test::Fail;
@@ -28,11 +28,20 @@ fn texts(rt: HostRuntime) -> Result<(), Fail> {
 }
 
 fn is_read<R: Abort + AllocGlobal>(rt: &R, row: &str) -> Result<(), Fail> {
-    let alloc = rt.alloc();
     let (text, says) = row.split_once("; ").ok_or("no verdict")?;
-    let tree = tree_of(alloc, text)?;
-    is_text(rt, &says_text(alloc, &tree)?, says)?;
-    is_text(rt, &write_tree(alloc, &tree)?, text)
+    let tree = tree_of(rt.alloc(), text)?;
+    is_tree(rt, &tree, text, says)
+}
+
+// Stops the test where the tree has another text, or says something else.
+fn is_tree<R: Abort + AllocGlobal>(
+    rt: &R,
+    tree: &DecTree,
+    text: &str,
+    says: &str,
+) -> Result<(), Fail> {
+    is_text(rt, &says_text(rt.alloc(), tree)?, says)?;
+    is_text(rt, &write_tree(rt.alloc(), tree)?, text)
 }
 
 // White space and the spelling of numbers are free.
@@ -40,10 +49,11 @@ fn is_read<R: Abort + AllocGlobal>(rt: &R, row: &str) -> Result<(), Fail> {
 fn free_spelling(rt: HostRuntime) -> Result<(), Fail> {
     let text = " cmr-tree  1 +2 02 reduced 2 2 01 +2 1 2 4 r+1 r002 c1 c2/empty 0 0";
     let tree = tree_of(rt.alloc(), text)?;
-    is_text(
+    is_tree(
         &rt,
-        &write_tree(rt.alloc(), &tree)?,
+        &tree,
         "cmr-tree 2/2 2/reduced 2 2 1 2 1 2/4 r1 r2 c1 c2/empty 0 0/",
+        "yes/",
     )
 }
 
@@ -60,18 +70,13 @@ fn fault_text(alloc: Global, text: &[u8]) -> Result<Vec<u8>, Fail> {
     }
 }
 
-#[test]
-fn faults(rt: HostRuntime) -> Result<(), Fail> {
-    for row in FAULTS.split('\n') {
-        has_fault(&rt, row)?;
-    }
-    Ok(())
+fn first_fault(alloc: Global, text: &str) -> Result<Vec<u8>, Fail> {
+    fault_text(alloc, &bytes(alloc, text)?)
 }
 
-fn has_fault<R: Abort + AllocGlobal>(rt: &R, row: &str) -> Result<(), Fail> {
-    let alloc = rt.alloc();
-    let (text, fault) = row.split_once("; ").ok_or("no fault")?;
-    is_text(rt, &fault_text(alloc, &bytes(alloc, text)?)?, fault)
+#[test]
+fn faults(rt: HostRuntime) -> Result<(), Fail> {
+    are_texts(&rt, FAULTS, first_fault)
 }
 
 // A text with one-sums of one child each above an undecided node.
@@ -89,12 +94,16 @@ fn chain(alloc: Global, levels: usize) -> Result<Vec<u8>, Fail> {
 fn deep_trees(rt: HostRuntime) -> Result<(), Fail> {
     let text = chain(rt.alloc(), 2_000)?;
     let tree = read_tree(rt.alloc(), &text)?;
-    is_text(&rt, &says_text(rt.alloc(), &tree)?, "undecided/0//")?;
-    is(
-        &rt,
-        write_tree(rt.alloc(), &tree)?.as_slice() == text.as_slice(),
-        true,
-    );
+    is_undecided_tree(&rt, &tree, &text)
+}
+
+fn is_undecided_tree<R: Abort + AllocGlobal>(
+    rt: &R,
+    tree: &DecTree,
+    text: &[u8],
+) -> Result<(), Fail> {
+    is_text(rt, &says_text(rt.alloc(), tree)?, "undecided/0//")?;
+    assert_eq!(rt; write_tree(rt.alloc(), tree)?.as_slice(), text);
     Ok(())
 }
 

@@ -1,4 +1,5 @@
-use Rattle.std.proofs.Common.{◌∙◌, ◌+◌, ap, sym, inl, inr, refl}
+use Rattle.std.proofs.Common.{◌<◌, ◌∙◌, ℕ, ◌+◌, ap, sym, subst, inl, inr, refl, arith}
+use Rattle.cmr_base.specs.Matrix.{entry}
 use Rattle.camion_sign.proofs.Steps.{start_rows, pass_row, take_row, end_rows, settle_rows, step_is}
 use Rattle.camion_sign.proofs.reach.reach_rows.Goals as goal
 use Rattle.camion_sign.proofs.reach.reach_rows.Goals.{then-not-index+in_ok-reach_row+else-pending-columns, else-not-index}
@@ -44,3 +45,65 @@ pub returns-clause-walk : goal.returns-clause-walk
 returns-clause-walk c =
     inl (end_rows c.args.matrix.now c.args.start.row c.args.start.column c.args.head c.column-row-items.result.now c.loop-row.row-index c.index.result.now.column c.args.walk.now c.loop-row.walk c.loop-row.invariant c.column-row-items.ensures
     (ap (λ v. v.column) (sym (step_is c.args.walk.now.steps.items c.args.head c.index.result.now c.requires.open.within c.index.ensures))) (inl c.loop-row-test.false))
+
+pub column-row-items-requires : goal.column-row-items-requires
+column-row-items-requires c =
+    let is = step_is c.args.walk.now.steps.items c.args.head c.index.result.now c.requires.open.within c.index.ensures in
+    subst (λ (j : ℕ). j < c.args.matrix.now.width) (ap (λ v. v.column) is) (c.requires.walking.front.queue.inside c.args.head c.requires.open.within)
+
+pub returns-then-row-start-clause-pending : goal.returns-then-row-start-clause-pending
+returns-then-row-start-clause-pending c = c.loop-row.invariant.pending_in
+
+pub returns-then-row-start-clause-waits : goal.returns-then-row-start-clause-waits
+returns-then-row-start-clause-waits c = c.loop-row.invariant.waits
+
+pub index-requires-in-loop-row : goal.index-requires-in-loop-row
+index-requires-in-loop-row c = omega (arith, c.if-row-start.false, c.requires.row, c.loop-row.invariant.walking.fits.used)
+
+pub reach_row-requires-clause-open : goal.reach_row-requires-clause-open
+reach_row-requires-clause-open c = c.loop-row.invariant.open_is
+
+pub reach_row-requires-clause-leads : goal.reach_row-requires-clause-leads
+reach_row-requires-clause-leads c =
+    let m = c.args.matrix.now in
+    let is = step_is c.args.walk.now.steps.items c.args.head c.index.result.now c.requires.open.within c.index.ensures in
+    let column_is = c.loop-row.invariant.column_is ∙ ap (λ v. v.column) is in
+    λ e. c.column-row-items.ensures.nonzero c.loop-row.row-index c.loop-row-test.true (ap (entry m _) (sym column_is) ∙ e)
+
+pub reach_row-requires-clause-walking : goal.reach_row-requires-clause-walking
+reach_row-requires-clause-walking c =
+    let walking = c.loop-row.invariant.walking in
+    let front = walking.front in
+    let low = c.loop-row.invariant.ahead c.loop-row.row-index (omega arith) c.loop-row-test.true in record {
+      fits = walking.fits;
+      key = walking.key;
+      front = record {
+        queue = front.queue;
+        fits = front.fits;
+        done = front.done;
+        gone = front.gone;
+        front = λ j r x inside more late. front.front j r x inside more (omega (arith, low, late));
+      };
+    }
+
+pub first_waiting-pending-requires-clause-fits : goal.first_waiting-pending-requires-clause-fits
+first_waiting-pending-requires-clause-fits c = c.in_ok-reach_row.ensures.walking.fits
+
+pub first_waiting-pending-requires-clause-from : goal.first_waiting-pending-requires-clause-from
+first_waiting-pending-requires-clause-from c = c.loop-row.invariant.pending_in
+
+pub returns-then-pending-columns-clause-pending : goal.returns-then-pending-columns-clause-pending
+returns-then-pending-columns-clause-pending c = c.first_waiting-pending.ensures.width
+
+pub returns-then-pending-columns-clause-waits : goal.returns-then-pending-columns-clause-waits
+returns-then-pending-columns-clause-waits c =
+    let taken = take_row c.args.matrix.now c.args.start.row c.args.start.column c.args.head c.column-row-items.result.now c.loop-row.row-index c.index.result.now.column c.args.walk.now c.loop-row.walk c.loop-row.invariant c.column-row-items.ensures
+    c.reach_row.new.walk c.reach_row.new.walk c.first_waiting-pending.result c.first_waiting-pending.result c.loop-row-test.true c.if-row-start.false c.requires.row
+    c.in_ok-reach_row.ensures.walking c.in_ok-reach_row.ensures.grows c.in_ok-reach_row.ensures.used c.first_waiting-pending.ensures.from c.first_waiting-pending.ensures.width c.first_waiting-pending.ensures.waits refl refl in
+    taken.waits
+
+pub returns-clause-pending : goal.returns-clause-pending
+returns-clause-pending c = c.loop-row.invariant.pending_in
+
+pub returns-clause-waits : goal.returns-clause-waits
+returns-clause-waits c = c.loop-row.invariant.waits

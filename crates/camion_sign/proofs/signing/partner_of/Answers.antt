@@ -1,8 +1,10 @@
-use Rattle.std.proofs.Common.{◌∙◌, sym, subst}
+use Rattle.std.proofs.Common.{◌∙◌, sym, ap, subst, arith}
 use Rattle.cmr_base.proofs.EntryBytes.{zero_byte}
+use Rattle.cmr_base.specs.Matrix.{entry}
 use Rattle.camion_sign.specs.Signings.{KnowsPlaces}
 use Rattle.camion_sign.proofs.EntryTests.{zero_as_byte}
 use Rattle.camion_sign.proofs.PartnerSteps.{partner_is, no_partner, one_passed}
+use Rattle.camion_sign.proofs.Steps.{within}
 use Rattle.camion_sign.proofs.signing.partner_of.Goals as goal
 use Rattle.camion_sign.proofs.signing.partner_of.Goals.{then-entry-ne0+in_ok-is_place+else-is_place, else-entry-ne0}
 
@@ -30,3 +32,36 @@ loop-partner-preserved c =
 
 pub returns-clause-partner : goal.returns-clause-partner
 returns-clause-partner c = no_partner c.args.matrix.now c.args.signs.now c.args.row c.args.column c.row-partner-items.result.now c.requires.signs c.row-partner-items.ensures c.loop-partner.partner-index c.loop-partner-test.false c.loop-partner.invariant.none
+
+pub loop-partner-init : goal.loop-partner-init
+loop-partner-init c = record { none = λ k l forced. omega (arith, l); knows = c.requires.places }
+
+pub entry-requires-clause-column : goal.entry-requires-clause-column
+entry-requires-clause-column c =
+    let nonzero = c.row-partner-items.ensures.nonzero c.loop-partner.partner-index c.loop-partner-test.true in
+    let inside = within c.args.matrix.now c.args.row _ c.requires.places.room.fits.matrix c.requires.row nonzero in
+    omega (arith, inside, c.requires.signs.same_width)
+
+pub make_place-requires-clause-places : goal.make_place-requires-clause-places
+make_place-requires-clause-places c = c.loop-partner.invariant.knows
+
+pub make_place-requires-clause-partner : goal.make_place-requires-clause-partner
+make_place-requires-clause-partner c =
+    within c.args.matrix.now c.args.row _ c.requires.places.room.fits.matrix c.requires.row
+    (c.row-partner-items.ensures.nonzero c.loop-partner.partner-index c.loop-partner-test.true)
+
+pub make_place-requires-clause-other : goal.make_place-requires-clause-other
+make_place-requires-clause-other c e =
+    c.if-entry-ne0.true (zero_as_byte c.entry.result (c.entry.ensures.value ∙ ap (entry c.args.signs.now c.args.row) e ∙ c.requires.here.no_sign))
+
+pub make_place-requires-clause-first : goal.make_place-requires-clause-first
+make_place-requires-clause-first c = c.requires.here.one
+
+pub make_place-requires-clause-last : goal.make_place-requires-clause-last
+make_place-requires-clause-last c = c.row-partner-items.ensures.nonzero c.loop-partner.partner-index c.loop-partner-test.true
+
+pub returns-then-is_place-clause-places : goal.returns-then-is_place-clause-places
+returns-then-is_place-clause-places c = c.in_ok-is_place.ensures.places
+
+pub returns-clause-places : goal.returns-clause-places
+returns-clause-places c = c.loop-partner.invariant.knows

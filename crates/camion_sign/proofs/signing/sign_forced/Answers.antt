@@ -1,8 +1,10 @@
 use Rattle.std.proofs.Common.{◌≡◌, ◌∙◌, ◌+ℤ◌, ℤ, refl, rules, sym, ap, subst, arith, to_z, of_z, w8, w32, SFits}
 use Rattle.std.proofs.lemmas.Int.{ints, to_z-of_z}
-use Rattle.cmr_base.specs.Matrix.{with_entry}
+use Rattle.cmr_base.specs.Matrix.{with_entry, IsEntry}
 use Rattle.cmr_base.specs.Sums.{IsOdd}
 use Rattle.cmr_base.proofs.SignEntries.{sign_is_entry}
+use Rattle.ghouila.proofs.SignsUnique.{column_in}
+use Rattle.cmr_base.proofs.SmallEntries.{entry_as_byte}
 use Rattle.camion_sign.specs.SignSteps.{IsZeroModFour}
 use Rattle.camion_sign.specs.SignOrder.{IsNextForced}
 use Rattle.camion_sign.specs.declared.step.SignStep.TheVariants.{Forced}
@@ -61,3 +63,35 @@ returns-clause-keeps c =
     let kept : to_z w8 (of_z w8 c.closing_sign-sign.result) ≡ c.closing_sign-sign.result = omega (arith, ints) in
     let set = c.set.ensures ∙ ap (with_entry c.args.signing.now.signs c.args.row c.args.forced.column) kept in
     ones_kept c.args.matrix.now c.args.signing.now.signs c.set.new.self c.requires.places.room.fits.matrix state.signs c.args.row c.args.forced.column c.closing_sign-sign.result c.closing_sign-sign.ensures.sign c.requires.here.here set
+
+pub cycle-requires-clause-places : goal.cycle-requires-clause-places
+cycle-requires-clause-places c = c.requires.places
+
+pub cycle-requires-clause-place : goal.cycle-requires-clause-place
+cycle-requires-clause-place c = c.requires.partner.forces.1
+
+pub sum-requires-clause-rows : goal.sum-requires-clause-rows
+sum-requires-clause-rows c k l =
+    let inside = c.in_ok-cycle.ensures.cycle.row_set.in_range k l in
+    omega (arith, inside, c.requires.state.signs.same_height)
+
+pub sum-requires-clause-columns : goal.sum-requires-clause-columns
+sum-requires-clause-columns c k l =
+    let inside = c.in_ok-cycle.ensures.cycle.column_set.in_range k l in
+    omega (arith, inside, c.requires.state.signs.same_width)
+
+pub set-requires-clause-row : goal.set-requires-clause-row
+set-requires-clause-row c = omega (arith, c.requires.row, c.requires.state.signs.same_height)
+
+pub set-requires-clause-column : goal.set-requires-clause-column
+set-requires-clause-column c =
+    let inside = column_in c.args.matrix.now c.args.row c.args.forced.column c.requires.places.room.fits.matrix.rectangular c.requires.here.here.one in
+    omega (arith, inside, c.requires.state.signs.same_width)
+
+pub set-requires-clause-small : goal.set-requires-clause-small
+set-requires-clause-small c =
+    let small = sign_is_entry c.closing_sign-sign.result c.closing_sign-sign.ensures.sign in
+    subst IsEntry (sym (entry_as_byte c.closing_sign-sign.result small)) small
+
+pub returns-clause-places : goal.returns-clause-places
+returns-clause-places c = c.in_ok-cycle.ensures.places

@@ -1,9 +1,60 @@
-use Rattle.std.proofs.Common.{◌∙◌, ◌∷◌, ◌+◌, [], map, arith, ap, length, length-append}
+use Rattle.std.proofs.Common.{◌≡◌, ◌∙◌, ◌∷◌, ◌+◌, ℕ, List, [], map, arith, ap, refl, sym, subst, length, length-append}
+use Rattle.std.proofs.lemmas.List.{append-nil, length-map, take_all}
+use Rattle.cmr_io.specs.Calls.{up_to_last}
 use Rattle.cmr_io.proofs.KeptLemmas.{keeps_names_on}
-use Rattle.cmr_front.specs.Inputs.{bytes_of, input_file}
+use Rattle.cmr_front.specs.declared.input.Input.{Input}
+use Rattle.cmr_front.specs.declared.input.Text.{Text}
+use Rattle.cmr_front.specs.Inputs.{bytes_of, given, input_file, texts}
 use Rattle.cmr_front.specs.Unread.{AreRead, between}
+use Rattle.cmr_front.proofs.Endings.{rose_from}
 use Rattle.cmr_front.proofs.Inputs.{one_more_begun, one_more_ended, stopped_at, texts_more}
 use Rattle.cmr_front.proofs.input.read_inputs.Goals as goal
+
+pub loop-input-init : goal.loop-input-init
+loop-input-init g c =
+    let ends = (g.S.Shelf.reads c.args.shelf.now).ends in
+    let same : ends ≡ ends + 0 = omega arith in
+    record {
+      given = λ told. ap (λ (read : List Text). texts (map bytes_of read)) (sym c.new-read.ensures.items);
+      count = ap length c.new-read.ensures.items;
+      ended = record {
+        have_begun = sym (append-nil (g.S.Shelf.reads c.args.shelf.now).names);
+        have_ended = ap up_to_last same;
+      };
+      kept = record {
+        names = λ name. refl;
+        standing = record {
+          telling = refl;
+          calm = λ calm. calm;
+          rooms = λ name. refl;
+        };
+      };
+      later = omega arith;
+    }
+
+pub returns-clause-given : goal.returns-clause-given
+returns-clause-given g c = λ told.
+    subst (λ (inputs : List Input). given (g.S.Shelf.content c.args.shelf.now) (map input_file inputs) ≡ texts (map bytes_of c.loop-input.read.items))
+    (take_all c.loop-input.input-index c.args.inputs.now c.loop-input-test.false) (c.loop-input.invariant.given told)
+
+pub returns-clause-count : goal.returns-clause-count
+returns-clause-count g c = omega (arith, c.loop-input.invariant.count, c.loop-input-test.false, c.loop-input.auto.input-index-end)
+
+pub returns-clause-ended : goal.returns-clause-ended
+returns-clause-ended g c =
+    let files = map input_file c.args.inputs.now in
+    let all : c.loop-input.input-index ≡ length files = omega (arith, c.loop-input-test.false, c.loop-input.auto.input-index-end, length-map c.args.inputs.now input_file) in
+    subst (λ (n : ℕ). AreRead files n n (between (g.S.Shelf.reads c.args.shelf.now) (g.S.Shelf.reads c.loop-input.shelf))) all c.loop-input.invariant.ended
+
+pub returns-in-Err-clause-cause : goal.returns-in-Err-clause-cause
+returns-in-Err-clause-cause g c = λ device.
+    rose_from (g.S.Shelf.faults c.args.shelf.now) (g.S.Shelf.faults c.loop-input.shelf) (g.S.Shelf.faults c.read_input.new.shelf) c.loop-input.invariant.later (c.in-Err.ensures.cause device)
+
+pub returns-in-Err-clause-kept : goal.returns-in-Err-clause-kept
+returns-in-Err-clause-kept g c = keeps_names_on c.loop-input.invariant.kept c.in-Err.ensures.kept
+
+pub returns-in-Err-push-clause-kept : goal.returns-in-Err-push-clause-kept
+returns-in-Err-push-clause-kept g c = keeps_names_on c.loop-input.invariant.kept c.in-Ok.ensures.kept
 
 pub returns-in-Err-clause-stopped : goal.returns-in-Err-clause-stopped
 returns-in-Err-clause-stopped g c =

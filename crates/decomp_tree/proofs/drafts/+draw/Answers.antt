@@ -1,10 +1,11 @@
-use Rattle.std.proofs.Common.{◌≡◌, ◌∙◌, List, map, length, ap, sym, subst, arith}
+use Rattle.std.proofs.Common.{rules, ◌≡◌, ◌<◌, ◌+◌, ◌∙◌, List, map, length, ap, sym, subst, arith}
 use Rattle.std.specs.List.{AllByRecursion}
 use Rattle.cmr_base.specs.declared.line_set.LineSet.{LineSet}
 use Rattle.cmr_base.specs.Matrix.{Matrix}
 use Rattle.cmr_base.proofs.Lists.{all_at}
 use Rattle.tree_type.specs.Invariant.{AreLines}
 use Rattle.decomp_tree.specs.declared.drafts.Front.{Front}
+use Rattle.decomp_tree.specs.Obstructions.{IsKnown}
 use Rattle.decomp_tree.specs.Seen.{AreFewer}
 use Rattle.decomp_tree.specs.Sketches.{sketches_from, sketch_of, AreDrafted, IsDraftedBehind}
 use Rattle.decomp_tree.proofs.Children.{child_lines}
@@ -20,13 +21,35 @@ in_child-requires-clause-lines g t c =
     subst (λ (m : Matrix). AreLines m c.child-item.result) (sym c.by_rows.ensures.matrix)
     (child_lines c.args.matrix.now c.args.lines.now c.child-item.result c.requires.lines (subst (AreFewer c.args.lines.now) (sym c.child-item.is) fewer))
 
-pub draw-requires-clause-lines : goal.draw-requires-clause-lines
-draw-requires-clause-lines g t c =
+pub draw-requires : goal.draw-requires
+draw-requires g t c =
     let front = c.in_ok-front.front.value in
     let items = c.as_slice-child-items.result.now in
+    let child = c.child-item.result in
     let same : items ≡ front.children = c.as_slice-child-items.ensures ∙ ap (λ (f : Front). f.children) c.deref.ensures in
-    let fewer = all_at (AreFewer c.args.lines.now) items c.loop-child.child-index c.child-item.result (subst (AllByRecursion (AreFewer c.args.lines.now)) (sym same) c.in_ok-front.ensures.said.fewer) c.loop-child-test.true in
-    λ κs lives. child_lines c.args.matrix.now c.args.lines.now c.child-item.result c.requires.lines (subst (AreFewer c.args.lines.now) (sym c.child-item.is) fewer)
+    let at_place = all_at (AreFewer c.args.lines.now) items c.loop-child.child-index child (subst (AllByRecursion (AreFewer c.args.lines.now)) (sym same) c.in_ok-front.ensures.said.fewer) c.loop-child-test.true in
+    let are_fewer : AreFewer c.args.lines.now child = subst (AreFewer c.args.lines.now) (sym c.child-item.is) at_place in
+    let fewer : length child.rows + length child.columns < length c.args.lines.now.rows + length c.args.lines.now.columns = are_fewer.fewer in
+    let falls : length child.rows + length child.columns < t = omega (arith, c.decreases, fewer) in
+    λ κs lives. (
+      falls,
+      (
+        search rules,
+        (
+          search rules,
+          (
+            c.requires.shape,
+            (
+              child_lines c.args.matrix.now c.args.lines.now child c.requires.lines are_fewer,
+              (
+                subst (λ (m : Matrix). IsKnown m c.in_ok-known.known) c.by_rows.ensures.matrix c.in_ok-known.ensures.known,
+                c.in_ok-known.ensures.sought,
+              ),
+            ),
+          ),
+        ),
+      ),
+    )
 
 pub loop-child-preserved : goal.loop-child-preserved
 loop-child-preserved g t c =

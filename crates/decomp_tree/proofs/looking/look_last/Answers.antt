@@ -5,9 +5,17 @@ use Rattle.leaf_enumerate.specs.Searched.{HasSearched, shorter_side}
 use Rattle.tree_type.specs.declared.finding.Finding.{Finding}
 use Rattle.tree_type.specs.declared.finding.Finding.TheVariants as held
 use Rattle.decomp_tree.specs.Seen.{IsSeen}
-use Rattle.decomp_tree.proofs.Said.{seen_violator, seen_enumerated, seen_undecided}
+use Rattle.decomp_tree.proofs.Said.{placed_violator, seen_violator, seen_enumerated, seen_undecided}
 use Rattle.decomp_tree.proofs.looking.look_last.Goals as goal
 use Rattle.decomp_tree.proofs.looking.look_last.Goals.{in-Found+in_ok-named_set-in-Found, in-Clean, in-TooMany}
+
+pub named_set-requires : goal.named_set-requires
+named_set-requires g c =
+    let limit = c.args.node.now.limits.lines in
+    let found = c.in-Found.found in
+    let searched = subst (λ (n : ℕ). HasSearched c.args.node.now.submatrix.now n c.in_ok-found.field-0) c.lines.ensures c.in_ok-found.ensures in
+    let has = subst (λ (k : Matrix). (shorter_side k ≤ limit) × IsLeastViolator k found.rows found.columns) c.args.node.now.submatrix_is (subst (HasSearched c.args.node.now.submatrix.now limit) c.in-Found.is searched) in
+    placed_violator limit c.args.node.now.matrix.now c.args.node.now.shape c.args.node.now.lines.now c.args.node.now.are_lines found c.args.node.now.limits.few_lines has.1
 
 pub returns : goal.returns
 returns g c =

@@ -1,27 +1,83 @@
 use Rattle.std.proofs.Common.{rules, ◌≡◌, ◌<◌, ◌+◌, ◌-◌, ◌*◌, ◌∙◌, ◌++◌, true, false, Option, MatchOption, List, [], ◌∷◌, length, map, append_assoc, append-nil, refl, ap, sym, subst, arith}
-use Rattle.std.proofs.lemmas.List.{map-append}
+use Rattle.std.proofs.lemmas.List.{length-map, map-append}
 use Rattle.std.proofs.lemmas.Result.{IfOk-weaker}
 use Rattle.std.specs.Vec.Iter.{into_iter_items}
 use Rattle.cmr_base.specs.declared.line_set.LineSet.{LineSet}
-use Rattle.cmr_base.specs.Matrix.{Matrix}
+use Rattle.cmr_base.specs.Matrix.{Matrix, IsMatrix}
 use Rattle.cmr_base.proofs.Lists.{no_items}
 use Rattle.pivots.specs.PivotedParts.{IsPivotedPart}
 use Rattle.tree_type.specs.Findings.{finding_shown}
-use Rattle.tree_type.specs.Invariant.{size_of}
-use Rattle.tree_type.specs.DecompositionTrees.{Branch, Cycle, NoTrees, Violator, tree_of}
+use Rattle.tree_type.specs.Invariant.{AreLines, size_of}
+use Rattle.tree_type.specs.DecompositionTrees.{Tree, Branch, Cycle, NoTrees, Violator, tree_of}
 use Rattle.tree_type.specs.Verdicts.{verdict_of}
 use Rattle.tree_type.specs.declared.tree.Node.{Node}
 use Rattle.decomp_tree.specs.declared.drafts.Draft.{Draft}
 use Rattle.decomp_tree.specs.declared.drafts.Draft.TheViews.{out-roll-Draft}
 use Rattle.decomp_tree.specs.declared.drafts.Front.{Front}
-use Rattle.decomp_tree.specs.PivotedShapes.{IsFound, IsToldBeforePivot, undecided}
+use Rattle.decomp_tree.specs.PivotedShapes.{IsBehind, IsDrawnWith, IsFound, IsToldBeforePivot, undecided}
 use Rattle.decomp_tree.specs.Refined.{is_undecided}
-use Rattle.decomp_tree.specs.Seen.{IsNamedFault, is_unsearched}
+use Rattle.decomp_tree.specs.Seen.{HasNoneAmong, IsNamedFault, is_unsearched}
 use Rattle.decomp_tree.specs.Sketches.{sketch_of, lines_of_sketch, front_in, drafts_in, HasNoLateFault}
 use Rattle.decomp_tree.proofs.Children.{child_lines}
-use Rattle.decomp_tree.proofs.FoundCases.{fault_drawn, found_after, found_no_place, found_two, lines_made}
-use Rattle.decomp_tree.proofs.Settled.{AreSettled, lines_in, child_at, settled_next, count_settled, whole_settled, fault_settled, found_settled}
+use Rattle.decomp_tree.proofs.DraftLemmas.{lines_are}
+use Rattle.decomp_tree.proofs.FoundCases.{fault_drawn, found_after, found_none, found_no_place, found_two, lines_made}
+use Rattle.decomp_tree.proofs.Settled.{AreSettled, lines_in, none_if_free, child_at, settled_next, count_settled, whole_settled, fault_settled, found_settled}
 use Rattle.decomp_tree.proofs.settling.+settling.Goals as goal
+
+-- ---- the root
+
+-- what is made of the last node is the only tree
+only_root : (others : List Node) (root : Node) (tree : Tree) → map tree_of (others ++ root ∷ []) ≡ tree ∷ [] → tree_of root ≡ tree
+only_root [] root tree e = cc
+only_root (x ∷ []) root tree e = absurd (cc)
+only_root (x ∷ y ∷ others) root tree e = absurd (cc)
+
+-- a tree that stands behind none is that of the last node
+only_behind : (Stands : Tree → Type 0) (others : List Node) (root : Node) → IsBehind Stands [] (map tree_of (others ++ root ∷ [])) → Stands (tree_of root)
+only_behind Stands others root b = subst Stands (sym (only_root others root b.tree b.order)) b.stands
+
+some_behind : (Stands : Tree → Type 0) (nodes : List Node) → IsBehind Stands [] (map tree_of nodes) → length nodes ≡ 0 → ⊥
+some_behind Stands nodes b none = let one = sym (length-map nodes tree_of) ∙ ap length b.order in omega (arith, one, none)
+
+pub draw_root-settle-requires : goal.draw_root-settle-requires
+draw_root-settle-requires g t c =
+    let drawn = c.in_ok-drawn.drawn in
+    let same : lines_of_sketch (sketch_of drawn) ≡ c.args.lines.now = c.in_ok-drawn.ensures.lines in
+    let size : size_of (lines_of_sketch (sketch_of drawn)) ≡ size_of c.args.lines.now = ap size_of same in
+    let falls : 4 * (c.args.pivots + size_of (lines_of_sketch (sketch_of drawn))) + 2 < t = omega (arith, c.decreases, size) in
+    λ κs lives. (
+      falls,
+      (
+        search rules,
+        (
+          search rules,
+          (
+            c.requires.state,
+            (
+              subst IsMatrix (sym c.of-both.ensures) c.requires.shape,
+              (
+                subst (λ (m : Matrix). AreLines m (lines_of_sketch (sketch_of drawn))) (sym c.of-both.ensures) (subst (AreLines c.args.matrix.now) (sym same) c.requires.lines),
+                c.in_ok-drawn.ensures.drafted,
+              ),
+            ),
+          ),
+        ),
+      ),
+    )
+
+pub draw_root-unreachable-requires : goal.draw_root-unreachable-requires
+draw_root-unreachable-requires g t c =
+    let Stands = IsDrawnWith c.args.limits.lines c.args.pivots c.args.state c.of-both.result (lines_of_sketch (sketch_of c.in_ok-drawn.drawn)) in
+    let behind = subst (λ (nodes : List Node). IsBehind Stands (map tree_of nodes) (map tree_of c.settle.new.nodes.items)) c.new-roots.ensures.items c.in_ok-settle.ensures in
+    some_behind Stands c.settle.new.nodes.items behind (let z = c.in_default.ensures.cases.0 in let k = c.settle.new.nodes.ok in omega (arith, k, z))
+
+pub draw_root-returns : goal.draw_root-returns
+draw_root-returns g t c =
+    let Stands = IsDrawnWith c.args.limits.lines c.args.pivots c.args.state c.of-both.result (lines_of_sketch (sketch_of c.in_ok-drawn.drawn)) in
+    let behind = subst (λ (nodes : List Node). IsBehind Stands (map tree_of nodes) (map tree_of c.settle.new.nodes.items)) c.new-roots.ensures.items c.in_ok-settle.ensures in
+    let only = only_behind Stands c.pop.new.self.items c.in-Some.root (subst (λ (nodes : List Node). IsBehind Stands [] (map tree_of nodes)) c.in-Some.ensures.items behind) in
+    subst (λ (m : Matrix). IsDrawnWith c.args.limits.lines c.args.pivots c.args.state m c.args.lines.now (tree_of c.in-Some.root)) c.of-both.ensures
+    (subst (λ (lines : LineSet). IsDrawnWith c.args.limits.lines c.args.pivots c.args.state c.of-both.result lines (tree_of c.in-Some.root)) c.in_ok-drawn.ensures.lines only)
 
 -- ---- what pivots find
 
@@ -30,10 +86,31 @@ find-returns-in_default g t c =
     IfOk-weaker c.leaf-in_default.result (λ node. tree_of node ≡ undecided c.args.lines.now) _
     (λ node e. found_no_place c.args.limits.lines c.args.pivots c.args.state c.args.matrix.now c.args.lines.now (tree_of node) c.if-pivots-eq0.false (sym c.drawn_place.ensures.drawn ∙ c.in_default.is) e) c.leaf-in_default.ensures
 
-pub find-draw_root-requires-clause-lines : goal.find-draw_root-requires-clause-lines
-find-draw_root-requires-clause-lines g t c =
+pub find-returns-then-pivots-eq0 : goal.find-returns-then-pivots-eq0
+find-returns-then-pivots-eq0 g t c =
+    IfOk-weaker c.leaf.result (λ node. tree_of node ≡ undecided c.args.lines.now) _
+    (λ node e. found_none c.args.limits.lines c.args.pivots c.args.state c.args.matrix.now c.args.lines.now (tree_of node) c.if-pivots-eq0.true e) c.leaf.ensures
+
+pub find-draw_root-requires : goal.find-draw_root-requires
+find-draw_root-requires g t c =
     let made = subst (IsPivotedPart c.args.matrix.now c.args.lines.now c.in-Some.drawn.place) c.in-Ternary.is c.in_ok-fault.ensures in
-    λ κs lives. lines_made c.args.limits.lines c.args.pivots c.args.state c.args.matrix.now c.args.lines.now c.in-Some.drawn (sym c.drawn_place.ensures.drawn ∙ c.in-Some.is) c.in-Ternary.after made c.requires.lines
+    let falls : 4 * ((c.args.pivots - 1) + size_of c.args.lines.now) + 3 < t = omega (arith, c.decreases, c.if-pivots-eq0.false) in
+    λ κs lives. (
+      falls,
+      (
+        search rules,
+        (
+          search rules,
+          (
+            c.in-Some.ensures.low,
+            (
+              made.shape,
+              lines_made c.args.limits.lines c.args.pivots c.args.state c.args.matrix.now c.args.lines.now c.in-Some.drawn (sym c.drawn_place.ensures.drawn ∙ c.in-Some.is) c.in-Ternary.after made c.requires.lines,
+            ),
+          ),
+        ),
+      ),
+    )
 
 pub find-taken_back-requires-clause-fault : goal.find-taken_back-requires-clause-fault
 find-taken_back-requires-clause-fault g t c =
@@ -87,6 +164,38 @@ settle-returns-then-is_undecided g t c =
     (subst (λ (front : Front). IsFound c.args.limits.lines c.args.pivots c.args.state m front.lines (tree_of c.in_ok-found.found)) c.deref-then-is_undecided.ensures
     (subst (λ (whole : Matrix). IsFound c.args.limits.lines c.args.pivots c.args.state whole c.deref-then-is_undecided.result.now.lines (tree_of c.in_ok-found.found)) c.by_rows-whole.ensures.matrix c.in_ok-found.ensures))
     (map tree_of c.args.nodes.now.items) (map tree_of c.push.new.self.items) (tree_behind c.args.nodes.now.items c.push.new.self.items c.in_ok-found.found c.in_ok-push.ensures.items)
+
+pub settle-late_fault-requires-clause-lines : goal.settle-late_fault-requires-clause-lines
+settle-late_fault-requires-clause-lines g t c =
+    subst (λ (front : Front). AreLines c.args.matrix.now front.lines) (sym c.deref.ensures) (lines_in c.args.limits.lines c.args.matrix.now c.args.drawn c.requires.drafted c.requires.lines)
+
+pub settle-late_fault-requires-clause-free : goal.settle-late_fault-requires-clause-free
+settle-late_fault-requires-clause-free g t c free =
+    subst (λ (front : Front). HasNoneAmong c.args.matrix.now front.lines) (sym c.deref.ensures) (none_if_free c.args.limits.lines c.args.matrix.now c.args.drawn c.requires.drafted free)
+
+pub settle-find-requires : goal.settle-find-requires
+settle-find-requires g t c =
+    let m = c.args.matrix.now in
+    let lines = c.deref-then-is_undecided.result.now.lines in
+    let same : lines ≡ lines_of_sketch (sketch_of c.args.drawn) = ap (λ (front : Front). front.lines) c.deref-then-is_undecided.ensures ∙ sym (lines_are c.args.drawn) in
+    let size : size_of lines ≡ size_of (lines_of_sketch (sketch_of c.args.drawn)) = ap size_of same in
+    let falls : 4 * (c.args.pivots + size_of lines) < t = omega (arith, c.decreases, size) in
+    λ κs lives. (
+      falls,
+      (
+        search rules,
+        (
+          search rules,
+          (
+            c.requires.state,
+            (
+              subst IsMatrix (sym c.by_rows-whole.ensures.matrix) c.requires.shape,
+              subst (λ (whole : Matrix). AreLines whole lines) (sym c.by_rows-whole.ensures.matrix) (subst (AreLines m) (sym same) c.requires.lines),
+            ),
+          ),
+        ),
+      ),
+    )
 
 pub settle-settle-requires : goal.settle-settle-requires
 settle-settle-requires g t c =

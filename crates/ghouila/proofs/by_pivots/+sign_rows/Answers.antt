@@ -1,14 +1,14 @@
-use Rattle.std.proofs.Common.{◌≡◌, ◌<◌, ◌+◌, ◌*◌, ◌∙◌, ◌⊎◌, ℕ, Some, None, set, ap₂, List, [], ◌∷◌, ℤ, ◌+ℤ◌, pos, length, get_or, ap, sym, subst, arith, vec_len, Bool, false}
+use Rattle.std.proofs.Common.{◌≡◌, ◌≢◌, ◌<◌, ◌+◌, ◌*◌, ◌∙◌, ◌⊎◌, ℕ, Some, None, set, ap₂, List, [], ◌∷◌, ℤ, ◌+ℤ◌, pos, length, get_or, ap, sym, subst, arith, vec_len, Bool, false}
 use Rattle.std.specs.List.{AllByRecursion, remove, Contains}
 use Rattle.std.specs.Prelude.{◌==◌, ◌↔◌}
 use Rattle.std.proofs.lemmas.Bool.Decides.{nat_tests}
 use Rattle.std.proofs.lemmas.List.{get_or_read, append-nil}
-use Rattle.cmr_base.specs.Matrix.{height, entry}
-use Rattle.cmr_base.specs.LineSets.{IsRowSet}
+use Rattle.cmr_base.specs.Matrix.{Matrix, height, entry}
+use Rattle.cmr_base.specs.LineSets.{AllBelow, IsRowSet}
 use Rattle.cmr_base.specs.Signing.{IsSign}
 use Rattle.cmr_base.specs.Sums.{sum_over, IsEven, IsOdd}
-use Rattle.cmr_base.proofs.Lists.{HasOneMore, all_contained, contains_first, contains_later}
-use Rattle.ghouila.specs.Pivot.{IsOutside, reduced, IsTernaryRow, IsPivot, HasNoPivot, IsFirstTwoEntry, KeepsRowsElsewhere, PivotsRows}
+use Rattle.cmr_base.proofs.Lists.{HasOneMore, all_contained, all_without, contains_first, contains_later}
+use Rattle.ghouila.specs.Pivot.{IsOutside, reduced, IsTernaryRow, IsPivot, IsFirstPivot, HasNoPivot, IsFirstTwoEntry, KeepsRowsElsewhere, PivotsRows}
 use Rattle.ghouila.specs.Found.{marked, SignsRows, MarksViolator, MarksAnew}
 use Rattle.ghouila.specs.MarkedSignings.{IsOutcome, AddsRun}
 use Rattle.ghouila.specs.SignRuns.{IsTakenBack}
@@ -264,3 +264,154 @@ sign_left-returns-in-None-clause-run t c =
     let none : (column : ℕ) → column < m.width → HasNoPivot m left column = subst (λ xs. (column : ℕ) → column < m.width → HasNoPivot m xs column) c.deref.ensures.value c.in-None.ensures.none in
     let row : call.result ≡ get_or left 0 0 = get_or_read left 0 call.result within call.ensures.value 0 in
     c.sign_aside.ensures.run left (record { no_pivot = none; rows_are = first_and_others left within ∙ ap₂ (λ (r : ℕ) (xs : List ℕ). r ∷ xs) (sym row) (sym call.ensures.items) })
+
+-- ---- what the calls require, and the other rows
+
+keeps_through : (first middle last : Matrix) (rows : List ℕ) → KeepsRowsElsewhere first middle rows → KeepsRowsElsewhere middle last rows → KeepsRowsElsewhere first last rows
+keeps_through first middle last rows one two = record {
+  same_height = two.same_height ∙ one.same_height;
+  same_width = two.same_width ∙ one.same_width;
+  others = λ i j out. two.others i j out ∙ one.others i j out;
+}
+
+-- what stays when fewer rows change stays when one more may change
+keeps_with_more : (before after : Matrix) (row : ℕ) (fewer more : List ℕ) → HasOneMore row fewer more → KeepsRowsElsewhere before after fewer → KeepsRowsElsewhere before after more
+keeps_with_more before after row fewer more one keeps = record {
+  same_height = keeps.same_height;
+  same_width = keeps.same_width;
+  others = λ i j out. keeps.others i j (all_without (λ other. other ≢ i) row fewer more one out);
+}
+
+pub sign_left-first_pivot-requires : goal.sign_left-first_pivot-requires
+sign_left-first_pivot-requires t c = subst (AllBelow (height c.args.work.now)) (sym c.deref.ensures.value) c.requires.in_range
+
+pub sign_left-remove-row-requires : goal.sign_left-remove-row-requires
+sign_left-remove-row-requires t c = omega (arith, c.in-Some.ensures.some.pivot.within, ap length c.deref.ensures.value, c.args.left.ok.0)
+
+pub sign_left-remove-row-requires-in-None : goal.sign_left-remove-row-requires-in-None
+sign_left-remove-row-requires-in-None t c = nonempty (vec_len c.args.left) c.is_empty.result c.is_empty.ensures c.if-is_empty.false
+
+pub sign_left-returns-in-Some-clause-run : goal.sign_left-returns-in-Some-clause-run
+sign_left-returns-in-Some-clause-run t c =
+    let m = c.args.work.now in
+    let left = c.args.left.items in
+    let place = c.in-Some.pivot.place in
+    let first : IsFirstPivot m left place c.in-Some.pivot.column = subst (λ xs. IsFirstPivot m xs place c.in-Some.pivot.column) c.deref.ensures.value c.in-Some.ensures.some in
+    c.sign_by_pivot.ensures.run left (record { place = place; first = first; row_is = get_or_read left place c.remove-row.result first.pivot.within c.remove-row.ensures.value 0; left_is = c.remove-row.ensures.items })
+
+pub sign_left-returns-in-Some-clause-others : goal.sign_left-returns-in-Some-clause-others
+sign_left-returns-in-Some-clause-others t c =
+    let left = c.args.left.items in
+    let place = c.in-Some.pivot.place in
+    let within : place < length left = omega (arith, c.in-Some.ensures.some.pivot.within, ap length c.deref.ensures.value) in
+    keeps_with_more c.args.work.now c.sign_by_pivot.new.work (get_or left place 0) (remove left place) left (one_more-remove left place within) (subst (KeepsRowsElsewhere c.args.work.now c.sign_by_pivot.new.work) c.remove-row.ensures.items c.sign_by_pivot.ensures.others)
+
+pub sign_left-returns-in-None-clause-found : goal.sign_left-returns-in-None-clause-found
+sign_left-returns-in-None-clause-found t c =
+    let m = c.args.work.now in
+    let left = c.args.left.items in
+    let call = c.remove-row-in-None in
+    let within : 0 < length left = omega (arith, nonempty (vec_len c.args.left) c.is_empty.result c.is_empty.ensures c.if-is_empty.false, c.args.left.ok.0) in
+    let row : call.result ≡ get_or left 0 0 = get_or_read left 0 call.result within call.ensures.value 0 in
+    let more : HasOneMore call.result call.new.self.items left =
+    subst (λ r. HasOneMore r call.new.self.items left) (sym row) (subst (λ xs. HasOneMore (get_or left 0 0) xs left) (sym call.ensures.items) (one_more-remove left 0 within)) in
+    found_reordered m call.result call.new.self.items left more c.sign_aside.result c.sign_aside.ensures.found
+
+pub sign_left-returns-in-None-clause-others : goal.sign_left-returns-in-None-clause-others
+sign_left-returns-in-None-clause-others t c =
+    let left = c.args.left.items in
+    let within : 0 < length left = omega (arith, nonempty (vec_len c.args.left) c.is_empty.result c.is_empty.ensures c.if-is_empty.false, c.args.left.ok.0) in
+    keeps_with_more c.args.work.now c.sign_aside.new.work (get_or left 0 0) (remove left 0) left (one_more-remove left 0 within) (subst (KeepsRowsElsewhere c.args.work.now c.sign_aside.new.work) c.remove-row-in-None.ensures.items c.sign_aside.ensures.others)
+
+pub sign_by_pivot-first_square_violator-requires-clause-rows : goal.sign_by_pivot-first_square_violator-requires-clause-rows
+sign_by_pivot-first_square_violator-requires-clause-rows t c = subst (AllBelow (height c.args.work.now)) (sym c.deref.ensures.value) c.requires.rows.in_range
+
+pub sign_by_pivot-of_square-requires-clause-square : goal.sign_by_pivot-of_square-requires-clause-square
+sign_by_pivot-of_square-requires-clause-square t c = c.in-Some.ensures.some.1
+
+pub sign_by_pivot-make_pivot-requires-clause-rows : goal.sign_by_pivot-make_pivot-requires-clause-rows
+sign_by_pivot-make_pivot-requires-clause-rows t c = subst (IsRowSet c.args.work.now) (sym c.deref-2.ensures.value) c.requires.rows
+
+pub sign_by_pivot-make_pivot-requires-clause-apart : goal.sign_by_pivot-make_pivot-requires-clause-apart
+sign_by_pivot-make_pivot-requires-clause-apart t c = subst (IsOutside c.args.row) (sym c.deref-2.ensures.value) c.requires.apart
+
+pub sign_by_pivot-sign_left-requires : goal.sign_by_pivot-sign_left-requires
+sign_by_pivot-sign_left-requires t c =
+    let height_is = c.make_pivot.ensures.others.same_height in
+    let falls : 2 * vec_len c.args.left + 1 < t = omega (arith, c.decreases) in
+    (falls, record { rising = c.requires.rows.rising; in_range = λ k h. omega (arith, c.requires.rows.in_range k h, height_is) })
+
+pub sign_by_pivot-returns-in_err-signs-clause-others : goal.sign_by_pivot-returns-in_err-signs-clause-others
+sign_by_pivot-returns-in_err-signs-clause-others t c =
+    let keeps = subst (KeepsRowsElsewhere c.args.work.now c.make_pivot.new.work) c.deref-2.ensures.value c.make_pivot.ensures.others in
+    keeps_through c.args.work.now c.make_pivot.new.work c.sign_left.new.work c.args.left.items keeps c.sign_left.ensures.others
+
+pub sign_by_pivot-sign_pivot-requires-clause-row : goal.sign_by_pivot-sign_pivot-requires-clause-row
+sign_by_pivot-sign_pivot-requires-clause-row t c =
+    let s = c.in-Signed.signs in
+    let found : SignsRows c.make_pivot.new.work c.args.left.items s.signs.items s.sums.items = subst (IsOutcome c.make_pivot.new.work c.args.left.items) c.in-Signed.is c.in_ok-signs.ensures.found in
+    omega (arith, found.one_each, c.make_pivot.ensures.others.same_height, c.requires.row)
+
+pub sign_by_pivot-sign_pivot-requires-clause-column : goal.sign_by_pivot-sign_pivot-requires-clause-column
+sign_by_pivot-sign_pivot-requires-clause-column t c =
+    let s = c.in-Signed.signs in
+    let found : SignsRows c.make_pivot.new.work c.args.left.items s.signs.items s.sums.items = subst (IsOutcome c.make_pivot.new.work c.args.left.items) c.in-Signed.is c.in_ok-signs.ensures.found in
+    omega (arith, found.sum_each, c.make_pivot.ensures.others.same_width, c.requires.column)
+
+pub sign_by_pivot-undo_pivot-requires-clause-row : goal.sign_by_pivot-undo_pivot-requires-clause-row
+sign_by_pivot-undo_pivot-requires-clause-row t c = omega (arith, c.requires.row, c.make_pivot.ensures.others.same_height, c.sign_left.ensures.others.same_height)
+
+pub sign_by_pivot-undo_pivot-requires-clause-column : goal.sign_by_pivot-undo_pivot-requires-clause-column
+sign_by_pivot-undo_pivot-requires-clause-column t c = omega (arith, c.requires.column, c.make_pivot.ensures.others.same_width, c.sign_left.ensures.others.same_width)
+
+pub sign_by_pivot-undo_pivot-requires-clause-row_each : goal.sign_by_pivot-undo_pivot-requires-clause-row_each
+sign_by_pivot-undo_pivot-requires-clause-row_each t c =
+    let v = c.in-Violated.lines in
+    let found : MarksViolator c.make_pivot.new.work c.args.left.items v.rows.items v.columns.items v.odd.items = subst (IsOutcome c.make_pivot.new.work c.args.left.items) c.in-Violated.is c.in_ok-signs.ensures.found in
+    found.row_each ∙ sym c.sign_left.ensures.others.same_height
+
+pub sign_by_pivot-undo_pivot-requires-clause-column_each : goal.sign_by_pivot-undo_pivot-requires-clause-column_each
+sign_by_pivot-undo_pivot-requires-clause-column_each t c =
+    let v = c.in-Violated.lines in
+    let found : MarksViolator c.make_pivot.new.work c.args.left.items v.rows.items v.columns.items v.odd.items = subst (IsOutcome c.make_pivot.new.work c.args.left.items) c.in-Violated.is c.in_ok-signs.ensures.found in
+    found.column_each ∙ sym c.sign_left.ensures.others.same_width
+
+pub sign_by_pivot-undo_pivot-requires-clause-odd_each : goal.sign_by_pivot-undo_pivot-requires-clause-odd_each
+sign_by_pivot-undo_pivot-requires-clause-odd_each t c =
+    let v = c.in-Violated.lines in
+    let found : MarksViolator c.make_pivot.new.work c.args.left.items v.rows.items v.columns.items v.odd.items = subst (IsOutcome c.make_pivot.new.work c.args.left.items) c.in-Violated.is c.in_ok-signs.ensures.found in
+    found.odd_each ∙ sym c.sign_left.ensures.others.same_width
+
+pub sign_by_pivot-returns-in-Signed-clause-others : goal.sign_by_pivot-returns-in-Signed-clause-others
+sign_by_pivot-returns-in-Signed-clause-others t c =
+    let keeps = subst (KeepsRowsElsewhere c.args.work.now c.make_pivot.new.work) c.deref-2.ensures.value c.make_pivot.ensures.others in
+    keeps_through c.args.work.now c.make_pivot.new.work c.sign_left.new.work c.args.left.items keeps c.sign_left.ensures.others
+
+pub sign_by_pivot-returns-in-Violated-clause-others : goal.sign_by_pivot-returns-in-Violated-clause-others
+sign_by_pivot-returns-in-Violated-clause-others t c =
+    let keeps = subst (KeepsRowsElsewhere c.args.work.now c.make_pivot.new.work) c.deref-2.ensures.value c.make_pivot.ensures.others in
+    keeps_through c.args.work.now c.make_pivot.new.work c.sign_left.new.work c.args.left.items keeps c.sign_left.ensures.others
+
+pub sign_aside-sign_left-requires : goal.sign_aside-sign_left-requires
+sign_aside-sign_left-requires t c = let falls : 2 * vec_len c.args.left + 1 < t = omega (arith, c.decreases) in (falls, c.requires.rows)
+
+pub sign_aside-sign_aside-requires-clause-row : goal.sign_aside-sign_aside-requires-clause-row
+sign_aside-sign_aside-requires-clause-row t c = omega (arith, c.requires.row, c.in_ok-violated.ensures.others.same_height)
+
+pub sign_aside-sign_aside-requires-clause-row_each : goal.sign_aside-sign_aside-requires-clause-row_each
+sign_aside-sign_aside-requires-clause-row_each t c =
+    let s = c.in-Signed.signs in
+    let found : SignsRows c.args.work.now c.args.left.items s.signs.items s.sums.items = subst (IsOutcome c.args.work.now c.args.left.items) c.in-Signed.is c.in_ok-violated.ensures.found in
+    found.one_each ∙ sym c.in_ok-violated.ensures.others.same_height
+
+pub sign_aside-sign_aside-requires-clause-column_each : goal.sign_aside-sign_aside-requires-clause-column_each
+sign_aside-sign_aside-requires-clause-column_each t c =
+    let s = c.in-Signed.signs in
+    let found : SignsRows c.args.work.now c.args.left.items s.signs.items s.sums.items = subst (IsOutcome c.args.work.now c.args.left.items) c.in-Signed.is c.in_ok-violated.ensures.found in
+    found.sum_each ∙ sym c.in_ok-violated.ensures.others.same_width
+
+pub sign_aside-sign_aside-requires-clause-small : goal.sign_aside-sign_aside-requires-clause-small
+sign_aside-sign_aside-requires-clause-small t c =
+    let s = c.in-Signed.signs in
+    let found : SignsRows c.args.work.now c.args.left.items s.signs.items s.sums.items = subst (IsOutcome c.args.work.now c.args.left.items) c.in-Signed.is c.in_ok-violated.ensures.found in
+    λ j h. found.entries j (omega (arith, h, c.in_ok-violated.ensures.others.same_width))

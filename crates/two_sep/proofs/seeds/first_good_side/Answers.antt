@@ -1,15 +1,38 @@
-use Rattle.std.proofs.Common.{◌+◌, ◌∙◌, ◌∷◌, [], ap, sym, subst, true, ℕ, arith}
+use Rattle.std.proofs.Common.{◌+◌, ◌∙◌, ◌∷◌, [], ◌≡◌, ap, sym, subst, false, ℕ, arith}
+use Rattle.cmr_base.specs.declared.line.Line.{Line}
 use Rattle.cmr_base.specs.declared.line.Line.TheVariants.{Column, Row}
 use Rattle.cmr_base.specs.Matrix.{entry}
 use Rattle.cmr_base.specs.Separations.{product_at, zeros}
+use Rattle.cmr_base.proofs.Booleans.{not_both}
 use Rattle.line_growth.specs.declared.growing_set.GrowingSet.{GrowingSet}
 use Rattle.line_growth.specs.declared.rule.GrowthRule.{GrowthRule}
 use Rattle.line_growth.specs.GrowingSets.{HasNoLeaving, HasRoom, IsGrowing, set_of}
-use Rattle.line_growth.specs.Rules.{lower_of, upper_of}
+use Rattle.line_growth.specs.Rules.{IsRuleOf, lower_of, upper_of}
 use Rattle.line_growth.proofs.SetSteps.{told_no, told_yes}
 use Rattle.two_sep.proofs.SeedSteps.{bad_backwards, column_not_good, first_found, none_good, not_good, row_not_good, rule_at, seeds_more}
 use Rattle.two_sep.proofs.seeds.first_good_side.Goals as goal
 use Rattle.two_sep.proofs.seeds.first_good_side.Goals.{then-place-row+then-place-rows+then-not-has+in_ok-start+in_ok-close+else-branch+in_ok-start-2+in_ok-close-2, else-place-row, else-place-row-via-then-place-row+then-place-rows+else-not-has, else-place-row-via-then-place-row+else-place-rows, else-place-row-via-else-place-row}
+
+-- a set with no rows and no columns
+no_line : (set : GrowingSet) → ((row : ℕ) → set_of set (Row row) ≡ false) → ((column : ℕ) → set_of set (Column column) ≡ false) → (x : Line) → set_of set x ≡ false
+no_line set rows columns (Row row) = rows row
+no_line set rows columns (Column column) = columns column
+
+pub loop-place-init : goal.loop-place-init
+loop-place-init c =
+    let bad = c.in_ok-bad.bad in
+    let new = c.in_ok-bad.ensures in record {
+      side_room = c.in_ok-side.ensures.room;
+      bad_room = new.room;
+      before = λ y l low. absurd (omega (arith, low));
+      pulled = λ y l e. absurd (not_both (set_of bad y) e (no_line bad new.rows new.columns y));
+    }
+
+pub close-requires-clause-rule : goal.close-requires-clause-rule
+close-requires-clause-rule c = record { upper = tt; lower = (c.requires.row, c.requires.column) }
+
+pub close-requires-then-not-has-clause-rule : goal.close-requires-then-not-has-clause-rule
+close-requires-then-not-has-clause-rule c = subst (λ (r : GrowthRule). IsRuleOf c.args.matrix.now r) (sym c.exchanged.ensures) (record { upper = (c.requires.row, c.requires.column); lower = tt })
 
 pub returns-then-branch : goal.returns-then-branch
 returns-then-branch c =

@@ -1,11 +1,11 @@
-use Rattle.std.proofs.Common.{MatchOption, Option, subst}
+use Rattle.std.proofs.Common.{MatchOption, Option, ◌+◌, ◌-◌, ◌*◌, ◌<◌, subst, arith}
 use Rattle.cuts.specs.declared.line_patterns.Halves.{Halves}
 use Rattle.cuts.specs.declared.sides.Side.{Side}
 use Rattle.cuts.specs.CutSides.{AreHalves, IsForced}
 use Rattle.cuts.specs.WordSets.{as_set}
 use Rattle.cuts.proofs.CoverLemmas.{covers_halves, covers_halves_beside, covers_line}
 use Rattle.cuts.proofs.ForcedLemmas.{covers_forced, covers_forced_beside}
-use Rattle.cuts.proofs.SearchSteps.{covered_at_once, searched_as, searched_both}
+use Rattle.cuts.proofs.SearchSteps.{covered_at_once, covers_shared, gave_up, marked_rest, searched_as, searched_both}
 use Rattle.cuts.proofs.cut_search.CutSearch.+search.Goals as goal
 
 pub search-returns-in-Some : goal.search-returns-in-Some
@@ -68,3 +68,97 @@ search_by_line-returns t c =
     searched_both m one two more_one two one more_two c.args.self.now.parted c.search.new.self.parted c.search-2.new.self.parted _ c.search-2.result
     (λ P h1 h2. covers_line m (as_set one.lines) (as_set two.lines) P (as_set more_one.lines) (as_set more_two.lines) c.in-Some.line c.in-Some.ensures c.in_ok-more_one.ensures.lines c.in_ok-more_two.ensures.lines h1 h2)
     c.if-not-branch.false c.in_ok-search.ensures c.search-2.ensures
+
+pub search-returns-then-meets : goal.search-returns-then-meets
+search-returns-then-meets t c =
+    let m = c.args.matrix.now in
+    let one = c.args.one.now in
+    let two = c.args.two.now in
+    let parted = c.args.self.now.parted in
+    covered_at_once m one two parted c.requires.size (covers_shared m one two (as_set parted) (c.meets.ensures c.if-meets.true))
+
+pub search-returns-then-have_all : goal.search-returns-then-have_all
+search-returns-then-have_all t c =
+    let parted = c.args.self.now.parted in
+    marked_rest c.args.matrix.now c.args.one.now c.args.two.now parted parted c.requires.size (λ x l e. e) (c.have_all.ensures c.if-have_all.true)
+
+pub search-search-requires : goal.search-search-requires
+search-search-requires t c =
+    let so = subst (λ (v : Option Side). MatchOption v (Unit {0}) (IsForced c.args.matrix.now c.args.one.now c.args.two.now.lines)) c.in-Some.is c.in_ok-more.ensures in
+    let falls : 4 * (c.args.depth - 1) < t = omega (arith, c.decreases, c.if-depth-eq0.false) in
+    (falls, record { size = c.requires.size; near = so.numbers; far = c.requires.far })
+
+pub search-search-requires-in-Some-2 : goal.search-search-requires-in-Some-2
+search-search-requires-in-Some-2 t c =
+    let so = subst (λ (v : Option Side). MatchOption v (Unit {0}) (IsForced c.args.matrix.now c.args.two.now c.args.one.now.lines)) c.in-Some-2.is c.in_ok-more-2.ensures in
+    let falls : 4 * (c.args.depth - 1) < t = omega (arith, c.decreases, c.if-depth-eq0.false) in
+    (falls, record { size = c.requires.size; near = c.requires.near; far = so.numbers })
+
+pub search-search_state-requires : goal.search-search_state-requires
+search-search_state-requires t c =
+    let falls : 4 * (c.args.depth - 1) + 3 < t = omega (arith, c.decreases, c.if-depth-eq0.false) in
+    (falls, c.requires)
+
+pub search_by_line-returns-in_default : goal.search_by_line-returns-in_default
+search_by_line-returns-in_default t c =
+    let rest = c.add_rest.ensures in
+    marked_rest c.args.matrix.now c.args.one.now c.args.two.now c.args.self.now.parted c.add_rest.new.self rest.size rest.kept rest.rest
+
+pub search_by_line-search-requires : goal.search_by_line-search-requires
+search_by_line-search-requires t c =
+    let falls : 4 * c.args.depth < t = omega (arith, c.decreases) in
+    (falls, record { size = c.requires.size; near = c.in_ok-more_one.ensures.numbers; far = c.requires.far })
+
+pub search_by_line-returns-then-not-branch : goal.search_by_line-returns-then-not-branch
+search_by_line-returns-then-not-branch t c = gave_up c.args.matrix.now c.args.one.now c.args.two.now c.in_ok-more_one.more_one c.args.two.now c.args.self.now.parted c.search.new.self.parted _ c.in_ok-search.ensures
+
+pub search_by_line-search-requires-2 : goal.search_by_line-search-requires-2
+search_by_line-search-requires-2 t c =
+    let falls : 4 * c.args.depth < t = omega (arith, c.decreases) in
+    (falls, record { size = c.in_ok-search.ensures.size; near = c.requires.near; far = c.in_ok-more_two.ensures.numbers })
+
+pub search_halves-search-requires : goal.search_halves-search-requires
+search_halves-search-requires t c =
+    let found = subst (λ (v : Option Halves). MatchOption v (Unit {0}) (AreHalves c.args.matrix.now c.args.one.now)) c.in-Some.is c.in_ok-halves.ensures in
+    let falls : 4 * c.args.depth < t = omega (arith, c.decreases) in
+    (falls, record { size = c.requires.sides.size; near = found.one; far = c.requires.sides.far })
+
+pub search_halves-returns-then-not-branch : goal.search_halves-returns-then-not-branch
+search_halves-returns-then-not-branch t c = gave_up c.args.matrix.now c.args.one.now c.args.two.now c.in-Some.halves.one c.args.two.now c.args.self.now.parted c.search.new.self.parted _ c.in_ok-search.ensures
+
+pub search_halves-search-requires-in-Some : goal.search_halves-search-requires-in-Some
+search_halves-search-requires-in-Some t c =
+    let found = subst (λ (v : Option Halves). MatchOption v (Unit {0}) (AreHalves c.args.matrix.now c.args.one.now)) c.in-Some.is c.in_ok-halves.ensures in
+    let falls : 4 * c.args.depth < t = omega (arith, c.decreases) in
+    (falls, record { size = c.in_ok-search.ensures.size; near = found.other; far = c.requires.sides.far })
+
+pub search_halves-search-requires-in-Some-2 : goal.search_halves-search-requires-in-Some-2
+search_halves-search-requires-in-Some-2 t c =
+    let found = subst (λ (v : Option Halves). MatchOption v (Unit {0}) (AreHalves c.args.matrix.now c.args.two.now)) c.in-Some-2.is c.in_ok-halves-2.ensures in
+    let falls : 4 * c.args.depth < t = omega (arith, c.decreases) in
+    (falls, record { size = c.requires.sides.size; near = c.requires.sides.near; far = found.one })
+
+pub search_halves-returns-then-not-branch-2 : goal.search_halves-returns-then-not-branch-2
+search_halves-returns-then-not-branch-2 t c =
+    gave_up c.args.matrix.now c.args.one.now c.args.two.now c.args.one.now c.in-Some-2.halves.one c.args.self.now.parted c.search-in-Some-2.new.self.parted _ c.in_ok-search-2.ensures
+
+pub search_halves-search-requires-in-Some-2-2 : goal.search_halves-search-requires-in-Some-2-2
+search_halves-search-requires-in-Some-2-2 t c =
+    let found = subst (λ (v : Option Halves). MatchOption v (Unit {0}) (AreHalves c.args.matrix.now c.args.two.now)) c.in-Some-2.is c.in_ok-halves-2.ensures in
+    let falls : 4 * c.args.depth < t = omega (arith, c.decreases) in
+    (falls, record { size = c.in_ok-search-2.ensures.size; near = c.requires.sides.near; far = found.other })
+
+pub search_halves-search_by_line-requires : goal.search_halves-search_by_line-requires
+search_halves-search_by_line-requires t c =
+    let falls : 4 * c.args.depth + 1 < t = omega (arith, c.decreases) in
+    (falls, c.requires.sides)
+
+pub search_state-returns-then-are_enough : goal.search_state-returns-then-are_enough
+search_state-returns-then-are_enough t c =
+    let rest = c.add_rest.ensures in
+    marked_rest c.args.matrix.now c.args.one.now c.args.two.now c.args.self.now.parted c.add_rest.new.self rest.size rest.kept rest.rest
+
+pub search_state-search_halves-requires : goal.search_state-search_halves-requires
+search_state-search_halves-requires t c =
+    let falls : 4 * c.args.depth + 2 < t = omega (arith, c.decreases) in
+    (falls, (c.requires, (c.in_ok-near.ensures, c.in_ok-far.ensures)))

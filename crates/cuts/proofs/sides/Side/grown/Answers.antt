@@ -1,8 +1,21 @@
-use Rattle.std.proofs.Common.{refl}
-use Rattle.cmr_base.specs.Matrix.{height, transposed}
+use Rattle.std.proofs.Common.{◌∙◌, ap, length, refl, sym}
+use Rattle.cmr_base.specs.Matrix.{Matrix, height, transposed}
+use Rattle.cmr_base.specs.Planes.{words_for}
 use Rattle.cuts.proofs.ClassLemmas.{to_columns, to_rows, wide_words}
 use Rattle.cuts.proofs.SideLemmas.{grown_lines, numbers_at, side_numbered}
 use Rattle.cuts.proofs.sides.Side.grown.Goals as goal
+
+pub grown_set-requires-clause-set : goal.grown_set-requires-clause-set
+grown_set-requires-clause-set c = ap length c.deref.ensures.value ∙ c.requires.numbers.lines.rows ∙ ap (λ (z : Matrix). words_for (height z)) (sym c.by_rows.ensures.matrix)
+
+pub grown_set-requires-clause-rows : goal.grown_set-requires-clause-rows
+grown_set-requires-clause-rows c = ap length c.deref-3.ensures.value ∙ c.requires.lines.rows ∙ ap (λ (z : Matrix). words_for (height z)) (sym c.by_rows.ensures.matrix)
+
+pub grown_set-requires-clause-size : goal.grown_set-requires-clause-size
+grown_set-requires-clause-size c = ap length c.deref-2.ensures.value ∙ c.requires.numbers.column_size ∙ ap (λ (z : Matrix). z.width) (sym c.by_rows.ensures.matrix)
+
+pub grown_set-requires-2-clause-size : goal.grown_set-requires-2-clause-size
+grown_set-requires-2-clause-size c = ap length c.deref-5.ensures.value ∙ c.requires.numbers.row_size ∙ ap (λ (z : Matrix). z.width) (sym c.by_columns.ensures.matrix)
 
 pub grown_set-requires-clause-numbers : goal.grown_set-requires-clause-numbers
 grown_set-requires-clause-numbers c =

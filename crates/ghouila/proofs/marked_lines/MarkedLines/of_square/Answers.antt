@@ -1,7 +1,7 @@
-use Rattle.std.proofs.Common.{◌≡◌, ◌∙◌, [], ◌∷◌, ◌+ℤ◌, inl, inr, false, true, not, eqb, get_or, set, ap, sym, subst, arith, w8, of_z}
+use Rattle.std.proofs.Common.{◌≡◌, ◌∙◌, [], ◌∷◌, ◌+ℤ◌, ℕ, List, Bool, length, replicate, inl, inr, false, true, not, eqb, get_or, set, ap, sym, subst, arith, refl, w8, of_z}
 use mathlib.Core.Bool.{beq}
 use Rattle.std.proofs.lemmas.Bool.{cases_eq}
-use Rattle.std.proofs.lemmas.List.{length-set, get_or-set_same, get_or-set_other}
+use Rattle.std.proofs.lemmas.List.{length-set, length-replicate, get_or-set_same, get_or-set_other}
 use Rattle.cmr_base.specs.Matrix.{entry}
 use Rattle.std.specs.Prelude.{◌↔◌}
 use Rattle.cmr_base.specs.Matrix.{height}
@@ -10,6 +10,33 @@ use Rattle.ghouila.specs.Found.{HasParity, marked}
 use Rattle.ghouila.proofs.MarkedMembers.{in_two_marks}
 use Rattle.ghouila.proofs.SquareMarks.{odd_pair, square_marks}
 use Rattle.ghouila.proofs.marked_lines.MarkedLines.of_square.Goals as goal
+
+-- so many marks
+marks_length : (marks : List Bool) (n : ℕ) → marks ≡ replicate n false → length marks ≡ n
+marks_length marks n is = ap length is ∙ length-replicate n false
+
+pub index_mut-requires : goal.index_mut-requires
+index_mut-requires c = let rows = c.in_ok-lines.lines.rows in omega (arith, c.requires.row, rows.ok.0, marks_length rows.items (height c.args.work.now) c.in_ok-lines.ensures.rows)
+
+pub index_mut-requires-2 : goal.index_mut-requires-2
+index_mut-requires-2 c = let rows = c.in_ok-lines.lines.rows in omega (arith, c.requires.square.row_in, rows.ok.0, marks_length rows.items (height c.args.work.now) c.in_ok-lines.ensures.rows)
+
+pub index_mut-requires-3 : goal.index_mut-requires-3
+index_mut-requires-3 c = let columns = c.in_ok-lines.lines.columns in omega (arith, c.requires.column, columns.ok.0, marks_length columns.items c.args.work.now.width c.in_ok-lines.ensures.columns)
+
+pub index_mut-requires-4 : goal.index_mut-requires-4
+index_mut-requires-4 c = let columns = c.in_ok-lines.lines.columns in omega (arith, c.requires.square.column_in, columns.ok.0, marks_length columns.items c.args.work.now.width c.in_ok-lines.ensures.columns)
+
+pub loop-place-init : goal.loop-place-init
+loop-place-init c = record {
+  rows = refl;
+  columns = refl;
+  odd_each = marks_length c.in_ok-lines.lines.odd.items c.args.work.now.width c.in_ok-lines.ensures.odd;
+  parity = λ j h. absurd (omega (arith, h));
+}
+
+pub index_mut-requires-in-loop-place : goal.index_mut-requires-in-loop-place
+index_mut-requires-in-loop-place c = omega (arith, c.loop-place-test.true, c.columns-place-end.ensures.columns, c.loop-place.lines.odd.ok.0, c.loop-place.invariant.odd_each)
 
 pub loop-place-preserved : goal.loop-place-preserved
 loop-place-preserved c =

@@ -2,7 +2,8 @@ use Rattle.std.proofs.Common.{◌≡◌, ◌∙◌, ◌*ℤ◌, ℕ, ℤ, ap₂,
 use Rattle.std.proofs.lemmas.List.{get_or_read}
 use Rattle.ghouila.proofs.Bytes.{kept_entry, product_bytes}
 use Rattle.network_orient.specs.SignedGroups.{group_of, row_sign_by, IsMerged}
-use Rattle.network_orient.proofs.ForcedSigns.{kept_sign, joined_groups, merged_coarser}
+use Rattle.ghouila.proofs.PivotBytes.{kept_sign}
+use Rattle.network_orient.proofs.ForcedSigns.{joined_groups, merged_coarser}
 use Rattle.network_orient.proofs.column_groups.ColumnGroups.join.Goals as goal
 
 pub returns-then-gone-stays-clause-groups : goal.returns-then-gone-stays-clause-groups

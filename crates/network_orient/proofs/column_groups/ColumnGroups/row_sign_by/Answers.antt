@@ -1,7 +1,7 @@
 use Rattle.std.proofs.Common.{◌∙◌, subst, sym}
 use Rattle.cmr_base.specs.Signing.{IsSign}
 use Rattle.cmr_base.proofs.SignEntries.{sign_of_entry}
-use Rattle.network_orient.proofs.ForcedSigns.{kept_sign}
+use Rattle.ghouila.proofs.PivotBytes.{kept_sign}
 use Rattle.network_orient.proofs.column_groups.ColumnGroups.row_sign_by.Goals as goal
 
 pub returns-clause-sign : goal.returns-clause-sign

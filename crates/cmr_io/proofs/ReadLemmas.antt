@@ -1,0 +1,70 @@
+-- What a read has given and counted.
+use Rattle.std.proofs.Common.{◌≡◌, ◌≤◌, ◌<◌, ◌+◌, ◌++◌, ◌∙◌, ◌&&◌, ◌==◌, ℕ, nat_lt, Bool, true, false, if◌then◌else◌, List, length, take, length-append, append_assoc, Some, Vec, Result, Ok, Err, IsErrAnd, refl, sym, ap, subst, arith, ne_eqb}
+use Rattle.std.proofs.lemmas.List.{length-take-le, take-append-le}
+use Rattle.cmr_io.specs.Calls.{up_to_last, next_number}
+use Rattle.cmr_io.specs.Reads.{Reads, after_piece}
+use Rattle.cmr_io.specs.WholeRead.{GivesContent}
+use Rattle.cmr_io.specs.declared.whole.ReadError.{ReadError}
+use Rattle.cmr_io.specs.declared.whole.ReadError.TheVariants.{Memory, TooLong}
+
+is_err_of : {A : Type 0} (result : Result A ReadError) (error : ReadError) → IsErrAnd result (λ e. e ≡ error) → result ≡ Err error
+is_err_of (Ok x) error is = absurd is
+is_err_of (Err e) error is = ap (λ (x : ReadError). Err x) is
+
+-- ---- what was given
+
+-- one piece more
+pub told_on : (content bytes left piece rest new : List ℕ) → content ≡ bytes ++ left → left ≡ piece ++ rest → new ≡ bytes ++ piece → content ≡ new ++ rest
+told_on content bytes left piece rest new told given is =
+    told ∙ ap (λ (xs : List ℕ). bytes ++ xs) given ∙ sym (append_assoc bytes piece rest) ∙ ap (λ (xs : List ℕ). xs ++ rest) (sym is)
+
+-- of a piece and what stands behind it, its front is taken
+pub items_on : (bytes into behind new : List ℕ) (count : ℕ) → count ≤ length into → new ≡ bytes ++ take count (into ++ behind) → new ≡ bytes ++ take count into
+items_on bytes into behind new count within is = is ∙ ap (λ (xs : List ℕ). bytes ++ xs) (take-append-le count into behind within)
+
+pub length_on : (many new : ℕ) (into behind : List ℕ) (count : ℕ) → count ≤ length into → new ≡ many + length (take count (into ++ behind)) → new ≡ many + count
+length_on many new into behind count within is =
+    is ∙ ap (λ (n : ℕ). many + n) (ap length (take-append-le count into behind within) ∙ length-take-le count into within)
+
+-- memory was refused
+pub gives-refused : {A : Type 0} (most : ℕ) (content left : List ℕ) (begun : Bool) (bytes : List ℕ) (result : Result (Vec ℕ A) ReadError) → content ≡ bytes ++ left → length bytes ≤ most + 1
+    → IsErrAnd result (λ e. e ≡ Memory) → GivesContent {A = A} most (Some content) begun left result
+gives-refused {A} most content left begun bytes result told within is =
+    let at : GivesContent {A = A} most (Some content) begun left (Err Memory) = record {
+      whole = tt;
+      too_long = λ e. absurd (cc);
+      too_many = λ e. absurd (cc);
+      few = λ e b. absurd (cc);
+      taken = λ b. (bytes, ap Some told, within);
+    } in
+    subst (λ (r : Result (Vec ℕ A) ReadError). GivesContent {A = A} most (Some content) begun left r) (sym (is_err_of result Memory is)) at
+
+-- one byte too many was given
+pub gives-too_long : {A : Type 0} (most : ℕ) (content left : List ℕ) (begun : Bool) (bytes : List ℕ) → content ≡ bytes ++ left → most < length bytes
+    → length bytes ≤ most + 1 → GivesContent {A = A} most (Some content) begun left (Err TooLong)
+gives-too_long most content left begun bytes told more within = record {
+  whole = tt;
+  too_long = λ e. (content, refl, omega (arith, more, ap length told, length-append bytes left));
+  too_many = λ e. (bytes, ap Some told, omega (arith, more, within));
+  few = λ e b. absurd (cc);
+  taken = λ b. (bytes, ap Some told, within);
+}
+
+-- ---- what was counted
+
+not_ended : (room none : Bool) (next now : ℕ) → none ≡ false → (if room && none then next else now) ≡ now
+not_ended true none next now e = rw e refl
+not_ended false none next now e = refl
+
+-- a piece that is not empty is no end
+pub ends_on : (reads after : Reads) (room count : ℕ) → after ≡ after_piece reads room count → (count ≡ 0 → ⊥) → after.ends ≡ reads.ends
+ends_on reads after room count is some = ap (λ (r : Reads). r.ends) is ∙ not_ended (nat_lt 0 room) (count == 0) (next_number reads.ends) reads.ends (ne_eqb count 0 some)
+
+-- a piece more
+pub read_on : (before many : ℕ) (reads after : Reads) (room count : ℕ) → after ≡ after_piece reads room count → reads.bytes ≤ before + many → after.bytes ≤ before + (many + count)
+read_on before many reads after room count is read = let bytes : after.bytes ≡ up_to_last (reads.bytes + count) = ap (λ (r : Reads). r.bytes) is in omega (arith, bytes, read)
+
+-- where it is counted up to the last value of a counter, the same
+pub read_all_on : (before many : ℕ) (reads after : Reads) (room count : ℕ) → after ≡ after_piece reads room count → up_to_last reads.bytes ≡ up_to_last (before + many)
+    → up_to_last after.bytes ≡ up_to_last (before + (many + count))
+read_all_on before many reads after room count is all = let bytes : after.bytes ≡ up_to_last (reads.bytes + count) = ap (λ (r : Reads). r.bytes) is in omega (arith, bytes, all)
