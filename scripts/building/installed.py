@@ -11,7 +11,7 @@ from dataclasses import dataclass, field
 from pathlib import Path
 
 from building.clone import BUILT, TOP
-from cmr_matrices.commands.command import ignore_signals
+from cmr_matrices.commands.signals import ignore_signals
 from cmr_matrices.errors import BadInput
 
 FOLDER = "lib/cmr"

@@ -16,7 +16,7 @@ from building.clone import BUILT, PROGRAM, Sources, crates_below, is_fresh
 from building.plan import Plan, Running, read_seconds, time_with
 from building.progress import Progress
 from building.work_folders import Busy, WorkFolders
-from cmr_matrices.commands.command import ignore_signals
+from cmr_matrices.commands.signals import end_if_told, ignore_signals, signals_wait
 
 NO_KIT = 'the program is not built, and there is no rt on the PATH to build it: README.md says at "Run it" what has it'
 FIRST = (
@@ -81,10 +81,12 @@ class Build:
 
     def build_all(self) -> None:
         try:
-            while len(self._built) < len(self._plan.uses):
-                self._show(self._begin_ready())
-                time.sleep(0.1)
-                self._end_finished()
+            with signals_wait():
+                while len(self._built) < len(self._plan.uses):
+                    self._show(self._begin_ready())
+                    time.sleep(0.1)
+                    end_if_told()
+                    self._end_finished()
         except BaseException:
             ignore_signals()
             self._end_all()

@@ -6,6 +6,7 @@ import pty
 import shutil
 import signal
 import subprocess
+import sys
 import tempfile
 import time
 import unittest
@@ -23,6 +24,25 @@ CRATES = {
     "high": (["left", "right"], 1),
     "cmr": (["high", "base"], 1),
 }
+
+
+# A build that a signal reaches when its first proof has begun, also where Python drops exceptions.
+TOLD_AT_ITS_FIRST_PROOF = """
+import os, runpy, signal, subprocess, sys
+
+class Value:
+    def __del__(self):
+        os.kill(os.getpid(), signal.SIGTERM)
+
+class Popen(subprocess.Popen):
+    def __init__(self, *words, **settings):
+        super().__init__(*words, **settings)
+        {}
+
+subprocess.Popen = Popen
+sys.argv = sys.argv[1:]
+runpy.run_path(sys.argv[0], run_name="__main__")
+"""
 
 
 class PlanTest(unittest.TestCase):
@@ -136,6 +156,17 @@ class BuildTest(unittest.TestCase):
                 self.is_clean()
         self.assertEqual(self.clone.run("scripts/build").returncode, 0)
 
+    def test_a_signal_while_a_proof_begins(self):
+        for told_by in ("os.kill(os.getpid(), signal.SIGTERM)", "Value()"):
+            with self.subTest(told_by=told_by):
+                words = ["-c", TOLD_AT_ITS_FIRST_PROOF.format(told_by), "build"]
+                build = self.clone.begin(sys.executable, *words, sleep=60, cwd=self.clone.top / "scripts")
+                said = build.communicate()[1].splitlines()
+                self.assertEqual(build.returncode, 70)
+                self.assertEqual(said[-1], "build: interrupted: what is proved is kept, and the next build goes on from there")
+                self.assertFalse([it for it in said if it.startswith("build: waiting")])
+                self.is_clean()
+
     def test_a_killed_build_keeps_what_it_has(self):
         build = self.clone.begin("scripts/build", sleep=0.3)
         self.clone.waits_for("begin", "left")
@@ -184,6 +215,7 @@ class BuildTest(unittest.TestCase):
         run = self.clone.run("scripts/build")
         self.assertEqual((run.returncode, run.stderr), (70, f"build: {self.work}: File exists\n"))
 
+    @unittest.skipIf(len(os.sched_getaffinity(0)) < 2, "there is one processor")
     def test_on_a_terminal_one_line_is_drawn_anew(self):
         seen, shown = pty.openpty()
         build = self.clone.begin("scripts/build", sleep=0.3, stderr=shown)
@@ -199,7 +231,6 @@ class BuildTest(unittest.TestCase):
         drawn = text.decode().split("\r\x1b[K")
         self.assertRegex("\n".join(drawn), r"(?m)^build: 1 of 5 crates, 0 min gone, about \d+ min left: right, left$")
         self.assertEqual((build.returncode, drawn[-1], "\n" in text.decode()), (0, "", False))
-
 
 
 class CmrTest(unittest.TestCase):

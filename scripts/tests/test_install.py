@@ -121,7 +121,7 @@ class InstallTest(unittest.TestCase):
         self.assertIn("BadCommandLine", run.stdout)
 
     def test_each_command_of_the_package_is_installed(self):
-        modules = {it.stem for it in (TOP / "python" / "cmr_matrices" / "commands").glob("*.py")} - {"__init__", "command"}
+        modules = {it.stem for it in (TOP / "python" / "cmr_matrices" / "commands").glob("*.py")} - {"__init__", "command", "signals"}
         self.assertEqual({it.replace("-", "_") for it in SCRIPTS.values()}, modules)
         for file in ("INSTALLING.md", "cmr.1"):
             text = (TOP / "docs" / file).read_text(encoding="utf-8").replace("\\-", "-")

@@ -7,7 +7,6 @@ from __future__ import annotations
 
 import os
 import shutil
-import signal
 import sys
 from collections.abc import Callable
 from pathlib import Path
@@ -33,24 +32,6 @@ def end(work: Callable[[], None]) -> int:
         os.dup2(os.open(os.devnull, os.O_WRONLY), sys.stdout.fileno())
         return 1
     return 0
-
-
-def end_on_signals() -> None:
-    """Has the signals that end a work leave it as an exception does, so that what it began is taken back."""
-
-    def leave(number: int, _: object) -> None:
-        sys.exit(128 + number)
-
-    for it in (signal.SIGHUP, signal.SIGINT, signal.SIGTERM):
-        # What is ignored stays so: a work under nohup goes on.
-        if signal.getsignal(it) is not signal.SIG_IGN:
-            signal.signal(it, leave)
-
-
-def ignore_signals() -> None:
-    """What is done from here on is done whole."""
-    for it in (signal.SIGHUP, signal.SIGINT, signal.SIGTERM):
-        signal.signal(it, signal.SIG_IGN)
 
 
 def words_of(fault: OSError) -> str:
