@@ -18,7 +18,7 @@ class Terminal:
         self._shown = ""
         os.write(self._end, text.encode())
 
-    def waits_for(self, text, seconds=20):
+    def waits_for(self, text, seconds=60):
         """What has been shown since something was typed, once the text is there."""
         last = time.monotonic() + seconds
         while text not in self._shown:

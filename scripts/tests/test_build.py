@@ -120,7 +120,7 @@ class BuildTest(unittest.TestCase):
 
     @unittest.skipIf(len(os.sched_getaffinity(0)) < 2, "there is one processor")
     def test_builds_side_by_side(self):
-        self.assertEqual(self.clone.run("scripts/build", sleep=0.2).returncode, 0)
+        self.assertEqual(self.clone.run("scripts/build", sleep=0.5).returncode, 0)
         at_work, most = {}, 0
         for event, name, jobs, *_ in self.clone.logged():
             at_work[name] = int(jobs) if event == "begin" else 0
