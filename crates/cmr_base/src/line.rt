@@ -7,9 +7,9 @@ pub enum Line {
     Column(u32),
 }
 
-/// Why a line may be removed in a series-parallel reduction (Walter and Truemper, Implementation of a
-/// unimodularity test, 2013): it has no nonzero, it has one nonzero, where it crosses the named line, it
-/// equals the named line of its kind, or it is the negative of it.
+/// Why a line may be removed in a series-parallel reduction (those of the CMR library): it has no
+/// nonzero, it has one nonzero, where it crosses the named line, it equals the named line of its kind, or
+/// it is the negative of it.
 #[derive(Clone, Copy, Debug, PartialEq, Eq)]
 pub enum Reason {
     Zero,
