@@ -6,6 +6,7 @@ import subprocess
 import sys
 import unittest
 
+from tests.stand_in import hears_signals
 from tests.support import TOP
 
 BEGIN = """
@@ -32,6 +33,7 @@ class SignalsTest(unittest.TestCase):
             capture_output=True,
             text=True,
             check=False,
+            preexec_fn=hears_signals,
         )
         self.assertEqual((run.returncode, run.stdout), (status, said), run.stderr)
 
