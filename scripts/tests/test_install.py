@@ -14,6 +14,7 @@ from unittest import mock
 
 from building.clone import BUILT
 from building.installed import SCRIPTS, Installation, refuse_what_is_there, take_away
+from cmr_matrices.commands.signals import ENDING
 from tests.stand_in import SmallClone
 from tests.support import TOP, needs_man, needs_program, needs_python
 
@@ -252,6 +253,9 @@ class KilledTest(unittest.TestCase):
         patch = mock.patch("building.installed.BUILT", program)
         patch.start()
         self.addCleanup(patch.stop)
+        # An installation ignores these in the process of the tests too.
+        for it in ENDING:
+            self.addCleanup(signal.signal, it, signal.getsignal(it))
 
     def is_killed(self, work, number):
         """Whether the work, in a process of its own, is killed before the change of that number."""

@@ -11,7 +11,7 @@ import sys
 from collections.abc import Iterator
 from contextlib import contextmanager
 
-__all__ = ["end_if_told", "end_on_signals", "ignore_signals", "signals_wait"]
+__all__ = ["ENDING", "end_if_told", "end_on_signals", "ignore_signals", "signals_wait"]
 
 ENDING = (signal.SIGHUP, signal.SIGINT, signal.SIGTERM)
 
