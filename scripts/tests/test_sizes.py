@@ -27,7 +27,7 @@ impl Block {
 fn nothing() {}
 """
 SHARED = 20
-PRIVATE = 50
+PRIVATE = 34
 WITHIN = f"""\
      1 of at most  230 lines of README.md
     19 of at most  800 lines of a file of code
