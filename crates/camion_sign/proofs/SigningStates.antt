@@ -69,22 +69,6 @@ start_state a signing e f long none passed = record {
   signed = row_begun a signing.signs 0 signing.signed (λ j. subst (λ x. entry x 0 j ≡ pos 0) (sym e) (entry-unsigned a 0 j)) long none passed;
 }
 
--- all ones of a row are signed
-pub row_done : (a : Matrix) (row : ℕ) (signing : Signing) (signed : SignedColumns) → IsAtRow a row signing → ((d : ℕ) → ¬ (IsUnsignedOne a signing.signs row d)) → length signed.passed.items ≡ length signing.signed.passed.items → signed.columns.items ≡ [] → ((d : ℕ) → get_or signed.passed.items d 0 ≡ 0)
-    → IsAtRow a (row + 1) (record { signs = signing.signs; steps = signing.steps; signed = signed })
-row_done a row signing signed state all long none passed = record {
-  signs = state.signs;
-  turn = record {
-    earlier = λ i j l one. elim (cases_lt i row) [
-      | inl before ↦ state.turn.earlier i j before one
-      | inr past ↦ let e : row ≡ i = omega arith in λ z. all j (subst (λ x. IsUnsignedOne a signing.signs x j) (sym e) (record { one = one; no_sign = z }))
-    ];
-    later = λ i j l. state.turn.later i j (omega arith);
-  };
-  steps = state.steps;
-  signed = row_begun a signing.signs (row + 1) signed (λ j. state.turn.later (row + 1) j (omega arith)) (long ∙ state.signed.one_each) none passed;
-}
-
 pub all_are_signed : (a : Matrix) (signing : Signing) → IsMatrix a → IsAtRow a (height a) signing → IsSignedBy a signing.steps signing.signs
 all_are_signed a signing is state = record { steps_are = state.steps; all_signed = λ i j one. state.turn.earlier i j (row_in a i j one) one }
 
