@@ -16,6 +16,7 @@ pub mod SigningStates
 pub mod OddSums
 pub mod PlaceLinks
 pub mod PartnerSteps
+pub mod PassedColumns
 pub mod ChainLabels
 pub mod ChainChecks
 pub mod ChainSteps

@@ -1,5 +1,5 @@
 -- The state of a signing, after one more step and after a row.
-use Rattle.std.proofs.Common.{◌≡◌, ◌∙◌, ◌<◌, ◌≤◌, ◌+◌, ◌++◌, ℕ, zero, suc, ℤ, pos, cond, List, [], ◌∷◌, inl, inr, refl, sym, subst, arith}
+use Rattle.std.proofs.Common.{◌≡◌, ◌∙◌, ◌<◌, ◌≤◌, ◌+◌, ◌++◌, ℕ, zero, suc, ℤ, pos, cond, List, [], ◌∷◌, length, get_or, inl, inr, refl, sym, subst, arith}
 use Rattle.std.proofs.lemmas.Bool.{cases_lt}
 use Rattle.cmr_base.specs.Matrix.{Matrix, height, entry, with_entry, is_nonzero, IsMatrix}
 use Rattle.cmr_base.specs.Signing.{IsSign}
@@ -14,6 +14,9 @@ use Rattle.camion_sign.specs.SignSteps.{AreSigns, IsUnsignedOne, unsigned, LeadT
 use Rattle.camion_sign.specs.SignOrder.{IsRowsTurn, IsNextSign, IsSignedBy}
 use Rattle.camion_sign.specs.Signings.{IsAtRow, unsigned_before}
 use Rattle.camion_sign.proofs.GivenSigns.{HasOneMore, one_more, signs_more, keeps}
+use Rattle.camion_sign.specs.declared.signed_columns.SignedColumns.{SignedColumns}
+use Rattle.camion_sign.specs.Signings.{KnowsSigned}
+use Rattle.camion_sign.proofs.PassedColumns.{row_begun, signed_more}
 use Rattle.camion_sign.proofs.ChainViolators.{unsigned_signs, entry-unsigned}
 
 pub lead_more : (Rule : Matrix → SignStep → ℤ → Type 0) (s end : Matrix) (steps : List SignStep) (step : SignStep) (v : ℤ) → LeadTo Rule s steps end → Rule end step v → LeadTo Rule s (steps ++ step ∷ []) (signed_by end step v)
@@ -46,21 +49,24 @@ module _ (a s : Matrix) (is : IsMatrix a) (row column : ℕ) (v : ℤ) (u : IsSi
   }
 
   pub state_more : (steps more_steps : List SignStep) (step : SignStep) → LeadTo (IsNextSign a) (unsigned a) steps s → IsNextSign a s step v → signed_by s step v ≡ with_entry s row column v → more_steps ≡ steps ++ step ∷ []
-      → (after : Matrix) → after ≡ with_entry s row column v → IsAtRow a row (record { signs = after; steps = more_steps })
-  state_more steps more_steps step lead next e f after g = record {
+      → (after : Matrix) → after ≡ with_entry s row column v → (signed more_signed : SignedColumns) → KnowsSigned a s row signed → more_signed.columns.items ≡ signed.columns.items ++ column ∷ [] → more_signed.passed.items ≡ signed.passed.items
+      → IsAtRow a row (record { signs = after; steps = more_steps; signed = more_signed })
+  state_more steps more_steps step lead next e f after g signed more_signed known h k = record {
     signs = subst (AreSigns a) (sym g) (signs_more a s is.rectangular signs row column v here.one u);
     turn = subst (λ x. IsRowsTurn a x row) (sym g) turn_more;
     steps = subst (λ x. LeadTo (IsNextSign a) (unsigned a) x after) (sym f) (subst (LeadTo (IsNextSign a) (unsigned a) (steps ++ step ∷ [])) (e ∙ sym g) (lead_more (IsNextSign a) (unsigned a) s steps step v lead next));
+    signed = signed_more a s row signed known column v after u (subst (λ x. HasOneMore s x row column v) (sym g) more) more_signed h k;
   }
 
   pub fewer_more : (after : Matrix) → after ≡ with_entry s row column v → unsigned_before a after row a.width < unsigned_before a s row a.width
   fewer_more after g = subst (λ x. unsigned_before a x row a.width < unsigned_before a s row a.width) (sym g) (fewer_unsigned a s (with_entry s row column v) row column v u more here a.width (column_in a row column is.rectangular here.one))
 
-pub start_state : (a : Matrix) (signing : Signing) → signing.signs ≡ unsigned a → signing.steps ≡ [] → IsAtRow a 0 signing
-start_state a signing e f = record {
+pub start_state : (a : Matrix) (signing : Signing) → signing.signs ≡ unsigned a → signing.steps ≡ [] → length signing.signed.passed.items ≡ a.width → signing.signed.columns.items ≡ [] → ((d : ℕ) → get_or signing.signed.passed.items d 0 ≡ 0) → IsAtRow a 0 signing
+start_state a signing e f long none passed = record {
   signs = subst (AreSigns a) (sym e) (unsigned_signs a);
   turn = record { earlier = λ i j l. absurd (omega arith); later = λ i j l. subst (λ x. entry x i j ≡ pos 0) (sym e) (entry-unsigned a i j) };
   steps = subst (λ x. LeadTo (IsNextSign a) (unsigned a) x signing.signs) (sym f) (sym e);
+  signed = row_begun a signing.signs 0 signing.signed (λ j. subst (λ x. entry x 0 j ≡ pos 0) (sym e) (entry-unsigned a 0 j)) long none passed;
 }
 
 pub all_are_signed : (a : Matrix) (signing : Signing) → IsMatrix a → IsAtRow a (height a) signing → IsSignedBy a signing.steps signing.signs

@@ -1,12 +1,13 @@
 -- The state of a signing.
-use Rattle.std.specs.Prelude.{◌≡◌, ◌≢◌, ◌<◌, ◌+◌, if◌then◌else◌, ℕ, zero, suc, true, false, ℤ, pos, List, Some, length, slice_index_or}
+use Rattle.std.specs.Prelude.{◌≡◌, ◌≢◌, ◌<◌, ◌≤◌, ◌+◌, if◌then◌else◌, ℕ, zero, suc, true, false, ℤ, pos, List, Some, length, slice_index, slice_index_or}
 use Rattle.cmr_base.specs.Matrix.{Matrix, height, entry, is_nonzero, IsMatrix}
 use Rattle.cmr_base.specs.CyclePlaces.{IsCyclePlace}
 use Rattle.camion_sign.specs.Walks.{HasPlacesAndMarks, HasWalked}
 use Rattle.camion_sign.specs.declared.row_places.RowPlaces.{RowPlaces}
+use Rattle.camion_sign.specs.declared.signed_columns.SignedColumns.{SignedColumns}
 use Rattle.camion_sign.specs.declared.signing.Signing.{Signing}
 use Rattle.camion_sign.specs.SignSteps.{AreSigns, IsUnsignedOne, unsigned, LeadTo}
-use Rattle.camion_sign.specs.SignOrder.{IsForcedBy, IsRowsTurn, IsNextSign}
+use Rattle.camion_sign.specs.SignOrder.{IsForcedBy, IsPlaceOf, IsRowsTurn, IsNextSign}
 
 -- whether two columns make a cycle place with row t
 pub record TellsPlace (m : Matrix) (t c d : ℕ) (z : ℤ) : Type 0 where
@@ -35,11 +36,20 @@ pub record KnowsPlaces (m : Matrix) (t : ℕ) (places : RowPlaces) : Type 0 wher
   pub tells : (c : ℕ) → slice_index_or places.known.items c false ≡ true → TellsFrom m t c m.width places.links
   pub walked : (c : ℕ) → places.walked ≡ Some c → HasWalked m t c places.walk
 
+-- the signed columns of a row, and for each column with how many of the first of them it makes no cycle place
+pub record KnowsSigned (a s : Matrix) (row : ℕ) (signed : SignedColumns) : Type 0 where
+  pub one_each : length signed.passed.items ≡ a.width
+  pub within : (d : ℕ) → slice_index signed.passed.items d ≤ length signed.columns.items
+  pub listed : (c : ℕ) → entry s row c ≢ pos 0 → (k : ℕ) × (k < length signed.columns.items) × (slice_index signed.columns.items k ≡ c)
+  pub signs : (k : ℕ) → k < length signed.columns.items → entry s row (slice_index signed.columns.items k) ≢ pos 0
+  pub passed : (d k : ℕ) → k < slice_index signed.passed.items d → (path : List ℕ) → ¬ (IsPlaceOf a row (slice_index signed.columns.items k) d path)
+
 -- the signing is at this row
 pub record IsAtRow (a : Matrix) (row : ℕ) (signing : Signing) : Type 0 where
   pub signs : AreSigns a signing.signs
   pub turn : IsRowsTurn a signing.signs row
   pub steps : LeadTo (IsNextSign a) (unsigned a) signing.steps signing.signs
+  pub signed : KnowsSigned a signing.signs row signing.signed
 
 -- the first one of the row without sign
 pub record IsFirstUnsigned (a s : Matrix) (row column : ℕ) : Type 0 where

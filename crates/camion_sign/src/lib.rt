@@ -12,6 +12,7 @@ mod listed_matrix;
 mod nonzeros;
 mod reach;
 mod row_places;
+mod signed_columns;
 mod signing;
 mod step;
 mod walk;

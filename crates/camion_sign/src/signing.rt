@@ -10,19 +10,21 @@ ghost use Rattle.camion_sign.specs.SignOrder.{IsForcedBy, IsSignedBy};
 ghost use Rattle.camion_sign.specs.Chains.{KeepsRule};
 ghost use Rattle.std.specs.List.{AllByRecursion};
 ghost use Rattle.camion_sign.specs.ChainTexts.{IsStepIn};
-ghost use Rattle.camion_sign.specs.Signings.{HasRoomForPlaces, KnowsPlaces, IsAtRow, IsFirstUnsigned, IsPartner, IsForcedColumn, NoneForced, unsigned_before};
+ghost use Rattle.camion_sign.specs.Signings.{HasRoomForPlaces, KnowsPlaces, KnowsSigned, IsAtRow, IsFirstUnsigned, IsPartner, IsForcedColumn, NoneForced, unsigned_before};
 
 use crate::listed_matrix::ListedMatrix;
 use crate::row_places::RowPlaces;
+use crate::signed_columns::SignedColumns;
 use crate::step::{SignStep, SignStepList};
 use cmr_base::{Matrix, Memory, RowsAndColumns};
 use std::alloc::Global;
 
-/// The signs given so far, 0 where none is given, and the steps that gave them.
+/// The signs given so far, 0 where none is given, the steps that gave them, and the signed columns of the row that is signed.
 #[derive(Drop)]
 pub struct Signing {
     pub signs: Matrix,
     pub steps: SignStepList,
+    pub signed: SignedColumns,
 }
 
 // A one that is forced: its column, and the signed column with which it makes a cycle place.
@@ -36,7 +38,8 @@ pub struct ForcedOne {
 /// that are signed, it gets the sign with which the place's cycle has a sum divisible by 4, and else 1. Of the places of a
 /// row the one with the least column without sign comes first, and of these the one with the least signed column. The
 /// signed matrix may still have a cycle fault. The time is one walk through the rows before for each first column of a
-/// place that is asked for, mostly few in a row, and at most one more for each one.
+/// place that is asked for, mostly few in a row, and at most one more for each one; besides, at most the square of a row's
+/// ones for each row, and for each forced one the square of the length of its cycle.
 pub fn sign(alloc: Global, matrix: &Matrix) -> Result<(Matrix, SignStepList), Memory>
     ensures signed { IfOk result (λ signed. IsSignedBy matrix.now signed.1 signed.0) }
     // Of a 0/1 matrix, the steps are those of a chain.
@@ -70,6 +73,7 @@ fn no_signs(alloc: Global, matrix: &ListedMatrix<'_>) -> Result<Signing, Memory>
     Ok(Signing {
         signs: Matrix::zero(alloc, matrix.rows(), matrix.columns())?,
         steps: SignStepList::new(alloc),
+        signed: SignedColumns::new(alloc, matrix.columns())?,
     })
 }
 
@@ -106,6 +110,7 @@ fn sign_row(
         sign_next(alloc, matrix, places, row, column, signing)?;
         next = first_unsigned(matrix, row, column, &signing.signs);
     }
+    signing.signed.begin();
     Ok(())
 }
 
@@ -129,7 +134,14 @@ fn sign_next(
     ensures keeps { OnOk result ((d : ℕ) → IsUnsignedOne matrix.now signing.new.signs row d
         → IsUnsignedOne matrix.now signing.old.signs row d) }
 {
-    match forced_one(matrix, places, row, first, &signing.signs)? {
+    match forced_one(
+        matrix,
+        places,
+        row,
+        first,
+        &signing.signs,
+        &mut signing.signed,
+    )? {
         Some(forced) => sign_forced(alloc, matrix, places, row, forced, signing),
         None => sign_free(row, first, matrix, signing),
     }
@@ -143,20 +155,23 @@ fn forced_one(
     row: u32,
     first: u32,
     signs: &Matrix,
+    signed: &mut SignedColumns,
 ) -> Result<Option<ForcedOne>, Memory>
     requires row { row < height matrix.now }
     requires places { KnowsPlaces matrix.now row places.old }
     requires signs { AreSigns matrix.now signs.now }
     requires first { IsFirstUnsigned matrix.now signs.now row first }
+    requires signed { KnowsSigned matrix.now signs.now row signed.old }
     ensures forced { IfOk result (λ found. MatchOption found
         (NoneForced matrix.now signs.now row)
         (λ forced. IsForcedColumn matrix.now signs.now row forced.column
         × IsPartner matrix.now signs.now row forced.column forced.partner)) }
     ensures places { IfOk result (λ found. KnowsPlaces matrix.now row places.new) }
+    ensures signed { IfOk result (λ found. KnowsSigned matrix.now signs.now row signed.new) }
 {
     for column in first..matrix.columns() {
         if is_unsigned_one(matrix, row, column, signs) {
-            if let Some(partner) = partner_of(matrix, places, row, column, signs)? {
+            if let Some(partner) = partner_of(matrix, places, row, column, signs, signed)? {
                 return Ok(Some(ForcedOne { column, partner }));
             }
         }
@@ -175,6 +190,35 @@ fn is_unsigned_one(matrix: &ListedMatrix<'_>, row: u32, column: u32, signs: &Mat
 
 // The least signed column of a row that makes a cycle place with a column.
 fn partner_of(
+    matrix: &ListedMatrix<'_>,
+    places: &mut RowPlaces,
+    row: u32,
+    column: u32,
+    signs: &Matrix,
+    signed: &mut SignedColumns,
+) -> Result<Option<u32>, Memory>
+    requires row { row < height matrix.now }
+    requires column { column < matrix.now.width }
+    requires places { KnowsPlaces matrix.now row places.old }
+    requires signs { AreSigns matrix.now signs.now }
+    requires here { IsUnsignedOne matrix.now signs.now row column }
+    requires signed { KnowsSigned matrix.now signs.now row signed.old }
+    ensures partner { IfOk result (λ found. MatchOption found
+        ((c : ℕ) → ¬ (IsForcedBy matrix.now signs.now row column c))
+        (IsPartner matrix.now signs.now row column)) }
+    ensures places { IfOk result (λ found. KnowsPlaces matrix.now row places.new) }
+    ensures signed { IfOk result (λ found. KnowsSigned matrix.now signs.now row signed.new) }
+{
+    let is_forced = signed.force(matrix, places, row, column, signs)?;
+    if is_forced {
+        least_partner(matrix, places, row, column, signs)
+    } else {
+        Ok(None)
+    }
+}
+
+// The same, looked for along all ones of the row.
+fn least_partner(
     matrix: &ListedMatrix<'_>,
     places: &mut RowPlaces,
     row: u32,
@@ -237,6 +281,7 @@ fn sign_free(
 {
     signing.signs.set(row, column, 1);
     signing.steps.push(SignStep::Free { row, column })?;
+    signing.signed.columns.push(column)?;
     Ok(())
 }
 
@@ -265,6 +310,7 @@ fn sign_forced(
     let sign = closing_sign(signing.signs.sum(&cycle));
     signing.signs.set(row, column, sign);
     signing.steps.push(SignStep::Forced { row, column, cycle })?;
+    signing.signed.columns.push(column)?;
     Ok(())
 }
 

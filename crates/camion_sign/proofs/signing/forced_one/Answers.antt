@@ -1,7 +1,7 @@
 use Rattle.std.proofs.Common.{sym, subst}
 use Rattle.std.proofs.lemmas.Bool.{false≢true}
 use Rattle.std.proofs.Common.{◌∙◌}
-use Rattle.camion_sign.specs.Signings.{KnowsPlaces}
+use Rattle.camion_sign.specs.Signings.{KnowsPlaces, KnowsSigned}
 use Rattle.camion_sign.proofs.PartnerSteps.{column_passed}
 use Rattle.camion_sign.proofs.signing.forced_one.Goals as goal
 use Rattle.camion_sign.proofs.signing.forced_one.Goals.{then-is_unsigned_one+in_ok-partner+in_default, else-is_unsigned_one}
@@ -14,9 +14,11 @@ loop-column-preserved c =
       | then-is_unsigned_one+in_ok-partner+in_default w ↦ record {
         none = column_passed a s c.args.row c.loop-column.column (λ here. rw w.in_default.is at w.in_ok-partner.ensures.partner) c.loop-column.invariant.none;
         knows = subst (KnowsPlaces a c.args.row) (sym w.places-is) w.in_ok-partner.ensures.places;
+        signed = subst (KnowsSigned a s c.args.row) (sym w.signed-is) w.in_ok-partner.ensures.signed;
       }
       | else-is_unsigned_one w ↦ record {
         none = column_passed a s c.args.row c.loop-column.column (λ here. absurd (false≢true (sym w.if-is_unsigned_one.false ∙ c.is_unsigned_one.ensures.1 here))) c.loop-column.invariant.none;
         knows = subst (KnowsPlaces a c.args.row) (sym w.places-is) c.loop-column.invariant.knows;
+        signed = subst (KnowsSigned a s c.args.row) (sym w.signed-is) c.loop-column.invariant.signed;
       }
     ]

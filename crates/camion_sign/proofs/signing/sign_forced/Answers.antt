@@ -42,7 +42,7 @@ returns-clause-state c =
       four = subst IsZeroModFour (sym more) (subst (λ (z : ℤ). IsZeroModFour (z +ℤ v)) sum c.closing_sign-sign.ensures.four);
     } in
     state_more c.args.matrix.now c.args.signing.now.signs c.requires.places.room.fits.matrix c.args.row c.args.forced.column v c.closing_sign-sign.ensures.sign state.signs state.turn c.requires.here.here
-    c.args.signing.now.steps c.push.new.self (Forced c.args.row c.args.forced.column c.in_ok-cycle.cycle) state.steps (state.turn, next) refl c.in_ok-push.ensures.ok c.set.new.self set
+    c.args.signing.now.steps c.push.new.self (Forced c.args.row c.args.forced.column c.in_ok-cycle.cycle) state.steps (state.turn, next) refl c.in_ok-push.ensures.ok c.set.new.self set c.args.signing.now.signed _ state.signed c.in_ok-push-2.ensures.items refl
 
 pub returns-clause-fewer : goal.returns-clause-fewer
 returns-clause-fewer c =

@@ -13,7 +13,7 @@ returns-clause-state c =
     let state = c.requires.state in
     state_more c.args.matrix.now c.args.signing.now.signs c.requires.matrix c.args.row c.args.column (pos 1) (inl refl) state.signs state.turn c.requires.first.here
     c.args.signing.now.steps c.push.new.self (Free c.args.row c.args.column) state.steps (state.turn, record { here = c.requires.first.here; least = c.requires.first.least; unforced = c.requires.none }, refl) refl c.in_ok-push.ensures.ok
-    c.set.new.self c.set.ensures
+    c.set.new.self c.set.ensures c.args.signing.now.signed _ state.signed c.in_ok-push-2.ensures.items refl
 
 pub returns-clause-fewer : goal.returns-clause-fewer
 returns-clause-fewer c =

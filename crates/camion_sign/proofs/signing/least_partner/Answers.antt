@@ -5,8 +5,8 @@ use Rattle.camion_sign.specs.Signings.{KnowsPlaces}
 use Rattle.camion_sign.proofs.EntryTests.{zero_as_byte}
 use Rattle.camion_sign.proofs.PartnerSteps.{partner_is, no_partner, one_passed}
 use Rattle.camion_sign.proofs.Steps.{within}
-use Rattle.camion_sign.proofs.signing.partner_of.Goals as goal
-use Rattle.camion_sign.proofs.signing.partner_of.Goals.{then-entry-ne0+in_ok-is_place+else-is_place, else-entry-ne0}
+use Rattle.camion_sign.proofs.signing.least_partner.Goals as goal
+use Rattle.camion_sign.proofs.signing.least_partner.Goals.{then-entry-ne0+in_ok-is_place+else-is_place, else-entry-ne0}
 
 pub returns-then-is_place-clause-partner : goal.returns-then-is_place-clause-partner
 returns-then-is_place-clause-partner c =

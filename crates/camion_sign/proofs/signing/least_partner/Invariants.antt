@@ -1,7 +1,7 @@
 use Rattle.std.proofs.Common.{◌<◌, ℕ, get_or}
 use Rattle.camion_sign.specs.SignOrder.{IsForcedBy}
 use Rattle.camion_sign.specs.Signings.{KnowsPlaces}
-use Rattle.camion_sign.proofs.signing.partner_of.Given as goal
+use Rattle.camion_sign.proofs.signing.least_partner.Given as goal
 
 abbrev pub invariant-loop-partner : goal.invariant-loop-partner
 invariant-loop-partner l = record {

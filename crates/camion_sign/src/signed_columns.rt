@@ -1,0 +1,77 @@
+// The signed columns of a row, and which of them make no cycle place with a column.
+ghost use Rattle.std.specs.Prelude.{◌≡◌, ◌<◌, ℕ, [], false, length, slice_index, IfOk};
+ghost use Rattle.cmr_base.specs.Matrix.{height};
+ghost use Rattle.camion_sign.specs.SignSteps.{AreSigns, IsUnsignedOne};
+ghost use Rattle.camion_sign.specs.SignOrder.{IsForcedBy};
+ghost use Rattle.camion_sign.specs.Signings.{KnowsPlaces, KnowsSigned};
+
+use crate::listed_matrix::ListedMatrix;
+use crate::row_places::RowPlaces;
+use cmr_base::{Matrix, Memory};
+use std::alloc::Global;
+
+/// The signed columns of the row that is signed, so that a column without sign is compared with each of them once.
+#[derive(Drop)]
+pub struct SignedColumns {
+    /// In the order of their signs.
+    pub columns: Vec<u32>,
+    /// For each column of the matrix, with how many of the first of these it is known to make no place.
+    pub passed: Vec<usize>,
+}
+
+impl SignedColumns {
+    /// None is signed, in a matrix with so many columns.
+    pub fn new(alloc: Global, columns: u32) -> Result<SignedColumns, Memory>
+        ensures none { IfOk result (λ signed. signed.columns.items ≡ []) }
+        ensures long { IfOk result (λ signed. length signed.passed.items ≡ columns) }
+        ensures passed { IfOk result (λ signed. (d : ℕ) → slice_index signed.passed.items d ≡ 0) }
+    {
+        Ok(SignedColumns {
+            columns: Vec::new(alloc),
+            passed: vec![in alloc; 0; columns as usize]?,
+        })
+    }
+
+    /// Begins a row, of which nothing is signed.
+    pub fn begin(&mut self)
+        ensures none { self.new.columns.items ≡ [] }
+        ensures long { length self.new.passed.items ≡ length self.old.passed.items }
+        ensures passed { (d : ℕ) → slice_index self.new.passed.items d ≡ 0 }
+    {
+        self.columns.clear();
+        self.passed.fill(0);
+    }
+
+    /// Whether some signed column makes a cycle place with a column. The columns before it in their order that do not are
+    /// not asked again.
+    pub fn force(
+        &mut self,
+        matrix: &ListedMatrix<'_>,
+        places: &mut RowPlaces,
+        row: u32,
+        column: u32,
+        _signs: &Matrix,
+    ) -> Result<bool, Memory>
+        requires row { row < height matrix.now }
+        requires column { column < matrix.now.width }
+        requires places { KnowsPlaces matrix.now row places.old }
+        requires signs { AreSigns matrix.now _signs.now }
+        requires signed { KnowsSigned matrix.now _signs.now row self.old }
+        requires here { IsUnsignedOne matrix.now _signs.now row column }
+        ensures none { IfOk result (λ forced. forced ≡ false
+            → (c : ℕ) → ¬ (IsForcedBy matrix.now _signs.now row column c)) }
+        ensures places { IfOk result (λ forced. KnowsPlaces matrix.now row places.new) }
+        ensures signed { IfOk result (λ forced. KnowsSigned matrix.now _signs.now row self.new) }
+    {
+        let mut place = self.passed[column as usize];
+        'signed: while place < self.columns.len() {
+            let is_place = places.make_place(matrix, row, column, self.columns[place])?;
+            if is_place {
+                return Ok(true);
+            }
+            place += 1;
+        }
+        self.passed[column as usize] = place;
+        Ok(false)
+    }
+}
