@@ -127,7 +127,7 @@ impl<R: Files + Input> Shelf for RealShelf<'_, R> {
         ensures within { IfOk result (λ count. count ≤ length into.new) }
         ensures begun { self.new.reading ≡ true }
         ensures writing { self.new.writing ≡ self.old.writing }
-        ensures reads { self.new.reads ≡ after_next self.old.reads (length into.new) result }
+        ensures reads { self.new.reads ≡ after_next self.old.reads into.new result }
         ensures failed { self.new.failed ≡ is_err result }
         ensures cause { HasCause self.old.faults self.new.faults result }
     {
@@ -138,7 +138,7 @@ impl<R: Files + Input> Shelf for RealShelf<'_, R> {
         };
         self.failed = result.is_err();
         if let Ok(count) = result {
-            self.reads.add(into.len(), count);
+            self.reads.add(into, count);
         }
         result
     }
