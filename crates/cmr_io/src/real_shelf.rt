@@ -1,6 +1,7 @@
 //! The files of the system and standard input: the edge, of whose bytes nothing is claimed.
 
-ghost use Rattle.std.specs.Prelude.{◌≡◌, ◌≤◌, [], false, true, None, IsTrue, IfOk, is_err, is_ok, length};
+ghost use Rattle.std.specs.Prelude.{◌≡◌, ◌≤◌, ◌<◌, [], false, true, None, IsTrue, IfOk, OnErr, is_err, is_ok, length, take};
+ghost use Rattle.std.specs.Io.KnownBytes.{Appends, Consumes, IsAtEnd, Keeps};
 ghost use Rattle.cmr_io.specs.Causes.{HasCause, Rose};
 ghost use Rattle.cmr_io.specs.Calls.{counted, next_number};
 ghost use Rattle.cmr_io.specs.Pieces.{TakesFront};
@@ -25,7 +26,8 @@ pub enum Open<F, I> {
 }
 
 /// The files of the system. The name `-`, where it is read, is standard input. Contracts see whether a
-/// read or a write is begun, which reads were begun and how much all have given, whether the last call failed, and the count of faults.
+/// read or a write is begun, what is left of what is read and what the file that is written has got where the runtime lets that
+/// be known, which reads were begun and what they gave, whether the last call failed, and the count of faults.
 #[derive(Drop)]
 pub struct RealShelf<'a, R: Files + Input> {
     rt: &'a R,
@@ -37,11 +39,11 @@ pub struct RealShelf<'a, R: Files + Input> {
 
 impl<'a, R: Files + Input> Model for RealShelf<'a, R> {
     ghost use Rattle.cmr_io.specs.FileShelf.{FileShelf};
-    ghost use Rattle.cmr_io.specs.Open.{is_reading, is_writing};
+    ghost use Rattle.cmr_io.specs.Open.{got_in, is_reading, is_writing, left_in};
 
     ghost Value = { FileShelf };
 
-    ghost view = { λ shelf. record { reading = is_reading shelf.opened; writing = is_writing shelf.opened; reads = shelf.reads; failed = shelf.failed; faults = shelf.faults } };
+    ghost view = { λ shelf. record { reading = is_reading shelf.opened; writing = is_writing shelf.opened; left = left_in R.File.remaining R.Reader.remaining shelf.opened; got = got_in R.File.contents shelf.opened; reads = shelf.reads; failed = shelf.failed; faults = shelf.faults } };
 }
 
 impl<'a, R: Files + Input> RealShelf<'a, R> {
@@ -125,6 +127,11 @@ impl<R: Files + Input> Shelf for RealShelf<'_, R> {
         requires { IsTrue self.old.reading }
         ensures count { self.new.faults ≡ counted result self.old.faults }
         ensures within { IfOk result (λ count. count ≤ length into.new) }
+        ensures given { IfOk result (λ count.
+            Consumes self.old.left self.new.left (take count into.new)) }
+        ensures end { IfOk result (λ count. count ≡ 0 → 0 < length into.new
+            → IsAtEnd self.new.left) }
+        ensures err { OnErr result (Keeps self.old.left self.new.left) }
         ensures begun { self.new.reading ≡ true }
         ensures writing { self.new.writing ≡ self.old.writing }
         ensures reads { self.new.reads ≡ after_next self.old.reads into.new result }
@@ -166,6 +173,9 @@ impl<R: Files + Input> Shelf for RealShelf<'_, R> {
         requires { IsTrue self.old.writing }
         ensures count { self.new.faults ≡ counted result self.old.faults }
         ensures taken { IfOk result (TakesFront piece.now) }
+        ensures written { IfOk result (λ count.
+            Appends self.old.got self.new.got (take count piece.now)) }
+        ensures err { OnErr result (Keeps self.old.got self.new.got) }
         ensures begun { self.new.writing ≡ true }
         ensures reading { self.new.reading ≡ self.old.reading }
         ensures reads { self.new.reads ≡ self.old.reads }
