@@ -5,6 +5,7 @@ ghost use Rattle.std.specs.Io.KnownBytes.{Appends, Consumes, IsAtEnd, Keeps};
 ghost use Rattle.cmr_io.specs.Causes.{HasCause, Rose};
 ghost use Rattle.cmr_io.specs.Calls.{counted, next_number};
 ghost use Rattle.cmr_io.specs.Pieces.{TakesFront};
+ghost use Rattle.cmr_io.specs.Log.{after_put, log_with};
 ghost use Rattle.cmr_io.specs.Reads.{after_begun, after_next};
 ghost use Rattle.cmr_io.specs.FileShelf.{new_shelf};
 
@@ -12,6 +13,7 @@ use crate::device::{Failed, Shelf};
 use crate::fault_count::FaultCount;
 use crate::read_count::ReadCount;
 use crate::retry::{read_counted, write_counted};
+use crate::write_log::WriteLog;
 use std::fs;
 use std::marker::Model;
 use std::rt::Files;
@@ -33,6 +35,7 @@ pub struct RealShelf<'a, R: Files + Input> {
     rt: &'a R,
     opened: Open<R::File, R::Reader>,
     reads: ReadCount,
+    writes: WriteLog,
     failed: bool,
     faults: FaultCount,
 }
@@ -43,7 +46,7 @@ impl<'a, R: Files + Input> Model for RealShelf<'a, R> {
 
     ghost Value = { FileShelf };
 
-    ghost view = { λ shelf. record { reading = is_reading shelf.opened; writing = is_writing shelf.opened; left = left_in R.File.remaining R.Reader.remaining shelf.opened; got = got_in R.File.contents shelf.opened; reads = shelf.reads; failed = shelf.failed; faults = shelf.faults } };
+    ghost view = { λ shelf. record { reading = is_reading shelf.opened; writing = is_writing shelf.opened; left = left_in R.File.remaining R.Reader.remaining shelf.opened; got = got_in R.File.contents shelf.opened; reads = shelf.reads; writes = shelf.writes; failed = shelf.failed; faults = shelf.faults } };
 }
 
 impl<'a, R: Files + Input> RealShelf<'a, R> {
@@ -55,6 +58,7 @@ impl<'a, R: Files + Input> RealShelf<'a, R> {
             rt,
             opened: Open::Nothing,
             reads: ReadCount::new(),
+            writes: WriteLog::new(),
             failed: false,
             faults: FaultCount::new(),
         }
@@ -89,6 +93,8 @@ impl<R: Files + Input> Shelf for RealShelf<'_, R> {
 
     ghost reads = { λ shelf. shelf.reads };
 
+    ghost writes = { λ shelf. shelf.writes };
+
     ghost failed = { λ shelf. shelf.failed };
 
     ghost faults = { λ shelf. shelf.faults };
@@ -104,6 +110,7 @@ impl<R: Files + Input> Shelf for RealShelf<'_, R> {
         ensures begun { self.new.reading ≡ is_ok result }
         ensures ended { self.new.writing ≡ false }
         ensures reads { self.new.reads ≡ after_begun self.old.reads name.now }
+        ensures writes { self.new.writes ≡ self.old.writes }
         ensures failed { self.new.failed ≡ is_err result }
         ensures cause { HasCause self.old.faults self.new.faults result }
     {
@@ -135,6 +142,7 @@ impl<R: Files + Input> Shelf for RealShelf<'_, R> {
         ensures begun { self.new.reading ≡ true }
         ensures writing { self.new.writing ≡ self.old.writing }
         ensures reads { self.new.reads ≡ after_next self.old.reads into.new result }
+        ensures writes { self.new.writes ≡ self.old.writes }
         ensures failed { self.new.failed ≡ is_err result }
         ensures cause { HasCause self.old.faults self.new.faults result }
     {
@@ -155,9 +163,11 @@ impl<R: Files + Input> Shelf for RealShelf<'_, R> {
         ensures begun { self.new.writing ≡ is_ok result }
         ensures ended { self.new.reading ≡ false }
         ensures reads { self.new.reads ≡ self.old.reads }
+        ensures writes { self.new.writes ≡ log_with self.old.writes name.now [] }
         ensures failed { self.new.failed ≡ is_err result }
         ensures cause { HasCause self.old.faults self.new.faults result }
     {
+        self.writes.begin(name);
         self.opened = Open::Nothing;
         self.failed = false;
         match fs::create(self.rt, name) {
@@ -179,6 +189,7 @@ impl<R: Files + Input> Shelf for RealShelf<'_, R> {
         ensures begun { self.new.writing ≡ true }
         ensures reading { self.new.reading ≡ self.old.reading }
         ensures reads { self.new.reads ≡ self.old.reads }
+        ensures writes { self.new.writes ≡ after_put self.old.writes piece.now result }
         ensures failed { self.new.failed ≡ is_err result }
         ensures cause { HasCause self.old.faults self.new.faults result }
     {
@@ -187,6 +198,9 @@ impl<R: Files + Input> Shelf for RealShelf<'_, R> {
         };
         let result = write_counted(file, piece, &mut self.faults);
         self.failed = result.is_err();
+        if let Ok(count) = result {
+            self.writes.add(piece, count);
+        }
         result
     }
 }

@@ -33,6 +33,7 @@ pieces-preserved g c =
       ends = ends_on (S.reads c.pieces.shelf) after into count next.reads c.if-count-eq0.false ∙ before.ends;
       names = ap (λ (r : Reads). r.names) next.reads ∙ before.names;
       texts = texts_on (S.reads c.args.shelf.now).texts bytes.items new.items (S.reads c.pieces.shelf) after into count next.reads before.texts (items_on bytes.items into behind new.items count next.within more.items);
+      writes = next.writes ∙ before.writes;
       begun = keeps_begun_on before.begun next.begun;
       kept = keeps_names_on before.kept next.kept;
       later = omega (arith, before.later, next.counted.cause.later);
