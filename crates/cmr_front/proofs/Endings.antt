@@ -14,11 +14,11 @@ use Rattle.cmr_front.specs.Ending.{Devices, Standing, Telling, devices, telling_
 use Rattle.cmr_front.specs.Inputs.{Given, given, not_there, too_much, texts}
 use Rattle.cmr_front.specs.Outcome.{ended_report, outcome_report, bad_words, too_long, bad_text, stop_report}
 use Rattle.cmr_front.specs.Report.{Held, Report}
-use Rattle.cmr_front.specs.Run.{Ordered, nothing, work, IsNothing, Reports, ReportsGiven, Means, BeginsInOrder, gives_answer, names_fault, names_too_long, CannotRead, HasEnded, reported, unread, no_memory, Ends, Runs}
+use Rattle.cmr_front.specs.Run.{Ordered, nothing, work, IsNothing, IsReportOf, Reports, ReportsGiven, ReportsSome, Means, MeansRead, BeginsInOrder, gives_answer, names_fault, names_too_long, CannotRead, HasEnded, reported, unread, no_memory, Ends, Runs}
 use Rattle.cmr_front.specs.Status.{IsStatus, answer_status, failure_status}
 use Rattle.cmr_front.specs.Tool.{IsDecision, IsLawful, Tool}
 use Rattle.cmr_front.specs.Stopped.{StopsInputs}
-use Rattle.cmr_front.specs.Unread.{AreAllRead, Between, between}
+use Rattle.cmr_front.specs.Unread.{AreAllRead, Between, between, HaveGiven}
 use Rattle.cmr_front.proofs.Statuses.{answered_or_failed, status_of}
 
 pub pointwise : {A B : Type 0} (f g : A → B) → ((x : A) → f x ≡ g x) → f ≡ g
@@ -119,6 +119,7 @@ pub refused_memory : (ordered : Ordered) (standing : Standing) (before after : D
     → CarriesOut (Err stops.Memory) (telling_of standing) before after status → Runs ordered standing before after status
 refused_memory ordered standing before after status same done = record {
   ended = no_memory (none_begun ordered before.reads after.reads same) done.0 done.1;
+  means = λ answer is. absurd (answered_or_failed status answer failures.Memory is done.0);
   complete = λ told report is. inr (inr done.0);
   ready = λ report is room. inr done.0;
   refused = λ none. inr done.0;
@@ -184,6 +185,26 @@ is_status (Err (stops.BadText name kind place)) = inr (failures.Text, refl)
 is_status (Err (stops.CannotRead name)) = inr (failures.Device, refl)
 is_status (Err stops.Memory) = inr (failures.Memory, refl)
 
+-- ---- what an answer means of the texts that were read
+
+means_report : (tool : Tool) → IsLawful tool → (reads : Between) (report : Report) (answer : Answer) → IsReportOf tool reads report → report.status ≡ answer_status answer → MeansRead (work tool) reads answer
+means_report tool law reads report answer (gives_answer given s e bytes count d all gave) is = (bytes, count, gave, law.means bytes report answer d is)
+means_report tool law reads report answer (names_fault name kind place same bytes count d all gave) is = absurd (answered_or_failed report.status answer failures.Text is (status_of report _ same))
+means_report tool law reads report answer (names_too_long place name at same all gave) is = absurd (answered_or_failed report.status answer failures.Text is (status_of report _ same))
+
+means_some : (ordered : Ordered) → IsLawfulOrder ordered → (reads : Between) (report : Report) (answer : Answer) → ReportsSome ordered reads report → report.status ≡ answer_status answer → MeansRead ordered reads answer
+means_some nothing law reads report answer some is = absurd (answered_or_failed report.status answer failures.Words is (status_of report _ some.0))
+means_some (work tool) law reads report answer some is = means_report tool law reads report answer some is
+
+means_ended_read : (ordered : Ordered) → IsLawfulOrder ordered → (held : Held) (tells calm : Bool) (reads : Between) (failed : Bool) (ended : Result Outcome Stop) → Ends ordered held tells calm reads failed ended → (answer : Answer)
+    → (ended_report ended).status ≡ answer_status answer → MeansRead ordered reads answer
+means_ended_read ordered law held tells calm reads failed (Ok outcome) ends answer is = means_some ordered law reads (outcome_report outcome) answer ends.0 is
+means_ended_read ordered law held tells calm reads failed (Err stops.BadWords) ends answer is = absurd (answered_or_failed _ answer failures.Words is refl)
+means_ended_read ordered law held tells calm reads failed (Err (stops.TooLong name)) ends answer is = absurd (answered_or_failed _ answer failures.Text is refl)
+means_ended_read ordered law held tells calm reads failed (Err (stops.BadText name kind place)) ends answer is = absurd (answered_or_failed _ answer failures.Text is refl)
+means_ended_read ordered law held tells calm reads failed (Err (stops.CannotRead name)) ends answer is = absurd (answered_or_failed _ answer failures.Device is refl)
+means_ended_read ordered law held tells calm reads failed (Err stops.Memory) ends answer is = absurd (answered_or_failed _ answer failures.Memory is refl)
+
 pub runs : (ordered : Ordered) (standing : Standing) (held read : Held) (reads mid_reads : Reads) (failed mid_failed : Bool) (before mid : ℕ) (output : List ℕ) (out : ℕ) (error : List ℕ) (err : ℕ)
     (ended : Result Outcome Stop) (after : Devices) (status : ℕ)
     → IsDecided ordered standing held read (between reads mid_reads) mid_failed before mid ended → WasCarriedOut standing ended (devices read mid_reads mid_failed mid output out error err) after status
@@ -194,6 +215,11 @@ runs ordered standing held read reads mid_reads failed mid_failed before mid out
       (ends_after ordered held standing.shelf_tells standing.shelf_is_calm reads mid_reads after.reads mid_failed after.failed ended carried.reads carried.failed decided.ends)
       (seen_from ended (telling_of standing) held read reads mid_reads failed mid_failed before mid output out error err after status (pointwise read held decided.content) decided.later carried.carried_out)
       (λ device. rose_until before mid after.shelf_faults carried.later (decided.cause device));
+  means = λ answer is. elim carried.given [
+    | inl s ↦ subst (λ (last : Reads). MeansRead ordered (between reads last) answer) (sym carried.reads)
+        (means_ended_read ordered decided.lawful held standing.shelf_tells standing.shelf_is_calm (between reads mid_reads) mid_failed ended decided.ends answer (sym s ∙ is))
+    | inr cut ↦ absurd (answered_or_failed status answer failures.Device is cut.0)
+  ];
   complete = λ told report is. elim (the_status ordered decided.lawful held standing.shelf_tells standing.shelf_is_calm (between reads mid_reads) mid_failed ended decided.ends told report is) [
     | inl one ↦ elim carried.given [ inl s ↦ inl (s ∙ one.status) | inr cut ↦ inr (inl cut.0) ]
     | inr other ↦ elim other [
@@ -250,21 +276,21 @@ means tool law standing held reads failed ended mid after status ends (inr cut) 
 -- ---- what is decided on what was read
 
 pub decided_ends : (tool : Tool) (held : Held) (tells calm : Bool) (reads : Between) (failed : Bool) (bytes : List (List ℕ)) (ended : Result Outcome Stop) → length bytes ≡ length tool.inputs
-    → AreAllRead tool.inputs reads → (IsTrue tells → given held tool.inputs ≡ texts bytes) → IsDecision (tool.Reports bytes) ended → Ends (work tool) held tells calm reads failed ended
-decided_ends tool held tells calm reads failed bytes (Ok outcome) count all read d =
-    (gives_answer outcome.answer refl refl bytes count d all, λ told. subst (λ g. ReportsGiven tool g (outcome_report outcome)) (sym (read told)) d)
-decided_ends tool held tells calm reads failed bytes (Err stops.BadWords) count all read d = absurd d
-decided_ends tool held tells calm reads failed bytes (Err (stops.TooLong name)) count all read d = absurd d
-decided_ends tool held tells calm reads failed bytes (Err (stops.BadText name kind place)) count all read d =
-    (names_fault name.now kind place refl bytes count d all, λ told. subst (λ g. ReportsGiven tool g (bad_text name.now kind place)) (sym (read told)) d)
-decided_ends tool held tells calm reads failed bytes (Err (stops.CannotRead name)) count all read d = absurd d
-decided_ends tool held tells calm reads failed bytes (Err stops.Memory) count all read d = (length tool.inputs, all.have_begun)
+    → AreAllRead tool.inputs reads → (IsTrue tells → given held tool.inputs ≡ texts bytes) → HaveGiven tool.inputs bytes reads → IsDecision (tool.Reports bytes) ended → Ends (work tool) held tells calm reads failed ended
+decided_ends tool held tells calm reads failed bytes (Ok outcome) count all read gave d =
+    (gives_answer outcome.answer refl refl bytes count d all gave, λ told. subst (λ g. ReportsGiven tool g (outcome_report outcome)) (sym (read told)) d)
+decided_ends tool held tells calm reads failed bytes (Err stops.BadWords) count all read gave d = absurd d
+decided_ends tool held tells calm reads failed bytes (Err (stops.TooLong name)) count all read gave d = absurd d
+decided_ends tool held tells calm reads failed bytes (Err (stops.BadText name kind place)) count all read gave d =
+    (names_fault name.now kind place refl bytes count d all gave, λ told. subst (λ g. ReportsGiven tool g (bad_text name.now kind place)) (sym (read told)) d)
+decided_ends tool held tells calm reads failed bytes (Err (stops.CannotRead name)) count all read gave d = absurd d
+decided_ends tool held tells calm reads failed bytes (Err stops.Memory) count all read gave d = (length tool.inputs, all.have_begun)
 
 pub stopped_ends : (tool : Tool) (held : Held) (tells calm : Bool) (reads : Between) (failed : Bool) (stop : Stop) → StopsInputs tool.inputs held tells calm reads failed stop
     → Ends (work tool) held tells calm reads failed (Err stop)
 stopped_ends tool held tells calm reads failed stops.BadWords h = absurd h
 stopped_ends tool held tells calm reads failed (stops.TooLong name) h =
-    (names_too_long h.0 name.now h.1 refl h.2, λ told. subst (λ g. ReportsGiven tool g (too_long name.now)) (sym (h.3 told)) refl)
+    (names_too_long h.0 name.now h.1 refl h.2 h.3, λ told. subst (λ g. ReportsGiven tool g (too_long name.now)) (sym (h.4 told)) refl)
 stopped_ends tool held tells calm reads failed (stops.BadText name kind place) h = absurd h
 stopped_ends tool held tells calm reads failed (stops.CannotRead name) h = h
 stopped_ends tool held tells calm reads failed stops.Memory h = h

@@ -1,5 +1,5 @@
 -- What reading some files one after another comes to.
-use Rattle.std.proofs.Common.{◌≡◌, ◌<◌, ◌+◌, ◌++◌, ◌∙◌, ℕ, zero, suc, Bool, IsTrue, List, [], ◌∷◌, length, map, take, get_or, ap, sym, subst, refl, arith, add-one}
+use Rattle.std.proofs.Common.{◌≡◌, ◌<◌, ◌≤◌, ◌+◌, ◌++◌, ◌∙◌, ℕ, zero, suc, Bool, IsTrue, List, [], ◌∷◌, length, map, take, slice_get, Some, get_or, ap, sym, subst, refl, arith, add-one}
 use Rattle.std.proofs.lemmas.List.{append_assoc, map-append}
 use Rattle.cmr_front.specs.declared.input.Input.{Input}
 use Rattle.cmr_front.specs.declared.input.InputKind.TheVariants.{MatrixText}
@@ -12,8 +12,8 @@ use Rattle.cmr_io.specs.Calls.{next_number, up_to_last}
 use Rattle.cmr_io.specs.Reads.{Reads}
 use Rattle.cmr_front.specs.Outcome.{stop_report}
 use Rattle.cmr_front.specs.Status.{failure_status}
-use Rattle.cmr_front.specs.Stopped.{StopsInputs, StopsReading}
-use Rattle.cmr_front.specs.Unread.{AreRead, Between, between, HaveBegun, IsNameAt}
+use Rattle.cmr_front.specs.Stopped.{StopsInputs, StopsOnText, StopsReading}
+use Rattle.cmr_front.specs.Unread.{AreRead, AreWithin, Between, between, GivesTooMuch, HaveBegun, HaveGiven, IsNameAt}
 use Rattle.cmr_front.specs.declared.status.Failure.TheVariants as failures
 
 -- what a place beyond the last one holds
@@ -116,6 +116,29 @@ one_more_begun before mid after inputs k h so_far more =
     ∙ append_assoc before.names (take k (names_of inputs)) ((file_at inputs k).name ∷ [])
     ∙ ap (λ (names : List (List ℕ)). before.names ++ names) (one_name_more inputs k h ∙ ap (λ (n : ℕ). take n (names_of inputs)) (sym (add-one k)))
 
+-- one text more within the limit of its file
+within_more : (inputs : List Input) (k : ℕ) (bytes : List (List ℕ)) (text : List ℕ) → k < length inputs → length bytes ≡ k → AreWithin (map input_file inputs) bytes → length text ≤ most_bytes (file_at inputs k).kind
+    → AreWithin (map input_file inputs) (bytes ++ text ∷ [])
+within_more [] k bytes text h count within here = absurd (omega arith)
+within_more (input ∷ inputs) zero [] text h count within here = (here, tt)
+within_more (input ∷ inputs) zero (first ∷ bytes) text h count within here = absurd (omega arith)
+within_more (input ∷ inputs) (suc k) [] text h count within here = absurd (omega arith)
+within_more (input ∷ inputs) (suc k) (first ∷ bytes) text h count within here = (within.0, within_more inputs k bytes text (omega arith) (omega arith) within.1 here)
+
+-- one read more has given its text
+pub one_more_given : (before mid after : Reads) (inputs : List Input) (k : ℕ) (bytes : List (List ℕ)) (text : List ℕ) → k < length inputs → length bytes ≡ k
+    → HaveGiven (map input_file inputs) bytes (between before mid) → after.texts ≡ mid.texts ++ text ∷ [] → length text ≤ most_bytes (file_at inputs k).kind
+    → HaveGiven (map input_file inputs) (bytes ++ text ∷ []) (between before after)
+one_more_given before mid after inputs k bytes text h count so_far more here = record {
+  given = more ∙ ap (λ (texts : List (List ℕ)). texts ++ text ∷ []) so_far.given ∙ append_assoc before.texts bytes (text ∷ []);
+  within = within_more inputs k bytes text h count so_far.within here;
+}
+
+there_at : (inputs : List Input) (k : ℕ) → k < length inputs → slice_get (map input_file inputs) k ≡ Some (file_at inputs k)
+there_at [] k h = absurd (omega arith)
+there_at (input ∷ inputs) zero h = refl
+there_at (input ∷ inputs) (suc k) h = there_at inputs k (omega arith)
+
 -- the files before the first one that stops
 take_files : (inputs : List Input) (k : ℕ) → take k (map input_file inputs) ≡ map input_file (take k inputs)
 take_files [] zero = refl
@@ -125,10 +148,12 @@ take_files (input ∷ inputs) (suc k) = ap (λ (files : List InputFile). input_f
 
 module _ (held mid : Held) (tells tells' calm calm' : Bool) (inputs : List Input) (k : ℕ) (before : List (List ℕ)) (reads : Between) (failed : Bool) where
   pub stopped_at : (stop : Stop) → k < length inputs → ((name : List ℕ) → mid name ≡ held name) → (IsTrue tells → IsTrue tells') → (IsTrue calm → IsTrue calm')
-      → (IsTrue tells → given held (map input_file (take k inputs)) ≡ texts before) → AreRead (map input_file inputs) (k + 1) k reads → ((stop_report stop).status ≡ failure_status failures.Device → IsTrue failed)
+      → (IsTrue tells → given held (map input_file (take k inputs)) ≡ texts before) → AreRead (map input_file inputs) (k + 1) k reads
+      → (mid_texts : List (List ℕ)) → length before ≡ k → mid_texts ≡ reads.before.texts ++ before → AreWithin (map input_file inputs) before → StopsOnText (file_at inputs k) mid_texts reads.after.texts stop
+      → ((stop_report stop).status ≡ failure_status failures.Device → IsTrue failed)
       → StopsReading (file_at inputs k) mid tells' calm' stop → StopsInputs (map input_file inputs) held tells calm reads failed stop
-  stopped_at stops.BadWords h same told is_calm read up_to cause stopped = stopped
-  stopped_at (stops.CannotRead name) h same told is_calm read up_to cause stopped = record {
+  stopped_at stops.BadWords h same told is_calm read up_to mid_texts count so_far within gave cause stopped = stopped
+  stopped_at (stops.CannotRead name) h same told is_calm read up_to mid_texts count so_far within gave cause stopped = record {
     place = k;
     named = subst (IsNameAt (map input_file inputs) k) (sym stopped.0) (name_at inputs k h);
     read = up_to;
@@ -137,12 +162,22 @@ module _ (held mid : Held) (tells tells' calm calm' : Bool) (inputs : List Input
     missing = λ t c.
         stops_unread held inputs k before h (read t) (same_reading held mid same (file_at inputs k) ∙ stopped.1 (told t) (is_calm c)) ∙ ap not_there (sym stopped.0);
   }
-  stopped_at (stops.TooLong name) h same told is_calm read up_to cause stopped = (
+  stopped_at (stops.TooLong name) h same told is_calm read up_to mid_texts count so_far within gave cause stopped = (
     k,
     subst (IsNameAt (map input_file inputs) k) (sym stopped.0) (name_at inputs k h),
     up_to,
+    record {
+      bytes = before;
+      last = gave.0;
+      file = file_at inputs k;
+      count = count;
+      given = gave.1 ∙ ap (λ (texts : List (List ℕ)). texts ++ gave.0 ∷ []) so_far ∙ append_assoc reads.before.texts before (gave.0 ∷ []);
+      within = within;
+      there = there_at inputs k h;
+      above = gave.2;
+    },
     (λ t.
         stops_above held inputs k before h (read t) (same_reading held mid same (file_at inputs k) ∙ stopped.1 (told t)) ∙ ap too_much (sym stopped.0)),
   )
-  stopped_at (stops.BadText name kind place) h same told is_calm read up_to cause stopped = stopped
-  stopped_at stops.Memory h same told is_calm read up_to cause stopped = (k + 1, up_to.have_begun)
+  stopped_at (stops.BadText name kind place) h same told is_calm read up_to mid_texts count so_far within gave cause stopped = stopped
+  stopped_at stops.Memory h same told is_calm read up_to mid_texts count so_far within gave cause stopped = (k + 1, up_to.have_begun)

@@ -15,7 +15,7 @@ use Rattle.cmr_front.specs.Outcome.{bad_text, bad_words, cannot_read, out_of_mem
 use Rattle.cmr_front.specs.Ending.{Devices, Standing, IsDelivered, IsReadyFor, IsCarriedOut, devices, standing, telling_of}
 use Rattle.cmr_front.specs.Status.{IsStatus, answer_status, failure_status}
 use Rattle.cmr_front.specs.Tool.{Tool}
-use Rattle.cmr_front.specs.Unread.{AreAllRead, AreRead, Between, between, HaveBegun, IsNameAt, IsUnread}
+use Rattle.cmr_front.specs.Unread.{AreAllRead, AreRead, Between, between, GivesTooMuch, HaveBegun, HaveGiven, IsNameAt, IsUnread}
 
 -- what the words order: nothing where they are refused, or a tool with its options
 pub data Ordered : Type 1 where
@@ -45,6 +45,12 @@ Reports (work tool) held report = ReportsHeld tool held report
 abbrev pub Means : Tool → Held → Answer → Type 0
 Means tool held answer = (bytes : List (List ℕ)) × (given held tool.inputs ≡ texts bytes) × tool.Means bytes answer
 
+-- What an answer means whatever the shelf tells: a text was read of each file of the tool, in their order and each once, and
+-- of these texts the answer says so.
+abbrev pub MeansRead : Ordered → Between → Answer → Type 0
+MeansRead nothing reads answer = ⊥
+MeansRead (work tool) reads answer = (bytes : List (List ℕ)) × (length bytes ≡ length tool.inputs) × HaveGiven tool.inputs bytes reads × tool.Means bytes answer
+
 -- a file of the order could not be read, and those before it were
 abbrev pub CannotRead : Ordered → Held → Bool → Bool → Between → Bool → List ℕ → Type 0
 CannotRead nothing held tells calm reads failed name = ⊥
@@ -55,15 +61,16 @@ abbrev pub BeginsInOrder : Ordered → Between → Type 0
 BeginsInOrder nothing reads = reads.after ≡ reads.before
 BeginsInOrder (work tool) reads = (count : ℕ) × HaveBegun tool.inputs count reads
 
--- What a tool reports whatever the shelf tells: an answer without a line of standard error or a fault, on some texts, one
--- for each file, and then the reads of all files were begun, in order and each once, and came to their ends; or that one of
--- its files is too long, and then its read was begun last, and as many came to their ends as stand before it.
+-- What a tool reports whatever the shelf tells: an answer without a line of standard error or a fault, on the texts that were
+-- read, one for each file, and then the reads of all files were begun, in order and each once, and came to their ends; or that
+-- one of its files is too long, since its read, which was begun last, gave more than its limit, and as many came to their ends
+-- as stand before it.
 pub data IsReportOf (tool : Tool) (reads : Between) (report : Report) : Type 0 where
   gives_answer : (answer : Answer) → report.status ≡ answer_status answer → report.error ≡ [] → (bytes : List (List ℕ)) → length bytes ≡ length tool.inputs → tool.Reports bytes report
-      → AreAllRead tool.inputs reads → IsReportOf tool reads report
+      → AreAllRead tool.inputs reads → HaveGiven tool.inputs bytes reads → IsReportOf tool reads report
   names_fault : (name : List ℕ) (kind : FaultKind) (place : ℕ) → report ≡ bad_text name kind place → (bytes : List (List ℕ)) → length bytes ≡ length tool.inputs → tool.Reports bytes report
-      → AreAllRead tool.inputs reads → IsReportOf tool reads report
-  names_too_long : (place : ℕ) (name : List ℕ) → IsNameAt tool.inputs place name → report ≡ too_long name → AreRead tool.inputs (place + 1) place reads → IsReportOf tool reads report
+      → AreAllRead tool.inputs reads → HaveGiven tool.inputs bytes reads → IsReportOf tool reads report
+  names_too_long : (place : ℕ) (name : List ℕ) → IsNameAt tool.inputs place name → report ≡ too_long name → AreRead tool.inputs (place + 1) place reads → GivesTooMuch tool.inputs place reads → IsReportOf tool reads report
 
 -- what is reported whatever the shelf tells
 abbrev pub ReportsSome : Ordered → Between → Report → Type 0
@@ -82,6 +89,8 @@ pub data HasEnded (ordered : Ordered) (standing : Standing) (before after : Devi
 pub record Runs (ordered : Ordered) (standing : Standing) (before after : Devices) (status : ℕ) : Type 0 where
   -- what stands on each device that tells its bytes
   pub ended : HasEnded ordered standing before after status
+  -- what an answer means, whatever the shelf tells: a status of an answer stands on the texts that were read
+  pub means : (answer : Answer) → status ≡ answer_status answer → MeansRead ordered (between before.reads after.reads) answer
   -- the status is that of every report, but for a device or for want of memory
   pub complete : IsTrue standing.shelf_tells → (report : Report) → Reports ordered before.held report
       → (status ≡ report.status) ⊎ (status ≡ failure_status failures.Device) ⊎ (status ≡ failure_status failures.Memory)

@@ -1,8 +1,8 @@
 -- How far the files of a tool were read, and which one could not be.
-use Rattle.std.specs.Prelude.{◌≡◌, ◌+◌, ◌++◌, ℕ, Bool, IsTrue, List, Some, length, map, slice_get, take}
+use Rattle.std.specs.Prelude.{◌≡◌, ◌<◌, ◌≤◌, ◌+◌, ◌++◌, ℕ, Bool, IsTrue, List, [], ◌∷◌, Some, length, map, slice_get, take}
 use Rattle.cmr_io.specs.Calls.{up_to_last}
 use Rattle.cmr_io.specs.Reads.{Reads}
-use Rattle.cmr_front.specs.Inputs.{InputFile, given, not_there, texts}
+use Rattle.cmr_front.specs.Inputs.{InputFile, given, most_bytes, not_there, texts}
 use Rattle.cmr_front.specs.Report.{Held}
 
 -- the reads of a shelf before and after
@@ -30,6 +30,28 @@ pub record AreRead (files : List InputFile) (begun ended : ℕ) (reads : Between
 -- those of all files were, and each came to its end
 abbrev pub AreAllRead : List InputFile → Between → Type 0
 AreAllRead files reads = AreRead files (length files) (length files) reads
+
+-- each text is within the limit of its file, and there are not more of them than files
+abbrev pub AreWithin : List InputFile → List (List ℕ) → Type 0
+AreWithin files [] = Unit {0}
+AreWithin [] (text ∷ bytes) = ⊥
+AreWithin (file ∷ files) (text ∷ bytes) = (length text ≤ most_bytes file.kind) × AreWithin files bytes
+
+-- The reads that were begun have given these texts, in their order, and nothing else; each is within the limit of its file.
+pub record HaveGiven (files : List InputFile) (bytes : List (List ℕ)) (reads : Between) : Type 0 where
+  pub given : reads.after.texts ≡ reads.before.texts ++ bytes
+  pub within : AreWithin files bytes
+
+-- The read that was begun last has given more bytes than the limit of its file, and those before it texts within theirs.
+pub record GivesTooMuch (files : List InputFile) (place : ℕ) (reads : Between) : Type 0 where
+  pub bytes : List (List ℕ)
+  pub last : List ℕ
+  pub file : InputFile
+  pub count : length bytes ≡ place
+  pub given : reads.after.texts ≡ reads.before.texts ++ (bytes ++ last ∷ [])
+  pub within : AreWithin files bytes
+  pub there : slice_get files place ≡ Some file
+  pub above : most_bytes file.kind < length last
 
 -- the file at a place has this name
 abbrev pub IsNameAt : List InputFile → ℕ → List ℕ → Type 0

@@ -6,8 +6,8 @@ ghost use Rattle.cmr_io.specs.Kept.{KeepsNames};
 ghost use Rattle.cmr_front.specs.Inputs.{bytes_of, given, input_file, most_bytes, reading, texts, whole};
 ghost use Rattle.cmr_front.specs.Outcome.{stop_report};
 ghost use Rattle.cmr_front.specs.Status.{failure_status};
-ghost use Rattle.cmr_front.specs.Stopped.{StopsInputs, StopsReading};
-ghost use Rattle.cmr_front.specs.Unread.{AreAllRead, between};
+ghost use Rattle.cmr_front.specs.Stopped.{StopsInputs, StopsOnText, StopsReading};
+ghost use Rattle.cmr_front.specs.Unread.{AreAllRead, HaveGiven, between};
 ghost use Rattle.cmr_front.specs.declared.status.Failure.TheVariants.{Device};
 
 use crate::outcome::Stop;
@@ -62,6 +62,8 @@ pub fn read_inputs<'a, S: Shelf>(
     ensures count { IfOk result (λ read. length read.items ≡ length inputs.now) }
     ensures ended { OnOk result (AreAllRead (map input_file inputs.now)
         (between (S.reads shelf.old) (S.reads shelf.new))) }
+    ensures texts { IfOk result (λ read. HaveGiven (map input_file inputs.now)
+        (map bytes_of read.items) (between (S.reads shelf.old) (S.reads shelf.new))) }
     ensures stopped { IfErr result (StopsInputs (map input_file inputs.now)
         (S.content shelf.old) (S.tells shelf.old) (S.is_calm shelf.old)
         (between (S.reads shelf.old) (S.reads shelf.new)) (S.failed shelf.new)) }
@@ -92,6 +94,11 @@ fn read_input<'a, S: Shelf>(
         → reading (S.content shelf.old) (input_file input.entry) ≡ whole (bytes_of text)) }
     ensures begun { (S.reads shelf.new).names
         ≡ (S.reads shelf.old).names ++ input.entry.name.now ∷ [] }
+    ensures text { IfOk result (λ text. (S.reads shelf.new).texts
+        ≡ (S.reads shelf.old).texts ++ bytes_of text ∷ []) }
+    ensures within { IfOk result (λ text. length (bytes_of text) ≤ most_bytes input.entry.kind) }
+    ensures on_text { IfErr result (StopsOnText (input_file input.entry) (S.reads shelf.old).texts
+        (S.reads shelf.new).texts) }
     ensures ended { OnOk result ((S.reads shelf.new).ends ≡ next_number (S.reads shelf.old).ends) }
     ensures not_ended { OnErr result ((S.reads shelf.new).ends ≡ (S.reads shelf.old).ends) }
     ensures failed { IfErr result (λ stop. (stop_report stop).status ≡ failure_status Device

@@ -1,9 +1,9 @@
 -- What a read has given and counted.
-use Rattle.std.proofs.Common.{◌≡◌, ◌≤◌, ◌<◌, ◌+◌, ◌++◌, ◌∙◌, ◌&&◌, ◌==◌, ℕ, nat_lt, Bool, true, false, if◌then◌else◌, List, length, take, length-append, append_assoc, Some, Vec, Result, Ok, Err, IsErrAnd, refl, sym, ap, subst, arith, ne_eqb}
-use Rattle.std.proofs.lemmas.List.{length-take-le, take-append-le}
+use Rattle.std.proofs.Common.{◌≡◌, ◌≤◌, ◌<◌, ◌+◌, ◌++◌, ◌∙◌, ◌&&◌, ◌==◌, ℕ, nat_lt, Bool, true, false, if◌then◌else◌, List, [], ◌∷◌, length, take, length-append, append_assoc, Some, Vec, Result, Ok, Err, IsErrAnd, refl, sym, ap, subst, arith, ne_eqb}
+use Rattle.std.proofs.lemmas.List.{append-nil, length-take-le, take-append-le}
 use Rattle.cmr_io.specs.Calls.{up_to_last, next_number}
-use Rattle.cmr_io.specs.Reads.{Reads, after_piece}
-use Rattle.cmr_io.specs.WholeRead.{GivesContent}
+use Rattle.cmr_io.specs.Reads.{Reads, after_piece, with_more}
+use Rattle.cmr_io.specs.WholeRead.{GivesContent, GivesText}
 use Rattle.cmr_io.specs.declared.whole.ReadError.{ReadError}
 use Rattle.cmr_io.specs.declared.whole.ReadError.TheVariants.{Memory, TooLong}
 
@@ -57,14 +57,56 @@ not_ended true none next now e = rw e refl
 not_ended false none next now e = refl
 
 -- a piece that is not empty is no end
-pub ends_on : (reads after : Reads) (room count : ℕ) → after ≡ after_piece reads room count → (count ≡ 0 → ⊥) → after.ends ≡ reads.ends
-ends_on reads after room count is some = ap (λ (r : Reads). r.ends) is ∙ not_ended (nat_lt 0 room) (count == 0) (next_number reads.ends) reads.ends (ne_eqb count 0 some)
+pub ends_on : (reads after : Reads) (into : List ℕ) (count : ℕ) → after ≡ after_piece reads into count → (count ≡ 0 → ⊥) → after.ends ≡ reads.ends
+ends_on reads after into count is some = ap (λ (r : Reads). r.ends) is ∙ not_ended (nat_lt 0 (length into)) (count == 0) (next_number reads.ends) reads.ends (ne_eqb count 0 some)
 
 -- a piece more
-pub read_on : (before many : ℕ) (reads after : Reads) (room count : ℕ) → after ≡ after_piece reads room count → reads.bytes ≤ before + many → after.bytes ≤ before + (many + count)
-read_on before many reads after room count is read = let bytes : after.bytes ≡ up_to_last (reads.bytes + count) = ap (λ (r : Reads). r.bytes) is in omega (arith, bytes, read)
+pub read_on : (before many : ℕ) (reads after : Reads) (into : List ℕ) (count : ℕ) → after ≡ after_piece reads into count → reads.bytes ≤ before + many → after.bytes ≤ before + (many + count)
+read_on before many reads after into count is read = let bytes : after.bytes ≡ up_to_last (reads.bytes + count) = ap (λ (r : Reads). r.bytes) is in omega (arith, bytes, read)
 
 -- where it is counted up to the last value of a counter, the same
-pub read_all_on : (before many : ℕ) (reads after : Reads) (room count : ℕ) → after ≡ after_piece reads room count → up_to_last reads.bytes ≡ up_to_last (before + many)
+pub read_all_on : (before many : ℕ) (reads after : Reads) (into : List ℕ) (count : ℕ) → after ≡ after_piece reads into count → up_to_last reads.bytes ≡ up_to_last (before + many)
     → up_to_last after.bytes ≡ up_to_last (before + (many + count))
-read_all_on before many reads after room count is all = let bytes : after.bytes ≡ up_to_last (reads.bytes + count) = ap (λ (r : Reads). r.bytes) is in omega (arith, bytes, all)
+read_all_on before many reads after into count is all = let bytes : after.bytes ≡ up_to_last (reads.bytes + count) = ap (λ (r : Reads). r.bytes) is in omega (arith, bytes, all)
+
+-- ---- the last of the texts
+
+pub more_of_none : (texts : List (List ℕ)) → with_more texts [] ≡ texts
+more_of_none [] = refl
+more_of_none (text ∷ []) = ap (λ (bytes : List ℕ). bytes ∷ []) (append-nil text)
+more_of_none (text ∷ other ∷ texts) = ap (λ (others : List (List ℕ)). text ∷ others) (more_of_none (other ∷ texts))
+
+pub more_and_more : (texts : List (List ℕ)) (some others : List ℕ) → with_more (with_more texts some) others ≡ with_more texts (some ++ others)
+more_and_more [] some others = refl
+more_and_more (text ∷ []) some others = ap (λ (bytes : List ℕ). bytes ∷ []) (append_assoc text some others)
+more_and_more (text ∷ other ∷ []) some others = ap (λ (rest : List (List ℕ)). text ∷ rest) (more_and_more (other ∷ []) some others)
+more_and_more (text ∷ other ∷ third ∷ texts) some others = ap (λ (rest : List (List ℕ)). text ∷ rest) (more_and_more (other ∷ third ∷ texts) some others)
+
+pub more_of_new : (texts : List (List ℕ)) (bytes : List ℕ) → with_more (texts ++ [] ∷ []) bytes ≡ texts ++ bytes ∷ []
+more_of_new [] bytes = refl
+more_of_new (text ∷ []) bytes = refl
+more_of_new (text ∷ other ∷ texts) bytes = ap (λ (rest : List (List ℕ)). text ∷ rest) (more_of_new (other ∷ texts) bytes)
+
+-- a piece more of the last text
+pub texts_on : (before : List (List ℕ)) (bytes new : List ℕ) (reads after : Reads) (into : List ℕ) (count : ℕ) → after ≡ after_piece reads into count → reads.texts ≡ with_more before bytes
+    → new ≡ bytes ++ take count into → after.texts ≡ with_more before new
+texts_on before bytes new reads after into count is texts items =
+    ap (λ (r : Reads). r.texts) is
+    ∙ ap (λ (all : List (List ℕ)). with_more all (take count into)) texts
+    ∙ more_and_more before bytes (take count into)
+    ∙ ap (with_more before) (sym items)
+
+-- memory was refused
+pub text-refused : {A : Type 0} (most : ℕ) (with_text : List ℕ → List (List ℕ)) (after : List (List ℕ)) (text : List ℕ) (result : Result (Vec ℕ A) ReadError) → after ≡ with_text text → length text ≤ most + 1
+    → IsErrAnd result (λ e. e ≡ Memory) → GivesText {A = A} most with_text after result
+text-refused {A} most with_text after text result texts within is =
+    let at : GivesText {A = A} most with_text after (Err Memory) = record {
+      text = text;
+      texts = texts;
+      whole = tt;
+      fits = tt;
+      too_many = λ e. absurd (cc);
+      few = λ e. absurd (cc);
+      within = within;
+    } in
+    subst (λ (r : Result (Vec ℕ A) ReadError). GivesText {A = A} most with_text after r) (sym (is_err_of result Memory is)) at

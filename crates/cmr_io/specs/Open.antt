@@ -1,5 +1,5 @@
 -- What a shelf of files has open.
-use Rattle.std.specs.Prelude.{Bool, true, false}
+use Rattle.std.specs.Prelude.{Bool, true, false, ℕ, List, Option, None}
 use Rattle.cmr_io.specs.declared.real_shelf.Open.{Open}
 use Rattle.cmr_io.specs.declared.real_shelf.Open.TheVariants.{Nothing, Read, Input, Write}
 
@@ -16,3 +16,17 @@ is_writing Nothing = false
 is_writing (Read file) = false
 is_writing (Input input) = false
 is_writing (Write file) = true
+
+-- what is left of what is read, where that is known
+abbrev pub left_in : {F I : Type 0} → (F → Option (List ℕ)) → (I → Option (List ℕ)) → Open F I → Option (List ℕ)
+left_in of_file of_input Nothing = None
+left_in of_file of_input (Read file) = of_file file
+left_in of_file of_input (Input input) = of_input input
+left_in of_file of_input (Write file) = None
+
+-- what the file that is written has got, where that is known
+abbrev pub got_in : {F I : Type 0} → (F → Option (List ℕ)) → Open F I → Option (List ℕ)
+got_in of_file Nothing = None
+got_in of_file (Read file) = None
+got_in of_file (Input input) = None
+got_in of_file (Write file) = of_file file

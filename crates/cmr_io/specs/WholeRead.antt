@@ -22,7 +22,7 @@ pub record GivesContent {A : Type 0} (most : ℕ) (content : Option (List ℕ)) 
 pub record Counts {A : Type 0} (most : ℕ) (begun : Bool) (before after : Reads) (result : Result (Vec ℕ A) ReadError) : Type 0 where
   -- the bytes, and the end
   pub within : IfOk result (λ bytes. vec_len bytes ≤ most)
-  pub whole : IfOk result (λ bytes. after ≡ after_whole before (vec_len bytes))
+  pub whole : IfOk result (λ bytes. after ≡ after_whole before bytes.items)
   -- no end
   pub not_ended : OnErr result (after.ends ≡ before.ends)
   -- one byte too many, where it is too long
@@ -33,3 +33,17 @@ pub record Counts {A : Type 0} (most : ℕ) (begun : Bool) (before after : Reads
   pub taken : after.bytes ≤ before.bytes + (most + 1)
   pub none : begun ≡ false → after ≡ before
   pub names : after.names ≡ before.names
+
+-- The bytes that a read of at most so many has given, from what the texts of the reads are where it has given these.
+pub record GivesText {A : Type 0} (most : ℕ) (with_text : List ℕ → List (List ℕ)) (after : List (List ℕ)) (result : Result (Vec ℕ A) ReadError) : Type 0 where
+  pub text : List ℕ
+  pub texts : after ≡ with_text text
+  -- all of them, and not more than so many
+  pub whole : IfOk result (λ bytes. text ≡ bytes.items)
+  pub fits : IfOk result (λ bytes. length text ≤ most)
+  -- one too many, where it is too long
+  pub too_many : IsErrOf result TooLong → length text ≡ most + 1
+  -- none too many, where a call failed
+  pub few : IsErrOf result ReadFault → length text ≤ most
+  -- in every outcome
+  pub within : length text ≤ most + 1

@@ -1,14 +1,14 @@
-ghost use Rattle.std.specs.Prelude.{◌≡◌};
+ghost use Rattle.std.specs.Prelude.{◌≡◌, ◌≤◌, length};
 ghost use Rattle.cmr_io.specs.Reads.{no_reads, after_begun, after_piece};
 
-use crate::begun_names::BegunNames;
+use crate::begun_reads::BegunReads;
 use std::marker::Model;
 
-/// Which reads were begun, how many bytes all reads have given, and how many have come to their ends. Each count
+/// Which reads were begun, what each of them has given, how many bytes all have, and how many have come to their ends. Each count
 /// starts at 0, and stays at the last value of a `u64`.
 #[derive(Debug, Drop)]
 pub struct ReadCount {
-    names: BegunNames,
+    begun: BegunReads,
     bytes: u64,
     ends: u64,
 }
@@ -18,7 +18,7 @@ impl Model for ReadCount {
 
     ghost Value = { Reads };
 
-    ghost view = { λ count. record { names = count.names.names; bytes = count.bytes; ends = count.ends } };
+    ghost view = { λ count. record { names = count.begun.names; texts = count.begun.texts; bytes = count.bytes; ends = count.ends } };
 }
 
 impl ReadCount {
@@ -27,7 +27,7 @@ impl ReadCount {
         ensures { result ≡ no_reads }
     {
         ReadCount {
-            names: BegunNames::new(),
+            begun: BegunReads::new(),
             bytes: 0,
             ends: 0,
         }
@@ -37,15 +37,17 @@ impl ReadCount {
     pub fn begin(&mut self, name: &str)
         ensures { self.new ≡ after_begun self.old name.now }
     {
-        self.names.add(name.as_bytes());
+        self.begun.begin(name.as_bytes());
     }
 
-    /// So many bytes were given, where there was so much room.
-    pub fn add(&mut self, room: usize, count: usize)
-        ensures { self.new ≡ after_piece self.old room count }
+    /// So many bytes were given at the front of `into`.
+    pub fn add(&mut self, into: &[u8], count: usize)
+        requires { count ≤ length into.now }
+        ensures { self.new ≡ after_piece self.old into.now count }
     {
+        self.begun.give(&into[..count]);
         self.bytes = self.bytes.saturating_add(count as u64);
-        if room > 0 && count == 0 {
+        if !into.is_empty() && count == 0 {
             self.ends = self.ends.saturating_add(1);
         }
     }

@@ -1,9 +1,11 @@
 //! The files of the system and standard input: the edge, of whose bytes nothing is claimed.
 
-ghost use Rattle.std.specs.Prelude.{◌≡◌, ◌≤◌, [], false, true, None, IsTrue, IfOk, is_err, is_ok, length};
+ghost use Rattle.std.specs.Prelude.{◌≡◌, ◌≤◌, ◌<◌, [], false, true, None, IsTrue, IfOk, OnErr, is_err, is_ok, length, take};
+ghost use Rattle.std.specs.Io.KnownBytes.{Appends, Consumes, IsAtEnd, Keeps};
 ghost use Rattle.cmr_io.specs.Causes.{HasCause, Rose};
 ghost use Rattle.cmr_io.specs.Calls.{counted, next_number};
 ghost use Rattle.cmr_io.specs.Pieces.{TakesFront};
+ghost use Rattle.cmr_io.specs.Log.{after_put, log_with};
 ghost use Rattle.cmr_io.specs.Reads.{after_begun, after_next};
 ghost use Rattle.cmr_io.specs.FileShelf.{new_shelf};
 
@@ -11,6 +13,7 @@ use crate::device::{Failed, Shelf};
 use crate::fault_count::FaultCount;
 use crate::read_count::ReadCount;
 use crate::retry::{read_counted, write_counted};
+use crate::write_log::WriteLog;
 use std::fs;
 use std::marker::Model;
 use std::rt::Files;
@@ -25,23 +28,25 @@ pub enum Open<F, I> {
 }
 
 /// The files of the system. The name `-`, where it is read, is standard input. Contracts see whether a
-/// read or a write is begun, which reads were begun and how much all have given, whether the last call failed, and the count of faults.
+/// read or a write is begun, what is left of what is read and what the file that is written has got where the runtime lets that
+/// be known, which reads were begun and what they gave, whether the last call failed, and the count of faults.
 #[derive(Drop)]
 pub struct RealShelf<'a, R: Files + Input> {
     rt: &'a R,
     opened: Open<R::File, R::Reader>,
     reads: ReadCount,
+    writes: WriteLog,
     failed: bool,
     faults: FaultCount,
 }
 
 impl<'a, R: Files + Input> Model for RealShelf<'a, R> {
     ghost use Rattle.cmr_io.specs.FileShelf.{FileShelf};
-    ghost use Rattle.cmr_io.specs.Open.{is_reading, is_writing};
+    ghost use Rattle.cmr_io.specs.Open.{got_in, is_reading, is_writing, left_in};
 
     ghost Value = { FileShelf };
 
-    ghost view = { λ shelf. record { reading = is_reading shelf.opened; writing = is_writing shelf.opened; reads = shelf.reads; failed = shelf.failed; faults = shelf.faults } };
+    ghost view = { λ shelf. record { reading = is_reading shelf.opened; writing = is_writing shelf.opened; left = left_in R.File.remaining R.Reader.remaining shelf.opened; got = got_in R.File.contents shelf.opened; reads = shelf.reads; writes = shelf.writes; failed = shelf.failed; faults = shelf.faults } };
 }
 
 impl<'a, R: Files + Input> RealShelf<'a, R> {
@@ -53,6 +58,7 @@ impl<'a, R: Files + Input> RealShelf<'a, R> {
             rt,
             opened: Open::Nothing,
             reads: ReadCount::new(),
+            writes: WriteLog::new(),
             failed: false,
             faults: FaultCount::new(),
         }
@@ -87,6 +93,8 @@ impl<R: Files + Input> Shelf for RealShelf<'_, R> {
 
     ghost reads = { λ shelf. shelf.reads };
 
+    ghost writes = { λ shelf. shelf.writes };
+
     ghost failed = { λ shelf. shelf.failed };
 
     ghost faults = { λ shelf. shelf.faults };
@@ -102,6 +110,7 @@ impl<R: Files + Input> Shelf for RealShelf<'_, R> {
         ensures begun { self.new.reading ≡ is_ok result }
         ensures ended { self.new.writing ≡ false }
         ensures reads { self.new.reads ≡ after_begun self.old.reads name.now }
+        ensures writes { self.new.writes ≡ self.old.writes }
         ensures failed { self.new.failed ≡ is_err result }
         ensures cause { HasCause self.old.faults self.new.faults result }
     {
@@ -125,9 +134,15 @@ impl<R: Files + Input> Shelf for RealShelf<'_, R> {
         requires { IsTrue self.old.reading }
         ensures count { self.new.faults ≡ counted result self.old.faults }
         ensures within { IfOk result (λ count. count ≤ length into.new) }
+        ensures given { IfOk result (λ count.
+            Consumes self.old.left self.new.left (take count into.new)) }
+        ensures end { IfOk result (λ count. count ≡ 0 → 0 < length into.new
+            → IsAtEnd self.new.left) }
+        ensures err { OnErr result (Keeps self.old.left self.new.left) }
         ensures begun { self.new.reading ≡ true }
         ensures writing { self.new.writing ≡ self.old.writing }
-        ensures reads { self.new.reads ≡ after_next self.old.reads (length into.new) result }
+        ensures reads { self.new.reads ≡ after_next self.old.reads into.new result }
+        ensures writes { self.new.writes ≡ self.old.writes }
         ensures failed { self.new.failed ≡ is_err result }
         ensures cause { HasCause self.old.faults self.new.faults result }
     {
@@ -138,7 +153,7 @@ impl<R: Files + Input> Shelf for RealShelf<'_, R> {
         };
         self.failed = result.is_err();
         if let Ok(count) = result {
-            self.reads.add(into.len(), count);
+            self.reads.add(into, count);
         }
         result
     }
@@ -148,9 +163,11 @@ impl<R: Files + Input> Shelf for RealShelf<'_, R> {
         ensures begun { self.new.writing ≡ is_ok result }
         ensures ended { self.new.reading ≡ false }
         ensures reads { self.new.reads ≡ self.old.reads }
+        ensures writes { self.new.writes ≡ log_with self.old.writes name.now [] }
         ensures failed { self.new.failed ≡ is_err result }
         ensures cause { HasCause self.old.faults self.new.faults result }
     {
+        self.writes.begin(name);
         self.opened = Open::Nothing;
         self.failed = false;
         match fs::create(self.rt, name) {
@@ -166,9 +183,13 @@ impl<R: Files + Input> Shelf for RealShelf<'_, R> {
         requires { IsTrue self.old.writing }
         ensures count { self.new.faults ≡ counted result self.old.faults }
         ensures taken { IfOk result (TakesFront piece.now) }
+        ensures written { IfOk result (λ count.
+            Appends self.old.got self.new.got (take count piece.now)) }
+        ensures err { OnErr result (Keeps self.old.got self.new.got) }
         ensures begun { self.new.writing ≡ true }
         ensures reading { self.new.reading ≡ self.old.reading }
         ensures reads { self.new.reads ≡ self.old.reads }
+        ensures writes { self.new.writes ≡ after_put self.old.writes piece.now result }
         ensures failed { self.new.failed ≡ is_err result }
         ensures cause { HasCause self.old.faults self.new.faults result }
     {
@@ -177,6 +198,9 @@ impl<R: Files + Input> Shelf for RealShelf<'_, R> {
         };
         let result = write_counted(file, piece, &mut self.faults);
         self.failed = result.is_err();
+        if let Ok(count) = result {
+            self.writes.add(piece, count);
+        }
         result
     }
 }

@@ -1,4 +1,5 @@
-ghost use Rattle.std.specs.Prelude.{◌≡◌, [], false, IfOk};
+ghost use Rattle.std.specs.Prelude.{◌≡◌, [], false, IfOk, OnErr, take};
+ghost use Rattle.std.specs.Io.KnownBytes.{Appends, Keeps};
 ghost use Rattle.cmr_io.specs.Causes.{HasCause};
 ghost use Rattle.cmr_io.specs.Calls.{counted};
 ghost use Rattle.cmr_io.specs.Pieces.{TakesFront};
@@ -9,7 +10,8 @@ use crate::retry::write_counted;
 use std::io::Write;
 use std::marker::Model;
 
-/// The writer of standard output or of standard error. Contracts see the count of faults.
+/// The writer of standard output or of standard error. Contracts see what the writer has got,
+/// where that is known, and the count of faults.
 #[derive(Drop)]
 pub struct StdSink<W: Write + Drop> {
     writer: W,
@@ -17,17 +19,18 @@ pub struct StdSink<W: Write + Drop> {
 }
 
 impl<W: Write + Drop> Model for StdSink<W> {
-    ghost use Rattle.std.specs.Prelude.{ℕ};
+    ghost use Rattle.cmr_io.specs.WriterSink.{WriterSink};
 
-    ghost Value = { ℕ };
+    ghost Value = { WriterSink };
 
-    ghost view = { λ sink. sink.faults };
+    ghost view = { λ sink. record { contents = W.contents sink.writer; faults = sink.faults } };
 }
 
 impl<W: Write + Drop> StdSink<W> {
     /// A sink over the writer.
     pub fn new(writer: W) -> Self
-        ensures { result ≡ 0 }
+        ensures contents { result.contents ≡ W.contents writer }
+        ensures faults { result.faults ≡ 0 }
     {
         StdSink {
             writer,
@@ -41,7 +44,7 @@ impl<W: Write + Drop> Sink for StdSink<W> {
 
     ghost got = { λ _. [] };
 
-    ghost faults = { λ faults. faults };
+    ghost faults = { λ sink. sink.faults };
 
     ghost is_calm = { λ _. false };
 
@@ -50,9 +53,12 @@ impl<W: Write + Drop> Sink for StdSink<W> {
     ghost calm_tells = { λ sink calm. calm };
 
     fn put(&mut self, piece: &[u8]) -> Result<usize, Failed>
-        ensures count { self.new ≡ counted result self.old }
+        ensures count { self.new.faults ≡ counted result self.old.faults }
         ensures taken { IfOk result (TakesFront piece.now) }
-        ensures cause { HasCause self.old self.new result }
+        ensures written { IfOk result (λ count.
+            Appends self.old.contents self.new.contents (take count piece.now)) }
+        ensures err { OnErr result (Keeps self.old.contents self.new.contents) }
+        ensures cause { HasCause self.old.faults self.new.faults result }
     {
         write_counted(&mut self.writer, piece, &mut self.faults)
     }

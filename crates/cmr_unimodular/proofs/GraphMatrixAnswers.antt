@@ -1,5 +1,5 @@
 -- What the answers of `graphic` and `network` say, with `-c` and without.
-use Rattle.std.proofs.Common.{◌≡◌, ◌∙◌, ℕ, Bool, true, false, List, Result, Ok, Err, ap, sym, subst, arith}
+use Rattle.std.proofs.Common.{◌≡◌, ◌∙◌, ℕ, Bool, IsTrue, true, false, List, Result, Ok, Err, ap, sym, subst, arith}
 use Rattle.std.specs.Prelude.{IfOk}
 use Rattle.cmr_base.specs.declared.memory.Memory.{Memory}
 use Rattle.cmr_base.specs.Matrix.{Matrix, height, IsMatrix}
@@ -8,8 +8,8 @@ use Rattle.graph_text.proofs.OneMatrix.{binary_matrices_are_one, matrices_are_on
 use Rattle.cmr_front.specs.declared.status.Answer.{Answer}
 use Rattle.cmr_front.specs.declared.status.Answer.TheVariants.{Yes, No, Undecided, Refused}
 use Rattle.cmr_front.specs.Ending.{Devices, Standing}
-use Rattle.cmr_front.specs.Report.{Report}
-use Rattle.cmr_front.specs.Run.{Runs, work}
+use Rattle.cmr_front.specs.Report.{Held, Report}
+use Rattle.cmr_front.specs.Run.{Means, Runs, work}
 use Rattle.cmr_front.specs.Status.{answer_status}
 use Rattle.cmr_front.specs.Tool.{HasOneReport, IsLawful}
 use Rattle.cmr_front.proofs.GraphFile.{graph_lawful, one_report_of_graph}
@@ -69,3 +69,9 @@ test_in_ranges p o = go o.from_graph
 pub runs_test : (p : TestedProperty) (o : TestOrder) (standing : Standing) (before after : Devices) (status : ℕ) → o.from_graph ≡ false → Runs (work (path_tool p o)) standing before after status → Runs (work (test_tool p o)) standing before after status
 runs_test p o standing before after status plain runs =
     subst (λ (b : Bool). Runs (work (either_tool b (graph_matrix_tool p o.file) (path_tool p o))) standing before after status) (sym plain) runs
+
+-- and so is what its answer means
+pub means_test : (p : TestedProperty) (o : TestOrder) (held : Held) (tells : Bool) (status : ℕ) → o.from_graph ≡ false → (IsTrue tells → (answer : Answer) → status ≡ answer_status answer → Means (path_tool p o) held answer)
+    → IsTrue tells → (answer : Answer) → status ≡ answer_status answer → Means (test_tool p o) held answer
+means_test p o held tells status plain means =
+    subst (λ (b : Bool). IsTrue tells → (answer : Answer) → status ≡ answer_status answer → Means (either_tool b (graph_matrix_tool p o.file) (path_tool p o)) held answer) (sym plain) means

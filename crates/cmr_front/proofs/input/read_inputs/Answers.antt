@@ -1,18 +1,19 @@
-use Rattle.std.proofs.Common.{◌≡◌, ◌∙◌, ◌∷◌, ◌+◌, ℕ, List, [], map, arith, ap, refl, sym, subst, length, length-append}
-use Rattle.std.proofs.lemmas.List.{append-nil, length-map, take_all}
+use Rattle.std.proofs.Common.{◌≡◌, ◌∙◌, ◌∷◌, ◌+◌, ◌++◌, ℕ, List, [], map, arith, ap, refl, sym, subst, length, length-append}
+use Rattle.std.proofs.lemmas.List.{append-nil, length-map, map-append, take_all}
 use Rattle.cmr_io.specs.Calls.{up_to_last}
 use Rattle.cmr_io.proofs.KeptLemmas.{keeps_names_on}
 use Rattle.cmr_front.specs.declared.input.Input.{Input}
 use Rattle.cmr_front.specs.declared.input.Text.{Text}
 use Rattle.cmr_front.specs.Inputs.{bytes_of, given, input_file, texts}
-use Rattle.cmr_front.specs.Unread.{AreRead, between}
+use Rattle.cmr_front.specs.Unread.{AreRead, AreWithin, HaveGiven, between}
 use Rattle.cmr_front.proofs.Endings.{rose_from}
-use Rattle.cmr_front.proofs.Inputs.{one_more_begun, one_more_ended, stopped_at, texts_more}
+use Rattle.cmr_front.proofs.Inputs.{one_more_begun, one_more_ended, one_more_given, stopped_at, texts_more}
 use Rattle.cmr_front.proofs.input.read_inputs.Goals as goal
 
 pub loop-input-init : goal.loop-input-init
 loop-input-init g c =
-    let ends = (g.S.Shelf.reads c.args.shelf.now).ends in
+    let start = g.S.Shelf.reads c.args.shelf.now in
+    let ends = start.ends in
     let same : ends ≡ ends + 0 = omega arith in
     record {
       given = λ told. ap (λ (read : List Text). texts (map bytes_of read)) (sym c.new-read.ensures.items);
@@ -20,6 +21,10 @@ loop-input-init g c =
       ended = record {
         have_begun = sym (append-nil (g.S.Shelf.reads c.args.shelf.now).names);
         have_ended = ap up_to_last same;
+      };
+      texts = record {
+        given = sym (append-nil start.texts) ∙ ap (λ (read : List Text). start.texts ++ map bytes_of read) (sym c.new-read.ensures.items);
+        within = subst (λ (read : List Text). AreWithin (map input_file c.args.inputs.now) (map bytes_of read)) (sym c.new-read.ensures.items) tt;
       };
       kept = record {
         names = λ name. refl;
@@ -70,7 +75,8 @@ returns-in-Err-clause-stopped g c =
     } in
     stopped_at (S.content shelf) (S.content mid) (S.tells shelf) (S.tells mid) (S.is_calm shelf) (S.is_calm mid) c.args.inputs.now c.loop-input.input-index (map bytes_of c.loop-input.read.items)
     (between (S.reads shelf) (S.reads after)) (S.failed after) stop
-    c.loop-input-test.true before.kept.names (λ told. before.kept.standing.telling ∙ told) before.kept.standing.calm before.given up_to c.in-Err.ensures.failed c.in-Err.ensures.stopped
+    c.loop-input-test.true before.kept.names (λ told. before.kept.standing.telling ∙ told) before.kept.standing.calm before.given up_to
+    (S.reads mid).texts (length-map c.loop-input.read.items bytes_of ∙ before.count) before.texts.given before.texts.within c.in-Err.ensures.on_text c.in-Err.ensures.failed c.in-Err.ensures.stopped
 
 pub loop-input-preserved : goal.loop-input-preserved
 loop-input-preserved g c =
@@ -87,6 +93,10 @@ loop-input-preserved g c =
         have_begun = one_more_begun (S.reads shelf) (S.reads mid) (S.reads c.read_input.new.shelf) c.args.inputs.now c.loop-input.input-index c.loop-input-test.true before.ended.have_begun read.begun;
         have_ended = one_more_ended (S.reads shelf).ends (S.reads mid).ends (S.reads c.read_input.new.shelf).ends c.loop-input.input-index before.ended.have_ended read.ended;
       };
+      texts = subst (λ (bytes : List (List ℕ)). HaveGiven (map input_file c.args.inputs.now) bytes (between (S.reads shelf) (S.reads c.read_input.new.shelf)))
+          (sym (ap (map bytes_of) c.in-Ok-push.ensures.items ∙ map-append bytes_of c.loop-input.read.items (c.in-Ok.text ∷ [])))
+          (one_more_given (S.reads shelf) (S.reads mid) (S.reads c.read_input.new.shelf) c.args.inputs.now c.loop-input.input-index (map bytes_of c.loop-input.read.items) (bytes_of c.in-Ok.text)
+          c.loop-input-test.true (length-map c.loop-input.read.items bytes_of ∙ before.count) before.texts read.text read.within);
       kept = keeps_names_on before.kept read.kept;
       later = omega (arith, read.later, before.later);
     }

@@ -12,7 +12,7 @@ use Rattle.cmr_front.specs.Status.{answer_status, failure_status}
 use Rattle.cmr_front.specs.Tool.{IsDecision}
 use Rattle.cmr_front.specs.Inputs.{InputFile, bytes_of, given, input_file, texts}
 use Rattle.cmr_front.specs.Stopped.{StopsInputs}
-use Rattle.cmr_front.specs.Unread.{AreAllRead, between}
+use Rattle.cmr_front.specs.Unread.{AreAllRead, HaveGiven, between}
 use Rattle.cmr_front.proofs.Endings.{decided_ends, stopped_ends}
 use Rattle.cmr_front.proofs.Statuses.{answered_or_failed}
 use Rattle.cmr_front.proofs.tool.examine.Goals as goal
@@ -48,6 +48,8 @@ returns-in-Ok-read_inputs-clause-ends g c =
     (λ told.
     subst (λ (files : List InputFile). given (S.content shelf) files ≡ texts (map bytes_of read)) same
     (c.in-Ok-read_inputs.ensures.given told ∙ ap (λ (ts : List Text). texts (map bytes_of ts)) (sym c.deref-in-Ok-read_inputs.ensures.value)))
+    (subst (λ (files : List InputFile). HaveGiven files (map bytes_of read) reads) same
+    (subst (λ (ts : List Text). HaveGiven (map input_file inputs) (map bytes_of ts) reads) (sym c.deref-in-Ok-read_inputs.ensures.value) c.in-Ok-read_inputs.ensures.texts))
     c.decide.ensures
 
 pub returns-clause-ends : goal.returns-clause-ends

@@ -1,7 +1,7 @@
 use Rattle.std.proofs.Common.{◌≡◌, ◌++◌, List, ℕ, Some, take, arith, ◌∙◌, true, ap, subst}
 use Rattle.std.proofs.lemmas.List.{length-drop}
 use Rattle.cmr_io.proofs.KeptLemmas.{keeps_on}
-use Rattle.cmr_io.proofs.WholeLemmas.{rest, take-more}
+use Rattle.cmr_io.proofs.WholeLemmas.{log_on, rest, take-more}
 use Rattle.cmr_io.proofs.whole.write_file.Goals as goal
 
 pub rest-preserved : goal.rest-preserved
@@ -27,6 +27,7 @@ rest-preserved g c =
           ∙ ap Some (got told);
       others = λ told other ne. put.kept.others other (λ e. ne (e ∙ before.target told)) ∙ before.others told other ne;
       reads = put.reads ∙ before.reads;
+      writes = log_on (S.writes c.args.shelf.now) (S.writes c.rest.shelf) (S.writes c.put.new.self) c.args.name.now bytes done count before.writes put.writes;
       standing = keeps_on before.standing put.kept.standing;
       later = omega (arith, put.counted.cause.later, before.later);
     }

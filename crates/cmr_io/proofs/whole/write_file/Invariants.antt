@@ -1,4 +1,5 @@
 use Rattle.std.proofs.Common.{◌≡◌, ◌≢◌, ◌-◌, ◌≤◌, ℕ, List, IsTrue, Some, true, false, length, take}
+use Rattle.cmr_io.specs.Log.{log_with}
 use Rattle.cmr_io.specs.Kept.{KeepsStanding}
 use Rattle.cmr_io.proofs.whole.write_file.Given as goal
 
@@ -14,6 +15,7 @@ invariant-rest g l =
       holds : IsTrue (S.tells l.fn.shelf) → S.content l.shelf l.name ≡ Some (take l.done l.bytes);
       others : IsTrue (S.tells l.fn.shelf) → (n : List ℕ) → n ≢ l.name → S.content l.shelf n ≡ S.content l.fn.shelf n;
       reads : S.reads l.shelf ≡ S.reads l.fn.shelf;
+      writes : S.writes l.shelf ≡ log_with (S.writes l.fn.shelf) l.name (take l.done l.bytes);
       standing : KeepsStanding S.tells S.is_calm S.room l.fn.shelf l.shelf;
       later : S.faults l.fn.shelf ≤ S.faults l.shelf;
     }

@@ -10,6 +10,7 @@ begin_read-tells g c = record {
   ready = grind arith;
   kept = record { names = λ name. refl; standing = record { telling = refl; calm = λ calm. calm; rooms = λ name. refl } };
   reads = c.ensures.reads;
+  writes = c.ensures.writes;
   counted = record { last = c.ensures.failed; cause = c.ensures.cause };
 }
 
@@ -22,6 +23,7 @@ next-tells g c = record {
   begun = record { reading = c.ensures.begun ∙ sym c.requires; writing = c.ensures.writing };
   kept = record { names = λ name. refl; standing = record { telling = refl; calm = λ calm. calm; rooms = λ name. refl } };
   reads = c.ensures.reads;
+  writes = c.ensures.writes;
   counted = record { last = c.ensures.failed; cause = c.ensures.cause };
 }
 
@@ -34,6 +36,7 @@ begin_write-tells g c = record {
   ready = grind arith;
   kept = record { others = λ name ne. refl; standing = record { telling = refl; calm = λ calm. calm; rooms = λ name. refl } };
   reads = c.ensures.reads;
+  writes = c.ensures.writes;
   counted = record { last = c.ensures.failed; cause = c.ensures.cause };
 }
 
@@ -46,5 +49,6 @@ put-tells g c = record {
   target = refl;
   kept = record { others = λ name ne. refl; standing = record { telling = refl; calm = λ calm. calm; rooms = λ name. refl } };
   reads = c.ensures.reads;
+  writes = c.ensures.writes;
   counted = record { last = c.ensures.failed; cause = c.ensures.cause };
 }

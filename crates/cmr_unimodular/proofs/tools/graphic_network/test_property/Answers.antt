@@ -1,6 +1,6 @@
 use Rattle.std.proofs.Common.{rules, refl}
 use Rattle.cmr_unimodular.specs.GraphicNetwork.{test_order_of}
-use Rattle.cmr_unimodular.proofs.GraphMatrixAnswers.{graph_matrix_lawful, runs_test}
+use Rattle.cmr_unimodular.proofs.GraphMatrixAnswers.{graph_matrix_lawful, means_test, runs_test}
 use Rattle.cmr_unimodular.proofs.GraphicNetworkAnswers.{path_lawful}
 use Rattle.cmr_unimodular.proofs.tools.graphic_network.test_property.Goals as goal
 
@@ -15,3 +15,6 @@ returns-then-options-clause-runs g c = rw c.if-options.true c.run_tool.ensures.r
 
 pub returns-else-options-clause-runs : goal.returns-else-options-clause-runs
 returns-else-options-clause-runs g c = runs_test c.args.property (test_order_of c.args.options.now) _ _ _ _ c.if-options.false c.run_tool-else-options.ensures.runs
+
+pub returns-else-options-clause-means : goal.returns-else-options-clause-means
+returns-else-options-clause-means g c = means_test c.args.property (test_order_of c.args.options.now) _ _ _ c.if-options.false c.run_tool-else-options.ensures.means
