@@ -35,3 +35,4 @@ pub mod FoundSound
 pub mod PivotedRoots
 pub mod OpenNodes
 pub mod FoundCases
+pub mod MorePivots

@@ -43,7 +43,7 @@ undecided_plain (Violator f) = refl
 undecided_plain Undecided = refl
 undecided_plain (Pivoted place) = refl
 
-undecided_same : (f g : Finding) → plain_finding f ≡ plain_finding g → is_undecided f ≡ is_undecided g
+pub undecided_same : (f g : Finding) → plain_finding f ≡ plain_finding g → is_undecided f ≡ is_undecided g
 undecided_same f g e = sym (undecided_plain f) ∙ ap is_undecided e ∙ undecided_plain g
 
 module _ (Stands : LineSet → Tree → Type 0) (same : (lines : LineSet) → AreLinesOf lines lines → (tree other : Tree) → Stands lines tree → Stands lines other → plain_tree tree ≡ plain_tree other) where
@@ -116,7 +116,7 @@ before_same m place fault before other a b =
       | inr n ↦ (b.lines.other_columns x n).1 ((a.lines.other_columns x n).0 h)
     ]
 
-told_same : (m : Matrix) (lines : LineSet) (place : PlacedPivot) (after after' : Tree) → plain_tree after ≡ plain_tree after' → (v : Verdict) (tree tree' : Tree) → IsToldBeforePivot m lines place after v tree → IsToldBeforePivot m lines place after' v tree'
+pub told_same : (m : Matrix) (lines : LineSet) (place : PlacedPivot) (after after' : Tree) → plain_tree after ≡ plain_tree after' → (v : Verdict) (tree tree' : Tree) → IsToldBeforePivot m lines place after v tree → IsToldBeforePivot m lines place after' v tree'
     → plain_tree tree ≡ plain_tree tree'
 told_same m lines place after after' same Yes tree tree' e e' = ap plain_tree e ∙ ap (λ (t : Tree). Branch lines (Pivoted place) (MoreTrees t NoTrees)) same ∙ sym (ap plain_tree e')
 told_same m lines place after after' same (No fault) tree tree' (before, b, e) (before', b', e') =
@@ -129,7 +129,7 @@ module _ (limit : ℕ) where
   abbrev IsOne : ℕ → Type 0
   IsOne pivots = (state : ℕ) (m : Matrix) (lines : LineSet) → AreLinesOf lines lines → (tree tree' : Tree) → IsFound limit pivots state m lines tree → IsFound limit pivots state m lines tree' → plain_tree tree ≡ plain_tree tree'
 
-  shape_same : (m : Matrix) (lines : LineSet) → AreLinesOf lines lines → (shape shape' : Tree) → IsDrawn limit m lines shape → IsDrawn limit m lines shape' → plain_tree shape ≡ plain_tree shape'
+  pub shape_same : (m : Matrix) (lines : LineSet) → AreLinesOf lines lines → (shape shape' : Tree) → IsDrawn limit m lines shape → IsDrawn limit m lines shape' → plain_tree shape ≡ plain_tree shape'
   shape_same m lines are shape shape' d d' =
       one_tree limit m [] [] [] [] (These lines) (These lines) lines lines (suc (size_of lines)) (suc (size_of lines)) shape shape' (d.lines_are ∙ sym d'.lines_are)
       (d.within lines (suc (size_of lines)) are (omega arith)) (d'.within lines (suc (size_of lines)) are (omega arith)) (d.shaped [] (These lines) (refl, refl)) (d'.shaped [] (These lines) (refl, refl))

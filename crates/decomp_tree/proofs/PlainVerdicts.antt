@@ -6,7 +6,7 @@ use Rattle.tree_type.specs.DecompositionTrees.{Finding, Empty, Cycle, Reduced, O
 use Rattle.tree_type.specs.Verdicts.{first_in, first_among, fault_at, open_at, verdict_from, verdict_of}
 use Rattle.decomp_tree.specs.PlainTrees.{plain_finding, plain_tree, plain_trees}
 
-fault_plain : (lines : LineSet) (f : Finding) → fault_at lines f ≡ fault_at lines (plain_finding f)
+pub fault_plain : (lines : LineSet) (f : Finding) → fault_at lines f ≡ fault_at lines (plain_finding f)
 fault_plain lines Empty = refl
 fault_plain lines (Cycle f) = refl
 fault_plain lines (Reduced steps) = refl

@@ -6,7 +6,7 @@ use Rattle.cmr_base.specs.Matrix.{Matrix, height, IsMatrix}
 use Rattle.tree_type.specs.DecompositionTrees.{Tree}
 use Rattle.tree_type.specs.Invariant.{AreLines, IsTreeFor}
 use Rattle.tree_type.specs.Soundness.{IsSoundTree, part}
-use Rattle.tree_type.specs.Verdicts.{first_in, open_at}
+use Rattle.tree_type.specs.Verdicts.{Verdict, Yes, No, Open, first_in, open_at, verdict_of}
 use Rattle.decomp_tree.specs.PlainTrees.{plain_tree}
 use Rattle.decomp_tree.specs.Shapes.{IsFirstCase, IsLeft, IsShape}
 use Rattle.decomp_tree.specs.PivotedShapes.{IsShapeWith}
@@ -34,3 +34,15 @@ abbrev pub OpenLinesAreLeft : Type 0
 OpenLinesAreLeft =
     (limit pivots : ℕ) (m : Matrix) (tree : Tree) (lines : LineSet) → IsMatrix m → IsShapeWith limit pivots m tree → first_in open_at tree ≡ Some lines
     → AreLines m lines × IsFirstCase limit (part m lines) IsLeft
+
+-- What a decomposition says is kept by another: a yes by the same tree, but for what its networks say, and a no by a no, which may name
+-- another fault.
+abbrev pub KeepsAnswer : Verdict → Tree → Tree → Type 0
+KeepsAnswer Yes tree other = plain_tree tree ≡ plain_tree other
+KeepsAnswer (No fault) tree other = (named : LineSet) × (verdict_of other ≡ No named)
+KeepsAnswer (Open left) tree other = Unit {0}
+
+-- more pivots lose no answer
+abbrev pub MorePivotsKeepAnswers : Type 0
+MorePivotsKeepAnswers =
+    (limit pivots more : ℕ) (m : Matrix) (tree other : Tree) → pivots ≤ more → IsShapeWith limit pivots m tree → IsShapeWith limit more m other → KeepsAnswer (verdict_of tree) tree other

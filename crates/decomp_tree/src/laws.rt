@@ -1,7 +1,7 @@
 //! Laws over the definitions alone. Each is a function that does nothing: its contract is the law.
 ghost use Rattle.decomp_tree.specs.Laws.{ShapesAreSound};
 ghost use Rattle.decomp_tree.specs.PlainTrees.{OneShape};
-ghost use Rattle.decomp_tree.specs.PivotedLaws.{PivotedShapesAreTrees, PivotedShapesAreSound, OnePivotedShape, NoPivotsChangeNothing, OpenLinesAreLeft};
+ghost use Rattle.decomp_tree.specs.PivotedLaws.{PivotedShapesAreTrees, PivotedShapesAreSound, OnePivotedShape, MorePivotsKeepAnswers, NoPivotsChangeNothing, OpenLinesAreLeft};
 
 /// A decomposition keeps all rules of decomposition trees.
 pub fn shapes_sound()
@@ -22,4 +22,5 @@ pub fn pivoted_shapes()
     ensures one { OnePivotedShape }
     ensures none { NoPivotsChangeNothing }
     ensures open_lines { OpenLinesAreLeft }
+    ensures more { MorePivotsKeepAnswers }
 {}

@@ -1,4 +1,5 @@
 use Rattle.decomp_tree.proofs.OnePivoted.{one_pivoted_shape}
+use Rattle.decomp_tree.proofs.MorePivots.{more_pivots_keep_answers}
 use Rattle.decomp_tree.proofs.OpenNodes.{open_case}
 use Rattle.decomp_tree.proofs.PivotedRoots.{pivoted_shapes_are_trees, pivoted_shapes_are_sound, no_pivots_change_nothing}
 use Rattle.decomp_tree.proofs.laws.pivoted_shapes.Goals as goal
@@ -17,3 +18,6 @@ returns-clause-none c = no_pivots_change_nothing
 
 pub returns-clause-open_lines : goal.returns-clause-open_lines
 returns-clause-open_lines c = open_case
+
+pub returns-clause-more : goal.returns-clause-more
+returns-clause-more c = more_pivots_keep_answers

@@ -1,0 +1,185 @@
+-- More pivots lose no answer: a yes stays with its tree, and a no stays a no.
+use Rattle.std.proofs.Common.{◌≡◌, ◌≤◌, ◌<◌, ◌+◌, ◌-◌, ◌∙◌, inl, inr, ℕ, zero, suc, min, List, [], Option, Some, None, refl, ap, ap₂, sym, subst, arith}
+use Rattle.std.specs.Option.{option_or}
+use Rattle.std.proofs.Math.Nat.{min-le_left, min-le_right, le-min}
+use Rattle.cmr_base.specs.declared.line_set.LineSet.{LineSet}
+use Rattle.cmr_base.specs.Matrix.{Matrix, height}
+use Rattle.cmr_base.proofs.Booleans.{true_is_false}
+use Rattle.cmr_base.proofs.Options.{some_or}
+use Rattle.cert_check.proofs.SoundTrees.{none_or}
+use Rattle.pivots.specs.declared.drawn.DrawnPlace.{DrawnPlace}
+use Rattle.pivots.specs.declared.place.PlacedPivot.{PlacedPivot}
+use Rattle.pivots.specs.DrawnPlaces.{drawn_place}
+use Rattle.pivots.specs.PivotedParts.{pivoted_part}
+use Rattle.tree_type.specs.DecompositionTrees.{Finding, Violator, Undecided, Pivoted, Tree, Trees, Branch, NoTrees, MoreTrees}
+use Rattle.tree_type.specs.Invariant.{AreLinesOf, size_of, IsTreeWithin, AreTreesWithin}
+use Rattle.tree_type.specs.Verdicts.{Verdict, Yes, No, Open, first_in, first_among, fault_at, open_at, verdict_from, verdict_of}
+use Rattle.decomp_tree.specs.PlainTrees.{plain_finding, plain_tree, plain_trees}
+use Rattle.decomp_tree.specs.Seen.{IsDrawn}
+use Rattle.decomp_tree.specs.Refined.{is_undecided, Refines, AllRefine}
+use Rattle.decomp_tree.specs.PivotedLaws.{KeepsAnswer, MorePivotsKeepAnswers}
+use Rattle.decomp_tree.specs.PivotedShapes.{AreBefore, IsToldBeforePivot, IsFoundAt, IsFound, IsDrawnWith, all_lines, pivots_within, undecided}
+use Rattle.decomp_tree.proofs.FaultLines.{lines_of_lines_of}
+use Rattle.decomp_tree.proofs.OnePivoted.{all_themselves, shape_same, told_same, undecided_same}
+use Rattle.decomp_tree.proofs.PlainVerdicts.{fault_plain, verdict_plain}
+use Rattle.decomp_tree.proofs.RefinedTrees.{RefinedNode, replaced, kept, refined_node}
+
+-- where no fault and nothing open is in the one tree the other is the same, and where a fault is one is in the other
+record Keeps (tree other : Tree) : Type 0 where
+  yes : first_in fault_at tree ≡ None → first_in open_at tree ≡ None → plain_tree tree ≡ plain_tree other
+  no : (fault : LineSet) → first_in fault_at tree ≡ Some fault → (named : LineSet) × (first_in fault_at other ≡ Some named)
+
+record KeepEach (trees others : Trees) : Type 0 where
+  yes : first_among fault_at trees ≡ None → first_among open_at trees ≡ None → plain_trees trees ≡ plain_trees others
+  no : (fault : LineSet) → first_among fault_at trees ≡ Some fault → (named : LineSet) × (first_among fault_at others ≡ Some named)
+
+none_is_some : {A B : Type 0} (x : A) → None ≡ Some x → B
+none_is_some x e = absurd (cc)
+
+or_later : {A : Type 0} (a b : Option A) (x : A) → b ≡ Some x → (y : A) × (option_or a b ≡ Some y)
+or_later None b x e = (x, e)
+or_later (Some y) b x e = (y, refl)
+
+or_first : {A : Type 0} (a b : Option A) (x : A) → a ≡ Some x → option_or a b ≡ Some x
+or_first None b x e = none_is_some x e
+or_first (Some y) b x e = e
+
+keeps_same : (tree other tree' other' : Tree) → tree ≡ tree' → other ≡ other' → Keeps tree' other' → Keeps tree other
+keeps_same tree other tree' other' e f k = subst (λ t. Keeps t other) (sym e) (subst (Keeps tree') (sym f) k)
+
+fault_same : (lines lines' : LineSet) (f g : Finding) → plain_finding f ≡ plain_finding g → lines ≡ lines' → (fault : LineSet) → fault_at lines f ≡ Some fault → fault_at lines' g ≡ Some fault
+fault_same lines lines' f g e same fault is =
+    fault_plain lines' g ∙ sym (ap (fault_at lines') e) ∙ sym (fault_plain lines' f) ∙ subst (λ l. fault_at l f ≡ Some fault) same is
+
+node_keeps : (lines lines' : LineSet) (f g : Finding) (below below' : Trees) → lines ≡ lines' → plain_finding f ≡ plain_finding g → KeepEach below below' → Keeps (Branch lines f below) (Branch lines' g below')
+node_keeps lines lines' f g below below' one_lines one_finding each = record {
+  yes = λ e u.
+      let faults = none_or (fault_at lines f) (first_among fault_at below) e in
+      let lefts = none_or (open_at lines f) (first_among open_at below) u in
+      ap (λ (l : LineSet). Branch l (plain_finding f) (plain_trees below)) one_lines ∙ ap₂ (λ (h : Finding) (ts : Trees). Branch lines' h ts) one_finding (each.yes faults.1 lefts.1);
+  no = λ fault e. elim (some_or (fault_at lines f) (first_among fault_at below) fault e) [
+    | inl h ↦ (fault, or_first (fault_at lines' g) (first_among fault_at below') fault (fault_same lines lines' f g one_finding one_lines fault h))
+    | inr h ↦ or_later (fault_at lines' g) (first_among fault_at below') (each.no fault h).0 (each.no fault h).1
+  ];
+}
+
+each_keep : (tree other : Tree) (trees others : Trees) → Keeps tree other → KeepEach trees others → KeepEach (MoreTrees tree trees) (MoreTrees other others)
+each_keep tree other trees others k ks = record {
+  yes = λ e u.
+      let faults = none_or (first_in fault_at tree) (first_among fault_at trees) e in
+      let lefts = none_or (first_in open_at tree) (first_among open_at trees) u in
+      ap₂ (λ (t : Tree) (ts : Trees). MoreTrees t ts) (k.yes faults.0 lefts.0) (ks.yes faults.1 lefts.1);
+  no = λ fault e. elim (some_or (first_in fault_at tree) (first_among fault_at trees) fault e) [
+    | inl h ↦ ((k.no fault h).0, or_first (first_in fault_at other) (first_among fault_at others) (k.no fault h).0 (k.no fault h).1)
+    | inr h ↦ or_later (first_in fault_at other) (first_among fault_at others) (ks.no fault h).0 (ks.no fault h).1
+  ];
+}
+
+no_trees_keep : KeepEach NoTrees NoTrees
+no_trees_keep = record { yes = λ e u. refl; no = λ fault e. none_is_some fault e }
+
+-- ---- trees that others replace
+
+module _ (Stands More : LineSet → Tree → Type 0) (keeps : (lines : LineSet) → AreLinesOf lines lines → (tree other : Tree) → Stands lines tree → More lines other → Keeps tree other) where
+  mutual
+    refined_keeps : (parent : LineSet) (levels : ℕ) (shape shape' tree tree' : Tree) → IsTreeWithin parent levels shape → plain_tree shape ≡ plain_tree shape' → Refines Stands shape tree → Refines More shape' tree' → Keeps tree tree'
+    refined_keeps parent levels (Branch lines finding trees) (Branch lines' finding' trees') tree tree' within e r r' =
+        go (refined_node Stands lines finding trees tree r) (refined_node More lines' finding' trees' tree' r')
+        (λ below below' all all'. let ts : plain_trees trees ≡ plain_trees trees' = cc in all_keep lines (levels - 1) trees trees' below below' within.4 ts all all')
+      where
+        one_lines : lines ≡ lines'
+        one_lines = cc
+
+        one_finding : plain_finding finding ≡ plain_finding finding'
+        one_finding = cc
+
+        go : RefinedNode Stands lines finding trees tree → RefinedNode More lines' finding' trees' tree' → ((below below' : Trees) → AllRefine Stands trees below → AllRefine More trees' below' → KeepEach below below') → Keeps tree tree'
+        go (replaced is stands) (replaced is' stands') each = keeps lines (lines_of_lines_of lines parent within.1) tree tree' stands (subst (λ l. More l tree') (sym one_lines) stands')
+        go (replaced is stands) (kept is' below' at all') each = true_is_false (sym (ap is_undecided is) ∙ undecided_same finding finding' one_finding ∙ is')
+        go (kept is below at all) (replaced is' stands') each = true_is_false (sym (ap is_undecided is') ∙ sym (undecided_same finding finding' one_finding) ∙ is)
+        go (kept is below at all) (kept is' below' at' all') each =
+            keeps_same tree tree' (Branch lines finding below) (Branch lines' finding' below') at at' (node_keeps lines lines' finding finding' below below' one_lines one_finding (each below below' all all'))
+
+    all_keep : (parent : LineSet) (levels : ℕ) (trees trees' below below' : Trees) → AreTreesWithin parent levels trees → plain_trees trees ≡ plain_trees trees' → AllRefine Stands trees below → AllRefine More trees' below' → KeepEach below below'
+    all_keep parent levels NoTrees NoTrees below below' within e all all' = subst (λ ts. KeepEach ts below') (sym all) (subst (KeepEach NoTrees) (sym all') no_trees_keep)
+    all_keep parent levels NoTrees (MoreTrees tree' trees') below below' within e all all' = absurd (cc)
+    all_keep parent levels (MoreTrees tree trees) NoTrees below below' within e all all' = absurd (cc)
+    all_keep parent levels (MoreTrees tree trees) (MoreTrees tree' trees') below below' within e (first, rest, at, r, all) (first', rest', at', r', all') =
+        let head : plain_tree tree ≡ plain_tree tree' = cc in
+        let tail : plain_trees trees ≡ plain_trees trees' = cc in
+        subst (λ ts. KeepEach ts below') (sym at) (subst (KeepEach (MoreTrees first rest)) (sym at')
+        (each_keep first first' rest rest' (refined_keeps parent levels tree tree' first first' within.0 head r r') (all_keep parent levels trees trees' rest rest' within.1 tail all all')))
+
+-- ---- what is told of a node
+
+undecided_keeps : (lines : LineSet) (tree other : Tree) → tree ≡ undecided lines → Keeps tree other
+undecided_keeps lines tree other e = record {
+  yes = λ f u. none_is_some lines (sym u ∙ ap (first_in open_at) e);
+  no = λ fault f. none_is_some fault (sym (ap (first_in fault_at) e) ∙ f);
+}
+
+violators_keep : (lines : LineSet) (fault named : LineSet) (tree other : Tree) → tree ≡ Branch lines (Violator fault) NoTrees → other ≡ Branch lines (Violator named) NoTrees → Keeps tree other
+violators_keep lines fault named tree other e f = record {
+  yes = λ h u. none_is_some fault (sym h ∙ ap (first_in fault_at) e);
+  no = λ some h. (named, ap (first_in fault_at) f);
+}
+
+same_keeps : (tree other : Tree) → plain_tree tree ≡ plain_tree other → (first_in fault_at tree ≡ None) → Keeps tree other
+same_keeps tree other e none = record { yes = λ h u. e; no = λ fault h. none_is_some fault (sym none ∙ h) }
+
+or_none : {A : Type 0} (a : Option A) → option_or a None ≡ a
+or_none None = refl
+or_none (Some x) = refl
+
+told_keeps : (m : Matrix) (lines : LineSet) (place : PlacedPivot) (after after' : Tree) → Keeps after after' → (fault left fault' left' : Option LineSet) → first_in fault_at after ≡ fault → first_in open_at after ≡ left → first_in fault_at after' ≡ fault' → first_in open_at after' ≡ left'
+    → (tree tree' : Tree) → IsToldBeforePivot m lines place after (verdict_from fault left) tree → IsToldBeforePivot m lines place after' (verdict_from fault' left') tree' → Keeps tree tree'
+told_keeps m lines place after after' k None None fault' left' e u e' u' tree tree' told told' =
+    same_keeps tree tree' (told_same m lines place after after' (k.yes e u) Yes tree tree' told (subst (λ v. IsToldBeforePivot m lines place after' v tree') yes told')) (ap (first_in fault_at) told ∙ or_none (first_in fault_at after) ∙ e)
+  where
+    yes : verdict_from fault' left' ≡ Yes
+    yes = sym (ap₂ verdict_from e' u') ∙ verdict_plain after' ∙ ap verdict_of (sym (k.yes e u)) ∙ sym (verdict_plain after) ∙ ap₂ verdict_from e u
+told_keeps m lines place after after' k None (Some left) fault' left' e u e' u' tree tree' told told' = undecided_keeps lines tree tree' told
+told_keeps m lines place after after' k (Some fault) left None left' e u e' u' tree tree' told told' = none_is_some (k.no fault e).0 (sym e' ∙ (k.no fault e).1)
+told_keeps m lines place after after' k (Some fault) left (Some named) left' e u e' u' tree tree' (before, b, is) (before', b', is') = violators_keep lines before before' tree tree' is is'
+
+-- ---- what pivots find
+
+module _ (limit : ℕ) where
+  abbrev Keep : ℕ → ℕ → Type 0
+  Keep pivots more = (state : ℕ) (m : Matrix) (lines : LineSet) → AreLinesOf lines lines → (tree tree' : Tree) → IsFound limit pivots state m lines tree → IsFound limit more state m lines tree' → Keeps tree tree'
+
+  drawn_keeps : (pivots more : ℕ) → Keep pivots more → (state : ℕ) (m : Matrix) (lines : LineSet) → AreLinesOf lines lines → (tree tree' : Tree) → IsDrawnWith limit pivots state m lines tree → IsDrawnWith limit more state m lines tree' → Keeps tree tree'
+  drawn_keeps pivots more keep state m lines are tree tree' d d' =
+      refined_keeps (IsFound limit pivots state m) (IsFound limit more state m) (λ some rise t t' f f'. keep state m some rise t t' f f') lines (suc (size_of lines)) d.shape d'.shape tree tree'
+      (d.drawn.within lines (suc (size_of lines)) are (omega arith)) (shape_same limit m lines are d.shape d'.shape d.drawn d'.drawn) d.refines d'.refines
+
+  found_at_keeps : (pivots more : ℕ) → Keep pivots more → (m : Matrix) (lines : LineSet) → AreLinesOf lines lines → (drawn : Option DrawnPlace) (tree tree' : Tree)
+      → IsFoundAt (λ next after found. (shape : Tree) × IsDrawn limit after lines shape × Refines (IsFound limit pivots next after) shape found) m lines drawn tree
+      → IsFoundAt (λ next after found. (shape : Tree) × IsDrawn limit after lines shape × Refines (IsFound limit more next after) shape found) m lines drawn tree' → Keeps tree tree'
+  found_at_keeps pivots more keep m lines are None tree tree' e e' = undecided_keeps lines tree tree' e
+  found_at_keeps pivots more keep m lines are (Some drawn) tree tree' (inl (fault, shows, e)) (inl (fault', shows', e')) = violators_keep lines fault fault' tree tree' e e'
+  found_at_keeps pivots more keep m lines are (Some drawn) tree tree' (inl (fault, shows, e)) (inr (ternary, after', is', told')) = absurd (shows.two (ternary shows.other_row shows.other_column shows.row_in shows.column_in))
+  found_at_keeps pivots more keep m lines are (Some drawn) tree tree' (inr (ternary, after, is, told)) (inl (fault', shows', e')) = absurd (shows'.two (ternary shows'.other_row shows'.other_column shows'.row_in shows'.column_in))
+  found_at_keeps pivots more keep m lines are (Some drawn) tree tree' (inr (ternary, after, (shape, is, refines), told)) (inr (ternary', after', (shape', is', refines'), told')) =
+      told_keeps m lines drawn.place after after'
+      (drawn_keeps pivots more keep drawn.state (pivoted_part m lines drawn.place) lines are after after' (record { shape = shape; drawn = is; refines = refines }) (record { shape = shape'; drawn = is'; refines = refines' }))
+      (first_in fault_at after) (first_in open_at after) (first_in fault_at after') (first_in open_at after') refl refl refl refl tree tree' told told'
+
+  found_keeps : (pivots more : ℕ) → pivots ≤ more → Keep pivots more
+  found_keeps zero more few state m lines are tree tree' e f' = undecided_keeps lines tree tree' e
+  found_keeps (suc pivots) zero few state m lines are tree tree' f f' = absurd (omega (arith, few))
+  found_keeps (suc pivots) (suc more) few state m lines are tree tree' f f' = found_at_keeps pivots more (found_keeps pivots more (omega (arith, few))) m lines are (drawn_place m lines state) tree tree' f f'
+
+answer_kept : (tree other : Tree) → Keeps tree other → (fault left : Option LineSet) → first_in fault_at tree ≡ fault → first_in open_at tree ≡ left → KeepsAnswer (verdict_from fault left) tree other
+answer_kept tree other k None None e u = k.yes e u
+answer_kept tree other k None (Some left) e u = tt
+answer_kept tree other k (Some fault) left e u = ((k.no fault e).0, ap (λ (f : Option LineSet). verdict_from f (first_in open_at other)) (k.no fault e).1)
+
+within_more : (pivots more n : ℕ) → pivots ≤ more → min pivots n ≤ min more n
+within_more pivots more n few = le-min (let a = min-le_left pivots n in omega (arith, a, few)) (min-le_right pivots n)
+
+pub more_pivots_keep_answers : MorePivotsKeepAnswers
+more_pivots_keep_answers limit pivots more m tree other few d d' =
+    answer_kept tree other
+    (drawn_keeps limit (pivots_within m pivots) (pivots_within m more) (found_keeps limit (pivots_within m pivots) (pivots_within m more) (within_more pivots more (2000 - (height m + m.width)) few)) 1 m (all_lines m) (all_themselves m) tree other d d')
+    (first_in fault_at tree) (first_in open_at tree) refl refl
