@@ -22,3 +22,4 @@ pub mod ChainChecks
 pub mod ChainSteps
 pub mod ChainAgain
 pub mod StepCounts
+pub mod RegularSignings

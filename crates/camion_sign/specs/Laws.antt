@@ -1,11 +1,13 @@
 -- Laws of matrices without cycle fault, and of chains.
-use Rattle.std.specs.Prelude.{◌≡◌, ◌≢◌, ◌*ℤ◌, ℕ, pos}
-use Rattle.cmr_base.specs.Matrix.{Matrix, entry, IsTernary}
+use Rattle.std.specs.Prelude.{◌≡◌, ◌≢◌, ◌↔◌, ◌*ℤ◌, ℕ, pos, List}
+use Rattle.cmr_base.specs.Matrix.{Matrix, entry, IsMatrix, IsTernary}
 use Rattle.cmr_base.specs.Supports.{HaveOneSupport}
 use Rattle.cmr_base.specs.Violator.{HasNoViolator}
 use Rattle.cmr_base.specs.CyclePlaces.{HasNoCycleFault}
 use Rattle.cmr_base.specs.Trees.{IsBinary}
 use Rattle.camion_sign.specs.declared.step.SizedChain.{SizedChain}
+use Rattle.camion_sign.specs.declared.step.SignStep.{SignStep}
+use Rattle.camion_sign.specs.SignOrder.{IsSignedBy}
 use Rattle.camion_sign.specs.Chains.{IsSoundChain, IsRegular}
 
 -- two rows and two columns in which all four entries are nonzeros
@@ -26,3 +28,7 @@ ChainsMeanViolators = (a m signs : Matrix) (chain : SizedChain) → IsBinary a �
 -- so none is totally unimodular
 abbrev pub ChainsRefuteRegularity : Type 0
 ChainsRefuteRegularity = (a signs : Matrix) (chain : SizedChain) → IsBinary a → IsTernary a → IsSoundChain a chain signs → ¬ (IsRegular a)
+
+-- Camion's signing of a 0/1 matrix decides: the matrix is regular exactly where the signed one has no violator
+abbrev pub SigningsDecideRegularity : Type 0
+SigningsDecideRegularity = (a m : Matrix) (steps : List SignStep) → IsMatrix a → IsBinary a → IsTernary m → HaveOneSupport a m → IsSignedBy a steps m → IsRegular a ↔ HasNoViolator m

@@ -1,6 +1,6 @@
 //! Laws over the definitions alone, for all matrices with entries -1, 0 and 1. Each is a function that does
 //! nothing: its contract is the law.
-ghost use Rattle.camion_sign.specs.Laws.{FullSquaresHaveProductOne, ChainsMeanViolators, ChainsRefuteRegularity};
+ghost use Rattle.camion_sign.specs.Laws.{FullSquaresHaveProductOne, ChainsMeanViolators, ChainsRefuteRegularity, SigningsDecideRegularity};
 
 /// In a matrix without cycle fault each 2 by 2 submatrix of nonzeros has the product +1, so it has the
 /// determinant 0.
@@ -13,4 +13,9 @@ pub fn full_two()
 pub fn chain_means()
     ensures violators { ChainsMeanViolators }
     ensures regular { ChainsRefuteRegularity }
+{}
+
+/// Camion's signing of a 0/1 matrix is totally unimodular exactly where some signing is.
+pub fn signing_decides()
+    ensures { SigningsDecideRegularity }
 {}
