@@ -120,7 +120,7 @@ def measure(timer, sizes, kinds):
             row(f"{kind}: {column[0][0]}", times, reading, sizes)
     for tool in ("camion", "tu"):
         times = [timer.time([tool], [[1] * size] * size) for size in sizes]
-        row(f"ones alone: {tool}", times, reading, sizes)
+        row(f"only ones: {tool}", times, reading, sizes)
     draw = random.Random(1)
     entries = with_entry(supports(mixed(recursive(200, draw), 200, draw)), {0: 1}, draw)
     small = timer.time(["series-parallel"], [[0] * 200] * 200)

@@ -28,6 +28,13 @@ fn nothing() {}
 """
 SHARED = 20
 PRIVATE = 27
+# The limits of the words of each kind of texts: of "where" in a thousand, and of the house words.
+WORDINGS = {"documents": (1, 0), "comments of .rt": (11, 285), "comments of .antt": (10, 436), "comments of .py": (12, 137)}
+WORDED = "".join(
+    f'     0 of at most {wheres:4} "where" in a thousand words of {kind}\n'
+    f"     0 of at most {words:4} house words of {kind}\n"
+    for kind, (wheres, words) in WORDINGS.items()
+)
 WITHIN = f"""\
      1 of at most  230 lines of README.md
     19 of at most  800 lines of a file of code
@@ -37,7 +44,7 @@ WITHIN = f"""\
      0 of at most {SHARED:4} names of definitions in two crates
      0 of at most    0 modules of definitions with one name in two crates
      0 of at most {PRIVATE:4} edits of private functions
-"""
+{WORDED}"""
 
 
 def function(name, clauses, body):
@@ -85,6 +92,48 @@ class SizesTest(ScriptTest):
         for name in names:
             self.put(name, "file: src/block.rt\nold: step(2);\nnew: step(0);\n")
         self.lists(f"{PRIVATE + 1:6} of at most {PRIVATE:4} edits of private functions", *(f"    {name}" for name in names))
+
+    def test_words_of_documents(self):
+        """House words count also if they continue on the next line. Code, links and plain English are left."""
+        plain = "Neither rows nor columns, in front, leave nothing behind. `but for` [it](nor.md#behind)\n"
+        self.put("docs/PLAIN.md", f"{plain}\n```\nanew, where it is\n```\n\n[it]: nor.md\n")
+        self.test_counts_that_are_kept()
+        self.put("docs/HOUSE.md", "It is done Anew, but\nfor two whole numbers.\n")
+        self.put("crates/low/README.md", "A front of it.\n")
+        self.lists(
+            "     4 of at most    0 house words of documents",
+            "    crates/low/README.md: front (prefix)",
+            "    docs/HOUSE.md: anew (again)",
+            "    docs/HOUSE.md: but for (except)",
+            "    docs/HOUSE.md: whole number (integer)",
+        )
+
+    def test_wheres(self):
+        """They are counted for a thousand words of all texts of a kind, and those with more are listed."""
+        self.put("docs/LONG.md", "if " * 1997)
+        self.put("docs/ONE.md", "Where\n")
+        self.assertEqual(self.run_script("sizes", self.folder).returncode, 0)
+        self.put("docs/TWO.md", "where it is and where it is not\n")
+        self.lists('     2 of at most    1 "where" in a thousand words of documents', "    docs/ONE.md: 1000", "    docs/TWO.md: 250")
+
+    def test_words_of_comments(self):
+        """Docstrings and comments are read, also of scripts without a suffix, and no other strings."""
+        many = "anew " * 500
+        self.put("crates/low/src/lib.rt", f"fn nothing() {{}} // {many}\nlet text = \"// {many}\";\n")
+        self.put("crates/low/proofs/Lib.antt", f"module _ where -- {many}\n")
+        self.put("python/words.py", f'TEXT = """\n{many}"""\n')
+        self.test_counts_that_are_kept()
+        for name, kind, text in (
+            ("crates/low/src/low.rt", "comments of .rt", f"    /// {many}\n"),
+            ("crates/low/specs/Low.antt", "comments of .antt", f"  -- {many}\n"),
+            ("scripts/words", "comments of .py", f'#!/usr/bin/env python3\n"""Words.\n\n{many}\n"""\n'),
+            ("python/low.py", "comments of .py", f"    # {many}\n"),
+        ):
+            self.put(name, text)
+            self.lists(
+                f"   500 of at most {WORDINGS[kind][1]:4} house words of {kind}", *[f"    {name}: anew (again)"] * 500
+            )
+            self.put(name, "")
 
     def test_what_was_built_is_no_source(self):
         self.put("crates/low/out/src/block.rt", function("long", [], 60))
