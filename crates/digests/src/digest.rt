@@ -1,5 +1,5 @@
-ghost use Rattle.std.specs.Prelude.{◌≡◌, true};
-ghost use Rattle.std.specs.List.Sorted.{IsStrictlyIncreasing};
+ghost use Rattle.std.specs.Prelude.{◌≡◌, ◌↔◌, IsTrue, IsPermutation};
+ghost use Rattle.std.specs.List.Sorted.{IsNonDecreasing, IsStrictlyIncreasing};
 ghost use Rattle.digests.specs.Digests.{mixed, AreDifferent};
 
 // An odd number whose bits look random.
@@ -12,9 +12,11 @@ pub fn mixed(digest: u64, word: u64) -> u64
     (digest.rotate_left(32) ^ word).wrapping_mul(MULTIPLIER)
 }
 
-/// Whether no number stands twice. The numbers are sorted.
+/// Whether no number stands twice. The call sorts the numbers.
 pub fn are_different(numbers: &mut [u64]) -> bool
-    ensures { result ≡ true → AreDifferent numbers.old }
+    ensures answer { IsTrue result ↔ AreDifferent numbers.old }
+    ensures same { IsPermutation numbers.old numbers.new }
+    ensures sorted { IsNonDecreasing numbers.new }
 {
     numbers.sort_unstable();
     are_rising(numbers)
@@ -22,7 +24,7 @@ pub fn are_different(numbers: &mut [u64]) -> bool
 
 // Whether each number is below the next.
 fn are_rising(numbers: &[u64]) -> bool
-    ensures { result ≡ true → IsStrictlyIncreasing numbers.now }
+    ensures { IsTrue result ↔ IsStrictlyIncreasing numbers.now }
 {
     for place in 1..numbers.len() {
         if numbers[place - 1] >= numbers[place] {

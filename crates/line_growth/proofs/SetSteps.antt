@@ -20,7 +20,7 @@ use Rattle.line_growth.specs.declared.growing_set.GrowingSet.{GrowingSet}
 use Rattle.line_growth.specs.declared.rule.GrowthRule.{GrowthRule}
 use Rattle.line_growth.specs.declared.rule.Sum.{Sum}
 use Rattle.line_growth.specs.GrowingLines.{is_inside, AreSame, HasPulled, HasAdded, HasTaken}
-use Rattle.line_growth.specs.GrowingSets.{HasNoLeaving, HasNone, HasRoom, IsClosedIn, IsGrowing, IsLeaving, TellsClosed, set_of}
+use Rattle.line_growth.specs.GrowingSets.{HasNoLeaving, HasNone, HasRoom, IsClosedIn, IsGrowing, IsLeaving, Leaves, TellsClosed, set_of}
 use Rattle.line_growth.specs.Rules.{lower_of, sum_at, upper_of}
 use Rattle.line_growth.proofs.LineSteps.{count_most, same_growing}
 
@@ -269,6 +269,10 @@ module _ (m : Matrix) (rule : GrowthRule) (start out : List Line) (least : ℕ) 
 
   pub some_inside : AllByRecursion (IsLine (height m) m.width) out → (HasNone (set_of set) out → ⊥) → HasNoLeaving m rule start out least
   some_inside lines some T closed has leaves = some (all_both (IsLine (height m) m.width) (λ x. T x ≡ false) (λ x. set_of set x ≡ false) (λ x l e. false_is (set_of set x) (λ t. not_both (T x) (g.least T closed has x l t) e)) out lines leaves.none)
+
+-- a set that leaves few
+pub few_shown : (m : Matrix) (out : List Line) (least : ℕ) (set : GrowingSet) → Leaves m out least (set_of set) → ¬ (count_outside (height m) m.width (set_of set) < least)
+few_shown m out least set leaves few = let b = outside_is (height m) m.width (set_of set) in let c = leaves.enough in omega arith
 
 -- what is to leave nothing is closed in the end, since the set of all lines is
 pub always_closed : (m : Matrix) (rule : GrowthRule) (start : List Line) (told : Bool) (S : Lines) → TellsClosed m rule start [] 0 told S → IsGrown (height m) m.width (entry m) (upper_of m rule) (lower_of m rule) start S

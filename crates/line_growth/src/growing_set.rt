@@ -9,7 +9,7 @@ ghost use Rattle.cmr_base.specs.Seeds.{IsLine, line_number, count_outside};
 ghost use Rattle.cmr_base.specs.declared.line.Line.{Line};
 ghost use Rattle.cmr_base.specs.declared.line.Line.TheVariants.{Row, Column};
 ghost use Rattle.line_growth.specs.Rules.{IsRuleOf, lower_of, upper_of};
-ghost use Rattle.line_growth.specs.GrowingSets.{HasNone, HasRoom, IsGrowing, KeepsGrowing, TellsClosed, set_of, work};
+ghost use Rattle.line_growth.specs.GrowingSets.{HasNone, HasRoom, IsGrowing, KeepsGrowing, Leaves, TellsClosed, set_of, work};
 
 use crate::growing_lines::GrowingLines;
 use crate::rule::{Block, GrowthRule};
@@ -100,7 +100,7 @@ impl GrowingSet {
     }
 
     /// Grows until it is closed, and says so; or until it has a line of some that are to stay out, or leaves fewer than
-    /// `least`, and says that.
+    /// `least`, and says that. It has then grown so far that it shows this.
     pub fn close(
         &mut self,
         matrix: &RowsAndColumns<'_>,
@@ -118,6 +118,8 @@ impl GrowingSet {
             → IsGrowing matrix.now (upper_of matrix.now rule) (lower_of matrix.now rule) start
             self.old
             → TellsClosed matrix.now rule start out.now least closed (set_of self.new)) }
+        ensures shown { IfOk result (λ closed. closed ≡ false
+            → ¬ (Leaves matrix.now out.now least (set_of self.new))) }
     {
         'lines: while self.left(matrix) >= least {
             if !self.has_none(matrix, out) {

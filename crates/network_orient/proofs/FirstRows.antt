@@ -1,27 +1,28 @@
--- Rows that are those of a matrix without violator have no cycle fault.
-use Rattle.std.proofs.Common.{zero, suc, [], ◌∷◌, refl, ◌≡◌, ◌≢◌, ◌<◌, ◌≤◌, ◌⊎◌, inl, inr, ◌∙◌, ℕ, ℤ, pos, ◌*ℤ◌, List, get_or, ap, sym, subst, arith}
+-- Rows that are those of a matrix without violator have no cycle fault, and first rows without fault are those of such a matrix of their support.
+use Rattle.std.proofs.Common.{zero, suc, [], ◌∷◌, refl, ◌≡◌, ◌≢◌, ◌<◌, ◌≤◌, ◌↔◌, ◌⊎◌, inl, inr, ◌∙◌, ℕ, ℤ, pos, ◌*ℤ◌, List, get_or, ap, sym, subst, arith}
 use Rattle.std.specs.List.{AllByRecursion}
 use Rattle.std.proofs.lemmas.Bool.{cases_lt}
 use Rattle.std.proofs.lemmas.List.{get_or_past}
 use Rattle.cmr_base.specs.declared.network.Network.{Network}
 use Rattle.cmr_base.specs.CyclePlaces.{HasNoCycleFault, IsFaultAt, IsPath, cycle_columns, cycle_rows, path_rows}
-use Rattle.cmr_base.specs.Matrix.{Matrix, height, entry, row_of, transposed, IsMatrix, IsRectangular, IsTernary}
+use Rattle.cmr_base.specs.Matrix.{Matrix, height, entry, row_of, transposed, IsEntry, IsMatrix, IsRectangular, IsTernary}
 use Rattle.cmr_base.specs.MatrixSums.{filled}
 use Rattle.cmr_base.specs.Signing.{IsSign}
 use Rattle.cmr_base.specs.Sums.{IsTwoModFour, sum_over}
-use Rattle.cmr_base.specs.Supports.{AgreeUpToSigns}
+use Rattle.cmr_base.specs.Supports.{AgreeUpToSigns, HaveOneSupport}
 use Rattle.cmr_base.specs.Trees.{Reproduces}
 use Rattle.cmr_base.specs.Violator.{HasNoViolator}
 use Rattle.cmr_base.proofs.FilledMatrices.{height-filled, entry-filled}
-use Rattle.cmr_base.proofs.Integers.{mul_left_comm, mul-zero}
+use Rattle.cmr_base.proofs.Integers.{mul_left_comm, mul-zero, sums}
 use Rattle.cmr_base.proofs.Lists.{all_of}
 use Rattle.cmr_base.proofs.SumLaws.{sum_over_same}
 use Rattle.cmr_base.proofs.TransposedLemmas.{column_set_from_transposed, row_set_from_transposed, violator_from_transposed}
 use Rattle.ghouila.proofs.Minors.{entry_by_sign, sign_twice}
 use Rattle.ghouila.proofs.NetworkSignings.{network_matrices}
-use Rattle.ghouila.proofs.SignsUnique.{no_violator_no_fault, violator_up_to_signs}
+use Rattle.ghouila.proofs.SignsAgree.{signs_agree}
+use Rattle.ghouila.proofs.SignsUnique.{column_in, no_violator_no_fault, row_in, violator_up_to_signs}
 use Rattle.network_orient.specs.FirstRows.{HasNoFaultBefore}
-use Rattle.network_orient.specs.SignedGroups.{AreSignedGroups, sign_of}
+use Rattle.network_orient.specs.SignedGroups.{AgreeBefore, AreSignedGroups, sign_of}
 use Rattle.network_orient.proofs.Orientations.{beyond_sizes}
 use Rattle.network_orient.proofs.SignedSupports.{filled_is_ternary}
 use Rattle.network_orient.proofs.SignedRows.{AreRowsMultiplied}
@@ -82,7 +83,7 @@ signed_zero : (s t x y : ℤ) → x ≡ pos 0 → y ≡ pos 0 → x ≡ s *ℤ (
 signed_zero s t x y e f = e ∙ sym (ap (λ (z : ℤ). s *ℤ (t *ℤ z)) f ∙ ap (λ (z : ℤ). s *ℤ z) (mul-zero t) ∙ mul-zero s)
 
 module _ (m n : Matrix) (is_m : IsMatrix m) (is_n : IsMatrix n) (height_same : height m ≡ height n) (width_same : m.width ≡ n.width) (no_violator : HasNoViolator m) where
-  pub first_rows_free : (groups : List ℕ) (count : ℕ) (rows columns : List ℤ) → AreSignedGroups m n groups columns → AreRowsMultiplied m n count rows columns → count ≤ height m → HasNoFaultBefore n count
+  pub first_rows_free : (groups : List ℕ) (count : ℕ) (rows columns : List ℤ) → AreSignedGroups m n (height m) groups columns → AreRowsMultiplied m n count rows columns → count ≤ height m → HasNoFaultBefore n count
   first_rows_free groups count rows columns signed multiplied fits t c d path l fault = free t c d path (fault_on (entry n) (entry whole) count agree t c d path l fault)
     where
       entries : ℕ → ℕ → ℤ
@@ -124,6 +125,79 @@ module _ (m n : Matrix) (is_m : IsMatrix m) (is_n : IsMatrix n) (height_same : h
         | inl near ↦ multiplied.multiplied r k x near ∙ sym (entry-filled (height m) m.width entries r x (omega arith) near)
         | inr past ↦ past_width n is_n.rectangular r x (omega arith) (omega arith) ∙ sym (past_width whole is_whole.rectangular r x (omega (arith, same, k, fits)) past)
       ]
+
+-- ---- first rows without fault
+
+-- the entries before a row, with zeros from it on
+abbrev first_entry : (ℕ → ℕ → ℤ) → (count row column : ℕ) → (row < count) ⊎ (count ≤ row) → ℤ
+first_entry M count row column (inl l) = M row column
+first_entry M count row column (inr l) = pos 0
+
+abbrev first_rows : (ℕ → ℕ → ℤ) → ℕ → ℕ → ℕ → ℤ
+first_rows M count row column = first_entry M count row column (cases_lt row count)
+
+first_rows_same : (M : ℕ → ℕ → ℤ) (count row column : ℕ) → row < count → first_rows M count row column ≡ M row column
+first_rows_same M count row column low = go (cases_lt row count)
+  where
+    go : (k : (row < count) ⊎ (count ≤ row)) → first_entry M count row column k ≡ M row column
+    go (inl l) = refl
+    go (inr l) = absurd (omega (arith, low, l))
+
+first_rows_low : (M : ℕ → ℕ → ℤ) (count row column : ℕ) → first_rows M count row column ≢ pos 0 → row < count
+first_rows_low M count row column = go (cases_lt row count)
+  where
+    go : (k : (row < count) ⊎ (count ≤ row)) → first_entry M count row column k ≢ pos 0 → row < count
+    go (inl l) nonzero = l
+    go (inr l) nonzero = absurd (nonzero refl)
+
+first_rows_nonzero : (M : ℕ → ℕ → ℤ) (count row column : ℕ) → first_rows M count row column ≢ pos 0 → M row column ≢ pos 0
+first_rows_nonzero M count row column nonzero zero_there = nonzero (first_rows_same M count row column (first_rows_low M count row column nonzero) ∙ zero_there)
+
+first_rows_small : (M : ℕ → ℕ → ℤ) (count row column : ℕ) → IsEntry (M row column) → IsEntry (first_rows M count row column)
+first_rows_small M count row column small = go (cases_lt row count)
+  where
+    go : (k : (row < count) ⊎ (count ≤ row)) → IsEntry (first_entry M count row column k)
+    go (inl l) = small
+    go (inr l) = record { low = omega (arith, sums); high = omega (arith, sums) }
+
+first_rows_zeros : (M N : ℕ → ℕ → ℤ) (count row column : ℕ) → (M row column ≡ pos 0) ↔ (N row column ≡ pos 0) → (first_rows M count row column ≡ pos 0) ↔ (first_rows N count row column ≡ pos 0)
+first_rows_zeros M N count row column same = go (cases_lt row count)
+  where
+    go : (k : (row < count) ⊎ (count ≤ row)) → (first_entry M count row column k ≡ pos 0) ↔ (first_entry N count row column k ≡ pos 0)
+    go (inl l) = same
+    go (inr l) = ((λ e. refl), (λ e. refl))
+
+first_rows_clean : (m : Matrix) (count : ℕ) → HasNoFaultBefore m count → HasNoCycleFault (first_rows (entry m) count)
+first_rows_clean m count clean t c d path fault =
+    let low = first_rows_low (entry m) count t c fault.place.first in
+    clean t c d path low (fault_on (first_rows (entry m) count) (entry m) count (first_rows_same (entry m) count) t c d path low fault)
+
+-- first rows without fault agree up to signs with those of a matrix without fault
+first_rows_agree : (m n : Matrix) (count : ℕ) → IsMatrix m → IsMatrix n → HaveOneSupport m n → HasNoFaultBefore m count → HasNoFaultBefore n count → AgreeBefore (entry m) (entry n) count
+first_rows_agree m n count is_m is_n one clean_m clean_n = record {
+  row_sign = agreement.row_sign;
+  column_sign = agreement.column_sign;
+  row_signs = agreement.row_signs;
+  column_signs = agreement.column_signs;
+  entries = λ row column low.
+      sym (first_rows_same (entry n) count row column low) ∙ agreement.entries row column
+      ∙ ap (λ (z : ℤ). agreement.row_sign row *ℤ (agreement.column_sign column *ℤ z)) (first_rows_same (entry m) count row column low);
+}
+  where
+    agreement : AgreeUpToSigns (first_rows (entry m) count) (first_rows (entry n) count)
+    agreement = signs_agree (first_rows (entry m) count) (first_rows (entry n) count)
+        (λ row column. first_rows_small (entry m) count row column (is_m.small row column))
+        (λ row column. first_rows_small (entry n) count row column (is_n.small row column))
+        (λ row column. first_rows_zeros (entry m) (entry n) count row column (one.zeros_same row column))
+        (first_rows_clean m count clean_m) (first_rows_clean n count clean_n) (height m) m.width
+        (λ row column nonzero.
+        let there = first_rows_nonzero (entry m) count row column nonzero in
+        (row_in m row column there, column_in m row column is_m.rectangular there))
+
+-- so where they do not agree, one of them has a fault
+pub faulty_where_apart : (m n : Matrix) (count : ℕ) → IsMatrix m → IsMatrix n → HaveOneSupport m n → ¬ (AgreeBefore (entry m) (entry n) count) → HasNoViolator m → ¬ (HasNoFaultBefore n count)
+faulty_where_apart m n count is_m is_n one apart free clean =
+    apart (first_rows_agree m n count is_m is_n one (λ t c d path low. no_violator_no_fault m is_m.rectangular is_m.small free t c d path) clean)
 
 -- the transposed matrix of what a network reproduces has no violator
 pub none_in_transposed : (net : Network) (m other : Matrix) → IsMatrix m → Reproduces net m → other ≡ transposed m → HasNoViolator other

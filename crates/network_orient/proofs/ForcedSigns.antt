@@ -6,15 +6,15 @@ use Rattle.std.proofs.lemmas.List.FromFn.{get_or-range_with_len, length-range_wi
 use Rattle.cmr_base.specs.Matrix.{Matrix, entry, IsEntry}
 use Rattle.cmr_base.specs.LineSets.{first_lines}
 use Rattle.cmr_base.specs.Signing.{IsSign}
-use Rattle.cmr_base.specs.Supports.{AgreeUpToSigns, HaveOneSupport}
+use Rattle.cmr_base.specs.Supports.{HaveOneSupport}
 use Rattle.cmr_base.proofs.Integers.{products, sums, mul_assoc, mul_comm, mul-zero, one-mul}
 use Rattle.cmr_base.proofs.SignEntries.{sign_is_entry}
 use Rattle.ghouila.proofs.Bytes.{product_bytes}
 use Rattle.ghouila.proofs.SignProducts.{sign-mul, sign_square}
-use Rattle.network_orient.specs.SignedGroups.{AreSignedGroups, IsCoarser, IsMerged, IsRowJoined, IsRowMultiplied, group_of, sign_of, row_sign_by}
+use Rattle.network_orient.specs.SignedGroups.{AgreeBefore, AreSignedGroups, IsCoarser, IsMerged, IsRowForced, IsRowJoined, IsRowMultiplied, KeepsProducts, group_of, sign_of, row_sign_by}
 
 -- each column in a group of its own
-pub own_groups : (m n : Matrix) → AreSignedGroups m n (first_lines m.width) (replicate m.width (pos 1))
+pub own_groups : (m n : Matrix) → AreSignedGroups m n 0 (first_lines m.width) (replicate m.width (pos 1))
 own_groups m n = record {
   group_each = length-range_with_len 0 m.width;
   sign_each = length-replicate m.width (pos 1);
@@ -26,11 +26,29 @@ own_groups m n = record {
     one column (inl l) = get_or-replicate m.width column (pos 1) (pos 1) l
     one column (inr l) = get_or_past (replicate m.width (pos 1)) column (pos 1) (omega (arith, l, length-replicate m.width (pos 1)))
 
-    forced : (agreement : AgreeUpToSigns (entry m) (entry n)) (c d : ℕ) → c < m.width → d < m.width → 0 + c ≡ 0 + d
+    forced : (agreement : AgreeBefore (entry m) (entry n) 0) (c d : ℕ) → c < m.width → d < m.width → 0 + c ≡ 0 + d
         → sign_of (replicate m.width (pos 1)) c *ℤ sign_of (replicate m.width (pos 1)) d ≡ agreement.column_sign c *ℤ agreement.column_sign d
     forced agreement c d lc ld e =
         let same : c ≡ d = omega arith in
         ap₂ (λ x y. x *ℤ y) (one c (inl lc)) (one d (inl ld)) ∙ sym (ap (λ k. agreement.column_sign c *ℤ agreement.column_sign k) (sym same) ∙ sign_square (agreement.column_sign c) (agreement.column_signs c))
+
+-- what holds of all signs that turn the first rows holds of those that turn more
+abbrev agree_earlier : (M N : ℕ → ℕ → ℤ) (count later : ℕ) → count ≤ later → AgreeBefore M N later → AgreeBefore M N count
+agree_earlier M N count later fits agreement = record {
+  row_sign = agreement.row_sign;
+  column_sign = agreement.column_sign;
+  row_signs = agreement.row_signs;
+  column_signs = agreement.column_signs;
+  entries = λ row column l. agreement.entries row column (omega (arith, l, fits));
+}
+
+pub groups_later : (m n : Matrix) (count later : ℕ) (groups : List ℕ) (signs : List ℤ) → count ≤ later → AreSignedGroups m n count groups signs → AreSignedGroups m n later groups signs
+groups_later m n count later groups signs fits all = record {
+  group_each = all.group_each;
+  sign_each = all.sign_each;
+  each_sign = all.each_sign;
+  forced = λ agreement. all.forced (agree_earlier (entry m) (entry n) count later fits agreement);
+}
 
 -- ---- products of signs
 
@@ -100,13 +118,23 @@ merged_coarser width groups new_groups signs new_signs gone stays factor same me
     go (inl f) = (merged.moved c (omega (arith, lc, same)) f).0 ∙ sym (merged.moved d (omega (arith, ld, same)) (sym e ∙ f)).0
     go (inr k) = (merged.others c (omega (arith, lc, same)) k).0 ∙ e ∙ sym (merged.others d (omega (arith, ld, same)) (λ f. k (e ∙ f))).0
 
+pub merged_products : (width : ℕ) (groups new_groups : List ℕ) (signs new_signs : List ℤ) (gone stays : ℕ) (factor : ℤ) → width ≡ length groups → IsSign factor
+    → IsMerged groups signs new_groups new_signs gone stays factor → KeepsProducts width groups signs new_signs
+merged_products width groups new_groups signs new_signs gone stays factor same factor_sign merged c d lc ld e = go (cases_eq (group_of groups c) gone)
+  where
+    go : (group_of groups c ≡ gone) ⊎ (group_of groups c ≢ gone) → sign_of new_signs c *ℤ sign_of new_signs d ≡ sign_of signs c *ℤ sign_of signs d
+    go (inl f) =
+        ap₂ (λ x y. x *ℤ y) (merged.moved c (omega (arith, lc, same)) f).1 (merged.moved d (omega (arith, ld, same)) (sym e ∙ f)).1
+        ∙ both_moved (sign_of signs c) (sign_of signs d) factor factor_sign
+    go (inr k) = ap₂ (λ x y. x *ℤ y) (merged.others c (omega (arith, lc, same)) k).1 (merged.others d (omega (arith, ld, same)) (λ f. k (e ∙ f))).1
+
 module _ (m n : Matrix) where
   -- two columns in which a row has nonzeros
   pub joined_groups : (row first other : ℕ) (groups new_groups : List ℕ) (signs new_signs : List ℤ) (factor : ℤ) → first < m.width → other < m.width
       → IsSign (entry m row first) → IsSign (entry m row other) → IsSign factor
       → factor ≡ row_sign_by m n signs row first *ℤ row_sign_by m n signs row other
-      → AreSignedGroups m n groups signs → IsMerged groups signs new_groups new_signs (group_of groups other) (group_of groups first) factor
-      → AreSignedGroups m n new_groups new_signs
+      → AreSignedGroups m n (row + 1) groups signs → IsMerged groups signs new_groups new_signs (group_of groups other) (group_of groups first) factor
+      → AreSignedGroups m n (row + 1) new_groups new_signs
   joined_groups row first other groups new_groups signs new_signs factor lf lo first_sign other_sign factor_sign is_factor old merged = record {
     group_each = merged.group_each ∙ old.group_each;
     sign_each = merged.sign_each ∙ old.sign_each;
@@ -125,15 +153,15 @@ module _ (m n : Matrix) where
           go (inl e) = subst IsSign (sym (merged.moved c (inside c l) e).1) (sign-mul (sign_of signs c) factor (old.each_sign c) factor_sign)
           go (inr k) = subst IsSign (sym (merged.others c (inside c l) k).1) (old.each_sign c)
 
-      factor_by : (agreement : AgreeUpToSigns (entry m) (entry n)) → factor ≡ (sign_of signs first *ℤ sign_of signs other) *ℤ (agreement.column_sign first *ℤ agreement.column_sign other)
+      factor_by : (agreement : AgreeBefore (entry m) (entry n) (row + 1)) → factor ≡ (sign_of signs first *ℤ sign_of signs other) *ℤ (agreement.column_sign first *ℤ agreement.column_sign other)
       factor_by agreement =
           is_factor
-          ∙ ap₂ (λ x y. (sign_of signs first *ℤ (entry m row first *ℤ x)) *ℤ (sign_of signs other *ℤ (entry m row other *ℤ y))) (agreement.entries row first) (agreement.entries row other)
+          ∙ ap₂ (λ x y. (sign_of signs first *ℤ (entry m row first *ℤ x)) *ℤ (sign_of signs other *ℤ (entry m row other *ℤ y))) (agreement.entries row first (omega arith)) (agreement.entries row other (omega arith))
           ∙ row_says (sign_of signs first) (sign_of signs other) (entry m row first) (entry m row other) (agreement.row_sign row) (agreement.column_sign first) (agreement.column_sign other)
           first_sign other_sign (agreement.row_signs row)
 
       -- the first column moved, the second not
-      one_moved : (agreement : AgreeUpToSigns (entry m) (entry n)) (c d : ℕ) → c < m.width → d < m.width → group_of new_groups c ≡ group_of new_groups d
+      one_moved : (agreement : AgreeBefore (entry m) (entry n) (row + 1)) (c d : ℕ) → c < m.width → d < m.width → group_of new_groups c ≡ group_of new_groups d
           → group_of groups c ≡ group_of groups other → group_of groups d ≢ group_of groups other → sign_of new_signs c *ℤ sign_of new_signs d ≡ agreement.column_sign c *ℤ agreement.column_sign d
       one_moved agreement c d lc ld e f k =
           let moved = merged.moved c (inside c lc) f in
@@ -142,7 +170,7 @@ module _ (m n : Matrix) where
           ∙ across (sign_of signs c) (sign_of signs d) (sign_of signs first) (sign_of signs other) factor (agreement.column_sign first) (agreement.column_sign other) (agreement.column_sign c) (agreement.column_sign d)
           (agreement.column_signs first) (agreement.column_signs other) (factor_by agreement) (old.forced agreement c other lc lo f) (old.forced agreement d first ld lf (sym kept.0 ∙ sym e ∙ moved.0))
 
-      forced : (agreement : AgreeUpToSigns (entry m) (entry n)) (c d : ℕ) → c < m.width → d < m.width → group_of new_groups c ≡ group_of new_groups d
+      forced : (agreement : AgreeBefore (entry m) (entry n) (row + 1)) (c d : ℕ) → c < m.width → d < m.width → group_of new_groups c ≡ group_of new_groups d
           → (group_of groups c ≡ group_of groups other) ⊎ (group_of groups c ≢ group_of groups other) → (group_of groups d ≡ group_of groups other) ⊎ (group_of groups d ≢ group_of groups other)
           → sign_of new_signs c *ℤ sign_of new_signs d ≡ agreement.column_sign c *ℤ agreement.column_sign d
       forced agreement c d lc ld e (inl f) (inl g) =
@@ -161,9 +189,9 @@ module _ (m n : Matrix) where
   pub zero_row_multiplied : (signs : List ℤ) (row : ℕ) (sign : ℤ) → HaveOneSupport m n → ((column : ℕ) → entry m row column ≡ pos 0) → IsRowMultiplied m n signs row sign
   zero_row_multiplied signs row sign support none column l = (support.zeros_same row column).0 (none column) ∙ sym (ap (λ z. sign *ℤ (sign_of signs column *ℤ z)) (none column) ∙ times_zero sign (sign_of signs column))
 
-  pub row_multiplied : (groups : List ℕ) (signs : List ℤ) (row first : ℕ) (sign : ℤ) → HaveOneSupport m n → AreSignedGroups m n groups signs → IsRowJoined m groups row
-      → first < m.width → entry m row first ≢ pos 0 → IsSign (entry m row first) → sign ≡ row_sign_by m n signs row first → AgreeUpToSigns (entry m) (entry n) → IsRowMultiplied m n signs row sign
-  row_multiplied groups signs row first sign support all joined lf nonzero first_sign is_sign agreement column l = go (cases (entry m row column))
+  pub row_multiplied : (signs : List ℤ) (row first : ℕ) (sign : ℤ) → HaveOneSupport m n → IsRowForced m n signs row
+      → first < m.width → entry m row first ≢ pos 0 → IsSign (entry m row first) → sign ≡ row_sign_by m n signs row first → AgreeBefore (entry m) (entry n) (row + 1) → IsRowMultiplied m n signs row sign
+  row_multiplied signs row first sign support forced lf nonzero first_sign is_sign agreement column l = go (cases (entry m row column))
     where
       cases : (z : ℤ) → (z ≡ pos 0) ⊎ (z ≢ pos 0)
       cases (pos zero) = inl refl
@@ -173,35 +201,38 @@ module _ (m n : Matrix) where
       go : (entry m row column ≡ pos 0) ⊎ (entry m row column ≢ pos 0) → entry n row column ≡ sign *ℤ (sign_of signs column *ℤ entry m row column)
       go (inl e) = (support.zeros_same row column).0 e ∙ sym (ap (λ z. sign *ℤ (sign_of signs column *ℤ z)) e ∙ times_zero sign (sign_of signs column))
       go (inr k) =
-          agreement.entries row column
+          agreement.entries row column (omega arith)
           ∙ multiplied_entry (sign_of signs first) (sign_of signs column) (entry m row first) (entry m row column) (agreement.row_sign row) (agreement.column_sign first) (agreement.column_sign column)
-          first_sign (agreement.column_signs first) (all.forced agreement first column lf l (joined first column lf l nonzero k))
-          ∙ sym (ap (λ z. z *ℤ (sign_of signs column *ℤ entry m row column)) (is_sign ∙ ap (λ z. sign_of signs first *ℤ (entry m row first *ℤ z)) (agreement.entries row first)))
+          first_sign (agreement.column_signs first) (forced agreement first column lf l nonzero k)
+          ∙ sym (ap (λ z. z *ℤ (sign_of signs column *ℤ entry m row column)) (is_sign ∙ ap (λ z. sign_of signs first *ℤ (entry m row first *ℤ z)) (agreement.entries row first (omega arith))))
 
 -- ---- the columns of a row, one after another
 
 -- the columns of nonzeros below a number are in the group of the first
-pub record IsRowJoinedTo (m n : Matrix) (row first count : ℕ) (old_groups groups : List ℕ) (signs : List ℤ) : Type 0 where
-  pub all : AreSignedGroups m n groups signs
+pub record IsRowJoinedTo (m n : Matrix) (row first count : ℕ) (old_groups groups : List ℕ) (old_signs signs : List ℤ) : Type 0 where
+  pub all : AreSignedGroups m n (row + 1) groups signs
   pub coarser : IsCoarser m.width old_groups groups
+  pub kept : KeepsProducts m.width old_groups old_signs signs
   pub joined : (column : ℕ) → column < count → entry m row column ≢ pos 0 → group_of groups column ≡ group_of groups first
 
-module _ (m n : Matrix) (row first : ℕ) (old_groups : List ℕ) where
-  pub none_joined : (signs : List ℤ) → AreSignedGroups m n old_groups signs → IsRowJoinedTo m n row first 0 old_groups old_groups signs
-  none_joined signs all = record { all = all; coarser = λ c d lc ld e. e; joined = λ column l. absurd (omega arith) }
+module _ (m n : Matrix) (row first : ℕ) (old_groups : List ℕ) (old_signs : List ℤ) where
+  pub none_joined : AreSignedGroups m n (row + 1) old_groups old_signs → IsRowJoinedTo m n row first 0 old_groups old_groups old_signs old_signs
+  none_joined all = record { all = all; coarser = λ c d lc ld e. e; kept = λ c d lc ld e. refl; joined = λ column l. absurd (omega arith) }
 
-  pub zeros_joined : (count next : ℕ) (groups : List ℕ) (signs : List ℤ) → IsRowJoinedTo m n row first count old_groups groups signs → ((column : ℕ) → count ≤ column → column < next → entry m row column ≡ pos 0)
-      → IsRowJoinedTo m n row first next old_groups groups signs
-  zeros_joined count next groups signs before zeros = record { all = before.all; coarser = before.coarser; joined = λ column l nonzero. go column l nonzero (cases_lt column count) }
+  pub zeros_joined : (count next : ℕ) (groups : List ℕ) (signs : List ℤ) → IsRowJoinedTo m n row first count old_groups groups old_signs signs → ((column : ℕ) → count ≤ column → column < next → entry m row column ≡ pos 0)
+      → IsRowJoinedTo m n row first next old_groups groups old_signs signs
+  zeros_joined count next groups signs before zeros = record { all = before.all; coarser = before.coarser; kept = before.kept; joined = λ column l nonzero. go column l nonzero (cases_lt column count) }
     where
       go : (column : ℕ) → column < next → entry m row column ≢ pos 0 → (column < count) ⊎ (count ≤ column) → group_of groups column ≡ group_of groups first
       go column l nonzero (inl k) = before.joined column k nonzero
       go column l nonzero (inr k) = absurd (nonzero (zeros column k l))
 
-  pub one_joined : (count : ℕ) (groups new_groups : List ℕ) (signs new_signs : List ℤ) → count < m.width → first < m.width → IsRowJoinedTo m n row first count old_groups groups signs
-      → AreSignedGroups m n new_groups new_signs → IsCoarser m.width groups new_groups → group_of new_groups count ≡ group_of new_groups first → IsRowJoinedTo m n row first (count + 1) old_groups new_groups new_signs
-  one_joined count groups new_groups signs new_signs inside lf before all coarser e = record {
+  pub one_joined : (count : ℕ) (groups new_groups : List ℕ) (signs new_signs : List ℤ) → count < m.width → first < m.width → IsRowJoinedTo m n row first count old_groups groups old_signs signs
+      → AreSignedGroups m n (row + 1) new_groups new_signs → IsCoarser m.width groups new_groups → KeepsProducts m.width groups signs new_signs → group_of new_groups count ≡ group_of new_groups first
+      → IsRowJoinedTo m n row first (count + 1) old_groups new_groups old_signs new_signs
+  one_joined count groups new_groups signs new_signs inside lf before all coarser kept e = record {
     all = all;
+    kept = λ c d lc ld f. kept c d lc ld (before.coarser c d lc ld f) ∙ before.kept c d lc ld f;
     coarser = λ c d lc ld f. coarser c d lc ld (before.coarser c d lc ld f);
     joined = λ column l nonzero. go column l nonzero (cases_eq column count);
   }
@@ -210,24 +241,34 @@ module _ (m n : Matrix) (row first : ℕ) (old_groups : List ℕ) where
       go column l nonzero (inl f) = ap (group_of new_groups) f ∙ e
       go column l nonzero (inr k) = coarser column first (omega arith) lf (before.joined column (omega arith) nonzero)
 
-  pub all_joined : (groups : List ℕ) (signs : List ℤ) → IsRowJoinedTo m n row first m.width old_groups groups signs → IsRowJoined m groups row
+  pub all_joined : (groups : List ℕ) (signs : List ℤ) → IsRowJoinedTo m n row first m.width old_groups groups old_signs signs → IsRowJoined m groups row
   all_joined groups signs all c d lc ld hc hd = all.joined c lc hc ∙ sym (all.joined d ld hd)
 
 -- the rows below a number are joined
 pub record AreRowsJoined (m n : Matrix) (count : ℕ) (groups : List ℕ) (signs : List ℤ) : Type 0 where
-  pub all : AreSignedGroups m n groups signs
+  pub all : AreSignedGroups m n count groups signs
   pub joined : (row : ℕ) → row < count → IsRowJoined m groups row
+  pub forced : (row : ℕ) → row < count → IsRowForced m n signs row
 
 pub one_row_joined : (m n : Matrix) (count : ℕ) (groups new_groups : List ℕ) (signs new_signs : List ℤ) → AreRowsJoined m n count groups signs
-    → AreSignedGroups m n new_groups new_signs → IsCoarser m.width groups new_groups → IsRowJoined m new_groups count → AreRowsJoined m n (count + 1) new_groups new_signs
-one_row_joined m n count groups new_groups signs new_signs before all coarser here = record { all = all; joined = λ row l. go row l (cases_eq row count) }
+    → AreSignedGroups m n (count + 1) new_groups new_signs → IsCoarser m.width groups new_groups → KeepsProducts m.width groups signs new_signs → IsRowJoined m new_groups count
+    → AreRowsJoined m n (count + 1) new_groups new_signs
+one_row_joined m n count groups new_groups signs new_signs before all coarser kept here = record {
+  all = all;
+  joined = λ row l. go row l (cases_eq row count);
+  forced = λ row l. by row l (cases_eq row count);
+}
   where
     go : (row : ℕ) → row < count + 1 → (row ≡ count) ⊎ (row ≢ count) → IsRowJoined m new_groups row
     go row l (inl e) = subst (IsRowJoined m new_groups) (sym e) here
     go row l (inr k) = λ c d lc ld hc hd. coarser c d lc ld (before.joined row (omega arith) c d lc ld hc hd)
 
+    by : (row : ℕ) → row < count + 1 → (row ≡ count) ⊎ (row ≢ count) → IsRowForced m n new_signs row
+    by row l (inl e) = subst (IsRowForced m n new_signs) (sym e) (λ agreement c d lc ld hc hd. all.forced agreement c d lc ld (here c d lc ld hc hd))
+    by row l (inr k) = λ agreement c d lc ld hc hd. kept c d lc ld (before.joined row (omega arith) c d lc ld hc hd) ∙ before.forced row (omega arith) agreement c d lc ld hc hd
+
 pub no_row_joined : (m n : Matrix) (groups : List ℕ) (signs : List ℤ) → groups ≡ first_lines m.width → signs ≡ replicate m.width (pos 1) → AreRowsJoined m n 0 groups signs
-no_row_joined m n groups signs e f = record { all = rw (e, f) (own_groups m n); joined = λ row l. absurd (omega arith) }
+no_row_joined m n groups signs e f = record { all = rw (e, f) (own_groups m n); joined = λ row l. absurd (omega arith); forced = λ row l. absurd (omega arith) }
 
 -- ---- the entries of a row multiplied
 

@@ -15,6 +15,7 @@ use Rattle.cmr_base.proofs.ReversedWalks.{reversed_realises}
 use Rattle.cmr_base.proofs.Booleans.{same_test}
 use Rattle.ghouila.proofs.NetworkSignings.{networks_are_unimodular}
 use Rattle.ghouila.proofs.SignsUnique.{signs_are_unique}
+use Rattle.network_orient.specs.SignedGroups.{AgreeBefore}
 
 pub beyond_sizes : (m : Matrix) → IsRectangular m → (row column : ℕ) → (height m ≤ row) ⊎ (m.width ≤ column) → entry m row column ≡ pos 0
 beyond_sizes m is row column (inl high) = ap (λ r. get_or r column (pos 0)) (get_or_past m.rows row [] high)
@@ -55,6 +56,16 @@ pub agrees_where_network : (net : Network) (m n : Matrix) → IsTernary m → Is
 agrees_where_network net m n is_m is_n height_same width_same directed undirected network =
     signs_are_unique m n is_m.rectangular is_n.rectangular is_m.small is_n.small (one_support net m n is_m.rectangular is_n.rectangular height_same width_same directed undirected)
     (networks_are_unimodular m is_m (net, directed)).1 (networks_are_unimodular n is_n network).1
+
+-- signs of all rows are signs of the first
+pub agree_before : (M N : ℕ → ℕ → ℤ) (count : ℕ) → AgreeUpToSigns M N → AgreeBefore M N count
+agree_before M N count agreement = record {
+  row_sign = agreement.row_sign;
+  column_sign = agreement.column_sign;
+  row_signs = agreement.row_signs;
+  column_signs = agreement.column_signs;
+  entries = λ row column low. agreement.entries row column;
+}
 
 -- and the network reversed by the signs reproduces the matrix
 pub reversed_reproduces : (net : Network) (m n : Matrix) (rows columns : List ℤ) → height m ≡ height n → m.width ≡ n.width → Reproduces net m → IsMultiplied (entry m) (entry n) (height m) m.width rows columns

@@ -6,11 +6,11 @@ use Rattle.std.proofs.lemmas.List.{length-append, get_or_append_left}
 use Rattle.std.proofs.Math.Seq.{get_or-append_seam}
 use Rattle.cmr_base.specs.Matrix.{Matrix, height, entry, IsEntry}
 use Rattle.cmr_base.specs.Signing.{IsSign}
-use Rattle.cmr_base.specs.Supports.{AgreeUpToSigns, HaveOneSupport}
+use Rattle.cmr_base.specs.Supports.{HaveOneSupport}
 use Rattle.cmr_base.specs.ReversedNetworks.{IsMultiplied}
 use Rattle.cmr_base.proofs.Lists.{all-append, all_by_places}
 use Rattle.cmr_base.proofs.SignEntries.{sign_of_entry}
-use Rattle.network_orient.specs.SignedGroups.{AreSignedGroups, IsRowJoined, IsRowMultiplied, row_sign_by, sign_of}
+use Rattle.network_orient.specs.SignedGroups.{AgreeBefore, AreSignedGroups, IsRowForced, IsRowMultiplied, row_sign_by, sign_of}
 use Rattle.network_orient.proofs.ForcedSigns.{row_multiplied, zero_row_multiplied}
 
 -- the rows below a number are multiplied
@@ -40,7 +40,7 @@ module _ (m n : Matrix) where
           let low : row < count = omega arith in
           subst (IsRowMultiplied m n columns row) (sym (get_or_append_left rows (sign ∷ []) (pos 1) row (omega (arith, low, before.row_each)))) (before.multiplied row low)
 
-  pub all_rows_multiplied : (groups : List ℕ) (rows columns : List ℤ) → AreSignedGroups m n groups columns → AreRowsMultiplied m n (height m) rows columns → IsMultiplied (entry m) (entry n) (height m) m.width rows columns
+  pub all_rows_multiplied : (groups : List ℕ) (rows columns : List ℤ) → AreSignedGroups m n (height m) groups columns → AreRowsMultiplied m n (height m) rows columns → IsMultiplied (entry m) (entry n) (height m) m.width rows columns
   all_rows_multiplied groups rows columns all multiplied = record {
     rows = multiplied.row_signs;
     columns = all_by_places IsSign columns (pos 1) (λ column l. all.each_sign column);
@@ -48,9 +48,9 @@ module _ (m n : Matrix) where
   }
 
   -- a row that its sign does not turn
-  pub none_agrees : (groups : List ℕ) (columns : List ℤ) (row : ℕ) (sign : ℤ) → HaveOneSupport m n → AreSignedGroups m n groups columns → IsRowJoined m groups row
+  pub none_agrees : (columns : List ℤ) (row : ℕ) (sign : ℤ) → HaveOneSupport m n → IsRowForced m n columns row
       → ((column : ℕ) → entry m row column ≡ pos 0) ⊎ ((first : ℕ) × (first < m.width) × (entry m row first ≢ pos 0) × (sign ≡ row_sign_by m n columns row first))
-      → ((column : ℕ) → IsEntry (entry m row column)) → ¬ (IsRowMultiplied m n columns row sign) → ¬ (AgreeUpToSigns (entry m) (entry n))
-  none_agrees groups columns row sign support all joined (inl none) small not_multiplied agreement = not_multiplied (zero_row_multiplied m n columns row sign support none)
-  none_agrees groups columns row sign support all joined (inr (first, inside, nonzero, is_sign)) small not_multiplied agreement =
-      not_multiplied (row_multiplied m n groups columns row first sign support all joined inside nonzero (sign_of_entry (entry m row first) (small first) nonzero) is_sign agreement)
+      → ((column : ℕ) → IsEntry (entry m row column)) → ¬ (IsRowMultiplied m n columns row sign) → ¬ (AgreeBefore (entry m) (entry n) (row + 1))
+  none_agrees columns row sign support forced (inl none) small not_multiplied agreement = not_multiplied (zero_row_multiplied m n columns row sign support none)
+  none_agrees columns row sign support forced (inr (first, inside, nonzero, is_sign)) small not_multiplied agreement =
+      not_multiplied (row_multiplied m n columns row first sign support forced inside nonzero (sign_of_entry (entry m row first) (small first) nonzero) is_sign agreement)

@@ -1,27 +1,32 @@
--- Network matrices are the matrices without cycle fault whose support is graphic.
+-- Network matrices are the matrices without cycle fault whose support is graphic, and their transposes those whose support is cographic.
 use Rattle.std.proofs.Common.{[], length, refl, ◌<◌, ◌≤◌, ◌⊎◌, inl, inr, ◌∙◌, ℕ, ℤ, pos, ◌*ℤ◌, map, sym, ap, ap₂, subst, arith}
+use Rattle.std.proofs.Math.Path.{fun_ext}
 use Rattle.std.proofs.lemmas.Bool.{cases_lt}
 use Rattle.std.proofs.lemmas.List.FromFn.{length-map-range_with_len, get_or-map-range_with_len}
 use Rattle.cmr_base.specs.declared.network.Network.{Network}
 use Rattle.cmr_base.specs.CyclePlaces.{HasNoCycleFault}
 use Rattle.cmr_base.specs.LineSets.{first_lines}
-use Rattle.cmr_base.specs.Matrix.{Matrix, height, entry, IsEntry, IsTernary}
+use Rattle.cmr_base.specs.Matrix.{Matrix, height, entry, transposed, IsEntry, IsTernary}
 use Rattle.cmr_base.specs.MatrixSums.{filled}
 use Rattle.cmr_base.specs.Signing.{IsSign}
-use Rattle.cmr_base.specs.Supports.{AgreeUpToSigns}
+use Rattle.cmr_base.specs.Supports.{AgreeUpToSigns, HaveOneSupport}
 use Rattle.cmr_base.specs.ReversedNetworks.{reversed_network, IsMultiplied}
-use Rattle.cmr_base.specs.Trees.{IsDirectedPathOf, HasGraphicSupport, IsNetworkMatrix, Realises, Reproduces, ReproducesSupport, direction, head, tail}
+use Rattle.cmr_base.specs.Violator.{HasNoViolator, IsViolator}
+use Rattle.cmr_base.specs.Trees.{IsDirectedPathOf, HasGraphicSupport, IsConetworkMatrix, IsNetworkMatrix, Realises, Reproduces, ReproducesSupport, direction, head, tail}
 use Rattle.cmr_base.proofs.ColumnSteps.{direction_is_small}
 use Rattle.cmr_base.proofs.FilledMatrices.{height-filled, entry-filled}
 use Rattle.cmr_base.proofs.Integers.{sums}
 use Rattle.cmr_base.proofs.Lists.{all_of, all-map}
+use Rattle.cmr_base.proofs.Parts.{entry-transposed_rectangular, is_ternary-transposed}
 use Rattle.cmr_base.proofs.ReproducedCuts.{support_realised}
+use Rattle.cmr_base.proofs.TransposedLemmas.{column_set_from_transposed, row_set_from_transposed}
+use Rattle.cmr_base.proofs.ViolatorLemmas.{violator-transposed}
 use Rattle.cmr_base.proofs.Views.{small_rows}
-use Rattle.ghouila.proofs.NetworkSignings.{networks_are_unimodular}
+use Rattle.ghouila.proofs.NetworkSignings.{conetworks_are_unimodular, networks_are_unimodular}
 use Rattle.ghouila.proofs.SignsAgree.{signs_agree}
-use Rattle.ghouila.proofs.SignsUnique.{column_in, no_violator_no_fault, row_in}
-use Rattle.network_orient.specs.Laws.{NetworkMatricesAreSignedGraphic}
-use Rattle.network_orient.proofs.Orientations.{one_support, reversed_reproduces}
+use Rattle.ghouila.proofs.SignsUnique.{column_in, fault_free_has_no_violator, no_violator_no_fault, row_in}
+use Rattle.network_orient.specs.Laws.{ConetworkMatricesAreSignedCographic, NetworkMatricesAreSignedGraphic}
+use Rattle.network_orient.proofs.Orientations.{one_support, one_support_transposed, reversed_reproduces}
 
 -- a network matrix has both
 network_has_none : (m : Matrix) → IsTernary m → IsNetworkMatrix m → HasGraphicSupport m × HasNoCycleFault (entry m)
@@ -97,3 +102,47 @@ module _ (m : Matrix) (net : Network) (G : ReproducesSupport net m) where
 
 pub signed_graphic : NetworkMatricesAreSignedGraphic
 signed_graphic m is = (network_has_none m is, (λ ((net, G), clean). reversed m net G is clean))
+
+-- ---- transposed network matrices
+
+none_of_transposed : (m : Matrix) → IsTernary m → HasNoViolator m → HasNoViolator (transposed m)
+none_of_transposed m is none columns rows column_set row_set violator =
+    none rows columns (row_set_from_transposed m rows row_set) (column_set_from_transposed m columns column_set)
+    (violator-transposed (λ column row. entry m row column) columns rows
+    (subst (λ (M : ℕ → ℕ → ℤ). IsViolator M columns rows) (fun_ext (λ column. fun_ext (λ row. entry-transposed_rectangular m row column is.rectangular))) violator))
+
+conetwork_has_none : (m : Matrix) → IsTernary m → IsConetworkMatrix m → HasGraphicSupport (transposed m) × HasNoCycleFault (entry m)
+conetwork_has_none m is network = (
+  (network_has_none (transposed m) (is_ternary-transposed m is) network).0,
+  no_violator_no_fault m is.rectangular is.small (conetworks_are_unimodular m is network).1,
+)
+
+module _ (m : Matrix) (is : IsTernary m) (net : Network) (G : ReproducesSupport net (transposed m)) where
+  -- what the network of the rows' supports reproduces, transposed, has the support of m and no violator
+  abbrev across : Matrix
+  across = directed (transposed m) net G
+
+  across_support : HaveOneSupport across (transposed m)
+  across_support =
+      one_support net across (transposed m) (directed_is_ternary (transposed m) net G).rectangular (is_ternary-transposed m is).rectangular
+      (height-filled (height (transposed m)) (transposed m).width (entries (transposed m) net G)) refl (directed_reproduced (transposed m) net G) G
+
+  back_support : HaveOneSupport m (transposed across)
+  back_support =
+      let one = one_support_transposed across m (directed_is_ternary (transposed m) net G).rectangular is.rectangular across_support in
+      record { height_same = sym one.height_same; width_same = sym one.width_same; zeros_same = λ row column. ((one.zeros_same row column).1, (one.zeros_same row column).0) }
+
+  back_is_ternary : IsTernary (transposed across)
+  back_is_ternary = is_ternary-transposed across (directed_is_ternary (transposed m) net G)
+
+  back_free : HasNoViolator (transposed across)
+  back_free = none_of_transposed across (directed_is_ternary (transposed m) net G) (networks_are_unimodular across (directed_is_ternary (transposed m) net G) (net, directed_reproduced (transposed m) net G)).1
+
+  transposed_reversed : HasNoCycleFault (entry m) → IsConetworkMatrix m
+  transposed_reversed clean =
+      let free = fault_free_has_no_violator m (transposed across) is.rectangular back_is_ternary.rectangular is.small back_is_ternary.small back_support clean back_free in
+      let turned = is_ternary-transposed m is in
+      reversed (transposed m) net G turned (no_violator_no_fault (transposed m) turned.rectangular turned.small (none_of_transposed m is free))
+
+pub signed_cographic : ConetworkMatricesAreSignedCographic
+signed_cographic m is = (conetwork_has_none m is, (λ ((net, G), clean). transposed_reversed m is net G clean))

@@ -3,13 +3,13 @@ use Rattle.std.specs.Prelude.{Option, Some, None}
 use Rattle.cmr_base.specs.declared.network.Network.{Network}
 use Rattle.cmr_base.specs.Matrix.{Matrix}
 use Rattle.cmr_base.specs.Trees.{HasGraphicSupport, IsNetworkMatrix, Reproduces, ReproducesSupport}
-use Rattle.network_orient.specs.FirstRows.{HasNoFaultBefore}
+use Rattle.network_orient.specs.FirstRows.{IsFirstFaultyRow}
 use Rattle.network_orient.specs.declared.orienting.Orientation.{Orientation}
 use Rattle.network_orient.specs.declared.orienting.Orientation.TheVariants.{Directed, WrongSigns, NoTree}
 
 abbrev pub IsOrientation : Matrix → Orientation → Type 0
 IsOrientation m (Directed net) = Reproduces net m
-IsOrientation m (WrongSigns row net) = (¬ (IsNetworkMatrix m)) × ReproducesSupport net m × HasNoFaultBefore m row
+IsOrientation m (WrongSigns row net) = (¬ (IsNetworkMatrix m)) × ReproducesSupport net m × IsFirstFaultyRow m row
 IsOrientation m NoTree = (¬ (IsNetworkMatrix m)) × (¬ (HasGraphicSupport m))
 
 -- the directed tree with its paths, where they are found

@@ -1,8 +1,7 @@
 -- Columns in groups: the signs that turn one matrix into another are known up to one factor for each group.
-use Rattle.std.specs.Prelude.{◌≡◌, ◌≢◌, ◌<◌, ◌*ℤ◌, ℕ, ℤ, pos, List, length, slice_index_or}
+use Rattle.std.specs.Prelude.{◌≡◌, ◌≢◌, ◌<◌, ◌+◌, ◌*ℤ◌, ℕ, ℤ, pos, List, length, slice_index_or}
 use Rattle.cmr_base.specs.Matrix.{Matrix, entry}
 use Rattle.cmr_base.specs.Signing.{IsSign}
-use Rattle.cmr_base.specs.Supports.{AgreeUpToSigns}
 
 abbrev pub group_of : List ℕ → ℕ → ℕ
 group_of groups column = slice_index_or groups column 0
@@ -10,12 +9,20 @@ group_of groups column = slice_index_or groups column 0
 abbrev pub sign_of : List ℤ → ℕ → ℤ
 sign_of signs column = slice_index_or signs column (pos 1)
 
--- in all signs that turn the first matrix into the second, two columns of one group have the product that they have here
-pub record AreSignedGroups (m n : Matrix) (groups : List ℕ) (signs : List ℤ) : Type 0 where
+-- before this row the second is the first with some rows and columns multiplied by -1
+pub record AgreeBefore (M N : ℕ → ℕ → ℤ) (count : ℕ) : Type 0 where
+  pub row_sign : ℕ → ℤ
+  pub column_sign : ℕ → ℤ
+  pub row_signs : (row : ℕ) → IsSign (row_sign row)
+  pub column_signs : (column : ℕ) → IsSign (column_sign column)
+  pub entries : (row column : ℕ) → row < count → N row column ≡ row_sign row *ℤ (column_sign column *ℤ M row column)
+
+-- in all signs that turn the rows before this one into those of the second matrix, two columns of one group have the product that they have here
+pub record AreSignedGroups (m n : Matrix) (count : ℕ) (groups : List ℕ) (signs : List ℤ) : Type 0 where
   pub group_each : length groups ≡ m.width
   pub sign_each : length signs ≡ m.width
   pub each_sign : (column : ℕ) → IsSign (sign_of signs column)
-  pub forced : (agreement : AgreeUpToSigns (entry m) (entry n)) (c d : ℕ) → c < m.width → d < m.width → group_of groups c ≡ group_of groups d
+  pub forced : (agreement : AgreeBefore (entry m) (entry n) count) (c d : ℕ) → c < m.width → d < m.width → group_of groups c ≡ group_of groups d
       → sign_of signs c *ℤ sign_of signs d ≡ agreement.column_sign c *ℤ agreement.column_sign d
 
 -- columns of one group stay in one group
@@ -25,6 +32,15 @@ IsCoarser width old new = (c d : ℕ) → c < width → d < width → group_of o
 -- the columns of the nonzeros of a row are in one group
 abbrev pub IsRowJoined : Matrix → List ℕ → ℕ → Type 0
 IsRowJoined m groups row = (c d : ℕ) → c < m.width → d < m.width → entry m row c ≢ pos 0 → entry m row d ≢ pos 0 → group_of groups c ≡ group_of groups d
+
+-- two columns of one group keep the product of their signs
+abbrev pub KeepsProducts : ℕ → (groups : List ℕ) → (old_signs signs : List ℤ) → Type 0
+KeepsProducts width groups old_signs signs = (c d : ℕ) → c < width → d < width → group_of groups c ≡ group_of groups d → sign_of signs c *ℤ sign_of signs d ≡ sign_of old_signs c *ℤ sign_of old_signs d
+
+-- in all signs that turn the rows up to this one, two columns of its nonzeros have the product that they have here
+abbrev pub IsRowForced : Matrix → Matrix → List ℤ → ℕ → Type 0
+IsRowForced m n signs row = (agreement : AgreeBefore (entry m) (entry n) (row + 1)) (c d : ℕ) → c < m.width → d < m.width → entry m row c ≢ pos 0 → entry m row d ≢ pos 0
+    → sign_of signs c *ℤ sign_of signs d ≡ agreement.column_sign c *ℤ agreement.column_sign d
 
 -- the columns of one group go to another, and their signs are multiplied by a factor
 pub record IsMerged (old_groups : List ℕ) (old_signs : List ℤ) (groups : List ℕ) (signs : List ℤ) (gone stays : ℕ) (factor : ℤ) : Type 0 where

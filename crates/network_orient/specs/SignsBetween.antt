@@ -1,13 +1,13 @@
 -- Signs of lines that turn one matrix into another one of its support.
-use Rattle.std.specs.Prelude.{◌≡◌, ℕ, length}
+use Rattle.std.specs.Prelude.{◌≡◌, ◌+◌, ℕ, length}
 use Rattle.cmr_base.specs.Matrix.{Matrix, height, entry}
-use Rattle.cmr_base.specs.Supports.{AgreeUpToSigns}
 use Rattle.cmr_base.specs.ReversedNetworks.{IsMultiplied}
 use Rattle.cmr_base.specs.Violator.{HasNoViolator}
 use Rattle.network_orient.specs.declared.line_signs.LineSigns.{LineSigns}
 use Rattle.network_orient.specs.declared.line_signs.SignsBetween.{SignsBetween}
 use Rattle.network_orient.specs.declared.line_signs.SignsBetween.TheVariants.{Found, WrongRow}
-use Rattle.network_orient.specs.FirstRows.{HasNoFaultBefore}
+use Rattle.network_orient.specs.FirstRows.{HasNoFaultBefore, IsFirstFaultyRow}
+use Rattle.network_orient.specs.SignedGroups.{AgreeBefore}
 
 -- A sign for each line of the first matrix, which together give the second. Where the first has no violator, the second
 -- has no cycle fault.
@@ -17,10 +17,11 @@ pub record AreLineSigns (m n : Matrix) (signs : LineSigns) : Type 0 where
   pub multiplied : IsMultiplied (entry m) (entry n) (height m) m.width signs.rows.items signs.columns.items
   pub passed : HasNoViolator m → HasNoFaultBefore n (height m)
 
--- no signs give the second matrix, and where the first has no violator, the rows before this one have no cycle fault
+-- No signs give the rows of the second matrix up to this one. If the first has no violator, this is the first row of the second that has a
+-- cycle fault.
 pub record IsWrongRow (m n : Matrix) (row : ℕ) : Type 0 where
-  pub none : ¬ (AgreeUpToSigns (entry m) (entry n))
-  pub passed : HasNoViolator m → HasNoFaultBefore n row
+  pub none : ¬ (AgreeBefore (entry m) (entry n) (row + 1))
+  pub first : HasNoViolator m → IsFirstFaultyRow n row
 
 abbrev pub AreSignsBetween : Matrix → Matrix → SignsBetween → Type 0
 AreSignsBetween m n (Found signs) = AreLineSigns m n signs

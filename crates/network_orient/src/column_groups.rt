@@ -1,10 +1,10 @@
 // Columns in groups: the signs that turn one matrix into another are known up to one factor for each group.
-ghost use Rattle.std.specs.Prelude.{◌≡◌, ◌≢◌, ◌<◌, ◌⊎◌, ◌↔◌, ℕ, pos, replicate, length, IfOk, IsTrue, MatchOption};
+ghost use Rattle.std.specs.Prelude.{◌≡◌, ◌≢◌, ◌<◌, ◌+◌, ◌⊎◌, ◌↔◌, ℕ, pos, replicate, length, IfOk, IsTrue, MatchOption};
 ghost use Rattle.cmr_base.specs.LineSets.{first_lines};
 ghost use Rattle.cmr_base.specs.Matrix.{height, entry, IsEntry};
 ghost use Rattle.cmr_base.specs.Signing.{IsSign};
 ghost use Rattle.cmr_base.specs.Supports.{HaveOneSupport};
-ghost use Rattle.network_orient.specs.SignedGroups.{AreSignedGroups, IsCoarser, IsMerged, IsRowJoined, IsRowMultiplied, group_of, sign_of, row_sign_by};
+ghost use Rattle.network_orient.specs.SignedGroups.{AreSignedGroups, IsCoarser, IsMerged, IsRowForced, IsRowJoined, IsRowMultiplied, KeepsProducts, group_of, sign_of, row_sign_by};
 
 use cmr_base::{Matrix, Memory, own_labels, product};
 use std::alloc::Global;
@@ -21,9 +21,11 @@ impl ColumnGroups {
     pub fn of(alloc: Global, from: &Matrix, to: &Matrix) -> Result<ColumnGroups, Memory>
         requires { HaveOneSupport from.now to.now }
         ensures groups { IfOk result (λ all.
-            AreSignedGroups from.now to.now all.groups.items all.signs.items) }
+            AreSignedGroups from.now to.now (height from.now) all.groups.items all.signs.items) }
         ensures joined { IfOk result (λ all. (row : ℕ) → row < height from.now
             → IsRowJoined from.now all.groups.items row) }
+        ensures forced { IfOk result (λ all. (row : ℕ) → row < height from.now
+            → IsRowForced from.now to.now all.signs.items row) }
     {
         let mut groups = ColumnGroups::new(alloc, from.columns())?;
         for row in 0..from.rows() {
@@ -47,11 +49,13 @@ impl ColumnGroups {
     fn join_row(&mut self, from: &Matrix, to: &Matrix, row: u32)
         requires support { HaveOneSupport from.now to.now }
         requires row { row < height from.now }
-        requires groups { AreSignedGroups from.now to.now self.old.groups.items
+        requires groups { AreSignedGroups from.now to.now (row + 1) self.old.groups.items
             self.old.signs.items }
-        ensures groups { AreSignedGroups from.now to.now self.new.groups.items
+        ensures groups { AreSignedGroups from.now to.now (row + 1) self.new.groups.items
             self.new.signs.items }
         ensures coarser { IsCoarser from.now.width self.old.groups.items self.new.groups.items }
+        ensures kept { KeepsProducts from.now.width self.old.groups.items self.old.signs.items
+            self.new.signs.items }
         ensures joined { IsRowJoined from.now self.new.groups.items row }
     {
         let Some(first) = first_nonzero(from, row) else {
@@ -72,11 +76,13 @@ impl ColumnGroups {
         requires first_nonzero { entry from.now row first ≢ pos 0 }
         requires other { other < from.now.width }
         requires other_nonzero { entry from.now row other ≢ pos 0 }
-        requires groups { AreSignedGroups from.now to.now self.old.groups.items
+        requires groups { AreSignedGroups from.now to.now (row + 1) self.old.groups.items
             self.old.signs.items }
-        ensures groups { AreSignedGroups from.now to.now self.new.groups.items
+        ensures groups { AreSignedGroups from.now to.now (row + 1) self.new.groups.items
             self.new.signs.items }
         ensures coarser { IsCoarser from.now.width self.old.groups.items self.new.groups.items }
+        ensures kept { KeepsProducts from.now.width self.old.groups.items self.old.signs.items
+            self.new.signs.items }
         ensures joined { group_of self.new.groups.items other
             ≡ group_of self.new.groups.items first }
     {
@@ -112,7 +118,7 @@ impl ColumnGroups {
         requires row { row < height from.now }
         requires column { column < from.now.width }
         requires nonzero { entry from.now row column ≢ pos 0 }
-        requires groups { AreSignedGroups from.now to.now self.now.groups.items
+        requires groups { AreSignedGroups from.now to.now (height from.now) self.now.groups.items
             self.now.signs.items }
         ensures value { result ≡ row_sign_by from.now to.now self.now.signs.items row column }
         ensures sign { IsSign result }
@@ -136,7 +142,7 @@ impl ColumnGroups {
     pub fn row_sign(&self, from: &Matrix, to: &Matrix, row: u32) -> i8
         requires support { HaveOneSupport from.now to.now }
         requires row { row < height from.now }
-        requires groups { AreSignedGroups from.now to.now self.now.groups.items
+        requires groups { AreSignedGroups from.now to.now (height from.now) self.now.groups.items
             self.now.signs.items }
         ensures sign { IsSign result }
         ensures value { ((column : ℕ) → entry from.now row column ≡ pos 0)
@@ -155,7 +161,7 @@ impl ColumnGroups {
     pub fn is_row_multiplied(&self, from: &Matrix, to: &Matrix, row: u32, sign: i8) -> bool
         requires support { HaveOneSupport from.now to.now }
         requires row { row < height from.now }
-        requires groups { AreSignedGroups from.now to.now self.now.groups.items
+        requires groups { AreSignedGroups from.now to.now (height from.now) self.now.groups.items
             self.now.signs.items }
         requires sign { IsSign sign }
         ensures { IsTrue result ↔ IsRowMultiplied from.now to.now self.now.signs.items row sign }

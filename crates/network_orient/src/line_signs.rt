@@ -19,8 +19,8 @@ pub struct LineSigns {
 pub enum SignsBetween {
     /// Signs that do.
     Found(LineSigns),
-    /// No signs do: none turn the rows up to this one. Where the first matrix has no violator, the rows of the second
-    /// before this one have no cycle fault.
+    /// No signs do: none turn the rows up to this one. If the first matrix has no violator, this is the first row of the
+    /// second that has a cycle fault.
     WrongRow(u32),
 }
 

@@ -14,8 +14,8 @@ use std::alloc::Global;
 pub enum Orientation {
     /// A directed tree, and for each column a path that uses the arcs as its entries say, +1 forwards and -1 backwards.
     Directed(Network),
-    /// The supports of the columns are the paths of this tree, but the signs are not those of a directed one. The rows
-    /// before this one have no cycle fault.
+    /// The supports of the columns are the paths of this tree, but the signs are not those of a directed one. This row is
+    /// the first that has a cycle fault.
     WrongSigns { row: u32, net: Network },
     /// The supports of the columns are not the paths of a tree.
     NoTree,

@@ -41,4 +41,4 @@ returns c =
     let reproduced = c.in_ok-reproduced in
     let other = c.in_ok-transposed.transposed in
     let free = none_in_transposed c.args.net.now reproduced.reproduced other reproduced.ensures.shape reproduced.ensures.reproduced c.in_ok-transposed.ensures in
-    (subst (AreSignsBetween other m) c.in-WrongRow.is c.in_ok-signs_between.ensures).passed free
+    ((subst (AreSignsBetween other m) c.in-WrongRow.is c.in_ok-signs_between.ensures).first free).before

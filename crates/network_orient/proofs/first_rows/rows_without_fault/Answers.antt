@@ -15,4 +15,4 @@ returns-in-Directed c =
 pub returns-in-WrongSigns : goal.returns-in-WrongSigns
 returns-in-WrongSigns c =
     let found = subst (λ (n : Matrix). IsOrientation n c.in_ok-orientation_of.field-0) c.by_rows.ensures.matrix c.in_ok-orientation_of.ensures in
-    (subst (IsOrientation c.args.matrix.now) c.in-WrongSigns.is found).2
+    ((subst (IsOrientation c.args.matrix.now) c.in-WrongSigns.is found).2).before

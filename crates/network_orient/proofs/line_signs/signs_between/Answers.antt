@@ -1,10 +1,12 @@
 use Rattle.std.proofs.Common.{◌≡◌, ◌<◌, refl, ◌∙◌, ◌+◌, ◌++◌, ◌∷◌, [], ℕ, ℤ, List, arith, sym, subst, ap, w8, to_z, of_z}
 use Rattle.std.proofs.lemmas.Bool.{false≢true}
 use Rattle.cmr_base.specs.Matrix.{height}
+use Rattle.cmr_base.specs.Violator.{HasNoViolator}
 use Rattle.cmr_base.proofs.SignEntries.{sign_is_entry}
 use Rattle.ghouila.proofs.Bytes.{kept_entry}
+use Rattle.network_orient.specs.FirstRows.{HasNoFaultBefore}
 use Rattle.network_orient.specs.SignedGroups.{IsRowMultiplied}
-use Rattle.network_orient.proofs.FirstRows.{first_rows_free}
+use Rattle.network_orient.proofs.FirstRows.{faulty_where_apart, first_rows_free}
 use Rattle.network_orient.proofs.SignedRows.{AreRowsMultiplied, no_row_multiplied, one_row_multiplied, all_rows_multiplied, none_agrees}
 use Rattle.network_orient.proofs.line_signs.signs_between.Goals as goal
 
@@ -32,11 +34,13 @@ returns-then-not-is_row_multiplied c =
     let columns = c.in_ok-groups.groups.signs.items in
     let low : row < height m = omega (arith, c.loop-row-test.true, c.rows-row-end.ensures.rows) in
     let kept = kept_entry c.row_sign-sign.result (sign_is_entry c.row_sign-sign.result c.row_sign-sign.ensures.sign) in
+    let none = none_agrees m n columns row c.row_sign-sign.result c.requires (c.in_ok-groups.ensures.forced row low) c.row_sign-sign.ensures.value
+    (λ column. c.rows.ensures.shape.small row column) (λ multiplied. false≢true (c.if-not-is_row_multiplied.ensures.1 (subst (IsRowMultiplied m n columns row) (sym kept) multiplied))) in
+    let passed : HasNoViolator m → HasNoFaultBefore n row = λ free. first_rows_free m n c.rows.ensures.shape c.columns-columns.ensures.shape c.requires.height_same c.requires.width_same free
+    groups row c.loop-row.rows.items columns c.in_ok-groups.ensures.groups c.loop-row.invariant (omega (arith, low)) in
     record {
-      none = none_agrees m n groups columns row c.row_sign-sign.result c.requires c.in_ok-groups.ensures.groups (c.in_ok-groups.ensures.joined row low) c.row_sign-sign.ensures.value
-          (λ column. c.rows.ensures.shape.small row column) (λ multiplied. false≢true (c.if-not-is_row_multiplied.ensures.1 (subst (IsRowMultiplied m n columns row) (sym kept) multiplied)));
-      passed = λ free. first_rows_free m n c.rows.ensures.shape c.columns-columns.ensures.shape c.requires.height_same c.requires.width_same free
-          groups row c.loop-row.rows.items columns c.in_ok-groups.ensures.groups c.loop-row.invariant (omega (arith, low));
+      none = none;
+      first = λ free. record { before = passed free; here = faulty_where_apart m n (row + 1) c.rows.ensures.shape c.columns-columns.ensures.shape c.requires none free };
     }
 
 pub returns : goal.returns

@@ -29,4 +29,4 @@ returns c e =
     let all = c.rows-test.false in
     let end = c.rows-row-end.ensures.rows in
     unlike_rows m c.rows.digests.items (omega (arith, is.long, all, end)) (λ k h. is.digests k (omega (arith, h, all, end))) (λ k h. is.many k (omega (arith, h, all, end)))
-    (subst AreDifferent c.deref_mut.ensures.value (c.are_different.ensures e))
+    (subst AreDifferent c.deref_mut.ensures.value (c.are_different.ensures.answer.0 e))

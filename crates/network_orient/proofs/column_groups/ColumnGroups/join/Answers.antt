@@ -1,9 +1,10 @@
-use Rattle.std.proofs.Common.{◌≡◌, ◌∙◌, ◌*ℤ◌, ℕ, ℤ, ap₂, sym, subst, to_z, of_z, w8, arith}
+use Rattle.std.proofs.Common.{◌≡◌, ◌+◌, ◌∙◌, ◌*ℤ◌, ℕ, ℤ, ap₂, sym, subst, to_z, of_z, w8, arith}
 use Rattle.std.proofs.lemmas.List.{get_or_read}
+use Rattle.cmr_base.specs.Matrix.{height}
 use Rattle.ghouila.proofs.Bytes.{kept_entry, product_bytes}
 use Rattle.network_orient.specs.SignedGroups.{group_of, row_sign_by, IsMerged}
 use Rattle.ghouila.proofs.PivotBytes.{kept_sign}
-use Rattle.network_orient.proofs.ForcedSigns.{joined_groups, merged_coarser}
+use Rattle.network_orient.proofs.ForcedSigns.{groups_later, joined_groups, merged_coarser, merged_products}
 use Rattle.network_orient.proofs.column_groups.ColumnGroups.join.Goals as goal
 
 pub returns-then-gone-stays-clause-groups : goal.returns-then-gone-stays-clause-groups
@@ -30,3 +31,17 @@ returns-then-gone-stays-clause-groups c =
 pub returns-then-gone-stays-clause-coarser : goal.returns-then-gone-stays-clause-coarser
 returns-then-gone-stays-clause-coarser c =
     merged_coarser c.args.from.now.width c.args.self.now.groups.items c.merge.new.self.groups.items c.args.self.now.signs.items c.merge.new.self.signs.items _ _ _ (sym c.requires.groups.group_each) c.merge.ensures
+
+pub returns-then-gone-stays-clause-kept : goal.returns-then-gone-stays-clause-kept
+returns-then-gone-stays-clause-kept c =
+    merged_products c.args.from.now.width c.args.self.now.groups.items c.merge.new.self.groups.items c.args.self.now.signs.items c.merge.new.self.signs.items _ _ _ (sym c.requires.groups.group_each)
+    (kept_sign c.product.result (c.product.ensures.sign (kept_sign c.row_sign_by-by_first.result c.row_sign_by-by_first.ensures.sign) (kept_sign c.row_sign_by-by_other.result c.row_sign_by-by_other.ensures.sign)))
+    c.merge.ensures
+
+pub row_sign_by-by_first-requires-clause-groups : goal.row_sign_by-by_first-requires-clause-groups
+row_sign_by-by_first-requires-clause-groups c =
+    groups_later c.args.from.now c.args.to.now (c.args.row + 1) (height c.args.from.now) c.args.self.now.groups.items c.args.self.now.signs.items (let l = c.requires.row in omega arith) c.requires.groups
+
+pub row_sign_by-by_other-requires-clause-groups : goal.row_sign_by-by_other-requires-clause-groups
+row_sign_by-by_other-requires-clause-groups c =
+    groups_later c.args.from.now c.args.to.now (c.args.row + 1) (height c.args.from.now) c.args.self.now.groups.items c.args.self.now.signs.items (let l = c.requires.row in omega arith) c.requires.groups

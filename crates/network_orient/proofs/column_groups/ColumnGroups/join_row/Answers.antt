@@ -15,14 +15,15 @@ loop-column-preserved c =
     let m = c.args.from.now in
     let n = c.args.to.now in
     let old = c.args.self.now.groups.items in
+    let signs = c.args.self.now.signs.items in
     let now = c.loop-column.self in
     let next = c.in-Some-next_nonzero.column in
     let found = c.in-Some-next_nonzero.ensures.first in
     let small = c.in-Some-next_nonzero.ensures.small in record {
       few = omega arith;
-      joined = one_joined m n c.args.row c.in-Some.first old next now.groups.items c.join.new.self.groups.items now.signs.items c.join.new.self.signs.items found.1 c.in-Some.ensures.0
-          (zeros_joined m n c.args.row c.in-Some.first old c.loop-column.place next now.groups.items now.signs.items c.loop-column.invariant.joined (λ column past l. zero_is (entry m c.args.row column) (found.3 column past l)))
-          c.join.ensures.groups c.join.ensures.coarser c.join.ensures.joined;
+      joined = one_joined m n c.args.row c.in-Some.first old signs next now.groups.items c.join.new.self.groups.items now.signs.items c.join.new.self.signs.items found.1 c.in-Some.ensures.0
+          (zeros_joined m n c.args.row c.in-Some.first old signs c.loop-column.place next now.groups.items now.signs.items c.loop-column.invariant.joined (λ column past l. zero_is (entry m c.args.row column) (found.3 column past l)))
+          c.join.ensures.groups c.join.ensures.coarser c.join.ensures.kept c.join.ensures.joined;
     }
 
 pub returns-clause-joined : goal.returns-clause-joined
@@ -30,6 +31,7 @@ returns-clause-joined c =
     let m = c.args.from.now in
     let n = c.args.to.now in
     let old = c.args.self.now.groups.items in
+    let signs = c.args.self.now.signs.items in
     let now = c.loop-column.self in
-    all_joined m n c.args.row c.in-Some.first old now.groups.items now.signs.items
-    (zeros_joined m n c.args.row c.in-Some.first old c.loop-column.place m.width now.groups.items now.signs.items c.loop-column.invariant.joined (λ column past l. zero_is (entry m c.args.row column) (c.in_default-next_nonzero.ensures.first column past)))
+    all_joined m n c.args.row c.in-Some.first old signs now.groups.items now.signs.items
+    (zeros_joined m n c.args.row c.in-Some.first old signs c.loop-column.place m.width now.groups.items now.signs.items c.loop-column.invariant.joined (λ column past l. zero_is (entry m c.args.row column) (c.in_default-next_nonzero.ensures.first column past)))
