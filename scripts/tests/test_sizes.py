@@ -27,7 +27,7 @@ impl Block {
 fn nothing() {}
 """
 SHARED = 20
-PRIVATE = 27
+PRIVATE = 2
 WITHIN = f"""\
      1 of at most  230 lines of README.md
     19 of at most  800 lines of a file of code
