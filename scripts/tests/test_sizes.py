@@ -27,7 +27,7 @@ impl Block {
 fn nothing() {}
 """
 SHARED = 20
-PRIVATE = 27
+PRIVATE = 2
 # The limits of the words of each kind of texts: of "where" in a thousand, and of the house words.
 WORDINGS = {"documents": (1, 0), "comments of .rt": (11, 285), "comments of .antt": (10, 436), "comments of .py": (12, 137)}
 WORDED = "".join(

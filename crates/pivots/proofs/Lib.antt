@@ -6,3 +6,4 @@ pub mod MadePivots
 pub mod PivotEntries
 pub mod PivotedRows
 pub mod PartLaws
+pub mod PartPivots

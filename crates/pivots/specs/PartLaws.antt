@@ -1,10 +1,11 @@
--- What the pivot of a submatrix in its place keeps.
-use Rattle.std.specs.Prelude.{◌↔◌, ℕ, List}
+-- What the pivot of a submatrix in its place is, and what it keeps.
+use Rattle.std.specs.Prelude.{◌≡◌, ◌<◌, ◌↔◌, ℕ, List, length, slice_index}
 use Rattle.cmr_base.specs.declared.line_set.LineSet.{LineSet}
 use Rattle.cmr_base.specs.Matrix.{Matrix, entry, IsMatrix, HasTernaryEntries}
-use Rattle.cmr_base.specs.LineSets.{IsRowSet, IsColumnSet}
+use Rattle.cmr_base.specs.LineSets.{IsRowSet, IsColumnSet, submatrix}
+use Rattle.cmr_base.specs.Signing.{IsTotallyUnimodular}
 use Rattle.cmr_base.specs.Violator.{IsViolator}
-use Rattle.ghouila.specs.PivotLaws.{AreLinesBefore}
+use Rattle.ghouila.specs.PivotLaws.{pivot_at, AreLinesBefore}
 use Rattle.pivots.specs.declared.place.PlacedPivot.{PlacedPivot}
 use Rattle.pivots.specs.PivotedParts.{pivoted_part, IsPlaceIn, IsTernaryPivot, AreAmong}
 
@@ -27,3 +28,18 @@ PartPivotsKeepViolators = (m : Matrix) (lines : LineSet) (place : PlacedPivot) �
 -- the matrix after it is one within the limits where its pivot has entries -1, 0 and 1
 abbrev pub PartPivotsStayMatrices : Type 0
 PartPivotsStayMatrices = (m : Matrix) (lines : LineSet) (place : PlacedPivot) → IsMatrix m → IsTernaryPivot m lines place → IsMatrix (pivoted_part m lines place)
+
+-- the place in the matrix of an entry of the submatrix, which has these numbers in the submatrix
+abbrev pub numbered_place : LineSet → ℕ → ℕ → PlacedPivot
+numbered_place lines row column = record { row = slice_index lines.rows row; column = slice_index lines.columns column }
+
+-- what stands on the lines after it is the pivot of the submatrix as a matrix of its own
+abbrev pub PartPivotsArePivots : Type 0
+PartPivotsArePivots = (m : Matrix) (lines : LineSet) (row column : ℕ) → IsRowSet m lines.rows → IsColumnSet m lines.columns → row < length lines.rows → column < length lines.columns
+    → submatrix (pivoted_part m lines (numbered_place lines row column)) lines.rows lines.columns ≡ pivot_at (submatrix m lines.rows lines.columns) row column
+
+-- the submatrix is totally unimodular exactly if its pivot has entries -1, 0 and 1 alone and is
+abbrev pub PartPivotsDecide : Type 0
+PartPivotsDecide = (m : Matrix) (lines : LineSet) (place : PlacedPivot) → HasTernaryEntries m → IsRowSet m lines.rows → IsColumnSet m lines.columns → IsPlaceIn m lines place
+    → IsTotallyUnimodular (submatrix m lines.rows lines.columns)
+    ↔ (IsTernaryPivot m lines place × IsTotallyUnimodular (submatrix (pivoted_part m lines place) lines.rows lines.columns))
