@@ -1,6 +1,6 @@
-"""Times `cmr check` on the trees that `cmr tu -D` writes, beside `cmr tu` itself.
+"""Times `cmr check` on the trees that `cmr tu -D` writes, and `cmr tu` itself.
 
-Dense texts are made in a temporary folder, from a seed:
+The dense texts are generated in a temporary folder, from a seed:
 
     python3 bench/checks.py --program crates/cmr/out/cmr
 
@@ -8,10 +8,10 @@ The kinds, each with as many rows as columns, shuffled:
 
     random     paths between nodes of a random tree
     path       intervals of one path
-    sums       two-sums of circulants of R10, each of which has four rows and columns more
+    sums       two-sums of circulants of R10, each of which adds four rows and columns
 
-Printed for each text: its kind and size, the shortest time of `tu -D` and of `check` over the runs, their statuses, and how many times
-as long the check took. We aim at most at once.
+The output for each text: its kind and size, the shortest time of `tu -D` and of `check` over the runs, their statuses, and the ratio of
+the times. The goal is at most 1.
 """
 
 import argparse

@@ -1,13 +1,13 @@
-"""Counts how many matrices of 10 by 10 `cmr-classify` does in a second of a processor, and tells where a run's time goes.
+"""Counts the matrices of 10 by 10 that `cmr-classify` classifies in a processor second, and divides the time of a run into its parts.
 
     /usr/bin/python3 bench/classifying.py --program crates/cmr/out/cmr
 
-It goes by the processor's time of the command, its process and all runs of the program, which depends less than the clock on what else
-the machine does: a run whose memory was given to others in between still takes up to twice as long. So all that is measured takes turns,
-and the best of the rounds is printed with the middle one.
+It measures the processor time of the command, its process and all runs of the program. This depends less than the clock on other work of the
+machine, but a run whose memory was given to other processes still takes up to twice as long. So the measurements take turns, and the best
+and the median round are printed.
 
-Each kind of matrix is asked with all classes, and with `--infer`, which settles some verdicts by others. Then a run for each class is
-measured by itself, as `cmr-classify` makes it, and one whose words are refused, which is the start and the end of the program alone.
+Each kind of matrix is measured with all classes, and with `--infer`, which derives some verdicts from others. Then a run for each class is
+measured by itself, as `cmr-classify` makes it, and a run whose arguments are refused, which is only the start and the end of the program.
 """
 
 import argparse
@@ -43,7 +43,7 @@ def texts(entries, count):
 
 
 def seconds(work, *whose):
-    """The processor's time of what is done."""
+    """The processor time of a call."""
 
     def taken():
         return sum(usage.ru_utime + usage.ru_stime for usage in map(resource.getrusage, whose))
@@ -54,7 +54,7 @@ def seconds(work, *whose):
 
 
 def in_turns(works, rounds, *whose):
-    """The times of each work, sorted, where the works take turns."""
+    """The times of each task, sorted. The tasks take turns."""
     times = [[seconds(work, *whose) for work in works] for _ in range(rounds)]
     return [sorted(column) for column in zip(*times)]
 
@@ -79,7 +79,7 @@ def silent(words):
 
 
 def runs(program, entries, rounds):
-    """The time of a run of each class on some matrices, the least of the rounds for each of them, with the part of Python in it."""
+    """The least time of a run over the rounds, for each class and matrix, with the part of Python in it."""
     kept = [text.encode("ascii") for text in texts(entries, 20)]
 
     def asked(text, words, said):

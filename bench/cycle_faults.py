@@ -1,7 +1,7 @@
-"""Times a command on matrices that a search for cycle faults goes through from end to end.
+"""Times a command on matrices that a search for cycle faults must visit completely.
 
-Dense texts are made in a temporary folder, from a seed, and the command is run on each. In the command {file} stands
-for the text's path:
+The dense texts are generated in a temporary folder, from a seed, and the command runs on each. In the command {file} is
+the path of the text:
 
     python3 bench/cycle_faults.py --cmd 'crates/cmr/out/cmr tu {file}'
 
@@ -11,12 +11,12 @@ The kinds, each with as many rows as columns:
                nodes
     rows       each row is one interval of ones, three tenths of the columns on average
     columns    each column is one interval of ones, three tenths of the rows on average
-    full       ones alone
+    full       only ones
 
-None of these has a cycle fault. Each is tried as it is, and with the sign of one nonzero turned.
+None of these has a cycle fault. Each is run unchanged, and with the sign of one nonzero changed.
 
-Printed for each text: its kind and size, its nonzeros, the shortest time of the runs, and the exit statuses. Without a
-command only the nonzeros are printed.
+The output for each text: its kind and size, its nonzeros, the shortest time of the runs, and the exit statuses. Without a
+command the output has only the nonzeros.
 """
 
 import argparse

@@ -1,13 +1,13 @@
-"""Reads texts that are made to hurt, on a stack of 8 MiB, and tells how each run ends and how much memory it took at most.
+"""Reads adversarial texts on a stack of 8 MiB, and prints how each run ends and the most memory that it takes.
 
     python3 bench/hostile_texts.py --program crates/cmr/out/cmr
 
-The texts are made in a temporary folder: trees of 2000 and of 2001 levels and of many small nodes, counts that no text holds, evidence
-of 256 MiB, and matrix texts of 16 MiB in words of one byte. Printed for each: the bytes of the text, the status, the first line that is
-printed, the time, the peak of the memory, and of large texts that peak for each byte of the text. The first run does next to nothing;
-its peak is the least that is seen here, since a run begins with the memory of a small script.
+The texts are generated in a temporary folder: trees of 2000 and of 2001 levels and of many small nodes, counts that no text can have,
+evidence of 256 MiB, and matrix texts of 16 MiB in words of one byte. The output for each: the bytes of the text, the status, the first line
+of its output, the time, the peak of the memory, and for large texts that peak per byte of the text. The first run does almost nothing; its
+peak is the least possible here, since a run begins with the memory of a small script.
 
-The status is 1 where a run ends otherwise than is stated here.
+The status is 1 if a run does not end as stated here.
 """
 
 import argparse
@@ -26,7 +26,7 @@ LINES = 1000
 
 @dataclass(frozen=True)
 class Case:
-    """A text, the words of a run that reads it as `text`, and what is due: the status and the first line."""
+    """A text, the arguments of a run that reads it as `text`, and the expected status and first line."""
 
     name: str
     words: str
@@ -67,7 +67,7 @@ def removals():
 
 
 def many_nodes(size):
-    """One-sums of one-sums of empty nodes, of ten bytes each, as many as the size has room for."""
+    """One-sums of one-sums of empty nodes, of ten bytes each, as many as fit into the size."""
     node = head("onesum", LINES, LINES)
     inner = node + f"{2 * LINES}\n" + "empty 0 0\n" * (2 * LINES)
     count = size // len(inner) - 1
@@ -75,7 +75,7 @@ def many_nodes(size):
 
 
 def filled(front, word, size):
-    """The front, and the word again and again until the size is reached exactly."""
+    """The beginning, and the word repeated until the size is reached exactly."""
     yield front
     piece = word * (MIB // len(word))
     left = size - len(front)
@@ -133,7 +133,7 @@ CASES = [
 ]
 
 
-# It makes the run with little memory of its own, and writes the status, the peak in KiB and the seconds to standard error.
+# It starts the run with little memory of its own, and writes the status, the peak in KiB and the seconds to standard error.
 LAUNCHER = """
 import os, resource, sys, time
 stack = int(sys.argv[1])
@@ -174,10 +174,10 @@ def write(path, pieces):
 def main():
     parser = argparse.ArgumentParser(description="Reads texts that are made to hurt.")
     parser.add_argument("--program", type=pathlib.Path, default=pathlib.Path("crates/cmr/out/cmr"))
-    parser.add_argument("--only", help="the cases alone whose names hold this")
+    parser.add_argument("--only", help="only the cases whose names contain this")
     options = parser.parse_args()
     if not options.program.is_file():
-        parser.error(f"{options.program} is not there: ./cmr builds it")
+        parser.error(f"{options.program} does not exist: ./cmr builds it")
 
     program = str(options.program.resolve())
     others = 0

@@ -1,4 +1,4 @@
-"""Dense texts and timed runs, which the measurements share."""
+"""Dense texts and timed runs for all measurements."""
 
 import subprocess
 import time

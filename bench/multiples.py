@@ -1,9 +1,9 @@
-"""Times the tools on network matrices as multiples of the time that reading the same text takes, in one table.
+"""Times the tools on network matrices, as multiples of the time for reading the same text, in one table.
 
     python3 bench/multiples.py --program crates/cmr/out/cmr
 
-So that the figures hold on any machine, each is divided by the time of a tool that reads a dense text of the same size and
-does little else: `series-parallel` on the zero matrix. The kinds, each with as many columns as rows, which are the arcs of a
+So that the figures are comparable between machines, each is divided by the time of a tool that reads a dense text of the same
+size and does little else: `series-parallel` on the zero matrix. The kinds, each with as many columns as rows, which are the arcs of a
 directed tree:
 
     random  arc r leads from a random node before r to node r
@@ -11,11 +11,11 @@ directed tree:
     path    the arcs are one path, and each column is an interval of it, three tenths of the rows on average
     legs    from the middle, legs of two arcs
 
-Arcs and columns are turned round at random and shuffled. `graphic` gets the supports, as they are and with one nonzero more;
-`network`, `camion` (the search for a cycle fault) and `tu` the matrices as they are and with one sign turned, and `tu` the
-transposed ones too. For each row of the table: the multiple at each size, and the exponent with which the time grows from the
-first size to the last. The full matrix of ones, and `graphic -N` at 200 lines with one nonzero more, come last. A run that takes
-longer than --seconds is written as `-`.
+Arcs and columns are randomly reversed and shuffled. `graphic` gets the supports, unchanged and with one more nonzero; `network`,
+`camion` (the search for a cycle fault) and `tu` get the matrices, unchanged and with one sign changed, and `tu` also their
+transposes. Each row of the table has the multiple at each size, and the exponent with which the time grows from the first size to
+the last. The full matrix of ones, and `graphic -N` at 200 lines with one more nonzero, are the last rows. A run that takes longer
+than --seconds is written as `-`.
 """
 
 import argparse
@@ -51,17 +51,17 @@ class Timer:
         self.program, self.folder, self.runs, self.seconds = program, pathlib.Path(folder), runs, seconds
 
     def time(self, words, entries):
-        """The shortest time of the runs, or None where one takes too long."""
+        """The shortest time of the runs, or None if one takes too long."""
         text = self.folder / "matrix"
         text.write_text(dense_text(entries), encoding="ascii")
         return min((self.run([*words, text]) for _ in range(self.runs)), key=lambda it: math.inf if it is None else it)
 
     def run(self, words):
-        """The time of one run, or None where it takes too long."""
+        """The time of one run, or None if it takes too long."""
         start = time.perf_counter()
         command = [self.program, *words]
         process = subprocess.Popen(command, cwd=self.folder, stdout=subprocess.DEVNULL)
-        # A wait with a limit looks only now and then whether the run has ended, so another thread keeps the limit.
+        # A wait with a limit tests only from time to time whether the run has ended, so another thread keeps the limit.
         limit = threading.Timer(self.seconds, process.kill)
         limit.start()
         status = process.wait()
@@ -79,7 +79,7 @@ def transposed(entries):
 
 
 def cases(kind, size):
-    """The rows of the table for a kind: a name, the words of a tool, and a matrix."""
+    """The rows of the table for a kind: a name, the arguments of a tool, and a matrix."""
     draw = random.Random(1)
     entries = mixed(KINDS[kind](size, draw), size, draw)
     support = supports(entries)
@@ -137,7 +137,7 @@ def main():
     parser.add_argument("--seconds", type=float, default=30)
     options = parser.parse_args()
     if not options.program.is_file():
-        parser.error(f"{options.program} is not there: ./cmr builds it")
+        parser.error(f"{options.program} does not exist: ./cmr builds it")
     if any(not 10 <= size <= 1000 for size in options.sizes) or options.runs < 1:
         parser.error("sizes are 10 to 1000, and there is at least one run")
     with tempfile.TemporaryDirectory() as folder:

@@ -1,24 +1,24 @@
-"""Times a command on network matrices and on matrices that nearly are.
+"""Times a command on network matrices and on matrices that are almost network matrices.
 
-Dense texts are made in a temporary folder, from a seed, and the command is run on each. In the command {file} stands
-for the text's path:
+The dense texts are generated in a temporary folder, from a seed, and the command runs on each. In the command {file} is
+the path of the text:
 
     python3 bench/networks.py --cmd 'crates/cmr/out/cmr network {file}'
     python3 bench/networks.py --support --cmd 'crates/cmr/out/cmr graphic {file}'
 
-With --support each nonzero is written as 1, so that the matrices are graphic or nearly are.
+With --support each nonzero is written as 1, so that the matrices are graphic or almost graphic.
 
 The kinds, each with as many columns as rows, which are the arcs of a directed tree:
 
     recursive  arc r leads from a random node before r to node r, and each column is the path between two random nodes
     path       the arcs are one path, and each column is an interval of it, three tenths of the rows on average
 
-The arcs and the columns are turned round at random and shuffled. Each matrix is tried as it is; with the sign of one
-nonzero turned, which most often leaves a support with a tree that no directions fit; and with a nonzero written where
-a 0 was, which most often leaves a support without a tree.
+The arcs and the columns are randomly reversed and shuffled. Each matrix is run unchanged; with the sign of one nonzero
+changed, which usually gives a support with a tree for which no directions exist; and with a 0 replaced by a nonzero,
+which usually gives a support without a tree.
 
-Printed for each text: its kind and size, its nonzeros, the shortest time of the runs, and the exit statuses. Without a
-command only the nonzeros are printed.
+The output for each text: its kind and size, its nonzeros, the shortest time of the runs, and the exit statuses. Without a
+command the output has only the nonzeros.
 """
 
 import argparse
@@ -36,7 +36,7 @@ def recursive(size, draw):
 
 
 def path_between(parents, tail, head):
-    """The rows of a path with their entries. Each node but 0 has the arc from its parent, whose number is less."""
+    """The rows of a path with their entries. Each node except 0 has the arc from its parent, whose number is less."""
     path = {}
     while tail != head:
         if tail > head:
@@ -61,7 +61,7 @@ KINDS = {"recursive": recursive, "path": one_path}
 
 
 def mixed(columns, size, draw):
-    """The rows of the matrix, with lines turned round and shuffled."""
+    """The rows of the matrix, with lines negated and shuffled."""
     places = draw.sample(range(size), size)
     signs = [draw.choice((1, -1)) for _ in range(size)]
     entries = [[0] * len(columns) for _ in range(size)]
@@ -73,7 +73,7 @@ def mixed(columns, size, draw):
 
 
 def with_entry(entries, changes, draw):
-    """The same with the entry at one place changed, drawn among those with a new value."""
+    """The same with one entry changed to a new value, at a random position."""
     changed = [list(row) for row in entries]
     places = [(row, column) for row, line in enumerate(entries) for column, entry in enumerate(line) if entry in changes]
     if places:

@@ -3,8 +3,8 @@
     python3 bench/parts_and_sums.py --program crates/cmr/out/cmr
 
 The matrices are two-sums of circulants of R10, shuffled, whose trees have a two-sum at the root; each circulant adds four rows and
-columns. Printed for each size: the shortest time of each run in ms, its status, and how many times as long it took as reading a
-dense text of the same size, `series-parallel` on the zero matrix. We aim at most at six times.
+columns. The output for each size: the shortest time of each run in ms, its status, and its multiple of the time for reading a
+dense text of the same size, `series-parallel` on the zero matrix. The goal is at most six.
 """
 
 import argparse

@@ -1,16 +1,15 @@
-"""What pivots decide: models that are undecided without, and random sums that are totally unimodular.
+"""What pivots decide: models that are undecided without them, and random sums that are totally unimodular.
 
     /usr/bin/python3 bench/pivots.py --program crates/cmr/out/cmr
     /usr/bin/python3 bench/pivots.py --program crates/cmr/out/cmr --sums 10000
 
-The models are those of python/tests/open_matrices.py. For each there is a line with its size, what `tu` says without pivots and with
-them, and the times.
+The models come from python/tests/open_matrices.py. Each has a line with its size, the answers of `tu` without and with pivots, and the
+times.
 
-With --sums so many sums are made of two to five random networks, conetworks and matrices of R10: two-sums, and three-sums of the forms
-delta, Y and mixed at connecting lines that the networks have. Up to 60 pivots at nonzeros that are drawn lead to matrices with
-separations of all forms; then lines are negated and shuffled. `tu --lines 0` is asked without pivots, and where that is undecided with
-them. A no would be a fault. What is printed counts the answers, and names the numbers of those that stay undecided; `--text --first N`
-prints the sum of number N.
+The option --sums N makes N sums of two to five random networks, conetworks and matrices of R10: two-sums, and three-sums of the forms delta,
+Y and mixed at connecting lines that the networks have. Up to 60 pivots at random nonzeros lead to matrices with separations of all forms;
+then lines are negated and shuffled. `tu --lines 0` runs without pivots and, if the answer is undecided, with them. A no would be a fault.
+The output counts the answers, and names the numbers of the sums that remain undecided; `--text --first N` prints the sum of number N.
 """
 
 import argparse
@@ -34,7 +33,7 @@ ANSWERS = {0: "yes", 1: "no", 6: "undecided"}
 
 
 class Tree:
-    """A random tree with an arc for each node but the first, and walks in it."""
+    """A random tree with an arc for each node except the first, and walks in it."""
 
     def __init__(self, draw, size):
         self.draw, self.size = draw, size
@@ -68,7 +67,7 @@ class Tree:
         return self.walk(start, near), self.walk(start, far)
 
     def tall(self, arc):
-        """A walk from the middle of an arc, without what it has of the arc; whether it leads to the arc's own node, and the sign there."""
+        """A walk from the middle of an arc, without the arc; whether it leads to the arc's own node, and the sign there."""
         is_below = self.draw.random() < 0.5
         start = arc if is_below else self.parents[arc]
         ends = [node for node in range(self.size + 1) if node != start and arc not in self.walk(start, node)]
@@ -78,7 +77,7 @@ class Tree:
 
 
 def network(draw, first, last):
-    """A network matrix that begins and ends with the connecting lines of these kinds, or None where the tree has none."""
+    """A network matrix that begins and ends with the connecting lines of these kinds, or None if the tree has none."""
     tree = Tree(draw, draw.randint(4, 8))
     columns = [tree.drawn() for _ in range(draw.randint(3, 8))]
     arcs = draw.sample(range(1, tree.size + 1), 2)
@@ -148,7 +147,7 @@ def drawn_sum(number):
     draw = random.Random(number)
     count = draw.randint(2, 5)
     kinds = [draw.choice(["line", "flat", "tall"]) for _ in range(count + 1)]
-    # On the two sides of a two-sum stands a line each; the others may differ.
+    # Each side of a two-sum has one connecting line; the others may differ.
     firsts = [kind if kind == "line" else draw.choice(["flat", "tall"]) for kind in kinds]
     made = piece(draw, firsts[0], kinds[1])
     for at in range(1, count):

@@ -1,10 +1,10 @@
-"""Times calls of the Python package beside runs of the program alone, and how a sparse matrix goes in.
+"""Times calls of the Python package and runs of the program by itself, and the conversion of a sparse matrix.
 
     /usr/bin/python3 bench/python_calls.py --program crates/cmr/out/cmr
 
-A call and a run of the program on the same text take turns, so that both see the same machine. Printed are the least and the middle
-time of each, and what the call costs above the program. The sparse matrix has 1000 rows and columns and 10,000 nonzeros; it needs
-scipy, and is passed over where that is not there.
+A call and a run of the program on the same text take turns, so that both see the same machine. The output has the least and the median
+time of each, and the additional cost of the call. The sparse matrix has 1000 rows and columns and 10,000 nonzeros; it needs scipy, and
+is skipped without it.
 """
 
 import argparse
@@ -21,7 +21,7 @@ from cmr_matrices import Matrix, is_network, is_totally_unimodular  # noqa: E402
 
 
 def alone(program, words):
-    """A run of the program with its output thrown away."""
+    """A run of the program with its output discarded."""
     nothing = (os.POSIX_SPAWN_OPEN, 1, os.devnull, os.O_WRONLY, 0)
     process = os.posix_spawn(program, [program, *words], os.environ, file_actions=[nothing])
     os.waitpid(process, 0)
@@ -65,7 +65,7 @@ def sparse(runs):
     try:
         from scipy import sparse as matrices
     except ImportError:
-        print("scipy is not there: the sparse matrix is passed over")
+        print("scipy is not available: the sparse matrix is skipped")
         return
     matrix = matrices.random(1000, 1000, density=0.01, format="csr", random_state=1)
     matrix.data[:] = 1

@@ -1,8 +1,8 @@
 """Runs a program and refuses one of its requests for memory, as a debugger would, on Linux with x86-64.
 
-The program is one that Rattle built: it asks for memory in `rattle_alloc` and `rattle_realloc`, and the processor is told to stop it
-there. The request that is to be refused is made to ask for more than any machine has, so the C library refuses it. The rest of the run
-is left alone. Requests of further threads are not seen.
+The program must be built by Rattle: it requests memory in `rattle_alloc` and `rattle_realloc`, and breakpoints of the processor stop it
+there. The request to refuse is changed to a size that no machine has, so the C library refuses it. The rest of the run is unchanged. The
+requests of other threads are not observed.
 """
 
 import ctypes
@@ -15,14 +15,14 @@ import subprocess
 import tempfile
 from dataclasses import dataclass
 
-# Where a program asks for memory, and the register that holds the size then.
+# The functions in which a program requests memory, and the register that holds the size.
 SIZES = {"rattle_alloc": "rdi", "rattle_realloc": "rdx"}
 TOO_MUCH = 1 << 62
 
 # A run that takes more processor time than this is ended by a signal.
 SECONDS = 60
 
-# The requests of ptrace, and where it has the debug registers.
+# The requests of ptrace, and the offset of the debug registers.
 TRACE_ME, SET_WORD, CONTINUE, GET_REGISTERS, SET_REGISTERS, DETACH = 0, 6, 7, 12, 13, 17
 PLACES, SWITCHES = 848, 848 + 7 * 8
 NAMES = "r15 r14 r13 r12 rbp rbx r11 r10 r9 r8 rax rcx rdx rsi rdi orig_rax rip cs eflags rsp ss fs_base gs_base ds es fs gs"
@@ -38,7 +38,7 @@ class Registers(ctypes.Structure):
 
 @dataclass(frozen=True)
 class Ending:
-    """How a run ended. The status is that of the program, or the negated number of the signal that ended it."""
+    """How a run ended: with the status of the program, or with the negated number of the signal that ended it."""
 
     status: int
     output: bytes
@@ -46,7 +46,7 @@ class Ending:
 
 
 def count_requests(words, folder):
-    """How many requests the program makes where none is refused, and how it ends."""
+    """The number of requests that the program makes if none is refused, and how it ends."""
     with Run(words, folder) as run:
         requests = 0
         while run.goes_to_request():
@@ -55,7 +55,7 @@ def count_requests(words, folder):
 
 
 def end_refusing(number, words, folder):
-    """How the program ends where its request with this number, counted from 1, is refused."""
+    """How the program ends if its request with this number, counted from 1, is refused."""
     with Run(words, folder) as run:
         if all(run.goes_to_request() for _ in range(number)):
             run.refuse()
@@ -63,7 +63,7 @@ def end_refusing(number, words, folder):
 
 
 class Run:
-    """A run of a program that stops wherever it asks for memory."""
+    """A run of a program that stops at each request for memory."""
 
     def __init__(self, words, folder):
         found = places(words[0])
@@ -89,7 +89,7 @@ class Run:
         self.errors.close()
 
     def goes_to_request(self):
-        """Lets it run to its next request, before that is met. Whether there is one."""
+        """Lets it run to its next request, before the request is answered, and says whether there is one."""
         passed_on = 0
         while True:
             self.trace(CONTINUE, passed_on)
@@ -98,7 +98,7 @@ class Run:
                 return passed_on is not None
 
     def refuse(self):
-        """Makes the request at which it stands one for too much, and looks at no further one."""
+        """Changes the present request to one for too much memory, and observes no further request."""
         registers = Registers()
         self.trace(GET_REGISTERS, ctypes.addressof(registers))
         setattr(registers, self.sizes[registers.rip], TOO_MUCH)
@@ -107,7 +107,7 @@ class Run:
         self.trace(DETACH)
 
     def end(self):
-        """Lets it run to its end, where it has not ended."""
+        """Lets it run to its end, unless it has ended."""
         while self.process.returncode is None:
             self.wait()
         self.output.seek(0)
@@ -115,7 +115,7 @@ class Run:
         return Ending(self.process.returncode, self.output.read(), self.errors.read())
 
     def wait(self):
-        """The signal at which it stops, or None where it ends."""
+        """The signal at which it stops, or None if it ends."""
         _, status = os.waitpid(self.process.pid, 0)
         if os.WIFSTOPPED(status):
             return os.WSTOPSIG(status)
@@ -138,7 +138,7 @@ def trace(request, number=0, at=0, data=0):
 
 
 def start_of(program, number):
-    """Where the file of the program begins in the memory of the process with the number."""
+    """The address of the program's file in the memory of the process."""
     program = os.path.realpath(program)
     with open(f"/proc/{number}/maps", encoding="utf-8") as maps:
         return min(int(line.split("-")[0], 16) for line in maps if line.rstrip("\n").endswith(f" {program}"))
@@ -146,7 +146,7 @@ def start_of(program, number):
 
 @functools.cache
 def places(program):
-    """Where a program asks for memory, in its file."""
+    """The offsets of the requests for memory in the file of a program."""
     with open(program, "rb") as file:
         code = file.read()
     found = {name: place for name, place in symbols(code) if name in SIZES}
@@ -156,7 +156,7 @@ def places(program):
 
 
 def symbols(code):
-    """The names and places of a program in the form ELF, for 64 bits."""
+    """The names and addresses of a program in the format ELF, for 64 bits."""
     headers = list(sections(code))
     for kind, at, size, link in headers:
         if kind != 2:
@@ -167,7 +167,7 @@ def symbols(code):
 
 
 def sections(code):
-    """The kind, place, size and link of each section. A table of symbols has the kind 2, and links to the section of their names."""
+    """The kind, offset, size and link of each section. A table of symbols has the kind 2, and links to the section of their names."""
     (at,) = struct.unpack_from("<Q", code, 40)
     size, count = struct.unpack_from("<HH", code, 58)
     for index in range(count):

@@ -1,14 +1,14 @@
-"""Refuses each request for memory in turn, and tells how the runs end.
+"""Refuses each request for memory in turn, and prints how the runs end.
 
     python3 bench/refused_memory.py --program crates/cmr/out/cmr
 
-Each run is made once as it is, which counts its requests, and then once for each of them with that one refused. It then ends as one of
-two things, or the script says how it ended and has the status 1:
+Each run is made once unchanged, which counts its requests, and then once for each request, which is refused. It must end in one of two
+ways; otherwise the script prints how it ended and exits with status 1:
 
-    status 5    nothing is printed but `cmr: out of memory` on standard error, and each file holds what it held
-    as ever     status, output and files are those of the run without a refusal
+    status 5    the only output is `cmr: out of memory` on standard error, and each file has its old content
+    as ever     status, output and files are the same as without a refusal
 
-The matrices are those of examples/. The files that a run writes are there before, with other content. It runs on Linux with x86-64.
+The matrices come from examples/. The files that a run writes exist before, with other content. It runs on Linux with x86-64.
 """
 
 import argparse
@@ -27,7 +27,7 @@ HELD = b"what it held\n"
 
 @dataclass(frozen=True)
 class Case:
-    """A run: its words, the example that it reads as `matrix`, the files that it may write, and further ones that it reads."""
+    """A run: its arguments, the example that it reads as `matrix`, the files that it may write, and further files that it reads."""
 
     words: str
     example: str
@@ -42,7 +42,7 @@ class Case:
 
 
 def evidence(program, words, example, name):
-    """What the program writes to the file with the name."""
+    """What the program writes to a file."""
     with tempfile.TemporaryDirectory() as place:
         folder = pathlib.Path(place)
         Case(words, example).fill(folder)
@@ -77,7 +77,7 @@ def contents(folder):
 
 @dataclass
 class Sweep:
-    """How the runs of a case ended: as it is, by the number of the request that was refused, and those that ended otherwise."""
+    """How the runs of a case ended: unchanged, by the number of the refused request, and those that ended otherwise."""
 
     status: int
     requests: int
@@ -111,10 +111,10 @@ def sweep(program, case):
 def main():
     parser = argparse.ArgumentParser(description="Refuses each request for memory in turn.")
     parser.add_argument("--program", type=pathlib.Path, default=pathlib.Path("crates/cmr/out/cmr"))
-    parser.add_argument("--tools", nargs="+", help="the runs of these tools alone")
+    parser.add_argument("--tools", nargs="+", help="only the runs of these tools")
     options = parser.parse_args()
     if not options.program.is_file():
-        parser.error(f"{options.program} is not there: ./cmr builds it")
+        parser.error(f"{options.program} does not exist: ./cmr builds it")
 
     program = str(options.program.resolve())
     others = 0

@@ -1,10 +1,10 @@
-"""Times `regular` on the supports of network matrices, and `generate`, as multiples of reading the same matrix as a text.
+"""Times `regular` on the supports of network matrices, and `generate`, as multiples of the time for reading the same matrix.
 
     python3 bench/regular_and_generate.py --program crates/cmr/out/cmr
 
-Each time is divided by that of a tool that reads a dense text of the same size and does little else: `series-parallel` on the zero
-matrix. `regular` gets supports of networks in random trees and in one path, as they are and with one entry turned from 1 to 0 or
-back. `generate` makes networks, and two-sums of R10 matrices, each of which has four rows and columns more.
+Each time is divided by the time of a tool that reads a dense text of the same size and does little else: `series-parallel` on the zero
+matrix. `regular` gets supports of networks in random trees and in one path, unchanged and with one entry changed from 1 to 0 or back.
+`generate` makes networks, and two-sums of R10 matrices, each of which adds four rows and columns.
 """
 
 import argparse
@@ -17,7 +17,7 @@ from networks import mixed
 
 
 def turned(entries, draw):
-    """The matrix with one entry the other way."""
+    """The matrix with one entry exchanged between 0 and 1."""
     row, column = draw.randrange(len(entries)), draw.randrange(len(entries[0]))
     return [[1 - entry if (i, j) == (row, column) else entry for j, entry in enumerate(line)] for i, line in enumerate(entries)]
 
@@ -64,7 +64,7 @@ def main():
     parser.add_argument("--seconds", type=float, default=60)
     options = parser.parse_args()
     if not options.program.is_file():
-        parser.error(f"{options.program} is not there: ./cmr builds it")
+        parser.error(f"{options.program} does not exist: ./cmr builds it")
     with tempfile.TemporaryDirectory() as folder:
         timer = Timer(options.program.resolve(), folder, options.runs, options.seconds)
         measure_regular(timer, options.sizes)

@@ -2,12 +2,12 @@
 
     python3 bench/row_sets.py --program crates/cmr/out/cmr
 
-For each number of rows a 0/1 matrix is made from a seed: paths of a random tree, with one more row that has four ones. Without its
-last row it is a network matrix, so no violator has all its rows among the others, and the search goes through all of their sets
-before it comes to one with the last row. Seeds are tried one after another until the decomposition, with a budget below the number
-of rows, leaves all rows open behind reductions alone; so nothing but the search decides.
+For each number of rows a 0/1 matrix is generated from a seed: paths of a random tree, with one more row that has four ones. Without its
+last row it is a network matrix, so no violator has all its rows among the others, and the search visits all of their sets before it
+reaches a set with the last row. Seeds are tried one after another until the decomposition, with a budget below the number of rows, leaves
+all rows open after only reductions; so only the search decides.
 
-Printed for each number of rows and of workers: the size of the leaf, the time beyond that of the same run with the budget below (which
+The output for each number of rows and of workers: the size of the leaf, the time beyond the same run with a budget one smaller (which
 searches no set), that time for each row set without the last row, and the exit statuses.
 """
 
@@ -50,7 +50,7 @@ def paths_and_a_row(rows, columns, draw):
 
 
 def open_leaf(program, path, rows):
-    """Writes a matrix whose rows all stand in one open leaf, and answers the size of the leaf."""
+    """Writes a matrix whose rows are all in one open leaf, and gives the size of the leaf."""
     for seed in range(1000):
         path.write_text(dense_text(paths_and_a_row(rows, 2 * rows, random.Random(seed))), encoding="ascii")
         words = [program, "regular", "--lines", str(rows - 1), path]

@@ -1,20 +1,20 @@
-"""Times a command on matrices that fall into connected parts or at two-separations.
+"""Times a command on matrices with many connected parts or two-separations.
 
-Dense texts are made in a temporary folder, from a seed, and the command is run on each. In the command {file} stands
-for the text's path:
+The dense texts are generated in a temporary folder, from a seed, and the command runs on each. In the command {file} is
+the path of the text:
 
     python3 bench/separations.py --cmd 'crates/cmr/out/cmr tu {file}'
 
 The kinds, each with as many rows as columns:
 
     parts      circulants of R10, of 5 by 5, as diagonal blocks: one connected part each
-    sums       two-sums of such circulants, one after another: each has four rows and columns more
+    sums       two-sums of such circulants, one after another: each adds four rows and columns
 
-Both are totally unimodular, so there is no cycle fault, and a decomposition goes through all parts and all two-separations.
+Both are totally unimodular, so there is no cycle fault, and a decomposition visits all parts and all two-separations.
 The rows and the columns are shuffled.
 
-Printed for each text: its kind and size, its nonzeros, the shortest time of the runs, and the exit statuses. Without a
-command only the nonzeros are printed.
+The output for each text: its kind and size, its nonzeros, the shortest time of the runs, and the exit statuses. Without a
+command the output has only the nonzeros.
 """
 
 import argparse

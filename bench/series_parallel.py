@@ -1,18 +1,18 @@
-"""Times a command on large series-parallel matrices and on matrices that nearly are.
+"""Times a command on large matrices that are series-parallel or almost series-parallel.
 
-Matrices grow line by line from a seed: a zero line, a line with one nonzero, a copy of a line, or, where entries may be
--1, the negative of one, drawn with a share of copies. Three are made for each share: one that grows from a single entry,
+Matrices grow line by line from a seed: a zero line, a line with one nonzero, a copy of a line or, if entries may be -1,
+the negative of one, with a given share of copies. Each share has three matrices: one that grows from a single entry,
 which is series-parallel; one that grows from a cycle through three rows and three columns, which is what the reductions
 leave; and the first one with ten entries changed. Two more have two nonzeros in each line: one cycle through all rows
-and columns, in which no line is reducible, though all are as soon as one is left out; and the same without one entry,
-which is series-parallel. Rows and columns are shuffled. They are written as dense texts into a temporary folder, with
-entries 0 and 1 and with entries -1, 0 and 1. In the command {binary} stands for `-b` for the former and for no word for
-the latter, and {file} for the path:
+and columns, in which no line is reducible, but all are when one is removed; and the same without one entry, which is
+series-parallel. Rows and columns are shuffled. They are written as dense texts into a temporary folder, with entries 0
+and 1 and with entries -1, 0 and 1. In the command {binary} is `-b` for the former and nothing for the latter, and {file}
+is the path:
 
     python3 bench/series_parallel.py --cmd 'crates/cmr/out/cmr series-parallel {binary} {file}'
 
-Printed for each text: what it holds, its nonzeros, the shortest time of the runs and the exit statuses. Without a
-command only what the texts hold is printed; with --keep they are written into a folder that stays.
+The output for each text: its kind, its nonzeros, the shortest time of the runs and the exit statuses. Without a command
+the output has only the kinds and nonzeros; --keep names a permanent folder for the texts.
 """
 
 import argparse
@@ -32,7 +32,7 @@ def cycle(size):
 
 
 def new_line(lines, length, binary, copies, draw):
-    """A line to put beside others of this length, so that it is reducible among them."""
+    """A line of this length that is reducible among the others."""
     if draw.random() < copies:
         line = list(draw.choice(lines))
         return [-entry for entry in line] if not binary and draw.random() < 0.5 else line
@@ -55,7 +55,7 @@ def grown(start, size, binary, copies, draw):
 
 
 class Columns:
-    """The columns of some rows, as a sequence."""
+    """The columns of the given rows, as a sequence."""
 
     def __init__(self, rows):
         self.rows = rows

@@ -3,10 +3,10 @@
     python3 bench/signs_and_balance.py --program crates/cmr/out/cmr
 
 `sign` gets all rows of network matrices of 100, 300 and 1000 lines, in random trees and in one path. Its time is divided by
-that of `sign` on the same matrix with no row in the set, which reads the same text and does little else.
+the time of `sign` on the same matrix with no row in the set, which reads the same text and does little else.
 
-`balanced` gets matrices that are balanced and not totally unimodular, so that nothing but a search decides: a block of four
-rows, and a directed graph on the others. All of their row sets are gone through, by 1 and by 4 workers.
+`balanced` gets matrices that are balanced and not totally unimodular, so that only a search decides: a block of four rows,
+and a directed graph on the others. The search visits all of their row sets, with 1 and with 4 workers.
 """
 
 import argparse

@@ -1,12 +1,12 @@
 """Times a command on large matrix texts.
 
-A full sparse text and a dense text of one size are made in a temporary folder, from a seed, and the command is
-run on each. In the command, {format} stands for `sparse` or `dense` and {file} for the text's path:
+A full sparse text and a dense text of one size are generated in a temporary folder, from a seed, and the command
+runs on each. In the command, {format} is `sparse` or `dense` and {file} is the path of the text:
 
     python3 bench/texts.py --cmd 'out/cmr tu -i {format} {file}'
 
-Printed for each text: its size, the shortest time of the runs, the speed by that time, and the exit statuses.
-Without a command only the sizes are printed.
+The output for each text: its size, the shortest time of the runs, the speed by that time, and the exit statuses.
+Without a command the output has only the sizes.
 """
 
 import argparse

@@ -1,7 +1,7 @@
 """Times a command on matrices with and without a three-separation.
 
-Dense texts are made in a temporary folder, from a seed, and the command is run on each. In the command {file} stands
-for the text's path, and {workers} for a number of workers:
+The dense texts are generated in a temporary folder, from a seed, and the command runs on each. In the command {file} is
+the path of the text, and {workers} for a number of workers:
 
     python3 bench/three_separations.py --kinds networks --cmd 'crates/cmr/out/cmr tu -w {workers} {file}'
 
@@ -9,17 +9,17 @@ The kinds, each with as many rows as columns:
 
     random     each entry is not 0 with a probability, and its sign is drawn
     blocks     two such blocks of half the size, with a column times a row in each of the other quarters
-    networks   the mixed sum of a network and of a transposed one, each with a tree of a fourth as many arcs: neither a
-               network nor transposed to one
+    networks   the mixed sum of a network and of a transposed one, each with a tree of a fourth as many arcs: it is not
+               a network matrix, and its transpose is not one
     entry      the support of a network with a tree drawn at random, and one nonzero more
 
-The rows and the columns of `blocks` and `networks` are shuffled. `tu` refuses the first two by a cycle whose sum is wrong
-before it looks for a three-separation, so they are for a program that calls `three_separation` on the text. The third
-are totally unimodular, and `tu` decomposes them. The last are for `regular`: mostly they have no three-separation of the
-concentrated form, and the search for one is what takes the time.
+The rows and the columns of `blocks` and `networks` are shuffled. `tu` refuses the first two kinds by a cycle fault before it
+searches for a three-separation, so they are for a program that calls `three_separation` on the text. The third kind is
+totally unimodular, and `tu` decomposes it. The last kind is for `regular`: most of these matrices have no three-separation
+of the concentrated form, and the search for one takes the time.
 
-Printed for each text: its kind and size, the probability, the number of workers, the shortest time of the runs, and the
-exit statuses. Without a command only the nonzeros are printed.
+The output for each text: its kind and size, the probability, the number of workers, the shortest time of the runs, and the
+exit statuses. Without a command the output has only the nonzeros.
 """
 
 import argparse

@@ -9,19 +9,19 @@ import sys
 
 
 def least(columns, order):
-    """The columns, each a tuple of its entries, once the rows are permuted, in rising order."""
+    """The columns after a permutation of the rows, each a tuple of its entries, in increasing order."""
     return tuple(sorted(tuple(column[row] for row in order) for column in columns))
 
 
 def is_least(columns):
-    """Whether no permutation of the rows makes the rising list of columns less."""
+    """Whether no permutation of the rows gives a lesser increasing list of columns."""
     return all(
         least(columns, order) >= columns for order in itertools.permutations(range(len(columns[0]) if columns else 0))
     )
 
 
 def matrices(rows, columns):
-    """One matrix of each class, as the rising list of its columns."""
+    """One matrix of each class, as the increasing list of its columns."""
     words = itertools.product((0, 1), repeat=rows)
     return [found for found in itertools.combinations_with_replacement(words, columns) if is_least(found)]
 

@@ -1,11 +1,11 @@
 #!/usr/bin/python3
-"""Writes a standard representation of each binary matroid with so many elements, up to isomorphism, one dense text after another.
+"""Writes a standard representation of each binary matroid with ELEMENTS elements, up to isomorphism, one dense text after another.
 
     examples/binary_matroids.py ELEMENTS
 
-A matrix A of R rows and C columns represents, beside the identity, a binary matroid of rank R with R + C elements. Two of a size
-represent isomorphic matroids where one becomes the other by permuting lines and by pivots. Of each class the least matrix is
-written; where R is above C it is the transposed one of the dual matroid.
+With the identity next to it, a matrix A of R rows and C columns represents a binary matroid of rank R with R + C elements. Two matrices of
+one size represent isomorphic matroids if permutations of lines and pivots transform one into the other. The script writes the least matrix
+of each class; if R is above C, it is the transpose of the matrix of the dual matroid.
 """
 
 import itertools
@@ -17,12 +17,12 @@ from binary_matrices import dense, least, matrices  # noqa: E402
 
 
 def canonical(columns):
-    """The least rising list of columns that a permutation of the rows gives."""
+    """The least increasing list of columns over all permutations of the rows."""
     return min(least(columns, order) for order in itertools.permutations(range(len(columns[0]) if columns else 0)))
 
 
 def pivots(columns):
-    """The matrices that a pivot at a one makes, over the field with two elements."""
+    """The results of all pivots at ones, over the field with two elements."""
     for place, pivot in enumerate(columns):
         for row, one in enumerate(pivot):
             if one:

@@ -1,4 +1,4 @@
-"""What the repository has: its crates, and whether a program is made of their sources."""
+"""The crates of the repository, and whether a program was built from their sources."""
 
 from __future__ import annotations
 
@@ -17,7 +17,7 @@ UNPROVED = TOP / "out" / "unproved" / PROGRAM
 
 
 def crates_below(program: str, top: Path = TOP) -> dict[str, list[str]]:
-    """The program and each crate of the repository below it, with those that it uses."""
+    """The program and each crate of the repository below it, with the crates that it uses."""
     listed: dict[str, list[str]] = {}
     for line in (top / "crates.txt").read_text(encoding="utf-8").splitlines():
         name, colon, uses = line.partition("#")[0].partition(":")
@@ -44,7 +44,7 @@ def _sum_of(file: Path) -> str:
 
 @dataclass(frozen=True)
 class Sources:
-    """The sources of the program, as they stood at a time."""
+    """The sources of the program at a time."""
 
     read: float
     digest: str
@@ -58,7 +58,7 @@ class Sources:
         return cls(read, digest.hexdigest())
 
     def made(self, program: Path) -> None:
-        """Keeps beside a program that it is made of these. It then counts as old as they are, since they may have changed meanwhile."""
+        """Records next to a program that it was built from these sources, and sets its time to theirs: the files may have changed since then."""
         _beside(program).write_text(f"{self.digest} {_sum_of(program)}\n", encoding="ascii")
         os.utime(program, (self.read, self.read))
 
@@ -73,7 +73,7 @@ def _beside(program: Path) -> Path:
 
 
 def is_fresh(program: Path) -> bool:
-    """Whether the program is there and is made of the sources as they stand: no source is newer, or their digests are those of the program."""
+    """Whether the program exists and was built from the present sources: no source is newer, or their digests are the recorded ones."""
     if not os.access(program, os.X_OK):
         return False
     files = [TOP / "crates.txt", *(file for crate in crates_below(PROGRAM) for file in source_files(crate))]
@@ -83,7 +83,7 @@ def is_fresh(program: Path) -> bool:
     sources = Sources.now()
     if not sources.have_made(program):
         return False
-    # So that the next call, which goes by the times, need not come here.
+    # The next call then needs only the times.
     with suppress(OSError):
         os.utime(program, (sources.read, sources.read))
     return True

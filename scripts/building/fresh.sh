@@ -1,5 +1,5 @@
-# Whether "$program" is there and no source in the clone "$top" is newer. It costs two milliseconds a call, which is why it is no Python.
-# Where it says no, clone.py compares the digests of the sources.
+# Whether "$program" exists and no source in the clone "$top" is newer. A call takes two milliseconds, so this is not Python.
+# If it says no, clone.py compares the digests of the sources.
 
 is_fresh()
 {

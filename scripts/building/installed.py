@@ -1,4 +1,4 @@
-"""What an installation puts below its prefix, all of it or nothing, and how it is taken away."""
+"""Installs all files below a prefix, or none of them, and removes them."""
 
 from __future__ import annotations
 
@@ -16,11 +16,11 @@ from cmr_matrices.errors import BadInput
 
 FOLDER = "lib/cmr"
 LIST = f"{FOLDER}/installed"
-# Where files are written before they are put in their places.
+# The folder in which files are written before they are moved to their places.
 NEW = f"{FOLDER}/.new"
 FIRST_LINE = "cmr-installed 1"
 
-# The commands of the package, by the names that they have where they are installed.
+# The commands of the package, by their installed names.
 SCRIPTS = {
     "cmr-classify": "cmr-classify",
     "cmr-from-model": "model_to_matrix",
@@ -35,7 +35,7 @@ SCRIPTS = {
 
 @dataclass(frozen=True)
 class Item:
-    """A file below the prefix, with the file that it is a copy of, or a link with the place where it leads."""
+    """A file below the prefix with the file that it copies, or a link with its target."""
 
     path: str
     source: Path | None = None
@@ -50,7 +50,7 @@ class Item:
 
 
 def items(prefix: Path) -> list[Item]:
-    """All that is put. Scripts and package lie to each other as in the repository, so that the scripts find it."""
+    """All files and links. The scripts and the package have the same relative paths as in the repository, so that the scripts find it."""
     scripts, python = TOP / "scripts", TOP / "python"
     # `bin` may itself be a link to another place.
     installed = os.path.relpath(os.path.realpath(prefix / FOLDER / "scripts"), os.path.realpath(prefix / "bin"))
@@ -67,7 +67,7 @@ def items(prefix: Path) -> list[Item]:
 
 
 def sum_of(path: Path) -> str:
-    """What tells two files or links apart."""
+    """A text that differs for different files or links."""
     if path.is_symlink():
         return f"link:{os.readlink(path)}"
     return hashlib.sha256(path.read_bytes()).hexdigest() if path.is_file() else "folder"
@@ -75,7 +75,7 @@ def sum_of(path: Path) -> str:
 
 @dataclass
 class Listed:
-    """The files that were put, each with the sums that it may have, and the folders that were made for them."""
+    """The installed files, each with the sums that it may have, and the folders that were created for them."""
 
     sums: dict[str, set[str]] = field(default_factory=dict)
     folders: list[str] = field(default_factory=list)
@@ -95,13 +95,13 @@ class Listed:
 
 
 def read_list(prefix: Path) -> Listed | None:
-    """What is installed below a prefix, or nothing."""
+    """What is installed below a prefix, or None."""
     try:
         first, *lines = (prefix / LIST).read_text(encoding="utf-8").splitlines() or [""]
     except (FileNotFoundError, NotADirectoryError):
         return None
     if first != FIRST_LINE:
-        raise BadInput(f"{prefix / LIST} is there already, and is not of cmr")
+        raise BadInput(f"{prefix / LIST} exists and does not belong to cmr")
     found = Listed()
     for line in lines:
         word, _, path = line.partition(" ")
@@ -113,21 +113,21 @@ def read_list(prefix: Path) -> Listed | None:
 
 
 def refuse_what_is_there(prefix: Path) -> None:
-    """Refuses a prefix below which not all can be put."""
+    """Refuses a prefix below which some file cannot be installed."""
     listed = read_list(prefix) or Listed()
     for it in items(prefix):
         target = prefix / it.path
         _refuse_folder(target.parent)
         if os.path.lexists(target) and not listed.is_ours(prefix, it.path):
-            raise BadInput(f"{target} is there already, and was not put there by this script")
+            raise BadInput(f"{target} exists and was not installed by this script")
 
 
 def _refuse_folder(folder: Path) -> None:
-    """Refuses a folder that cannot be made, or in which nothing can be made."""
+    """Refuses a folder that cannot be created or written."""
     while not os.path.lexists(folder):
         folder = folder.parent
     if not folder.is_dir():
-        raise BadInput(f"{folder} is no folder")
+        raise BadInput(f"{folder} is not a folder")
     if not os.access(folder, os.W_OK | os.X_OK):
         raise BadInput(f"cannot write in {folder}")
 
@@ -136,12 +136,12 @@ def _give_second_name(path: Path, second: Path) -> None:
     try:
         os.link(path, second, follow_symlinks=False)
     except OSError:
-        # Some file systems have no second names.
+        # Some file systems have no hard links.
         shutil.copy2(path, second, follow_symlinks=False)
 
 
 class Installation:
-    """One installation. What it has done is undone where it fails."""
+    """One installation. If it fails, it is undone."""
 
     def __init__(self, prefix: Path) -> None:
         self._prefix = prefix
@@ -171,7 +171,7 @@ class Installation:
         before.add(now).write(self._new / "all")
         now.write(self._new / "list")
         ignore_signals()
-        # The list of all comes first, so that what is put can be told from other files wherever this ends.
+        # The list of all files comes first, so that it identifies the installed files even if this is killed.
         self._replace(self._new / "all", LIST)
         for path, file in written.items():
             self._replace(file, path)
@@ -181,7 +181,7 @@ class Installation:
         self._replace(self._new / "list", LIST)
 
     def _make_folders(self, folder: Path) -> Iterator[str]:
-        """Makes a folder with those above it that are lacking, and gives them, as they lie from the prefix."""
+        """Creates a folder and its missing parents, and gives their paths relative to the prefix."""
         if folder.is_dir():
             return
         yield from self._make_folders(folder.parent)
@@ -190,7 +190,7 @@ class Installation:
         yield os.path.relpath(folder, self._prefix)
 
     def _replace(self, new: Path, path: str) -> None:
-        """Puts a file in its place in one step, so that at no moment there is neither it nor the one before."""
+        """Moves a file to its place in one step, so that the old or the new file is there at any time."""
         target = self._prefix / path
         if os.path.lexists(target):
             before = self._new / f"old-{len(self._undo)}"
@@ -210,20 +210,20 @@ class Installation:
 
 
 def take_away(prefix: Path) -> None:
-    """Takes away what was put, and the folders that were made for it where nothing else is in them."""
+    """Removes the installed files, and the folders that were created for them if nothing else is in them."""
     listed = read_list(prefix)
     if listed is None:
         raise BadInput(f"cmr is not installed in {prefix}")
     there = [it for it in listed.sums if os.path.lexists(prefix / it)]
     for path in there:
         if not listed.is_ours(prefix, path):
-            raise BadInput(f"{prefix / path} was changed since it was put there, so nothing is taken away")
+            raise BadInput(f"{prefix / path} has changed since it was installed, so nothing is removed")
         _refuse_folder((prefix / path).parent)
     ignore_signals()
     for path in there:
         (prefix / path).unlink()
     shutil.rmtree(prefix / NEW, ignore_errors=True)
-    # What Python keeps of the modules that were run.
+    # Python's compiled modules.
     for made in listed.folders:
         if made.startswith(f"{FOLDER}/python/"):
             shutil.rmtree(prefix / made / "__pycache__", ignore_errors=True)

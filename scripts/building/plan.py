@@ -1,4 +1,4 @@
-"""In which order crates are built side by side, with how many processors each, and how long that takes."""
+"""The order in which crates are built in parallel, the processors of each, and the time that a build takes."""
 
 from __future__ import annotations
 
@@ -8,26 +8,26 @@ from pathlib import Path
 
 SECONDS = Path(__file__).with_name("seconds.txt")
 UNKNOWN = 60.0
-# More jobs than these hardly shorten a proof.
+# More jobs than this hardly shorten a proof.
 MOST_JOBS = 4
-# The share of a proof that several jobs divide.
+# The part of a proof that several jobs share.
 DIVIDED = 0.85
-# A proof that takes less than this share of the first one's time takes no processor from it.
+# A proof that takes less than this part of the first proof's time takes no processor from it.
 QUICK = 0.1
-# With so many processors the crate with the longest way gets two jobs, and so does each whose proof takes so many seconds, also where one
-# processor is free.
+# With MANY_PROCESSORS the crate with the longest chain gets two jobs, and so does each crate whose proof takes LONG seconds, even if only
+# one processor is free.
 MANY_PROCESSORS = 4
 LONG = 240.0
 
 
 def read_seconds(file: Path = SECONDS) -> dict[str, float]:
-    """The processor seconds of the crates' proofs, as a file keeps them."""
+    """The processor seconds of the crates' proofs, from a file."""
     lines = (it.split() for it in file.read_text(encoding="utf-8").splitlines() if not it.startswith("#"))
     return {name: float(seconds) for name, seconds in lines}
 
 
 def time_with(seconds: float, jobs: int) -> float:
-    """How long a proof takes that takes so many seconds of one processor."""
+    """The time of a proof with several jobs, from its seconds on one processor."""
     return seconds * (1 - DIVIDED + DIVIDED / jobs)
 
 
@@ -40,7 +40,7 @@ class Running:
 
 
 class Plan:
-    """Crates with those that each uses, and the processor seconds of each."""
+    """Crates, the crates that each uses, and the processor seconds of each."""
 
     def __init__(self, uses: Mapping[str, Collection[str]], seconds: Mapping[str, float]) -> None:
         self.uses = uses
@@ -50,18 +50,18 @@ class Plan:
             self._find_way(name)
 
     def _find_way(self, name: str) -> float:
-        """The seconds of the longest chain of crates, each used by the next, that begins with this one."""
+        """The seconds of the longest chain of crates that begins with this crate, each used by the next."""
         if name not in self._ways:
             above = [other for other, used in self.uses.items() if name in used]
             self._ways[name] = self.seconds[name] + max(map(self._find_way, above), default=0.0)
         return self._ways[name]
 
     def next(self, built: Collection[str], running: Mapping[str, int], processors: int) -> Iterator[tuple[str, int]]:
-        """The crates to begin with so many processors, and the jobs of each. `running` has the jobs of those that run.
+        """The crates to begin, and the jobs of each. `running` has the jobs of the running crates.
 
-        Those with the longest ways come first. Each gets one processor, and the first of them those that the others leave, and also those
-        of proofs that take a small share of its own time. Where there are many, it gets at least two if its proof is long or no crate with
-        a longer way runs.
+        Crates with longer chains come first. Each crate gets one processor. The first one also gets the remaining processors, and the
+        processors of proofs that take a small part of its own time. With many processors it gets at least two if its proof is long or no
+        crate with a longer chain runs.
         """
         done, free = set(built), processors - sum(running.values())
         longest = max((self._ways[it] for it in running), default=0.0)
@@ -79,7 +79,7 @@ class Plan:
             ready = others
 
     def time_left(self, built: Collection[str], running: Mapping[str, Running], processors: int) -> float:
-        """The seconds until all is built, where each proof takes as long as it is said to."""
+        """The seconds until all crates are built, if each proof takes its stated time."""
         done, now = set(built), 0.0
         ends = {it: max(time_with(self.seconds[it], how.jobs) - how.gone, 0.0) for it, how in running.items()}
         jobs = {it: how.jobs for it, how in running.items()}

@@ -1,4 +1,4 @@
-"""How far a long work is: one line that is drawn anew on a terminal, and elsewhere whole lines alone."""
+"""The progress of a long task: on a terminal one line that is updated, and otherwise only complete lines."""
 
 from __future__ import annotations
 
@@ -10,7 +10,7 @@ CLEAR = "\r\x1b[K"
 
 
 class Progress:
-    """The line of a work with a name, on standard error. Nothing of it is left where the work ends."""
+    """The progress line of a named task, on standard error. It is erased when the task ends."""
 
     def __init__(self, name: str, out: TextIO | None = None) -> None:
         self._name = name
@@ -19,14 +19,14 @@ class Progress:
         self._drawn = ""
 
     def show(self, text: str) -> None:
-        """Draws the line anew on a terminal, cut where the terminal ends. Elsewhere it does nothing."""
+        """Updates the line on a terminal, truncated to its width. Otherwise it does nothing."""
         if self.is_drawn and text != self._drawn:
             columns = os.get_terminal_size(self._out.fileno()).columns or 80
             self._write(CLEAR + f"{self._name}: {text}"[: columns - 1])
             self._drawn = text
 
     def say(self, text: str) -> None:
-        """Writes a line that stays."""
+        """Writes a permanent line."""
         self._write(f"{CLEAR if self._drawn else ''}{self._name}: {text}\n")
         self._drawn = ""
 

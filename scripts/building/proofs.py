@@ -1,4 +1,4 @@
-"""Proves and builds the crates of a plan side by side."""
+"""Proves and builds the crates of a plan in parallel."""
 
 from __future__ import annotations
 
@@ -18,22 +18,22 @@ from building.progress import Progress
 from building.work_folders import Busy, WorkFolders
 from cmr_matrices.commands.signals import end_if_told, ignore_signals, signals_wait
 
-NO_KIT = 'the program is not built, and there is no rt on the PATH to build it: README.md says at "Run it" what has it'
+NO_KIT = 'the program is not built, and there is no rt on the PATH to build it: see "Run it" in README.md'
 FIRST = (
     "proving and building the program, an hour of processor time the first time (./try-cmr runs it at once, unproved)"
 )
 LAST_LINES = 20
 SECONDS_TO_END = 20.0
-# What a proof with one job may take.
+# The memory that a proof with one job may take.
 MEMORY_OF_JOB = 3 * 1024**3
-# A crate that took less was built before.
+# A crate that took less time was built before.
 QUICK_SECONDS = 5.0
-# A crate that took a smaller share of its time had parts of its proof from before.
+# A crate that took a smaller part of its time reused parts of its proof.
 LEAST_PACE = 0.4
 
 
 class NotBuilt(Exception):
-    """A crate did not pass. The text names it, with the last lines that it said."""
+    """A crate failed. The text names it, with the last lines of its output."""
 
 
 @dataclass
@@ -49,7 +49,7 @@ class Proof:
         return time.monotonic() - self.began
 
     def end(self) -> None:
-        """Waits until it has ended, as it was told to."""
+        """Waits until it has ended after its signal."""
         try:
             self.process.wait(SECONDS_TO_END)
         except subprocess.TimeoutExpired:
@@ -58,7 +58,7 @@ class Proof:
 
 
 def processors() -> int:
-    """The processors to use: those that there are, and no more than have memory for a job."""
+    """The number of processors to use: all that are available, and no more than there is memory for jobs."""
     found = re.search(r"MemAvailable:\s+(\d+) kB", Path("/proc/meminfo").read_text(encoding="ascii"))
     memory = int(found[1]) * 1024 if found else MEMORY_OF_JOB
     return max(1, min(len(os.sched_getaffinity(0)), memory // MEMORY_OF_JOB))
@@ -76,7 +76,7 @@ class Build:
         self._running: dict[str, Proof] = {}
         self._began = time.monotonic()
         self._waits: str | None = None
-        # The time that proofs took, and that the plan says of them.
+        # The time that proofs took, and the time that the plan states for them.
         self._taken, self._planned = 0.0, 0.0
 
     def build_all(self) -> None:
@@ -104,7 +104,7 @@ class Build:
         return set(used).union(*map(self._below, used))
 
     def _begin_ready(self) -> str | None:
-        """Begins what is ready. Gives the folder of which another `rt` has to go first, where there is one."""
+        """Begins the crates that are ready. Gives the folder in which another `rt` works, if one must be waited for."""
         running = {name: it.jobs for name, it in self._running.items()}
         try:
             for name, jobs in list(self._plan.next(self._built, running, self._processors)):
@@ -134,7 +134,7 @@ class Build:
                 self._end(name, proof, used.ru_utime + used.ru_stime)
 
     def _end(self, name: str, proof: Proof, seconds: float) -> None:
-        # A program that is built is run too, and its status is then its own.
+        # `rt` also runs a program that it has built, and exits with its status.
         is_built = self._folders.program(name).exists() if name == PROGRAM else proof.process.returncode == 0
         self._folders.give_back(name, is_built=is_built)
         if not is_built:
@@ -150,7 +150,7 @@ class Build:
             self._progress.say(f"{self._state()}: {name} is proved ({seconds:.0f} processor seconds)")
 
     def _state(self) -> str:
-        """How many crates are built, and the minutes gone and left."""
+        """The number of built crates, and the minutes gone and left."""
         pace = max(self._taken / self._planned, LEAST_PACE) if self._planned else 1.0
         running = {name: Running(it.jobs, it.gone() / pace) for name, it in self._running.items()}
         left = self._plan.time_left(self._built, running, self._processors) * pace
@@ -168,9 +168,9 @@ class Build:
 
 
 def build(progress: Progress, *, anew: bool = True) -> None:
-    """Builds the program; where not `anew`, only if it is not made of the sources as they stand.
+    """Builds the program; without `anew` only if it was not built from the present sources.
 
-    Raises `NotBuilt`, or `OSError` where the system refuses something.
+    Raises `NotBuilt`, or `OSError` if the system refuses an operation.
     """
     if not anew and is_fresh(BUILT):
         return
@@ -181,7 +181,7 @@ def build(progress: Progress, *, anew: bool = True) -> None:
     folders = WorkFolders(progress.say)
     plan = Plan(crates_below(PROGRAM), read_seconds())
     with folders.opened():
-        # Another build may have made it meanwhile.
+        # Another build may have built it in the meantime.
         if anew or not is_fresh(BUILT):
             sources = Sources.now()
             Build(plan, folders, progress).build_all()

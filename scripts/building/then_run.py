@@ -1,4 +1,4 @@
-"""What ./cmr and ./try-cmr ask of a build: to run the program then, in its place, so that a signal to them reaches whichever is at work."""
+"""Runs the program in place of its build, for ./cmr and ./try-cmr, so that a signal reaches whichever of the two is running."""
 
 from __future__ import annotations
 
@@ -15,14 +15,14 @@ THEN_RUN = "--then-run"
 
 
 def words_to_run(description: str | None) -> list[str] | None:
-    """The words behind --then-run, or nothing where it is not there."""
+    """The arguments after --then-run, or None without it."""
     if sys.argv[1:2] == [THEN_RUN]:
-        # Words of the program, of which none is read here.
+        # These are arguments of the program.
         return sys.argv[2:]
     parser = argparse.ArgumentParser(
         usage=f"%(prog)s [-h] [{THEN_RUN} [WORD ..]]",
         description=description,
-        epilog=f"With {THEN_RUN} it builds only where the program is not made of these sources, and then runs it with the words.",
+        epilog=f"With {THEN_RUN} it builds only if the program was not built from these sources, and then runs it with the arguments.",
         formatter_class=argparse.RawDescriptionHelpFormatter,
     )
     parser.parse_args()
@@ -30,7 +30,7 @@ def words_to_run(description: str | None) -> list[str] | None:
 
 
 def become(program: Path, words: Sequence[str]) -> NoReturn:
-    """Runs the program in the place of this process, with the signals that Python has changed as they were."""
+    """Replaces this process by the program, and resets the signals that Python has changed."""
     for it in (signal.SIGPIPE, signal.SIGXFSZ):
         signal.signal(it, signal.SIG_DFL)
     os.execv(program, [str(program), *words])

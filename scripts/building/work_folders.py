@@ -1,8 +1,8 @@
-"""Folders in which the crates of a clone are built side by side.
+"""Folders in which the crates of a clone are built in parallel.
 
-`rt` has a crate and all below it to itself while it works, so in one clone it builds one crate at a time. Here each crate is built
-in a folder of its own, which has the crate and its `out` alone, and links to all that is below. When it is built, its `out` goes back.
-The program stays where it is until the next one stands.
+`rt` locks a crate and all crates below it while it works, so in one clone it builds one crate at a time. Here each crate is built in a
+folder of its own, which has the crate with its `out`, and links to the crates below. When it is built, its `out` moves back. The program
+keeps its place until the next program is complete.
 """
 
 from __future__ import annotations
@@ -22,7 +22,7 @@ class Busy(Exception):
 
 
 def _linked(source: str, target: str) -> None:
-    """A second name for a file, or a copy where there can be none. What makes these files replaces them, and changes none."""
+    """A hard link to a file, or a copy if links are impossible. The tools that write these files replace them and never change one."""
     try:
         os.link(source, target)
     except OSError:
@@ -44,7 +44,7 @@ def _held(folder: Path) -> int:
 
 
 def _move(source: Path, target: Path) -> None:
-    """Moves what is in a folder to another one, but for a program, and for what is there too."""
+    """Moves the content of a folder to another one, except a program and what the other one already has."""
     with suppress(FileNotFoundError):
         found = [it for it in source.iterdir() if it.name != PROGRAM]
         target.mkdir(exist_ok=True)
@@ -55,7 +55,7 @@ def _move(source: Path, target: Path) -> None:
 
 @contextmanager
 def locked(folders: Iterable[Path]) -> Iterator[None]:
-    """No other `rt` works in the folders meanwhile."""
+    """Locks the folders, so that no other `rt` works in them."""
     held: list[int] = []
     try:
         held.extend(_held(it) for it in sorted(folders))
@@ -67,7 +67,7 @@ def locked(folders: Iterable[Path]) -> Iterator[None]:
 
 @contextmanager
 def locked_at_last(folder: Path, tell: Callable[[], object]) -> Iterator[None]:
-    """The folder is locked meanwhile, once no other has it. Where that is to be waited for, it is told."""
+    """Locks the folder, and calls `tell` if it must wait for another lock."""
     try:
         held = _held(folder)
     except Busy:
@@ -81,13 +81,13 @@ def locked_at_last(folder: Path, tell: Callable[[], object]) -> Iterator[None]:
 
 
 class WorkFolders:
-    """The folders of one build. They are made and emptied under a lock, so one build of a clone waits for another, and says so."""
+    """The folders of one build. They are created and emptied under a lock, so one build of a clone waits for another, and says so."""
 
     def __init__(self, say: Callable[[str], object], top: Path = TOP) -> None:
         self._say = say
         self._top = top
         git = top / ".git"
-        # `rt ci` wants no other crate among the files of a repository.
+        # `rt ci` accepts no other crate among the files of a repository.
         self._at = (git if git.is_dir() else top / "out") / "cmr-build"
         self._held: dict[str, int] = {}
 
@@ -107,7 +107,7 @@ class WorkFolders:
         return self._at / name / "crates" / name
 
     def fill(self, name: str, below: Iterable[str]) -> None:
-        """Makes a crate's folder, of which all crates below are built. Where another `rt` works in one of them it is `Busy`."""
+        """Creates the folder of a crate; all crates below it are built. Raises `Busy` if another `rt` works in one of them."""
         below = list(below)
         held = _held(self._crate(name))
         try:
@@ -139,11 +139,11 @@ class WorkFolders:
         (self._at / name / "crates.txt").write_text("".join(kept), encoding="utf-8")
 
     def program(self, name: str) -> Path:
-        """Where the build of a program puts it."""
+        """The place in which the build leaves the program."""
         return self.crate(name) / "out" / name
 
     def give_back(self, name: str, *, is_built: bool = False) -> None:
-        """Gives the crate what its build made, with the program where it is built, and removes its folder."""
+        """Moves the results of a build back to its crate, with the program if it is built, and removes the folder."""
         if is_built and name == PROGRAM:
             out = self._crate(name) / "out"
             out.mkdir(exist_ok=True)

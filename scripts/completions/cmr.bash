@@ -1,5 +1,5 @@
-# Completions of cmr for bash: the tools, the options of each that do not stand there yet, and what stands behind an option.
-# Where nothing is offered, names of files are.
+# Completions of cmr for bash: the tools, the options of each that are not on the line yet, and the value of an option.
+# If nothing else is offered, names of files are.
 
 _cmr_options()
 {

@@ -1,4 +1,4 @@
-"""Tests of the commands and of the built program. The package of which the scripts are commands is that of this clone."""
+"""Tests of the commands and of the built program. The scripts use the package of this clone."""
 
 import sys
 from pathlib import Path

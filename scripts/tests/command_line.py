@@ -1,4 +1,4 @@
-"""The tools with their words, as docs/FORMATS.md has them."""
+"""The tools with their arguments, from docs/FORMATS.md."""
 
 import re
 
@@ -14,20 +14,20 @@ def _rows():
 
 
 def _options(words):
-    """Each option with what stands behind it, or nothing."""
+    """Each option with the name of its value, or nothing."""
     return dict(re.findall(r"(?<![\w-])(--?[A-Za-z]+)(?: ([\w|]+))?", words))
 
 
-# For each tool its options, with what stands behind each of them.
+# For each tool its options, with the names of their values.
 OPTIONS = {tool: _options(words) for tools, words in _rows() for tool in tools}
 
-# The words that a tool takes in one place: KIND of `generate` and SUM of `compose`.
+# The words that a tool takes in one position: KIND of `generate` and SUM of `compose`.
 KINDS = re.findall(r"`(\w+)`", re.search(r"KIND is (.*?),", SECTION)[1])
 SUMS = re.findall(r"`(\w+)`", re.search(r"SUM is (.*?)\.", SECTION, re.S)[1])
 
 
 def _range(option):
-    """The least and the greatest number behind an option, and its default."""
+    """The least and the greatest number of an option, and its default."""
     found = re.search(rf"`{option}` is [^.]*?(\d+)\s+to\s+(\d+)\s+\(default\s+(\d+)\)", SECTION)
     assert found, f"docs/FORMATS.md has no range of {option} in the words: is .., 0 to 9 (default 1)"
     return tuple(map(int, found.groups()))

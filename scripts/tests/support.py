@@ -1,4 +1,4 @@
-"""How the tests run the scripts, and what they pass over where a tool is missing."""
+"""How the tests run the scripts, and which tests they skip if a tool is missing."""
 
 import shutil
 import subprocess
@@ -20,8 +20,8 @@ def _has_swiglpk():
 
 def _needs(tool, found):
     if not found:
-        print(f"{tool} is not there: what needs it is passed over", file=sys.stderr)
-    return unittest.skipUnless(found, f"{tool} is not there")
+        print(f"{tool} is not available: the tests that need it are skipped", file=sys.stderr)
+    return unittest.skipUnless(found, f"{tool} is not available")
 
 
 needs_python = _needs(PYTHON, shutil.which(PYTHON))
@@ -35,7 +35,7 @@ needs_program = _needs("the program cmr, built of these sources,", is_fresh(BUIL
 
 
 class ScriptTest(unittest.TestCase):
-    """Runs the scripts in a folder of the test's own."""
+    """Runs the scripts in a temporary folder."""
 
     def setUp(self):
         folder = tempfile.TemporaryDirectory()
@@ -52,13 +52,13 @@ class ScriptTest(unittest.TestCase):
         return subprocess.run(command, capture_output=True, text=True, cwd=self.folder, check=False)
 
     def output(self, script, *words, text=""):
-        """What the script prints where it takes its input."""
+        """The output of the script, which must accept its input."""
         run = self.run_script(script, *words, text=text)
         self.assertEqual((run.returncode, run.stderr), (0, ""))
         return run.stdout
 
     def refusal(self, script, *words, text="", **settings):
-        """The one line on standard error where the script refuses its input; then it prints nothing else."""
+        """The line on standard error of the script, which must refuse its input and print nothing else."""
         run = self.run_script(script, *words, text=text, **settings)
         self.assertEqual((run.returncode, run.stdout, run.stderr.count("\n")), (1, "", 1), run.stderr)
         name = f"{script}: "
@@ -66,7 +66,7 @@ class ScriptTest(unittest.TestCase):
         return run.stderr[len(name) :].rstrip("\n")
 
     def refused_with_families(self, script, *words):
-        """The line of a refusal, and the table of families of rows below it, without its head."""
+        """The line of a refusal, and the table of families of rows below it, without its heading."""
         run = self.run_script(script, *words)
         self.assertEqual((run.returncode, run.stdout), (1, ""), run.stderr)
         line, head, *rows = run.stderr.splitlines()

@@ -1,4 +1,4 @@
-"""A command at a terminal, to which a test types."""
+"""A command on a terminal on which a test types."""
 
 import os
 import pty
@@ -19,7 +19,7 @@ class Terminal:
         os.write(self._end, text.encode())
 
     def waits_for(self, text, seconds=60):
-        """What has been shown since something was typed, once the text is there."""
+        """What the terminal has shown since the last input, once the text is shown."""
         last = time.monotonic() + seconds
         while text not in self._shown:
             if time.monotonic() > last:

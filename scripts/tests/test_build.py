@@ -26,7 +26,7 @@ CRATES = {
 }
 
 
-# A build that a signal reaches when its first proof has begun, also where Python drops exceptions.
+# A build that a signal reaches when its first proof has begun, also while Python ignores exceptions.
 TOLD_AT_ITS_FIRST_PROOF = """
 import os, runpy, signal, subprocess, sys
 
@@ -150,7 +150,7 @@ class BuildTest(unittest.TestCase):
                 build.send_signal(number)
                 said = build.communicate()[1].splitlines()
                 self.assertEqual(build.returncode, 70)
-                self.assertEqual(said[-1], "build: interrupted: what is proved is kept, and the next build goes on from there")
+                self.assertEqual(said[-1], "build: interrupted: the next build continues from what is proved")
                 self.assertIn("base", self.built())
                 self.assertEqual({"left", "high", "cmr"}.intersection(self.built()), set())
                 self.is_clean()
@@ -163,7 +163,7 @@ class BuildTest(unittest.TestCase):
                 build = self.clone.begin(sys.executable, *words, sleep=60, cwd=self.clone.top / "scripts")
                 said = build.communicate()[1].splitlines()
                 self.assertEqual(build.returncode, 70)
-                self.assertEqual(said[-1], "build: interrupted: what is proved is kept, and the next build goes on from there")
+                self.assertEqual(said[-1], "build: interrupted: the next build continues from what is proved")
                 self.assertFalse([it for it in said if it.startswith("build: waiting")])
                 self.is_clean()
 
@@ -198,7 +198,7 @@ class BuildTest(unittest.TestCase):
         self.assertEqual(set(order[-10:]), set(CRATES))
 
     def test_without_rt(self):
-        line = 'the program is not built, and there is no rt on the PATH to build it: README.md says at "Run it" what has it\n'
+        line = 'the program is not built, and there is no rt on the PATH to build it: see "Run it" in README.md\n'
         for script, name in (("scripts/build", "build"), ("cmr", "cmr")):
             run = self.clone.run(script, has_rt=False)
             self.assertEqual((run.returncode, run.stdout, run.stderr), (70, "", f"{name}: {line}"))
@@ -210,13 +210,13 @@ class BuildTest(unittest.TestCase):
         run = self.clone.run("scripts/build")
         self.assertEqual((run.returncode, run.stderr), (70, f"build: {self.work}: Permission denied\n"))
 
-    def test_where_a_file_stands_in_place_of_the_work_folder(self):
+    def test_a_file_in_place_of_the_work_folder(self):
         self.work.touch()
         run = self.clone.run("scripts/build")
         self.assertEqual((run.returncode, run.stderr), (70, f"build: {self.work}: File exists\n"))
 
     @unittest.skipIf(len(os.sched_getaffinity(0)) < 2, "there is one processor")
-    def test_on_a_terminal_one_line_is_drawn_anew(self):
+    def test_on_a_terminal_one_line_is_updated(self):
         seen, shown = pty.openpty()
         build = self.clone.begin("scripts/build", sleep=0.3, stderr=shown)
         build.communicate()
@@ -299,7 +299,7 @@ class CmrTest(unittest.TestCase):
         self.assertIn("5 of 5 crates", self.run_at("cmr", has_rt=True)[2])
 
     def test_a_program_of_other_sources_is_built(self):
-        """It was made by `rt` itself, and then the sources came back to those of the build before."""
+        """`rt` itself built it, and then the sources were restored to the sources of the previous build."""
         self.build()
         self.built.write_text("#!/bin/sh\necho other\n", encoding="utf-8")
         self.touch()
@@ -354,11 +354,11 @@ class CmrTest(unittest.TestCase):
                 self.clone.waits_for("begin", "base")
                 run.send_signal(number)
                 said = run.communicate()[1].splitlines()
-                line = "cmr: interrupted: what is proved is kept, and the next build goes on from there"
+                line = "cmr: interrupted: the next build continues from what is proved"
                 self.assertEqual((run.returncode, said[-1]), (70, line))
 
     def test_words_and_signals_reach_the_program(self):
-        """Also where it is built first: the words as they are, and a closed pipe as it is to the program itself."""
+        """The arguments are passed unchanged, and a closed pipe acts as on the program itself, also if it is built first."""
         words = ["tu", "--lines", "3", "--", "--help", "a b", "", "-h"]
         first = self.clone.run("cmr", *words).stdout
         self.assertTrue(first.startswith("proved\n(tu)(--lines)(3)(--)(--help)(a b)()(-h)SigIgn:"), first)
@@ -391,7 +391,7 @@ class CmrTest(unittest.TestCase):
 
 class SourcesTest(unittest.TestCase):
     def test_the_shell_sees_all_sources(self):
-        """`fresh.sh` looks at the files of a crate's src and of the folders in it."""
+        """`fresh.sh` examines the files in src of a crate and in the folders of src."""
         for crate in crates_below(PROGRAM):
             for it in source_files(crate):
                 self.assertIn(len(it.relative_to(TOP / "crates" / crate).parts), (2, 3), it)

@@ -1,4 +1,4 @@
-"""The rules of `cmr check` on the built program: each is broken by a tree at its root, and by the same tree deep below another root."""
+"""The rules of `cmr check` on the built program: for each a tree that breaks it at its root, and the same tree deep below another root."""
 
 import unittest
 from pathlib import Path
@@ -7,13 +7,13 @@ from tests.support import ScriptTest, needs_program
 
 DATA = Path(__file__).with_name("data")
 
-# How many rows of zeros stand below the matrix whose tree is put deep, and the path to the root of that tree.
+# The number of rows of zeros below the matrix whose tree is put deep, and the path to the root of that tree.
 ZEROS = 4
 DEEP = [2, 1, 1, 1]
 
 
 def rows(name):
-    """The rows of a table: a matrix, a tree or a node with all lines, and what is said of it; a slash ends a line."""
+    """The rows of a table: a matrix, a tree or a node with all lines, and its answer; a slash ends a line."""
     return [
         [field.replace("/", "\n") if place < 2 else field.rstrip("/") for place, field in enumerate(row.split("; "))]
         for row in (DATA / name).read_text(encoding="ascii").splitlines()
@@ -42,7 +42,7 @@ def deep_matrix(matrix):
 
 
 def deep_tree(matrix, node):
-    """The root has two parts: the last row of zeros, and all else, of which the other rows of zeros are removed one by one."""
+    """The root has two parts: the last row of zeros, and the rest, from which the other rows of zeros are removed one by one."""
     height, width = size(matrix)
     whole = height + ZEROS
     above = node_line("onesum", whole, width) + f"2\nundecided 1 0 {whole}\n"
@@ -65,7 +65,7 @@ class CheckTest(ScriptTest):
         return 7, f"refused: {'.'.join(map(str, path)) or 'root'} {rule}\n"
 
     def test_rules_of_the_root(self):
-        """The size, and that all lines stand there, are asked of the root alone."""
+        """Only the root is tested for its size and for having all lines."""
         for matrix, tree, rule in rows("broken_roots.txt"):
             with self.subTest(tree=tree):
                 self.assertEqual(self.checked(matrix, tree), self.refused([], rule))

@@ -1,4 +1,4 @@
-"""The completions know the words of docs/FORMATS.md, in the shells themselves."""
+"""The completions offer the arguments of docs/FORMATS.md, in the shells themselves."""
 
 import re
 import subprocess
@@ -10,10 +10,10 @@ from tests.terminal import Terminal
 BASH = TOP / "scripts" / "completions" / "cmr.bash"
 ZSH = TOP / "scripts" / "completions" / "_cmr"
 
-# Offers what bash offers for the words of the command.
+# Prints what bash offers for the arguments of the command.
 OFFER = 'source "$0"; COMP_WORDS=(cmr "$@"); COMP_CWORD=$#; COMPREPLY=(); _cmr; printf "%s\\n" "${COMPREPLY[@]}"'
 
-# Prints what the completions of zsh hand to the shell for the words of the command.
+# Prints what zsh offers for the arguments of the command.
 HAND_OVER = """_arguments() { print -l -- "$@" }; _describe() { print -l -- "${(@P)2}" }
 file=$1; shift; words=(cmr "$@"); CURRENT=$#words; source $file"""
 OF_ZSH = re.compile(r"^(?:\(.*?\))?(--?\w+)\[.*?\](?::\w+:(.*))?$")

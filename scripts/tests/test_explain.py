@@ -1,4 +1,4 @@
-"""Tests of `explain`: a table of mistakes, with what is said of each beside the program's own line."""
+"""Tests of `explain`: a table of mistakes, with the explanation of each next to the program's own line."""
 
 import os
 import unittest
@@ -56,10 +56,10 @@ FILES = {
     "steps.txt": b"r2 unit c2\n",
 }
 
-# In place of a piece: no other line but the one with the piece before.
+# Instead of a piece: no further line.
 NOTHING_MORE = "nothing more"
 
-# The words, and pieces of what is said: of lines on standard error behind the program's own one.
+# The arguments, the status, and pieces of the lines on standard error after the program's own line.
 WORDS = [
     ("", ["there is no word", "whether a matrix is totally unimodular", "compose"]),
     ("--help", ["these are the tools", "series-parallel"]),
@@ -199,7 +199,7 @@ class Mistakes(ScriptTest):
         self.addCleanup(os.environ.pop, "CMR_PROGRAM")
 
     def said(self, words, status):
-        """What is said more, where all else is as the program has it."""
+        """The explanation; the rest must be the same as from the program."""
         run = self.run_script("explain", *words.split())
         plain = self.run_program(*words.split())
         self.assertEqual((run.returncode, run.stdout), (status, plain.stdout), run.stderr)

@@ -62,7 +62,7 @@ class GraphPictures(ScriptTest):
         self.assertNotIn("dashed", lines)
 
     def test_arrows_as_the_names_tell(self):
-        """Of a matrix the arrows can be turned around together, and indices say which way they are meant."""
+        """All arrows of a matrix can be reversed together, and indices say which direction is meant."""
         for columns in (["flow[a,b]", "flow[b,c]"], ["flow[b,a]", "flow[c,b]"]):
             names = self.write("names", "".join(f"r{i} node[{it}]\n" for i, it in enumerate("abc", 1)))
             names = self.write("names", self.read("names") + "".join(f"c{i} {it}\n" for i, it in enumerate(columns, 1)))
@@ -72,7 +72,7 @@ class GraphPictures(ScriptTest):
             self.assertIn(f"{'r2 -> r3' if forwards else 'r3 -> r2'} [label=\"{columns[1]}\"]", lines)
 
     def test_rows_with_one_sign_are_sources_and_sinks(self):
-        """As in a transport: each column has the entry 1 in the row of a supply and in that of a demand."""
+        """As in a transport problem: each column has the entry 1 in the row of a supply and in the row of a demand."""
         lines = self.output("graph_to_dot", text="0 1 r1\n2 1 r2\n1 3 r3\n0 3 c1\n2 3 c2\n")
         self.assertIn('r1 -> r3 [label="c1"]', lines)
         self.assertIn('r2 -> r3 [label="c2"]', lines)
@@ -129,7 +129,7 @@ class GraphPictures(ScriptTest):
 
     @needs_dot
     def test_trees_with_many_paths_are_drawn(self):
-        """Graphviz ends with a fault where it is to bend the edges of such a graph."""
+        """Graphviz fails if it must bend the edges of such a graph."""
         number = random.Random(7)
         lines = [f"{number.randrange(arc)} {arc} r{arc}\n" for arc in range(1, 101)]
         lines += [f"{number.randrange(101)} {number.randrange(101)} c{path}\n" for path in range(1, 101)]

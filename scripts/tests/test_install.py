@@ -48,7 +48,7 @@ class InstallTest(unittest.TestCase):
         return run
 
     def refused(self, *words, **settings):
-        """The one line of what is refused, behind the lines of a build."""
+        """The line of a refusal, after the lines of a build."""
         run = self.run_install(*words, **settings)
         self.assertEqual((run.returncode, run.stdout), (1, ""), run.stderr)
         *building, last = run.stderr.splitlines()
@@ -95,7 +95,7 @@ class InstallTest(unittest.TestCase):
             with self.subTest(name=name):
                 run = self.run_installed(name, "--help")
                 if name == "cmr-explain":
-                    # It takes the program's words, and says more of those that are none.
+                    # It takes the program's arguments, and explains invalid ones.
                     self.assertEqual(run.returncode, 2)
                     self.assertIn("explain: `--help`", run.stderr)
                     continue
@@ -108,7 +108,7 @@ class InstallTest(unittest.TestCase):
         self.is_empty()
 
     def run_installed(self, name, *words, **settings):
-        """A run of an installed script in an environment that knows nothing of the clone, nor of the prefix."""
+        """A run of an installed script in an environment without the clone and the prefix."""
         command = [self.prefix / "bin" / name, *words]
         return subprocess.run(command, env={"PATH": "/usr/bin:/bin"}, capture_output=True, text=True, check=False, **settings)
 
@@ -118,7 +118,7 @@ class InstallTest(unittest.TestCase):
         (self.prefix / "matrices").mkdir()
         (self.prefix / "matrices" / "one.txt").write_text("1 1\n1\n", encoding="utf-8")
         run = self.run_installed("cmr-classify", "matrices", cwd=self.prefix)
-        # The stand-in refuses all words.
+        # The stand-in refuses all arguments.
         self.assertIn("BadCommandLine", run.stdout)
 
     def test_each_command_of_the_package_is_installed(self):
@@ -164,7 +164,7 @@ class InstallTest(unittest.TestCase):
                 target = self.prefix / path
                 target.parent.mkdir(parents=True)
                 target.write_text("other", encoding="utf-8")
-                line = f"install: {target} is there already, and was not put there by this script"
+                line = f"install: {target} exists and was not installed by this script"
                 self.assertEqual(self.refused(), line)
                 self.assertEqual((self.files(), target.read_text(encoding="utf-8")), ([path], "other"))
                 shutil.rmtree(self.prefix / path.partition("/")[0])
@@ -174,7 +174,7 @@ class InstallTest(unittest.TestCase):
         self.install()
         target = self.prefix / "share" / "man" / "man1" / "cmr.1"
         target.write_text("other", encoding="utf-8")
-        line = f"install: {target} was changed since it was put there, so nothing is taken away"
+        line = f"install: {target} has changed since it was installed, so nothing is removed"
         self.assertEqual(self.refused("--uninstall"), line)
         self.assertEqual(self.files(), sorted(FILES))
         target.unlink()
@@ -185,15 +185,15 @@ class InstallTest(unittest.TestCase):
         self.assertEqual(self.refused("--uninstall"), f"install: cmr is not installed in {self.prefix}")
         (self.prefix / "lib" / "cmr").mkdir(parents=True)
         (self.prefix / "lib" / "cmr" / "installed").write_text("yes\n", encoding="utf-8")
-        line = f"install: {self.prefix}/lib/cmr/installed is there already, and is not of cmr"
+        line = f"install: {self.prefix}/lib/cmr/installed exists and does not belong to cmr"
         self.assertEqual(self.refused("--uninstall"), line)
         self.assertEqual(self.refused(), line)
 
     def test_a_file_in_place_of_a_folder(self):
         (self.prefix / "bin").touch()
-        self.assertEqual(self.refused(), f"install: {self.prefix}/bin is no folder")
+        self.assertEqual(self.refused(), f"install: {self.prefix}/bin is not a folder")
         self.prefix = self.prefix / "bin"
-        self.assertEqual(self.refused(), f"install: {self.prefix} is no folder")
+        self.assertEqual(self.refused(), f"install: {self.prefix} is not a folder")
         self.assertEqual(self.refused("--uninstall"), f"install: cmr is not installed in {self.prefix}")
         self.assertFalse(self.clone.log.exists())
 
@@ -240,7 +240,7 @@ class InstallTest(unittest.TestCase):
 
 
 class KilledTest(unittest.TestCase):
-    """An installation or its removal that is killed before its first change, its second one, and so on."""
+    """An installation or its removal that is killed before its first change, its second change, and so on."""
 
     CHANGES = {"os.mkdir", "os.rename", "os.symlink", "os.remove", "os.rmdir", "shutil.copyfile"}
 
@@ -258,7 +258,7 @@ class KilledTest(unittest.TestCase):
             self.addCleanup(signal.signal, it, signal.getsignal(it))
 
     def is_killed(self, work, number):
-        """Whether the work, in a process of its own, is killed before the change of that number."""
+        """Whether the task, in a process of its own, is killed before the change of that number."""
         child = os.fork()
         if not child:
             left = iter(range(number, -1, -1))
@@ -313,12 +313,12 @@ class KilledTest(unittest.TestCase):
 
 @needs_program
 class OtherMachineTest(unittest.TestCase):
-    """What the program needs on a machine without the kit."""
+    """The libraries that the program needs on a machine without the kit."""
 
     LIBRARIES = {"libc.so.6", "ld-linux-x86-64.so.2", "libm.so.6", "libgcc_s.so.1"}
 
     def libraries(self):
-        """What `ldd` lists of the program, by names and paths."""
+        """What `ldd` lists for the program, by names and paths."""
         run = subprocess.run(["ldd", BUILT], capture_output=True, text=True, check=True)
         paths = re.findall(r"(/\S+) \(0x", run.stdout)
         return {Path(path).name: path for path in paths}

@@ -1,5 +1,5 @@
-"""Runs on larger matrices, each within seconds: a body that tries all trees, all sides or all sets would not end. What several
-workers find is what one finds."""
+"""Runs on larger matrices, each within seconds: a body that tries all trees, all sides or all sets would not end. Several workers
+find the same as one worker."""
 
 import subprocess
 import unittest
@@ -14,7 +14,7 @@ SECONDS = 60
 @needs_program
 class LargeRunsTest(ScriptTest):
     def says_yes(self, *words):
-        """What the program prints within the time of a test where it answers with status 0."""
+        """The output of the program within the time of a test. The status must be 0."""
         command = [BUILT, *words]
         run = subprocess.run(command, capture_output=True, text=True, cwd=self.folder, timeout=SECONDS, check=False)
         self.assertEqual((run.returncode, run.stderr), (0, ""), words)

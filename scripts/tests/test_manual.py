@@ -1,4 +1,4 @@
-"""The manual page has the words of docs/FORMATS.md, and its examples are those of runs."""
+"""The manual page has the arguments of docs/FORMATS.md, and its examples are runs."""
 
 import re
 import subprocess
@@ -13,7 +13,7 @@ PARTS = dict(re.findall(r"^\.Sh (.*)\n((?:(?!\.Sh ).*\n)*)", PAGE, re.M))
 
 
 def synopsis():
-    """For each tool its options, with what stands behind each of them."""
+    """For each tool its options, with the names of their values."""
     found = {}
     for line in PARTS["SYNOPSIS"].split(".Nm\n")[1:]:
         tool = re.search(r"^\.Cm (\S+)", line)[1]

@@ -1,4 +1,4 @@
-"""Binary matroids of the literature on the built program, each by the 0/1 matrix beside the identity in a representation
+"""Binary matroids of the literature on the built program, each by the 0/1 matrix next to the identity in a representation
 (Oxley, Matroid Theory; Seymour, Decomposition of Regular Matroids), and their duals, which the transposed matrices represent.
 """
 
@@ -31,7 +31,7 @@ def transposed(text):
 @needs_program
 class MatroidsTest(ScriptTest):
     def says_yes(self, *words):
-        """Whether a tool says yes to the matrix. Each answer but yes and no is a fault."""
+        """Whether a tool says yes to the matrix. Each answer except yes and no is a fault."""
         run = self.run_program(*words, "matrix.txt")
         self.assertIn((run.returncode, run.stderr), ((0, ""), (1, "")), words)
         return run.returncode == 0

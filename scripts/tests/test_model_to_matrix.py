@@ -252,7 +252,7 @@ class Models(ScriptTest):
         self.assertEqual(line, "bad.mps.bz2: no model, it cannot be unpacked by bunzip2")
 
     def test_lazy_rows_in_mps(self):
-        """They stand behind the others, and are rows as they are."""
+        """They follow the others, and are rows unchanged."""
         text = small_mps((1, 0), (1, -1))
         plain = self.convert(self.write("plain.mps", text))
         for section in ("LAZYCONS", "USERCUTS\nLAZYCONS"):
@@ -276,7 +276,7 @@ class Models(ScriptTest):
 
     @needs_glpsol
     def test_ranges_in_lp(self):
-        """Of a range the left side goes; numbers in names, rows without names and rows that are no ranges stay."""
+        """The left side of a range is removed; numbers in names, rows without names and rows that are not ranges remain."""
         rows = "-1<=x2-y<=1\n x2 <= 3\n y >= 1\n 0 <= x2\n + y <= 4\n c4: x2 - y >= -1e3\n -inf < y + z < 2.5\n"
         matrix, names, _ = self.convert(self.write("ranges.lp", f"min\n x2 + z\nst\n {rows}end\n"))
         self.assertEqual(matrix.split("\n", 1)[0], "6 3 10")
@@ -406,7 +406,7 @@ class Refusals(ScriptTest):
             self.assertEqual(self.refused(model), f"{said} (--reduce takes away those that cannot matter)")
 
     def test_too_many_lines_after_the_reductions(self):
-        """Rows i and i + 1 share a column, in a cycle of odd length with two cycles that cross it: nothing can go."""
+        """Rows i and i + 1 share a column, in a cycle of odd length with two cycles that cross it: no line can be removed."""
         lines = ["NAME cycles", "ROWS", *(f" L r{row}" for row in range(1101)), "COLUMNS"]
         lines += [f" c{row}_{step} r{row} 1 r{(row + step) % 1101} 1" for row in range(1101) for step in (1, 7)]
         model = self.write("bad.mps", "\n".join([*lines, "RHS", "ENDATA", ""]))

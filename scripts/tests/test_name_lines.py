@@ -1,4 +1,4 @@
-"""Tests of `name_lines` on all but trees."""
+"""Tests of `name_lines` on all texts except trees."""
 
 import subprocess
 

@@ -62,7 +62,7 @@ class PivotsTest(ScriptTest):
         self.assertEqual(self.checked(matrix, pivoted_tree(matrix, 2, 2, none)), (7, "refused: 1 NotViolator\n"))
 
     def test_the_pivoted_matrix_is_what_counts_below(self):
-        """The tree of a pivoted matrix is accepted below the pivot exactly where it says yes, and so does the matrix then."""
+        """The tree of a pivoted matrix is accepted below the pivot if and only if it says yes, and then the matrix has the same answer."""
         draw = random.Random(5)
         accepted = 0
         for _ in range(150):

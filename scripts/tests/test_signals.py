@@ -1,4 +1,4 @@
-"""Tests of how a signal ends a work."""
+"""Tests of how a signal ends a task."""
 
 import os
 import signal

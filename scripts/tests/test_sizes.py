@@ -4,7 +4,7 @@ import unittest
 
 from tests.support import ScriptTest
 
-# Two clauses, of which one goes on over a record, and a body of two lines.
+# Two clauses, one of which continues over a record, and a body of two lines.
 KEPT = """\
 impl Block {
     /// The block.
@@ -68,7 +68,7 @@ class SizesTest(ScriptTest):
         file.write_text(text, encoding="utf-8")
 
     def lists(self, *lines):
-        """The run ends with status 1, and prints these lines one below the other beside those of the counts that are kept."""
+        """The run ends with status 1, and prints these consecutive lines besides the lines of the counts within their limits."""
         run = self.run_script("sizes", self.folder)
         self.assertEqual((run.returncode, run.stderr), (1, ""))
         self.assertIn("\n".join(lines), run.stdout)
@@ -80,7 +80,7 @@ class SizesTest(ScriptTest):
         self.assertEqual((run.returncode, run.stdout, run.stderr), (0, WITHIN, ""))
 
     def test_edits_of_private_functions(self):
-        """An edit asks what a crate promises where it changes an exported function, an exported method or a trait's method."""
+        """An edit tests the promises of a crate if it changes an exported function, an exported method or a trait's method."""
         self.put("crates/low/src/lib.rt", "mod block;\n\npub use block::Sum;\n")
         methods = "    pub fn all(&self) {\n        step(1);\n    }\n\n    fn one(&self) {\n        step(2);\n    }\n"
         shown = "impl Show for Part {\n    fn show(&self) {\n        step(3);\n    }\n}\n"
@@ -148,7 +148,7 @@ class SizesTest(ScriptTest):
         self.lists("   801 of at most  800 lines of a file of code", "    crates/low/src/long.rt: 801")
 
     def test_wide_clauses(self):
-        """Comments between them, and what is no clause, may be wider. Characters count, not bytes."""
+        """Comments between them, and other lines, may be wider. Characters count, not bytes."""
         wide = "    ensures { " + "≡" * 85 + " }"
         text = function("wide", ["    // " + "a" * 100, wide + "}", wide, "        " + "a" * 93, "    ensures { 1 }"], 0)
         self.put("crates/low/src/wide.rt", text + "// " + "a" * 100 + "\n")
@@ -169,7 +169,7 @@ class SizesTest(ScriptTest):
         self.lists("    41 of at most   40 lines of a body", "    crates/low/src/long.rt:44: long: 41")
 
     def test_shared_names(self):
-        """A root and laws may stand in each crate. A name in two files of one crate stands in one crate."""
+        """Each crate may have a root and laws. A name in two files of one crate counts for one crate."""
         for crate in ("high", "low"):
             for module in ("Lib", "Laws", f"Of{crate}"):
                 self.put(f"crates/{crate}/specs/{module}.antt", "pub mod Sums\npub use Rattle.low.specs.Sums.{total}\n")
@@ -189,7 +189,7 @@ class SizesTest(ScriptTest):
         )
 
     def test_shared_names_further_in(self):
-        """A definition may stand within a module or among those that cite one another. Fields of records are none."""
+        """A definition may be within a module or in a mutual block. Fields of records are not definitions."""
         records = kinds(SHARED, "  pub record", "(n : ℕ) : Type 0 where\n    pub count : ℕ\n\n")
         self.put("crates/low/specs/Kinds.antt", f"module _ (m : ℕ) where\n{records}  abbrev pub nodes : ℕ\n")
         self.put("crates/low/specs/Sums.antt", "pub record IsSum (n : ℕ) : Type 0 where\n  pub total : ℕ\n")

@@ -1,4 +1,4 @@
-"""`cmr parts` and `cmr compose` on the built program: each is the way back from the other."""
+"""`cmr parts` and `cmr compose` on the built program: each is the inverse of the other."""
 
 import random
 import unittest
@@ -24,7 +24,7 @@ def drawn(draw, height, width):
 @needs_program
 class SumsTest(ScriptTest):
     def answered(self, *words):
-        """What the program prints where it answers with status 0."""
+        """The output of the program. The status must be 0."""
         run = self.run_program(*words)
         self.assertEqual((run.returncode, run.stderr), (0, ""), words)
         return run.stdout
@@ -36,7 +36,7 @@ class SumsTest(ScriptTest):
         return entries_of(self.read("sum.txt"))
 
     def test_one_sums_and_two_sums(self):
-        """Of random matrices: two blocks, and beside them the products of a last column with a first row."""
+        """Of random matrices: two blocks, and next to them the products of a last column with a first row."""
         draw = random.Random(1)
         for _ in range(20):
             height, width, more, wide = (draw.randint(1, 5) for _ in range(4))
@@ -49,7 +49,7 @@ class SumsTest(ScriptTest):
             self.assertEqual(self.composed("two", dense(first, width), dense(second, wide)), expected)
 
     def test_parts_are_composed_to_the_matrix(self):
-        """Of each form, with lines that are negated by chance: the sum of the parts is the matrix in the printed order."""
+        """For each form, with randomly negated lines: the sum of the parts is the matrix in the printed order."""
         draw = random.Random(2)
         for matrix, node in rows("accepted_trees.txt"):
             kind = node.split(maxsplit=1)[0]

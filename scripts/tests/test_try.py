@@ -65,7 +65,7 @@ class TryTest(unittest.TestCase):
     def test_without_rt(self):
         run = self.run_here(has_rt=False)
         self.assertEqual((run.returncode, run.stdout), (70, ""))
-        line = 'there is no rt on the PATH to compile the program: README.md says at "Run it" what has it'
+        line = 'there is no rt on the PATH to compile the program: see "Run it" in README.md'
         self.assertEqual(run.stderr, f"{NOTE}try-cmr: {line}\n")
         self.assertFalse(self.kept.parent.exists())
 

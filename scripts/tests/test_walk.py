@@ -1,4 +1,4 @@
-"""The lines of documents are those of runs, and so is the picture of docs/CLASSIFYING.md."""
+"""The lines in documents are the output of runs, as is the picture of docs/CLASSIFYING.md."""
 
 import tempfile
 from pathlib import Path

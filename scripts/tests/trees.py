@@ -11,7 +11,7 @@ def first_lines(rows, columns):
     return line_set(range(1, rows + 1), range(1, columns + 1))
 
 
-# Each kind of node stands in this tree. It is that of no matrix.
+# This tree has each kind of node. It belongs to no matrix.
 EACH_KIND = f"""\
 cmr-tree 2
 20 20

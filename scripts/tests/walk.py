@@ -1,7 +1,7 @@
-"""The walks of documents, whose lines are those of runs.
+"""The walks in documents, whose lines are the output of runs.
 
-In the folder scripts, `python3 -m tests.walk` runs them, writes the lines of the runs into the documents, and puts the pictures that
-the runs draw beside them. Blocks with `./try-cmr` are left as they are.
+In the folder scripts, `python3 -m tests.walk` runs them, writes the lines of the runs into the documents, and copies the pictures of the
+runs next to them. Blocks with `./try-cmr` remain unchanged.
 """
 
 import re
@@ -18,7 +18,7 @@ SCREENS = (TOP / "README.md", TOP / "docs" / "TOOLS.md", TOP / "examples" / "REA
 PICTURES = {**dict.fromkeys(SCREENS, ()), DOCUMENT: ("maxflow.svg", "shifts.svg", "goods.svg"), CLASSIFYING: ("classes.svg",)}
 
 
-# What long work says once a minute, which a slow machine alone prints.
+# The progress of long work, once a minute, which only a slow machine prints.
 PROGRESS = re.compile(r"^cmr-classify: [0-9]+ rows?, [0-9.]+ a second.*\n", re.M)
 
 
