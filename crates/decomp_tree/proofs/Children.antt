@@ -7,8 +7,9 @@ use Rattle.tree_type.specs.Invariant.{AreLines, HasChildren}
 use Rattle.tree_type.proofs.PlacedLines.{lines_within}
 use Rattle.tree_type.specs.DecompositionTrees.{Finding, Tree}
 use Rattle.decomp_tree.specs.declared.drafts.Draft.{Draft}
-use Rattle.decomp_tree.specs.Seen.{AreFewer, AreDrawn}
+use Rattle.decomp_tree.specs.Seen.{AreFewer}
 use Rattle.decomp_tree.specs.Sketches.{sketch_of, lines_of_sketch, IsDrafted, IsDraftedBehind}
+use Rattle.decomp_tree.proofs.Drawn.{AreDrawn}
 
 pub child_lines : (m : Matrix) (lines child : LineSet) → AreLines m lines → AreFewer lines child → AreLines m child
 child_lines m lines child are fewer = lines_within m child lines fewer.among are

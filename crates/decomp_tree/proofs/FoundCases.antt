@@ -1,7 +1,7 @@
 -- What pivots find, by cases: no place, a 2, and the tree of the submatrix after the pivot.
 use Rattle.std.proofs.Common.{◌≡◌, ◌≢◌, ◌+◌, ◌-◌, inl, inr, ℕ, suc, Some, None, sym, subst, arith}
 use Rattle.cmr_base.specs.declared.line_set.LineSet.{LineSet}
-use Rattle.cmr_base.specs.Matrix.{Matrix}
+use Rattle.cmr_base.specs.Matrix.{Matrix, IsMatrix}
 use Rattle.pivots.specs.declared.drawn.DrawnPlace.{DrawnPlace}
 use Rattle.pivots.specs.DrawnPlaces.{drawn_place}
 use Rattle.pivots.specs.PivotedParts.{IsMadePart, ShowsFirstTwoIn}
@@ -10,14 +10,14 @@ use Rattle.tree_type.specs.Invariant.{AreLines, size_of}
 use Rattle.tree_type.specs.Verdicts.{verdict_of}
 use Rattle.cert_check.proofs.PivotedMatrices.{lines_pivoted}
 use Rattle.decomp_tree.specs.Refined.{Refines}
-use Rattle.decomp_tree.specs.Seen.{IsDrawn}
+use Rattle.decomp_tree.specs.Shapes.{IsShapeOn}
 use Rattle.decomp_tree.specs.PivotedShapes.{HasFaultAmong, IsDrawnWith, IsFound, IsFoundAt, IsToldBeforePivot, undecided}
 use Rattle.decomp_tree.proofs.FaultLines.{fault_among, lines_themselves}
 use Rattle.decomp_tree.proofs.FoundTrees.{drawn_with_lines, drawn_with_within}
 
 module _ (limit pivots state : ℕ) (m : Matrix) (lines : LineSet) where
   -- some pivot may be made
-  found_at : (some : pivots ≢ 0) (tree : Tree) → IsFoundAt (λ next after found. (shape : Tree) × IsDrawn limit after lines shape × Refines (IsFound limit (pivots - 1) next after) shape found) m lines (drawn_place m lines state) tree
+  found_at : (some : pivots ≢ 0) (tree : Tree) → IsFoundAt (λ next after found. (shape : Tree) × IsShapeOn limit after lines shape × Refines (IsFound limit (pivots - 1) next after) shape found) m lines (drawn_place m lines state) tree
       → IsFound limit pivots state m lines tree
   found_at some tree found = subst (λ k. IsFound limit k state m lines tree) (let more : suc (pivots - 1) ≡ pivots = omega (arith, some) in more) found
 
@@ -25,11 +25,11 @@ module _ (limit pivots state : ℕ) (m : Matrix) (lines : LineSet) where
   found_none tree none e = subst (λ k. IsFound limit k state m lines tree) (sym none) e
 
   pub found_no_place : (tree : Tree) → pivots ≢ 0 → drawn_place m lines state ≡ None → tree ≡ undecided lines → IsFound limit pivots state m lines tree
-  found_no_place tree some none e = found_at some tree (subst (λ o. IsFoundAt (λ next after found. (shape : Tree) × IsDrawn limit after lines shape × Refines (IsFound limit (pivots - 1) next after) shape found) m lines o tree) (sym none) e)
+  found_no_place tree some none e = found_at some tree (subst (λ o. IsFoundAt (λ next after found. (shape : Tree) × IsShapeOn limit after lines shape × Refines (IsFound limit (pivots - 1) next after) shape found) m lines o tree) (sym none) e)
 
   module _ (drawn : DrawnPlace) (is_drawn : drawn_place m lines state ≡ Some drawn) where
-    found_there : (tree : Tree) → pivots ≢ 0 → IsFoundAt (λ next after found. (shape : Tree) × IsDrawn limit after lines shape × Refines (IsFound limit (pivots - 1) next after) shape found) m lines (Some drawn) tree → IsFound limit pivots state m lines tree
-    found_there tree some found = found_at some tree (subst (λ o. IsFoundAt (λ next after t. (shape : Tree) × IsDrawn limit after lines shape × Refines (IsFound limit (pivots - 1) next after) shape t) m lines o tree) (sym is_drawn) found)
+    found_there : (tree : Tree) → pivots ≢ 0 → IsFoundAt (λ next after found. (shape : Tree) × IsShapeOn limit after lines shape × Refines (IsFound limit (pivots - 1) next after) shape found) m lines (Some drawn) tree → IsFound limit pivots state m lines tree
+    found_there tree some found = found_at some tree (subst (λ o. IsFoundAt (λ next after t. (shape : Tree) × IsShapeOn limit after lines shape × Refines (IsFound limit (pivots - 1) next after) shape t) m lines o tree) (sym is_drawn) found)
 
     pub found_two : (tree : Tree) (fault : LineSet) → pivots ≢ 0 → ShowsFirstTwoIn m lines drawn.place fault.rows fault.columns → tree ≡ Branch lines (Violator fault) NoTrees → IsFound limit pivots state m lines tree
     found_two tree fault some shows e = found_there tree some (inl (fault, shows, e))
@@ -44,7 +44,7 @@ module _ (limit pivots state : ℕ) (m : Matrix) (lines : LineSet) where
     lines_made after made are = subst (λ n. AreLines n lines) (sym made.is) (lines_pivoted m lines drawn.place lines are)
 
 -- a fault of a decomposition has lines of its root
-pub fault_drawn : (limit pivots state : ℕ) (m : Matrix) (lines : LineSet) (tree : Tree) → AreLines m lines → IsDrawnWith limit pivots state m lines tree → HasFaultAmong lines (verdict_of tree)
-fault_drawn limit pivots state m lines tree are d =
+pub fault_drawn : (limit pivots state : ℕ) (m : Matrix) (lines : LineSet) (tree : Tree) → IsMatrix m → AreLines m lines → IsDrawnWith limit pivots state m lines tree → HasFaultAmong lines (verdict_of tree)
+fault_drawn limit pivots state m lines tree is are d =
     subst (λ (some : LineSet). HasFaultAmong some (verdict_of tree)) (drawn_with_lines limit pivots state m lines tree d)
-    (fault_among lines (suc (size_of lines + pivots)) tree (drawn_with_within limit pivots state m lines tree lines (suc (size_of lines + pivots)) d (lines_themselves m lines are) (omega arith)))
+    (fault_among lines (suc (size_of lines + pivots)) tree (drawn_with_within limit pivots state m lines tree lines (suc (size_of lines + pivots)) is d are (lines_themselves m lines are) (omega arith)))

@@ -8,7 +8,7 @@ use Rattle.pivots.specs.declared.place.PlacedPivot.{PlacedPivot}
 use Rattle.pivots.specs.DrawnPlaces.{drawn_place}
 use Rattle.pivots.specs.PivotedParts.{IsPlaceIn, IsTernaryPivot, pivoted_part}
 use Rattle.pivots.proofs.PartLaws.{part_pivots_take_violators_back}
-use Rattle.tree_type.specs.DecompositionTrees.{Tree}
+use Rattle.tree_type.specs.DecompositionTrees.{Tree, lines_at_root}
 use Rattle.tree_type.specs.Invariant.{AreLines, AreLinesOf, size_of}
 use Rattle.tree_type.specs.Places.{These, MadePivot, matrix_after}
 use Rattle.tree_type.specs.Soundness.{HasItsLines}
@@ -16,7 +16,7 @@ use Rattle.tree_type.specs.Verdicts.{Verdict, Yes, No, Open, verdict_of}
 use Rattle.tree_type.proofs.PlacedLines.{lines_within}
 use Rattle.cert_check.proofs.PivotedMatrices.{lines_pivoted, pivoted_is_matrix}
 use Rattle.cert_check.proofs.SoundTrees.{fault_tree}
-use Rattle.decomp_tree.specs.Seen.{IsDrawn}
+use Rattle.decomp_tree.specs.Shapes.{IsShapeOn}
 use Rattle.decomp_tree.specs.Refined.{Refines}
 use Rattle.decomp_tree.specs.PivotedShapes.{AreBefore, IsToldBeforePivot, IsFoundAt, IsFound, IsDrawnWith}
 use Rattle.decomp_tree.proofs.FaultLines.{among_lines, fault_in, fault_of_verdict, lines_themselves}
@@ -24,6 +24,8 @@ use Rattle.decomp_tree.proofs.FoundTrees.{found_lines, drawn_with_lines, drawn_w
 use Rattle.decomp_tree.proofs.YesTrees.{MayBelow, says_yes}
 use Rattle.decomp_tree.proofs.PivotNodes.{IsSoundBelow, undecided_sound, violator_sound, pivot_sound}
 use Rattle.decomp_tree.proofs.RefinedSound.{refined_sound}
+use Rattle.decomp_tree.proofs.ShapeTrees.{shape_lines, shape_moved}
+use Rattle.decomp_tree.proofs.ShapedNodes.{shape_within}
 
 module _ (limit : ℕ) (few : limit ≤ 24) where
   abbrev FoundIsSound : ℕ → Type 0
@@ -36,8 +38,11 @@ module _ (limit : ℕ) (few : limit ≤ 24) where
   drawn_sound pivots found m made state lines tree is d are may path due sizes has =
       refined_sound limit few m made is (IsFound limit pivots state (matrix_after m made)) (found_lines limit pivots state (matrix_after m made))
       (λ some one stands some_are one_may. found m made state some one is stands some_are one_may)
-      path due lines (suc (size_of lines)) d.shape tree d.refines are (d.drawn.within lines (suc (size_of lines)) (lines_themselves (matrix_after m made) lines are) (omega arith)) sizes
-      (d.drawn.shaped path due (subst (HasItsLines due) (drawn_with_lines limit pivots state (matrix_after m made) lines tree d) has)) may
+      path due lines (suc (size_of (lines_at_root d.shape))) d.shape tree d.refines are (shape_within limit (matrix_after m made) is [] (These lines) lines (suc (size_of (lines_at_root d.shape))) d.shape d.drawn are among (omega arith)) sizes
+      (shape_moved limit (matrix_after m made) path due lines d.shape (subst (HasItsLines due) (drawn_with_lines limit pivots state (matrix_after m made) lines tree d) has) d.drawn) may
+    where
+      among : AreLinesOf (lines_at_root d.shape) lines
+      among = subst (λ some. AreLinesOf some lines) (sym (shape_lines limit (matrix_after m made) lines d.shape d.drawn)) (lines_themselves (matrix_after m made) lines are)
 
   module _ (pivots : ℕ) (below : FoundIsSound pivots) (m : Matrix) (made : List MadePivot) (lines : LineSet) (is : IsMatrix (matrix_after m made)) (are : AreLines (matrix_after m made) lines) where
     abbrev n : Matrix
@@ -54,7 +59,7 @@ module _ (limit : ℕ) (few : limit ≤ 24) where
       fault_before : (fault before : LineSet) → verdict_of after ≡ No fault → AreBefore n place fault before → IsViolator (entry n) before.rows before.columns
       fault_before fault before e b =
           let same = drawn_with_lines limit pivots next (pivoted_part n lines place) lines after d in
-          let within = drawn_with_within limit pivots next (pivoted_part n lines place) lines after lines (suc (size_of lines + pivots)) d (lines_themselves n lines are) (omega arith) in
+          let within = drawn_with_within limit pivots next (pivoted_part n lines place) lines after lines (suc (size_of lines + pivots)) is_after d are_after (lines_themselves n lines are) (omega arith) in
           let first = fault_of_verdict after fault e in
           let in_lines = subst (AreLinesOf fault) same (fault_in lines (suc (size_of lines + pivots)) after fault within first) in
           let fault_are = lines_within n fault lines in_lines are in
@@ -72,7 +77,7 @@ module _ (limit : ℕ) (few : limit ≤ 24) where
       told_sound (Open left) e tree told may = subst (IsSoundBelow m made) (sym told) (undecided_sound m made lines (subst (MayBelow made) told may))
 
     found_at_sound : (drawn : Option DrawnPlace) → ((some : DrawnPlace) → drawn ≡ Some some → IsPlaceIn n lines some.place) → (tree : Tree)
-        → IsFoundAt (λ next after found. (shape : Tree) × IsDrawn limit after lines shape × Refines (IsFound limit pivots next after) shape found) n lines drawn tree → MayBelow made tree → IsSoundBelow m made tree
+        → IsFoundAt (λ next after found. (shape : Tree) × IsShapeOn limit after lines shape × Refines (IsFound limit pivots next after) shape found) n lines drawn tree → MayBelow made tree → IsSoundBelow m made tree
     found_at_sound None at tree e may = subst (IsSoundBelow m made) (sym e) (undecided_sound m made lines (subst (MayBelow made) e may))
     found_at_sound (Some drawn) at tree (inl (fault, shows, e)) may = subst (IsSoundBelow m made) (sym e) (violator_sound m made lines fault shows.violator (subst (MayBelow made) e may))
     found_at_sound (Some drawn) at tree (inr (ternary, after, (shape, is_drawn, refines), told)) may =

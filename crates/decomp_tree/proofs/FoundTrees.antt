@@ -1,23 +1,28 @@
 -- What pivots find in the place of an undecided node: its lines and its levels.
-use Rattle.std.proofs.Common.{◌≡◌, ◌<◌, ◌≤◌, ◌+◌, ◌-◌, ◌∙◌, inl, inr, ℕ, zero, suc, Contains, Option, Some, None, IfSome, refl, ap, sym, subst, arith}
+use Rattle.std.proofs.Common.{◌≡◌, ◌<◌, ◌≤◌, ◌+◌, ◌-◌, ◌∙◌, inl, inr, ℕ, zero, suc, [], Contains, Option, Some, None, IfSome, refl, ap, sym, subst, arith}
 use Rattle.cmr_base.specs.declared.line_set.LineSet.{LineSet}
-use Rattle.cmr_base.specs.Matrix.{Matrix}
+use Rattle.cmr_base.specs.Matrix.{Matrix, IsMatrix}
 use Rattle.cmr_base.specs.LineSets.{IsRowSet, IsColumnSet}
 use Rattle.cmr_base.proofs.Lists.{all_contained}
 use Rattle.pivots.specs.declared.drawn.DrawnPlace.{DrawnPlace}
 use Rattle.pivots.specs.declared.place.PlacedPivot.{PlacedPivot}
 use Rattle.pivots.specs.DrawnPlaces.{drawn_place}
-use Rattle.pivots.specs.PivotedParts.{AreAmong, IsPlaceIn, pivoted_part}
+use Rattle.pivots.specs.PivotedParts.{AreAmong, IsPlaceIn, IsTernaryPivot, pivoted_part}
 use Rattle.pivots.proofs.DrawnPlaces.{drawn_in}
 use Rattle.pivots.proofs.PartLaws.{lines_before_among}
 use Rattle.tree_type.specs.DecompositionTrees.{Finding, Empty, Cycle, Reduced, OneSum, Network, Conetwork, R10, TwoSum, ThreeSum, Enumerated, Violator, Undecided, Pivoted, Tree, Trees, Branch, NoTrees, MoreTrees, count_trees, lines_at_root}
-use Rattle.tree_type.specs.Invariant.{AreLinesOf, size_of, FitsLines, HasChildren, IsTreeWithin, AreTreesWithin}
+use Rattle.tree_type.specs.Invariant.{AreLines, AreLinesOf, size_of, FitsLines, HasChildren, IsTreeWithin, AreTreesWithin}
+use Rattle.tree_type.specs.Places.{These}
 use Rattle.tree_type.specs.Verdicts.{Verdict, Yes, No, Open, verdict_of}
-use Rattle.decomp_tree.specs.Seen.{IsFalling, AreFalling, IsDrawn}
+use Rattle.tree_type.proofs.PlacedLines.{lines_within}
+use Rattle.cert_check.proofs.PivotedMatrices.{lines_pivoted, pivoted_is_matrix}
+use Rattle.decomp_tree.specs.Shapes.{IsShapeOn}
 use Rattle.decomp_tree.specs.Refined.{Refines, AllRefine}
 use Rattle.decomp_tree.specs.PivotedShapes.{IsToldBeforePivot, IsFoundAt, IsFound, IsDrawnWith, HasFaultAmong, undecided}
 use Rattle.decomp_tree.proofs.FaultLines.{fault_among, lines_of_lines_of}
 use Rattle.decomp_tree.proofs.RefinedTrees.{RefinedNode, replaced, kept, refined_node, count_refined, refined_lines}
+use Rattle.decomp_tree.proofs.ShapeTrees.{shape_lines}
+use Rattle.decomp_tree.proofs.ShapedNodes.{IsFalling, AreFalling, shape_falls, shape_within}
 
 -- ---- lines
 
@@ -34,11 +39,11 @@ found_at_lines IsTree m lines (Some drawn) tree (inr made) = told_lines m lines 
 -- what is found stands on the lines of the node
 pub found_lines : (limit pivots state : ℕ) (m : Matrix) (lines : LineSet) (tree : Tree) → IsFound limit pivots state m lines tree → lines_at_root tree ≡ lines
 found_lines limit zero state m lines tree e = ap lines_at_root e
-found_lines limit (suc pivots) state m lines tree found = found_at_lines (λ next after found. (shape : Tree) × IsDrawn limit after lines shape × Refines (IsFound limit pivots next after) shape found) m lines (drawn_place m lines state) tree found
+found_lines limit (suc pivots) state m lines tree found = found_at_lines (λ next after found. (shape : Tree) × IsShapeOn limit after lines shape × Refines (IsFound limit pivots next after) shape found) m lines (drawn_place m lines state) tree found
 
 -- and so does the decomposition with what is found
 pub drawn_with_lines : (limit pivots state : ℕ) (m : Matrix) (lines : LineSet) (tree : Tree) → IsDrawnWith limit pivots state m lines tree → lines_at_root tree ≡ lines
-drawn_with_lines limit pivots state m lines tree d = refined_lines (IsFound limit pivots state m) (found_lines limit pivots state m) d.shape tree d.refines ∙ d.drawn.lines_are
+drawn_with_lines limit pivots state m lines tree d = refined_lines (IsFound limit pivots state m) (found_lines limit pivots state m) d.shape tree d.refines ∙ shape_lines limit m lines d.shape d.drawn
 
 -- a place that is drawn is one of the submatrix
 pub place_drawn : (m : Matrix) (lines : LineSet) (state : ℕ) (drawn : DrawnPlace) → drawn_place m lines state ≡ Some drawn → IsPlaceIn m lines drawn.place
@@ -62,14 +67,15 @@ fits_as_many lines (Violator fault) trees others e fits = fits
 fits_as_many lines Undecided trees others e fits = fits
 fits_as_many lines (Pivoted place) trees others e fits = fits
 
-module _ (Stands : LineSet → Tree → Type 0) (more : ℕ) (stand_within : (lines : LineSet) (tree : Tree) (parent : LineSet) (levels : ℕ) → Stands lines tree → AreLinesOf lines parent → size_of lines + more < levels → IsTreeWithin parent levels tree) where
+module _ (m : Matrix) (Stands : LineSet → Tree → Type 0) (more : ℕ)
+    (stand_within : (lines : LineSet) (tree : Tree) (parent : LineSet) (levels : ℕ) → Stands lines tree → AreLines m parent → AreLinesOf lines parent → size_of lines + more < levels → IsTreeWithin parent levels tree) where
   mutual
-    within_refined : (shape tree : Tree) (parent : LineSet) (some levels : ℕ) → Refines Stands shape tree → IsFalling shape → IsTreeWithin parent some shape → size_of (lines_at_root shape) + more < levels → IsTreeWithin parent levels tree
-    within_refined (Branch lines finding trees) tree parent some levels r falls within l =
-        go (refined_node Stands lines finding trees tree r) (λ below all few. within_each lines trees below (some - 1) (levels - 1) all falls within.4 few)
+    within_refined : (shape tree : Tree) (parent : LineSet) (some levels : ℕ) → Refines Stands shape tree → IsFalling shape → AreLines m parent → IsTreeWithin parent some shape → size_of (lines_at_root shape) + more < levels → IsTreeWithin parent levels tree
+    within_refined (Branch lines finding trees) tree parent some levels r falls are within l =
+        go (refined_node Stands lines finding trees tree r) (λ below all few. within_each lines trees below (some - 1) (levels - 1) all falls (lines_within m lines parent within.1 are) within.4 few)
       where
         go : RefinedNode Stands lines finding trees tree → ((below : Trees) → AllRefine Stands trees below → size_of lines + more ≤ levels - 1 → AreTreesWithin lines (levels - 1) below) → IsTreeWithin parent levels tree
-        go (replaced e stands) each = stand_within lines tree parent levels stands within.1 l
+        go (replaced e stands) each = stand_within lines tree parent levels stands are within.1 l
         go (kept e below is all) each = subst (IsTreeWithin parent levels) (sym is) (
           omega (arith, l),
           within.1,
@@ -78,12 +84,12 @@ module _ (Stands : LineSet → Tree → Type 0) (more : ℕ) (stand_within : (li
           each below all (omega (arith, l)),
         )
 
-    within_each : (lines : LineSet) (trees below : Trees) (some levels : ℕ) → AllRefine Stands trees below → AreFalling lines trees → AreTreesWithin lines some trees → size_of lines + more ≤ levels → AreTreesWithin lines levels below
-    within_each lines NoTrees below some levels e falls within l = subst (AreTreesWithin lines levels) (sym e) tt
-    within_each lines (MoreTrees tree trees) below some levels (first, rest, e, r, all) falls within l =
+    within_each : (lines : LineSet) (trees below : Trees) (some levels : ℕ) → AllRefine Stands trees below → AreFalling lines trees → AreLines m lines → AreTreesWithin lines some trees → size_of lines + more ≤ levels → AreTreesWithin lines levels below
+    within_each lines NoTrees below some levels e falls are within l = subst (AreTreesWithin lines levels) (sym e) tt
+    within_each lines (MoreTrees tree trees) below some levels (first, rest, e, r, all) falls are within l =
         subst (AreTreesWithin lines levels) (sym e) (
-          within_refined tree first lines some levels r falls.1 within.0 (let fewer = falls.0.fewer in omega (arith, l, fewer)),
-          within_each lines trees rest some levels all falls.2 within.1 l,
+          within_refined tree first lines some levels r falls.1 are within.0 (let fewer = falls.0.fewer in omega (arith, l, fewer)),
+          within_each lines trees rest some levels all falls.2 are within.1 l,
         )
 
 undecided_within : (lines parent : LineSet) (levels : ℕ) → AreLinesOf lines parent → 0 < levels → IsTreeWithin parent levels (undecided lines)
@@ -103,21 +109,25 @@ lines_among m lines fault rows columns among = record {
 
 module _ (limit : ℕ) where
   abbrev IsWithin : ℕ → Type 0
-  IsWithin pivots = (state : ℕ) (m : Matrix) (lines : LineSet) (tree : Tree) (parent : LineSet) (levels : ℕ) → IsFound limit pivots state m lines tree → AreLinesOf lines parent → size_of lines + pivots < levels → IsTreeWithin parent levels tree
+  IsWithin pivots = (state : ℕ) (m : Matrix) (lines : LineSet) (tree : Tree) (parent : LineSet) (levels : ℕ) → IsMatrix m → IsFound limit pivots state m lines tree → AreLines m parent → AreLinesOf lines parent → size_of lines + pivots < levels → IsTreeWithin parent levels tree
 
   -- a decomposition with what is found
-  drawn_within : (pivots : ℕ) → IsWithin pivots → (state : ℕ) (m : Matrix) (lines : LineSet) (tree : Tree) (parent : LineSet) (levels : ℕ) → IsDrawnWith limit pivots state m lines tree → AreLinesOf lines parent → size_of lines + pivots < levels → IsTreeWithin parent levels tree
-  drawn_within pivots found state m lines tree parent levels d are l =
-      within_refined (IsFound limit pivots state m) pivots (λ some one over n. found state m some one over n) d.shape tree parent (suc (size_of lines)) levels d.refines d.drawn.falling
-      (d.drawn.within parent (suc (size_of lines)) are (omega arith))
-      (subst (λ some. size_of some + pivots < levels) (sym d.drawn.lines_are) l)
+  drawn_within : (pivots : ℕ) → IsWithin pivots → (state : ℕ) (m : Matrix) (lines : LineSet) (tree : Tree) (parent : LineSet) (levels : ℕ) → IsMatrix m → IsDrawnWith limit pivots state m lines tree → AreLines m parent → AreLinesOf lines parent → size_of lines + pivots < levels → IsTreeWithin parent levels tree
+  drawn_within pivots found state m lines tree parent levels is d parent_are are l =
+      let root = shape_lines limit m lines d.shape d.drawn in
+      let among = subst (λ some. AreLinesOf some parent) (sym root) are in
+      within_refined m (IsFound limit pivots state m) pivots (λ some one over n. found state m some one over n is) d.shape tree parent (suc (size_of (lines_at_root d.shape))) levels d.refines
+      (shape_falls limit m is [] (These lines) parent d.shape d.drawn parent_are among) parent_are
+      (shape_within limit m is [] (These lines) parent (suc (size_of (lines_at_root d.shape))) d.shape d.drawn parent_are among (omega arith))
+      (subst (λ some. size_of some + pivots < levels) (sym root) l)
 
-  module _ (pivots : ℕ) (below : IsWithin pivots) (m : Matrix) (lines parent : LineSet) (levels : ℕ) (are : AreLinesOf lines parent) (l : size_of lines + suc pivots < levels) where
-    told_within : (next : ℕ) (place : PlacedPivot) (at : IsPlaceIn m lines place) (after : Tree) → IsDrawnWith limit pivots next (pivoted_part m lines place) lines after → (tree : Tree) → IsToldBeforePivot m lines place after (verdict_of after) tree → IsTreeWithin parent levels tree
-    told_within next place at after d tree told = go (verdict_of after) among told
+  module _ (pivots : ℕ) (below : IsWithin pivots) (m : Matrix) (lines parent : LineSet) (levels : ℕ) (is : IsMatrix m) (parent_are : AreLines m parent) (are : AreLinesOf lines parent) (l : size_of lines + suc pivots < levels) where
+    told_within : (next : ℕ) (place : PlacedPivot) (at : IsPlaceIn m lines place) (ternary : IsTernaryPivot m lines place) (after : Tree) → IsDrawnWith limit pivots next (pivoted_part m lines place) lines after → (tree : Tree) → IsToldBeforePivot m lines place after (verdict_of after) tree → IsTreeWithin parent levels tree
+    told_within next place at ternary after d tree told = go (verdict_of after) among told
       where
         after_within : IsTreeWithin lines (levels - 1) after
-        after_within = drawn_within pivots below next (pivoted_part m lines place) lines after lines (levels - 1) d (lines_of_lines_of lines parent are) (omega (arith, l))
+        after_within = drawn_within pivots below next (pivoted_part m lines place) lines after lines (levels - 1) (pivoted_is_matrix m lines place is ternary) d
+            (lines_pivoted m lines place lines (lines_within m lines parent are parent_are)) (lines_of_lines_of lines parent are) (omega (arith, l))
 
         among : HasFaultAmong lines (verdict_of after)
         among = subst (λ some. HasFaultAmong some (verdict_of after)) (drawn_with_lines limit pivots next (pivoted_part m lines place) lines after d) (fault_among lines (levels - 1) after after_within)
@@ -129,18 +139,18 @@ module _ (limit : ℕ) where
         go (Open left) h e = subst (IsTreeWithin parent levels) (sym e) (undecided_within lines parent levels are (omega (arith, l)))
 
     found_at_within : (drawn : Option DrawnPlace) → ((some : DrawnPlace) → drawn ≡ Some some → IsPlaceIn m lines some.place) → (tree : Tree)
-        → IsFoundAt (λ next after found. (shape : Tree) × IsDrawn limit after lines shape × Refines (IsFound limit pivots next after) shape found) m lines drawn tree → IsTreeWithin parent levels tree
+        → IsFoundAt (λ next after found. (shape : Tree) × IsShapeOn limit after lines shape × Refines (IsFound limit pivots next after) shape found) m lines drawn tree → IsTreeWithin parent levels tree
     found_at_within None at tree e = subst (IsTreeWithin parent levels) (sym e) (undecided_within lines parent levels are (omega (arith, l)))
     found_at_within (Some drawn) at tree (inl (fault, shows, e)) = subst (IsTreeWithin parent levels) (sym e)
         (violator_within lines fault parent levels are (lines_among m lines fault shows.row_set shows.column_set shows.among) (omega (arith, l)))
     found_at_within (Some drawn) at tree (inr (ternary, after, (shape, is, refines), told)) =
-        told_within drawn.state drawn.place (at drawn refl) after (record { shape = shape; drawn = is; refines = refines }) tree told
+        told_within drawn.state drawn.place (at drawn refl) ternary after (record { shape = shape; drawn = is; refines = refines }) tree told
 
   pub found_within : (pivots : ℕ) → IsWithin pivots
-  found_within zero state m lines tree parent levels e are l = subst (IsTreeWithin parent levels) (sym e) (undecided_within lines parent levels are (omega (arith, l)))
-  found_within (suc pivots) state m lines tree parent levels found are l =
-      found_at_within pivots (found_within pivots) m lines parent levels are l (drawn_place m lines state) (place_drawn m lines state) tree found
+  found_within zero state m lines tree parent levels is e parent_are are l = subst (IsTreeWithin parent levels) (sym e) (undecided_within lines parent levels are (omega (arith, l)))
+  found_within (suc pivots) state m lines tree parent levels is found parent_are are l =
+      found_at_within pivots (found_within pivots) m lines parent levels is parent_are are l (drawn_place m lines state) (place_drawn m lines state) tree found
 
   -- the tree has at most as many levels as lines, pivots and one more
-  pub drawn_with_within : (pivots state : ℕ) (m : Matrix) (lines : LineSet) (tree : Tree) (parent : LineSet) (levels : ℕ) → IsDrawnWith limit pivots state m lines tree → AreLinesOf lines parent → size_of lines + pivots < levels → IsTreeWithin parent levels tree
+  pub drawn_with_within : (pivots state : ℕ) (m : Matrix) (lines : LineSet) (tree : Tree) (parent : LineSet) (levels : ℕ) → IsMatrix m → IsDrawnWith limit pivots state m lines tree → AreLines m parent → AreLinesOf lines parent → size_of lines + pivots < levels → IsTreeWithin parent levels tree
   drawn_with_within pivots = drawn_within pivots (found_within pivots)

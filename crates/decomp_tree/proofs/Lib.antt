@@ -6,9 +6,11 @@ pub mod ShapeRules
 pub mod ShapeSound
 pub mod Kept
 pub mod Left
+pub mod ShapeTrees
 pub mod Drawn
 pub mod Said
 pub mod SaidSums
+pub mod ShapedNodes
 pub mod Children
 pub mod Roots
 pub mod NoFaults

@@ -1,5 +1,5 @@
 -- More pivots lose no answer: a yes stays with its tree, and a no stays a no.
-use Rattle.std.proofs.Common.{◌≡◌, ◌≤◌, ◌<◌, ◌+◌, ◌-◌, ◌∙◌, inl, inr, ℕ, zero, suc, min, List, [], Option, Some, None, refl, ap, ap₂, sym, subst, arith}
+use Rattle.std.proofs.Common.{◌≡◌, ◌≤◌, ◌+◌, ◌-◌, ◌∙◌, inl, inr, ℕ, zero, suc, min, List, [], Option, Some, None, refl, ap, ap₂, sym, subst, arith}
 use Rattle.std.specs.Option.{option_or}
 use Rattle.std.proofs.Math.Nat.{min-le_left, min-le_right, le-min}
 use Rattle.cmr_base.specs.declared.line_set.LineSet.{LineSet}
@@ -12,15 +12,13 @@ use Rattle.pivots.specs.declared.place.PlacedPivot.{PlacedPivot}
 use Rattle.pivots.specs.DrawnPlaces.{drawn_place}
 use Rattle.pivots.specs.PivotedParts.{pivoted_part}
 use Rattle.tree_type.specs.DecompositionTrees.{Finding, Violator, Undecided, Pivoted, Tree, Trees, Branch, NoTrees, MoreTrees}
-use Rattle.tree_type.specs.Invariant.{AreLinesOf, size_of, IsTreeWithin, AreTreesWithin}
 use Rattle.tree_type.specs.Verdicts.{Verdict, Yes, No, Open, first_in, first_among, fault_at, open_at, verdict_from, verdict_of}
 use Rattle.decomp_tree.specs.PlainTrees.{plain_finding, plain_tree, plain_trees}
-use Rattle.decomp_tree.specs.Seen.{IsDrawn}
+use Rattle.decomp_tree.specs.Shapes.{IsShapeOn}
 use Rattle.decomp_tree.specs.Refined.{is_undecided, Refines, AllRefine}
 use Rattle.decomp_tree.specs.PivotedLaws.{KeepsAnswer, MorePivotsKeepAnswers}
 use Rattle.decomp_tree.specs.PivotedShapes.{AreBefore, IsToldBeforePivot, IsFoundAt, IsFound, IsDrawnWith, all_lines, pivots_within, undecided}
-use Rattle.decomp_tree.proofs.FaultLines.{lines_of_lines_of}
-use Rattle.decomp_tree.proofs.OnePivoted.{all_themselves, shape_same, told_same, undecided_same}
+use Rattle.decomp_tree.proofs.OnePivoted.{shape_same, told_same, undecided_same}
 use Rattle.decomp_tree.proofs.PlainVerdicts.{fault_plain, verdict_plain}
 use Rattle.decomp_tree.proofs.RefinedTrees.{RefinedNode, replaced, kept, refined_node}
 
@@ -80,12 +78,12 @@ no_trees_keep = record { yes = λ e u. refl; no = λ fault e. none_is_some fault
 
 -- ---- trees that others replace
 
-module _ (Stands More : LineSet → Tree → Type 0) (keeps : (lines : LineSet) → AreLinesOf lines lines → (tree other : Tree) → Stands lines tree → More lines other → Keeps tree other) where
+module _ (Stands More : LineSet → Tree → Type 0) (keeps : (lines : LineSet) (tree other : Tree) → Stands lines tree → More lines other → Keeps tree other) where
   mutual
-    refined_keeps : (parent : LineSet) (levels : ℕ) (shape shape' tree tree' : Tree) → IsTreeWithin parent levels shape → plain_tree shape ≡ plain_tree shape' → Refines Stands shape tree → Refines More shape' tree' → Keeps tree tree'
-    refined_keeps parent levels (Branch lines finding trees) (Branch lines' finding' trees') tree tree' within e r r' =
+    refined_keeps : (shape shape' tree tree' : Tree) → plain_tree shape ≡ plain_tree shape' → Refines Stands shape tree → Refines More shape' tree' → Keeps tree tree'
+    refined_keeps (Branch lines finding trees) (Branch lines' finding' trees') tree tree' e r r' =
         go (refined_node Stands lines finding trees tree r) (refined_node More lines' finding' trees' tree' r')
-        (λ below below' all all'. let ts : plain_trees trees ≡ plain_trees trees' = cc in all_keep lines (levels - 1) trees trees' below below' within.4 ts all all')
+        (λ below below' all all'. let ts : plain_trees trees ≡ plain_trees trees' = cc in all_keep trees trees' below below' ts all all')
       where
         one_lines : lines ≡ lines'
         one_lines = cc
@@ -94,21 +92,21 @@ module _ (Stands More : LineSet → Tree → Type 0) (keeps : (lines : LineSet) 
         one_finding = cc
 
         go : RefinedNode Stands lines finding trees tree → RefinedNode More lines' finding' trees' tree' → ((below below' : Trees) → AllRefine Stands trees below → AllRefine More trees' below' → KeepEach below below') → Keeps tree tree'
-        go (replaced is stands) (replaced is' stands') each = keeps lines (lines_of_lines_of lines parent within.1) tree tree' stands (subst (λ l. More l tree') (sym one_lines) stands')
+        go (replaced is stands) (replaced is' stands') each = keeps lines tree tree' stands (subst (λ l. More l tree') (sym one_lines) stands')
         go (replaced is stands) (kept is' below' at all') each = true_is_false (sym (ap is_undecided is) ∙ undecided_same finding finding' one_finding ∙ is')
         go (kept is below at all) (replaced is' stands') each = true_is_false (sym (ap is_undecided is') ∙ sym (undecided_same finding finding' one_finding) ∙ is)
         go (kept is below at all) (kept is' below' at' all') each =
             keeps_same tree tree' (Branch lines finding below) (Branch lines' finding' below') at at' (node_keeps lines lines' finding finding' below below' one_lines one_finding (each below below' all all'))
 
-    all_keep : (parent : LineSet) (levels : ℕ) (trees trees' below below' : Trees) → AreTreesWithin parent levels trees → plain_trees trees ≡ plain_trees trees' → AllRefine Stands trees below → AllRefine More trees' below' → KeepEach below below'
-    all_keep parent levels NoTrees NoTrees below below' within e all all' = subst (λ ts. KeepEach ts below') (sym all) (subst (KeepEach NoTrees) (sym all') no_trees_keep)
-    all_keep parent levels NoTrees (MoreTrees tree' trees') below below' within e all all' = absurd (cc)
-    all_keep parent levels (MoreTrees tree trees) NoTrees below below' within e all all' = absurd (cc)
-    all_keep parent levels (MoreTrees tree trees) (MoreTrees tree' trees') below below' within e (first, rest, at, r, all) (first', rest', at', r', all') =
+    all_keep : (trees trees' below below' : Trees) → plain_trees trees ≡ plain_trees trees' → AllRefine Stands trees below → AllRefine More trees' below' → KeepEach below below'
+    all_keep NoTrees NoTrees below below' e all all' = subst (λ ts. KeepEach ts below') (sym all) (subst (KeepEach NoTrees) (sym all') no_trees_keep)
+    all_keep NoTrees (MoreTrees tree' trees') below below' e all all' = absurd (cc)
+    all_keep (MoreTrees tree trees) NoTrees below below' e all all' = absurd (cc)
+    all_keep (MoreTrees tree trees) (MoreTrees tree' trees') below below' e (first, rest, at, r, all) (first', rest', at', r', all') =
         let head : plain_tree tree ≡ plain_tree tree' = cc in
         let tail : plain_trees trees ≡ plain_trees trees' = cc in
         subst (λ ts. KeepEach ts below') (sym at) (subst (KeepEach (MoreTrees first rest)) (sym at')
-        (each_keep first first' rest rest' (refined_keeps parent levels tree tree' first first' within.0 head r r') (all_keep parent levels trees trees' rest rest' within.1 tail all all')))
+        (each_keep first first' rest rest' (refined_keeps tree tree' first first' head r r') (all_keep trees trees' rest rest' tail all all')))
 
 -- ---- what is told of a node
 
@@ -146,29 +144,29 @@ told_keeps m lines place after after' k (Some fault) left (Some named) left' e u
 
 module _ (limit : ℕ) where
   abbrev Keep : ℕ → ℕ → Type 0
-  Keep pivots more = (state : ℕ) (m : Matrix) (lines : LineSet) → AreLinesOf lines lines → (tree tree' : Tree) → IsFound limit pivots state m lines tree → IsFound limit more state m lines tree' → Keeps tree tree'
+  Keep pivots more = (state : ℕ) (m : Matrix) (lines : LineSet) (tree tree' : Tree) → IsFound limit pivots state m lines tree → IsFound limit more state m lines tree' → Keeps tree tree'
 
-  drawn_keeps : (pivots more : ℕ) → Keep pivots more → (state : ℕ) (m : Matrix) (lines : LineSet) → AreLinesOf lines lines → (tree tree' : Tree) → IsDrawnWith limit pivots state m lines tree → IsDrawnWith limit more state m lines tree' → Keeps tree tree'
-  drawn_keeps pivots more keep state m lines are tree tree' d d' =
-      refined_keeps (IsFound limit pivots state m) (IsFound limit more state m) (λ some rise t t' f f'. keep state m some rise t t' f f') lines (suc (size_of lines)) d.shape d'.shape tree tree'
-      (d.drawn.within lines (suc (size_of lines)) are (omega arith)) (shape_same limit m lines are d.shape d'.shape d.drawn d'.drawn) d.refines d'.refines
+  drawn_keeps : (pivots more : ℕ) → Keep pivots more → (state : ℕ) (m : Matrix) (lines : LineSet) (tree tree' : Tree) → IsDrawnWith limit pivots state m lines tree → IsDrawnWith limit more state m lines tree' → Keeps tree tree'
+  drawn_keeps pivots more keep state m lines tree tree' d d' =
+      refined_keeps (IsFound limit pivots state m) (IsFound limit more state m) (λ some t t' f f'. keep state m some t t' f f') d.shape d'.shape tree tree'
+      (shape_same limit m lines d.shape d'.shape d.drawn d'.drawn) d.refines d'.refines
 
-  found_at_keeps : (pivots more : ℕ) → Keep pivots more → (m : Matrix) (lines : LineSet) → AreLinesOf lines lines → (drawn : Option DrawnPlace) (tree tree' : Tree)
-      → IsFoundAt (λ next after found. (shape : Tree) × IsDrawn limit after lines shape × Refines (IsFound limit pivots next after) shape found) m lines drawn tree
-      → IsFoundAt (λ next after found. (shape : Tree) × IsDrawn limit after lines shape × Refines (IsFound limit more next after) shape found) m lines drawn tree' → Keeps tree tree'
-  found_at_keeps pivots more keep m lines are None tree tree' e e' = undecided_keeps lines tree tree' e
-  found_at_keeps pivots more keep m lines are (Some drawn) tree tree' (inl (fault, shows, e)) (inl (fault', shows', e')) = violators_keep lines fault fault' tree tree' e e'
-  found_at_keeps pivots more keep m lines are (Some drawn) tree tree' (inl (fault, shows, e)) (inr (ternary, after', is', told')) = absurd (shows.two (ternary shows.other_row shows.other_column shows.row_in shows.column_in))
-  found_at_keeps pivots more keep m lines are (Some drawn) tree tree' (inr (ternary, after, is, told)) (inl (fault', shows', e')) = absurd (shows'.two (ternary shows'.other_row shows'.other_column shows'.row_in shows'.column_in))
-  found_at_keeps pivots more keep m lines are (Some drawn) tree tree' (inr (ternary, after, (shape, is, refines), told)) (inr (ternary', after', (shape', is', refines'), told')) =
+  found_at_keeps : (pivots more : ℕ) → Keep pivots more → (m : Matrix) (lines : LineSet) (drawn : Option DrawnPlace) (tree tree' : Tree)
+      → IsFoundAt (λ next after found. (shape : Tree) × IsShapeOn limit after lines shape × Refines (IsFound limit pivots next after) shape found) m lines drawn tree
+      → IsFoundAt (λ next after found. (shape : Tree) × IsShapeOn limit after lines shape × Refines (IsFound limit more next after) shape found) m lines drawn tree' → Keeps tree tree'
+  found_at_keeps pivots more keep m lines None tree tree' e e' = undecided_keeps lines tree tree' e
+  found_at_keeps pivots more keep m lines (Some drawn) tree tree' (inl (fault, shows, e)) (inl (fault', shows', e')) = violators_keep lines fault fault' tree tree' e e'
+  found_at_keeps pivots more keep m lines (Some drawn) tree tree' (inl (fault, shows, e)) (inr (ternary, after', is', told')) = absurd (shows.two (ternary shows.other_row shows.other_column shows.row_in shows.column_in))
+  found_at_keeps pivots more keep m lines (Some drawn) tree tree' (inr (ternary, after, is, told)) (inl (fault', shows', e')) = absurd (shows'.two (ternary shows'.other_row shows'.other_column shows'.row_in shows'.column_in))
+  found_at_keeps pivots more keep m lines (Some drawn) tree tree' (inr (ternary, after, (shape, is, refines), told)) (inr (ternary', after', (shape', is', refines'), told')) =
       told_keeps m lines drawn.place after after'
-      (drawn_keeps pivots more keep drawn.state (pivoted_part m lines drawn.place) lines are after after' (record { shape = shape; drawn = is; refines = refines }) (record { shape = shape'; drawn = is'; refines = refines' }))
+      (drawn_keeps pivots more keep drawn.state (pivoted_part m lines drawn.place) lines after after' (record { shape = shape; drawn = is; refines = refines }) (record { shape = shape'; drawn = is'; refines = refines' }))
       (first_in fault_at after) (first_in open_at after) (first_in fault_at after') (first_in open_at after') refl refl refl refl tree tree' told told'
 
   found_keeps : (pivots more : ℕ) → pivots ≤ more → Keep pivots more
-  found_keeps zero more few state m lines are tree tree' e f' = undecided_keeps lines tree tree' e
-  found_keeps (suc pivots) zero few state m lines are tree tree' f f' = absurd (omega (arith, few))
-  found_keeps (suc pivots) (suc more) few state m lines are tree tree' f f' = found_at_keeps pivots more (found_keeps pivots more (omega (arith, few))) m lines are (drawn_place m lines state) tree tree' f f'
+  found_keeps zero more few state m lines tree tree' e f' = undecided_keeps lines tree tree' e
+  found_keeps (suc pivots) zero few state m lines tree tree' f f' = absurd (omega (arith, few))
+  found_keeps (suc pivots) (suc more) few state m lines tree tree' f f' = found_at_keeps pivots more (found_keeps pivots more (omega (arith, few))) m lines (drawn_place m lines state) tree tree' f f'
 
 answer_kept : (tree other : Tree) → Keeps tree other → (fault left : Option LineSet) → first_in fault_at tree ≡ fault → first_in open_at tree ≡ left → KeepsAnswer (verdict_from fault left) tree other
 answer_kept tree other k None None e u = k.yes e u
@@ -181,5 +179,5 @@ within_more pivots more n few = le-min (let a = min-le_left pivots n in omega (a
 pub more_pivots_keep_answers : MorePivotsKeepAnswers
 more_pivots_keep_answers limit pivots more m tree other few d d' =
     answer_kept tree other
-    (drawn_keeps limit (pivots_within m pivots) (pivots_within m more) (found_keeps limit (pivots_within m pivots) (pivots_within m more) (within_more pivots more (2000 - (height m + m.width)) few)) 1 m (all_lines m) (all_themselves m) tree other d d')
+    (drawn_keeps limit (pivots_within m pivots) (pivots_within m more) (found_keeps limit (pivots_within m pivots) (pivots_within m more) (within_more pivots more (2000 - (height m + m.width)) few)) 1 m (all_lines m) tree other d d')
     (first_in fault_at tree) (first_in open_at tree) refl refl

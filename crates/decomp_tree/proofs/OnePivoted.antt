@@ -13,18 +13,18 @@ use Rattle.pivots.specs.DrawnPlaces.{drawn_place}
 use Rattle.pivots.specs.PivotedParts.{ShowsFirstTwoIn, pivoted_part}
 use Rattle.pivots.specs.ChosenLines.{two_lines}
 use Rattle.tree_type.specs.DecompositionTrees.{Finding, Empty, Cycle, Reduced, OneSum, Network, Conetwork, R10, TwoSum, ThreeSum, Enumerated, Violator, Undecided, Pivoted, Tree, Trees, Branch, NoTrees, MoreTrees}
-use Rattle.tree_type.specs.Invariant.{AreLinesOf, size_of, IsTreeWithin, AreTreesWithin}
+use Rattle.tree_type.specs.Invariant.{AreLinesOf}
 use Rattle.tree_type.specs.Places.{These}
 use Rattle.tree_type.specs.Verdicts.{Verdict, Yes, No, Open, verdict_of}
 use Rattle.decomp_tree.specs.PlainTrees.{plain_finding, plain_tree, plain_trees}
-use Rattle.decomp_tree.specs.Seen.{IsDrawn}
+use Rattle.decomp_tree.specs.Shapes.{IsShapeOn}
 use Rattle.decomp_tree.specs.Refined.{is_undecided, Refines, AllRefine}
 use Rattle.decomp_tree.specs.PivotedLaws.{OnePivotedShape}
 use Rattle.decomp_tree.specs.PivotedShapes.{AreBefore, IsToldBeforePivot, IsFoundAt, IsFound, IsDrawnWith, all_lines, pivots_within}
-use Rattle.decomp_tree.proofs.FaultLines.{lines_of_lines_of}
 use Rattle.decomp_tree.proofs.OneTree.{one_tree}
 use Rattle.decomp_tree.proofs.PlainVerdicts.{verdict_plain}
 use Rattle.decomp_tree.proofs.RefinedTrees.{RefinedNode, replaced, kept, refined_node}
+use Rattle.decomp_tree.proofs.ShapeTrees.{shape_lines}
 
 -- ---- trees that others replace
 
@@ -46,12 +46,12 @@ undecided_plain (Pivoted place) = refl
 pub undecided_same : (f g : Finding) → plain_finding f ≡ plain_finding g → is_undecided f ≡ is_undecided g
 undecided_same f g e = sym (undecided_plain f) ∙ ap is_undecided e ∙ undecided_plain g
 
-module _ (Stands : LineSet → Tree → Type 0) (same : (lines : LineSet) → AreLinesOf lines lines → (tree other : Tree) → Stands lines tree → Stands lines other → plain_tree tree ≡ plain_tree other) where
+module _ (Stands : LineSet → Tree → Type 0) (same : (lines : LineSet) (tree other : Tree) → Stands lines tree → Stands lines other → plain_tree tree ≡ plain_tree other) where
   mutual
-    refined_same : (parent : LineSet) (levels : ℕ) (shape shape' tree tree' : Tree) → IsTreeWithin parent levels shape → plain_tree shape ≡ plain_tree shape' → Refines Stands shape tree → Refines Stands shape' tree' → plain_tree tree ≡ plain_tree tree'
-    refined_same parent levels (Branch lines finding trees) (Branch lines' finding' trees') tree tree' within e r r' =
+    refined_same : (shape shape' tree tree' : Tree) → plain_tree shape ≡ plain_tree shape' → Refines Stands shape tree → Refines Stands shape' tree' → plain_tree tree ≡ plain_tree tree'
+    refined_same (Branch lines finding trees) (Branch lines' finding' trees') tree tree' e r r' =
         go (refined_node Stands lines finding trees tree r) (refined_node Stands lines' finding' trees' tree' r')
-        (λ below below' all all'. let ts : plain_trees trees ≡ plain_trees trees' = cc in each_same lines (levels - 1) trees trees' below below' within.4 ts all all')
+        (λ below below' all all'. let ts : plain_trees trees ≡ plain_trees trees' = cc in each_same trees trees' below below' ts all all')
       where
         one_lines : lines ≡ lines'
         one_lines = cc
@@ -60,20 +60,20 @@ module _ (Stands : LineSet → Tree → Type 0) (same : (lines : LineSet) → Ar
         one_finding = cc
 
         go : RefinedNode Stands lines finding trees tree → RefinedNode Stands lines' finding' trees' tree' → ((below below' : Trees) → AllRefine Stands trees below → AllRefine Stands trees' below' → plain_trees below ≡ plain_trees below') → plain_tree tree ≡ plain_tree tree'
-        go (replaced is stands) (replaced is' stands') each = same lines (lines_of_lines_of lines parent within.1) tree tree' stands (subst (λ l. Stands l tree') (sym one_lines) stands')
+        go (replaced is stands) (replaced is' stands') each = same lines tree tree' stands (subst (λ l. Stands l tree') (sym one_lines) stands')
         go (replaced is stands) (kept is' below' at all') each = true_is_false (sym (ap is_undecided is) ∙ undecided_same finding finding' one_finding ∙ is')
         go (kept is below at all) (replaced is' stands') each = true_is_false (sym (ap is_undecided is') ∙ sym (undecided_same finding finding' one_finding) ∙ is)
         go (kept is below at all) (kept is' below' at' all') each =
             ap plain_tree at ∙ ap (λ (l : LineSet). Branch l (plain_finding finding) (plain_trees below)) one_lines ∙ ap₂ (λ (f : Finding) (ts : Trees). Branch lines' f ts) one_finding (each below below' all all') ∙ sym (ap plain_tree at')
 
-    each_same : (parent : LineSet) (levels : ℕ) (trees trees' below below' : Trees) → AreTreesWithin parent levels trees → plain_trees trees ≡ plain_trees trees' → AllRefine Stands trees below → AllRefine Stands trees' below' → plain_trees below ≡ plain_trees below'
-    each_same parent levels NoTrees NoTrees below below' within e all all' = ap plain_trees (all ∙ sym all')
-    each_same parent levels NoTrees (MoreTrees tree' trees') below below' within e all all' = cc
-    each_same parent levels (MoreTrees tree trees) NoTrees below below' within e all all' = cc
-    each_same parent levels (MoreTrees tree trees) (MoreTrees tree' trees') below below' within e (first, rest, at, r, all) (first', rest', at', r', all') =
+    each_same : (trees trees' below below' : Trees) → plain_trees trees ≡ plain_trees trees' → AllRefine Stands trees below → AllRefine Stands trees' below' → plain_trees below ≡ plain_trees below'
+    each_same NoTrees NoTrees below below' e all all' = ap plain_trees (all ∙ sym all')
+    each_same NoTrees (MoreTrees tree' trees') below below' e all all' = cc
+    each_same (MoreTrees tree trees) NoTrees below below' e all all' = cc
+    each_same (MoreTrees tree trees) (MoreTrees tree' trees') below below' e (first, rest, at, r, all) (first', rest', at', r', all') =
         let head : plain_tree tree ≡ plain_tree tree' = cc in
         let tail : plain_trees trees ≡ plain_trees trees' = cc in
-        ap plain_trees at ∙ ap₂ (λ (t : Tree) (ts : Trees). MoreTrees t ts) (refined_same parent levels tree tree' first first' within.0 head r r') (each_same parent levels trees trees' rest rest' within.1 tail all all') ∙ sym (ap plain_trees at')
+        ap plain_trees at ∙ ap₂ (λ (t : Tree) (ts : Trees). MoreTrees t ts) (refined_same tree tree' first first' head r r') (each_same trees trees' rest rest' tail all all') ∙ sym (ap plain_trees at')
 
 -- ---- what a pivot shows
 
@@ -127,41 +127,35 @@ told_same m lines place after after' same (Open left) tree tree' e e' = ap plain
 
 module _ (limit : ℕ) where
   abbrev IsOne : ℕ → Type 0
-  IsOne pivots = (state : ℕ) (m : Matrix) (lines : LineSet) → AreLinesOf lines lines → (tree tree' : Tree) → IsFound limit pivots state m lines tree → IsFound limit pivots state m lines tree' → plain_tree tree ≡ plain_tree tree'
+  IsOne pivots = (state : ℕ) (m : Matrix) (lines : LineSet) (tree tree' : Tree) → IsFound limit pivots state m lines tree → IsFound limit pivots state m lines tree' → plain_tree tree ≡ plain_tree tree'
 
-  pub shape_same : (m : Matrix) (lines : LineSet) → AreLinesOf lines lines → (shape shape' : Tree) → IsDrawn limit m lines shape → IsDrawn limit m lines shape' → plain_tree shape ≡ plain_tree shape'
-  shape_same m lines are shape shape' d d' =
-      one_tree limit m [] [] [] [] (These lines) (These lines) lines lines (suc (size_of lines)) (suc (size_of lines)) shape shape' (d.lines_are ∙ sym d'.lines_are)
-      (d.within lines (suc (size_of lines)) are (omega arith)) (d'.within lines (suc (size_of lines)) are (omega arith)) (d.shaped [] (These lines) (refl, refl)) (d'.shaped [] (These lines) (refl, refl))
+  pub shape_same : (m : Matrix) (lines : LineSet) (shape shape' : Tree) → IsShapeOn limit m lines shape → IsShapeOn limit m lines shape' → plain_tree shape ≡ plain_tree shape'
+  shape_same m lines shape shape' d d' = one_tree limit m [] [] [] [] (These lines) (These lines) shape shape' (shape_lines limit m lines shape d ∙ sym (shape_lines limit m lines shape' d')) d d'
 
-  drawn_same : (pivots : ℕ) → IsOne pivots → (state : ℕ) (m : Matrix) (lines : LineSet) → AreLinesOf lines lines → (tree tree' : Tree) → IsDrawnWith limit pivots state m lines tree → IsDrawnWith limit pivots state m lines tree' → plain_tree tree ≡ plain_tree tree'
-  drawn_same pivots one state m lines are tree tree' d d' =
-      refined_same (IsFound limit pivots state m) (λ some rise t t' f f'. one state m some rise t t' f f') lines (suc (size_of lines)) d.shape d'.shape tree tree'
-      (d.drawn.within lines (suc (size_of lines)) are (omega arith)) (shape_same m lines are d.shape d'.shape d.drawn d'.drawn) d.refines d'.refines
+  drawn_same : (pivots : ℕ) → IsOne pivots → (state : ℕ) (m : Matrix) (lines : LineSet) (tree tree' : Tree) → IsDrawnWith limit pivots state m lines tree → IsDrawnWith limit pivots state m lines tree' → plain_tree tree ≡ plain_tree tree'
+  drawn_same pivots one state m lines tree tree' d d' =
+      refined_same (IsFound limit pivots state m) (λ some t t' f f'. one state m some t t' f f') d.shape d'.shape tree tree' (shape_same m lines d.shape d'.shape d.drawn d'.drawn) d.refines d'.refines
 
-  found_at_same : (pivots : ℕ) → IsOne pivots → (m : Matrix) (lines : LineSet) → AreLinesOf lines lines → (drawn : Option DrawnPlace) (tree tree' : Tree)
-      → IsFoundAt (λ next after found. (shape : Tree) × IsDrawn limit after lines shape × Refines (IsFound limit pivots next after) shape found) m lines drawn tree
-      → IsFoundAt (λ next after found. (shape : Tree) × IsDrawn limit after lines shape × Refines (IsFound limit pivots next after) shape found) m lines drawn tree' → plain_tree tree ≡ plain_tree tree'
-  found_at_same pivots one m lines are None tree tree' e e' = ap plain_tree (e ∙ sym e')
-  found_at_same pivots one m lines are (Some drawn) tree tree' (inl (fault, shows, e)) (inl (fault', shows', e')) =
+  found_at_same : (pivots : ℕ) → IsOne pivots → (m : Matrix) (lines : LineSet) (drawn : Option DrawnPlace) (tree tree' : Tree)
+      → IsFoundAt (λ next after found. (shape : Tree) × IsShapeOn limit after lines shape × Refines (IsFound limit pivots next after) shape found) m lines drawn tree
+      → IsFoundAt (λ next after found. (shape : Tree) × IsShapeOn limit after lines shape × Refines (IsFound limit pivots next after) shape found) m lines drawn tree' → plain_tree tree ≡ plain_tree tree'
+  found_at_same pivots one m lines None tree tree' e e' = ap plain_tree (e ∙ sym e')
+  found_at_same pivots one m lines (Some drawn) tree tree' (inl (fault, shows, e)) (inl (fault', shows', e')) =
       ap plain_tree e ∙ ap (λ (f : LineSet). Branch lines (Violator f) NoTrees) (one_two m lines drawn.place fault fault' shows shows') ∙ sym (ap plain_tree e')
-  found_at_same pivots one m lines are (Some drawn) tree tree' (inl (fault, shows, e)) (inr (ternary, after', is', told')) = absurd (shows.two (ternary shows.other_row shows.other_column shows.row_in shows.column_in))
-  found_at_same pivots one m lines are (Some drawn) tree tree' (inr (ternary, after, is, told)) (inl (fault', shows', e')) = absurd (shows'.two (ternary shows'.other_row shows'.other_column shows'.row_in shows'.column_in))
-  found_at_same pivots one m lines are (Some drawn) tree tree' (inr (ternary, after, (shape, is, refines), told)) (inr (ternary', after', (shape', is', refines'), told')) =
-      let same = drawn_same pivots one drawn.state (pivoted_part m lines drawn.place) lines are after after' (record { shape = shape; drawn = is; refines = refines }) (record { shape = shape'; drawn = is'; refines = refines' }) in
+  found_at_same pivots one m lines (Some drawn) tree tree' (inl (fault, shows, e)) (inr (ternary, after', is', told')) = absurd (shows.two (ternary shows.other_row shows.other_column shows.row_in shows.column_in))
+  found_at_same pivots one m lines (Some drawn) tree tree' (inr (ternary, after, is, told)) (inl (fault', shows', e')) = absurd (shows'.two (ternary shows'.other_row shows'.other_column shows'.row_in shows'.column_in))
+  found_at_same pivots one m lines (Some drawn) tree tree' (inr (ternary, after, (shape, is, refines), told)) (inr (ternary', after', (shape', is', refines'), told')) =
+      let same = drawn_same pivots one drawn.state (pivoted_part m lines drawn.place) lines after after' (record { shape = shape; drawn = is; refines = refines }) (record { shape = shape'; drawn = is'; refines = refines' }) in
       told_same m lines drawn.place after after' same (verdict_of after) tree tree' told
       (subst (λ v. IsToldBeforePivot m lines drawn.place after' v tree') (verdict_plain after' ∙ ap verdict_of (sym same) ∙ sym (verdict_plain after)) told')
 
   found_same : (pivots : ℕ) → IsOne pivots
-  found_same zero state m lines are tree tree' e e' = ap plain_tree (e ∙ sym e')
-  found_same (suc pivots) state m lines are tree tree' f f' = found_at_same pivots (found_same pivots) m lines are (drawn_place m lines state) tree tree' f f'
+  found_same zero state m lines tree tree' e e' = ap plain_tree (e ∙ sym e')
+  found_same (suc pivots) state m lines tree tree' f f' = found_at_same pivots (found_same pivots) m lines (drawn_place m lines state) tree tree' f f'
 
   -- two decompositions differ at most in what their networks say
-  pub drawn_with_same : (pivots state : ℕ) (m : Matrix) (lines : LineSet) → AreLinesOf lines lines → (tree tree' : Tree) → IsDrawnWith limit pivots state m lines tree → IsDrawnWith limit pivots state m lines tree' → plain_tree tree ≡ plain_tree tree'
-  drawn_with_same pivots state m lines are tree tree' d d' = drawn_same pivots (found_same pivots) state m lines are tree tree' d d'
-
-pub all_themselves : (m : Matrix) → AreLinesOf (all_lines m) (all_lines m)
-all_themselves m = record { rows_rise = first_lines_increase (height m); columns_rise = first_lines_increase m.width; rows = λ row h. h; columns = λ column h. h }
+  pub drawn_with_same : (pivots state : ℕ) (m : Matrix) (lines : LineSet) (tree tree' : Tree) → IsDrawnWith limit pivots state m lines tree → IsDrawnWith limit pivots state m lines tree' → plain_tree tree ≡ plain_tree tree'
+  drawn_with_same pivots state m lines tree tree' d d' = drawn_same pivots (found_same pivots) state m lines tree tree' d d'
 
 pub one_pivoted_shape : OnePivotedShape
-one_pivoted_shape limit pivots m tree other d d' = drawn_with_same limit (pivots_within m pivots) 1 m (all_lines m) (all_themselves m) tree other d d'
+one_pivoted_shape limit pivots m tree other d d' = drawn_with_same limit (pivots_within m pivots) 1 m (all_lines m) tree other d d'

@@ -1,12 +1,12 @@
 -- There is one decomposition of a matrix, but for what its networks say.
-use Rattle.std.proofs.Common.{◌≡◌, ◌∙◌, ◌++◌, ℕ, zero, suc, ◌-◌, List, [], ◌∷◌, length, map, get_or, refl, ap, ap₂, sym, subst, arith}
+use Rattle.std.proofs.Common.{◌≡◌, ◌∙◌, ◌++◌, ℕ, zero, suc, List, [], ◌∷◌, length, map, get_or, refl, ap, ap₂, sym, subst, arith}
 use Rattle.std.specs.List.{AllByRecursion}
 use Rattle.cmr_base.specs.declared.line_set.LineSet.{LineSet}
 use Rattle.cmr_base.specs.Matrix.{Matrix, height}
 use Rattle.cmr_base.proofs.Lists.{all_front, all_back}
 use Rattle.cmr_base.proofs.Booleans.{neither}
 use Rattle.tree_type.specs.DecompositionTrees.{Finding, Empty, Cycle, Reduced, OneSum, Network, Conetwork, R10, TwoSum, ThreeSum, Enumerated, Violator, Undecided, Pivoted, Tree, Trees, Branch, NoTrees, MoreTrees, count_trees, lines_at_root}
-use Rattle.tree_type.specs.Invariant.{HasChildren, IsTreeWithin, AreTreesWithin}
+use Rattle.tree_type.specs.Invariant.{HasChildren}
 use Rattle.tree_type.specs.Places.{Due, AllLines, These, Unnamed, MadePivot, pivots_below, due_child, lines_of_each, places_from, places_below}
 use Rattle.tree_type.specs.Soundness.{part, HasItsLines}
 use Rattle.decomp_tree.specs.Shapes.{Case, HasNoLines, HasFault, IsReducible, IsApart, IsNetwork, IsConetwork, IsR10Matrix, IsTwoSum, IsThreeSum, IsShort, IsLeft, case_number, IsFirstCase, NodeSays, finding_in, set_in, HasParts, IsShapedAt}
@@ -47,7 +47,7 @@ one_case limit n c d x y =
 abbrev AreSame : Finding → Finding → List LineSet → List LineSet → Type 0
 AreSame found other parts others = (plain_finding found ≡ plain_finding other) × HasParts found parts others
 
-set_same : (f g : LineSet) → (f.rows ≡ g.rows) × (f.columns ≡ g.columns) → f ≡ g
+pub set_same : (f g : LineSet) → (f.rows ≡ g.rows) × (f.columns ≡ g.columns) → f ≡ g
 set_same f g e = ap₂ (λ (rows columns : List ℕ). let set : LineSet = record { rows = rows; columns = columns } in set) e.0 e.1
 
 says_same : (n : Matrix) (case : Case) (found other : Finding) (parts others : List LineSet) → NodeSays case n found parts → NodeSays case n other others → AreSame found other parts others
@@ -184,7 +184,7 @@ two_named : (lines : LineSet) (f : Finding) → ¬ (due_child lines f 0 ≡ Unna
 two_named lines f first later zero = first
 two_named lines f first later (suc k) = later k
 
-children_same : (lines : LineSet) (f : Finding) (xs ys : List LineSet) → HasChildren f (length xs) → HasChildren f (length ys) → AreDue lines f 0 xs → AreDue lines f 0 ys → (f ≡ OneSum → xs ≡ ys) → xs ≡ ys
+pub children_same : (lines : LineSet) (f : Finding) (xs ys : List LineSet) → HasChildren f (length xs) → HasChildren f (length ys) → AreDue lines f 0 xs → AreDue lines f 0 ys → (f ≡ OneSum → xs ≡ ys) → xs ≡ ys
 children_same lines Empty xs ys x y a b one = none_same xs ys x y
 children_same lines (Cycle f) xs ys x y a b one = none_same xs ys x y
 children_same lines (Reduced steps) xs ys x y a b one = named_same lines (Reduced steps) 0 xs ys (x ∙ sym y) (λ k e. cc) a b
@@ -199,15 +199,15 @@ children_same lines (Violator f) xs ys x y a b one = none_same xs ys x y
 children_same lines Undecided xs ys x y a b one = none_same xs ys x y
 children_same lines (Pivoted place) xs ys x y a b one = named_same lines (Pivoted place) 0 xs ys (x ∙ sym y) (λ k e. cc) a b
 
-count_is : (trees : Trees) → length (lines_of_each trees) ≡ count_trees trees
+pub count_is : (trees : Trees) → length (lines_of_each trees) ≡ count_trees trees
 count_is NoTrees = refl
 count_is (MoreTrees tree trees) = ap suc (count_is trees)
 
 module _ (limit : ℕ) (m : Matrix) where
-  due_here : (path : List ℕ) (pivots : List MadePivot) (due : Due) (tree : Tree) → AllByRecursion (IsShapedAt limit m) (places_from path pivots due tree) → HasItsLines due (lines_at_root tree)
+  pub due_here : (path : List ℕ) (pivots : List MadePivot) (due : Due) (tree : Tree) → AllByRecursion (IsShapedAt limit m) (places_from path pivots due tree) → HasItsLines due (lines_at_root tree)
   due_here path pivots due (Branch lines finding trees) shaped = shaped.0.lines
 
-  due_each : (path : List ℕ) (pivots : List MadePivot) (lines : LineSet) (finding : Finding) (k : ℕ) (trees : Trees) → AllByRecursion (IsShapedAt limit m) (places_below path pivots lines finding k trees) → AreDue lines finding k (lines_of_each trees)
+  pub due_each : (path : List ℕ) (pivots : List MadePivot) (lines : LineSet) (finding : Finding) (k : ℕ) (trees : Trees) → AllByRecursion (IsShapedAt limit m) (places_below path pivots lines finding k trees) → AreDue lines finding k (lines_of_each trees)
   due_each path pivots lines finding k NoTrees shaped = tt
   due_each path pivots lines finding k (MoreTrees tree trees) shaped =
       let first = places_from (path ++ k ∷ []) pivots (due_child lines finding k) tree in
@@ -221,20 +221,20 @@ module _ (limit : ℕ) (m : Matrix) where
     children : lines_of_each trees ≡ lines_of_each trees'
 
   -- two nodes on the same lines
-  same_node : (path path' : List ℕ) (pivots pivots' : List MadePivot) (due due' : Due) (lines : LineSet) (finding finding' : Finding) (trees trees' : Trees) → HasChildren finding (count_trees trees) → HasChildren finding' (count_trees trees')
+  same_node : (path path' : List ℕ) (pivots pivots' : List MadePivot) (due due' : Due) (lines : LineSet) (finding finding' : Finding) (trees trees' : Trees)
       → IsShapedAt limit m (record { path = path; pivots = pivots; due = due; lines = lines; finding = finding; children = lines_of_each trees })
       → IsShapedAt limit m (record { path = path'; pivots = pivots'; due = due'; lines = lines; finding = finding'; children = lines_of_each trees' })
       → AllByRecursion (IsShapedAt limit m) (places_below path (pivots_below lines finding pivots) lines finding 0 trees) → AllByRecursion (IsShapedAt limit m) (places_below path' (pivots_below lines finding' pivots') lines finding' 0 trees')
       → IsSameNode finding finding' trees trees'
-  same_node path path' pivots pivots' due due' lines finding finding' trees trees' count count' x y below below' =
+  same_node path path' pivots pivots' due due' lines finding finding' trees trees' x y below below' =
       let case : x.case ≡ y.case = one_case limit (part m lines) x.case y.case x.first y.first in
       let same = says_same (part m lines) y.case x.found y.found x.parts y.parts (subst (λ c. NodeSays c (part m lines) x.found x.parts) case x.says) y.says in
       let said : plain_finding finding ≡ plain_finding finding' = ap plain_finding x.finding ∙ plain_in lines x.found ∙ ap (finding_in lines) same.0 ∙ sym (plain_in lines y.found) ∙ sym (ap plain_finding y.finding) in
       record {
         said = said;
         children = children_same lines (plain_finding finding') (lines_of_each trees) (lines_of_each trees')
-            (subst (λ f. HasChildren f (length (lines_of_each trees))) said (children_plain finding (length (lines_of_each trees)) (subst (HasChildren finding) (sym (count_is trees)) count)))
-            (children_plain finding' (length (lines_of_each trees')) (subst (HasChildren finding') (sym (count_is trees')) count'))
+            (subst (λ f. HasChildren f (length (lines_of_each trees))) said (children_plain finding (length (lines_of_each trees)) x.count))
+            (children_plain finding' (length (lines_of_each trees')) y.count)
             (subst (λ f. AreDue lines f 0 (lines_of_each trees)) said (all_due_plain lines finding 0 (lines_of_each trees) (due_each path (pivots_below lines finding pivots) lines finding 0 trees below)))
             (all_due_plain lines finding' 0 (lines_of_each trees') (due_each path' (pivots_below lines finding' pivots') lines finding' 0 trees' below'))
             (λ e. one_sum lines finding finding' said e x.found x.parts y.parts (lines_of_each trees) (lines_of_each trees') x.finding same.1 x.children y.children);
@@ -261,23 +261,22 @@ module _ (limit : ℕ) (m : Matrix) where
           only_one_sum (Pivoted place) e = cc
 
   mutual
-    pub one_tree : (path path' : List ℕ) (pivots pivots' : List MadePivot) (due due' : Due) (parent parent' : LineSet) (levels levels' : ℕ) (tree tree' : Tree) → lines_at_root tree ≡ lines_at_root tree' → IsTreeWithin parent levels tree → IsTreeWithin parent' levels' tree'
+    pub one_tree : (path path' : List ℕ) (pivots pivots' : List MadePivot) (due due' : Due) (tree tree' : Tree) → lines_at_root tree ≡ lines_at_root tree'
         → AllByRecursion (IsShapedAt limit m) (places_from path pivots due tree) → AllByRecursion (IsShapedAt limit m) (places_from path' pivots' due' tree') → plain_tree tree ≡ plain_tree tree'
-    one_tree path path' pivots pivots' due due' parent parent' levels levels' (Branch lines finding trees) (Branch lines' finding' trees') same fits fits' shaped shaped' =
+    one_tree path path' pivots pivots' due due' (Branch lines finding trees) (Branch lines' finding' trees') same shaped shaped' =
         let node' = subst (λ l. IsShapedAt limit m (record { path = path'; pivots = pivots'; due = due'; lines = l; finding = finding'; children = lines_of_each trees' })) (sym same) shaped'.0 in
         let below' = subst (λ l. AllByRecursion (IsShapedAt limit m) (places_below path' (pivots_below l finding' pivots') l finding' 0 trees')) (sym same) shaped'.1 in
-        let is = same_node path path' pivots pivots' due due' lines finding finding' trees trees' fits.3 fits'.3 shaped.0 node' shaped.1 below' in
+        let is = same_node path path' pivots pivots' due due' lines finding finding' trees trees' shaped.0 node' shaped.1 below' in
         ap (λ (l : LineSet). Branch l (plain_finding finding) (plain_trees trees)) same
         ∙ ap₂ (λ (f : Finding) (ts : Trees). Branch lines' f ts) is.said
-        (one_trees path path' (pivots_below lines finding pivots) (pivots_below lines' finding' pivots') lines lines' finding finding' (levels - 1) (levels' - 1) 0 0 trees trees' is.children fits.4 fits'.4 shaped.1 shaped'.1)
+        (one_trees path path' (pivots_below lines finding pivots) (pivots_below lines' finding' pivots') lines lines' finding finding' 0 0 trees trees' is.children shaped.1 shaped'.1)
 
-    one_trees : (path path' : List ℕ) (pivots pivots' : List MadePivot) (lines lines' : LineSet) (finding finding' : Finding) (levels levels' k k' : ℕ) (trees trees' : Trees) → lines_of_each trees ≡ lines_of_each trees'
-        → AreTreesWithin lines levels trees → AreTreesWithin lines' levels' trees'
+    one_trees : (path path' : List ℕ) (pivots pivots' : List MadePivot) (lines lines' : LineSet) (finding finding' : Finding) (k k' : ℕ) (trees trees' : Trees) → lines_of_each trees ≡ lines_of_each trees'
         → AllByRecursion (IsShapedAt limit m) (places_below path pivots lines finding k trees) → AllByRecursion (IsShapedAt limit m) (places_below path' pivots' lines' finding' k' trees') → plain_trees trees ≡ plain_trees trees'
-    one_trees path path' pivots pivots' lines lines' finding finding' levels levels' k k' NoTrees NoTrees same fits fits' shaped shaped' = refl
-    one_trees path path' pivots pivots' lines lines' finding finding' levels levels' k k' NoTrees (MoreTrees tree trees) same fits fits' shaped shaped' = cc
-    one_trees path path' pivots pivots' lines lines' finding finding' levels levels' k k' (MoreTrees tree trees) NoTrees same fits fits' shaped shaped' = cc
-    one_trees path path' pivots pivots' lines lines' finding finding' levels levels' k k' (MoreTrees tree trees) (MoreTrees tree' trees') same fits fits' shaped shaped' =
+    one_trees path path' pivots pivots' lines lines' finding finding' k k' NoTrees NoTrees same shaped shaped' = refl
+    one_trees path path' pivots pivots' lines lines' finding finding' k k' NoTrees (MoreTrees tree trees) same shaped shaped' = cc
+    one_trees path path' pivots pivots' lines lines' finding finding' k k' (MoreTrees tree trees) NoTrees same shaped shaped' = cc
+    one_trees path path' pivots pivots' lines lines' finding finding' k k' (MoreTrees tree trees) (MoreTrees tree' trees') same shaped shaped' =
         let first = places_from (path ++ k ∷ []) pivots (due_child lines finding k) tree in
         let rest = places_below path pivots lines finding (suc k) trees in
         let first' = places_from (path' ++ k' ∷ []) pivots' (due_child lines' finding' k') tree' in
@@ -285,13 +284,13 @@ module _ (limit : ℕ) (m : Matrix) where
         let head : lines_at_root tree ≡ lines_at_root tree' = cc in
         let tail : lines_of_each trees ≡ lines_of_each trees' = cc in
         ap₂ (λ (t : Tree) (ts : Trees). MoreTrees t ts)
-        (one_tree (path ++ k ∷ []) (path' ++ k' ∷ []) pivots pivots' (due_child lines finding k) (due_child lines' finding' k') lines lines' levels levels' tree tree' head fits.0 fits'.0
+        (one_tree (path ++ k ∷ []) (path' ++ k' ∷ []) pivots pivots' (due_child lines finding k) (due_child lines' finding' k') tree tree' head
         (all_front (IsShapedAt limit m) first rest shaped) (all_front (IsShapedAt limit m) first' rest' shaped'))
-        (one_trees path path' pivots pivots' lines lines' finding finding' levels levels' (suc k) (suc k') trees trees' tail fits.1 fits'.1
+        (one_trees path path' pivots pivots' lines lines' finding finding' (suc k) (suc k') trees trees' tail
         (all_back (IsShapedAt limit m) first rest shaped) (all_back (IsShapedAt limit m) first' rest' shaped'))
 
 pub one_shape : OneShape
-one_shape limit m tree other is is' shaped shaped' =
+one_shape limit m tree other shaped shaped' =
     let all = AllLines (height m) m.width in
-    one_tree limit m [] [] [] [] all all (lines_at_root tree) (lines_at_root other) 2001 2001 tree other
-    (due_same all (lines_at_root tree) (lines_at_root other) (λ e. cc) (due_here limit m [] [] all tree shaped) (due_here limit m [] [] all other shaped')) is.nodes is'.nodes shaped shaped'
+    one_tree limit m [] [] [] [] all all tree other
+    (due_same all (lines_at_root tree) (lines_at_root other) (λ e. cc) (due_here limit m [] [] all tree shaped) (due_here limit m [] [] all other shaped')) shaped shaped'

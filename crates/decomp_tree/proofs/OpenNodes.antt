@@ -9,21 +9,22 @@ use Rattle.cmr_base.proofs.Options.{some_or, some_same}
 use Rattle.pivots.specs.declared.drawn.DrawnPlace.{DrawnPlace}
 use Rattle.pivots.specs.declared.place.PlacedPivot.{PlacedPivot}
 use Rattle.pivots.specs.DrawnPlaces.{drawn_place}
-use Rattle.tree_type.specs.DecompositionTrees.{Finding, Empty, Cycle, Reduced, OneSum, Network, Conetwork, R10, TwoSum, ThreeSum, Enumerated, Violator, Undecided, Pivoted, Tree, Trees, Branch, NoTrees, MoreTrees}
-use Rattle.tree_type.specs.Invariant.{AreLines, size_of, IsTreeWithin, AreTreesWithin}
-use Rattle.tree_type.specs.Places.{Due, AllLines, Place, places_from, places_below, due_child, lines_of_each}
+use Rattle.tree_type.specs.DecompositionTrees.{Finding, Empty, Cycle, Reduced, OneSum, Network, Conetwork, R10, TwoSum, ThreeSum, Enumerated, Violator, Undecided, Pivoted, Tree, Trees, Branch, NoTrees, MoreTrees, lines_at_root}
+use Rattle.tree_type.specs.Invariant.{AreLines, AreLinesOf, size_of, IsTreeWithin, AreTreesWithin}
+use Rattle.tree_type.specs.Places.{Due, These, Place, places_from, places_below, due_child, lines_of_each}
 use Rattle.tree_type.specs.Soundness.{part}
 use Rattle.tree_type.specs.Verdicts.{Verdict, Yes, No, Open, first_in, first_among, open_at, verdict_of}
 use Rattle.tree_type.proofs.PlacedLines.{lines_within}
-use Rattle.decomp_tree.specs.Seen.{IsDrawn}
 use Rattle.decomp_tree.specs.Refined.{is_undecided, Refines, AllRefine}
-use Rattle.decomp_tree.specs.Shapes.{Case, HasNoLines, HasFault, IsReducible, IsApart, IsNetwork, IsConetwork, IsR10Matrix, IsTwoSum, IsThreeSum, IsShort, IsLeft, IsFirstCase, NodeSays, finding_in, IsShapedAt}
+use Rattle.decomp_tree.specs.Shapes.{Case, HasNoLines, HasFault, IsReducible, IsApart, IsNetwork, IsConetwork, IsR10Matrix, IsTwoSum, IsThreeSum, IsShort, IsLeft, IsFirstCase, NodeSays, finding_in, IsShapedAt, IsShapeOn}
 use Rattle.decomp_tree.specs.PivotedShapes.{IsToldBeforePivot, IsFoundAt, IsFound, all_lines, pivots_within, undecided}
 use Rattle.decomp_tree.specs.PivotedLaws.{OpenLinesAreLeft}
 use Rattle.decomp_tree.proofs.FaultLines.{lines_themselves}
 use Rattle.decomp_tree.proofs.PivotedRoots.{all_are_lines}
 use Rattle.decomp_tree.proofs.RefinedTrees.{RefinedNode, replaced, kept, refined_node}
 use Rattle.decomp_tree.proofs.ShapeSound.{no_pivot}
+use Rattle.decomp_tree.proofs.ShapeTrees.{shape_lines}
+use Rattle.decomp_tree.proofs.ShapedNodes.{shape_within}
 use Rattle.decomp_tree.proofs.YesTrees.{says_yes}
 
 -- ---- an undecided node
@@ -88,7 +89,7 @@ found_at_open IsTree m lines (Some drawn) tree found (inr (ternary, after, is, t
 found_open : (limit pivots state : ℕ) (m : Matrix) (lines : LineSet) (tree : Tree) (found : LineSet) → IsFound limit pivots state m lines tree → first_in open_at tree ≡ Some found → found ≡ lines
 found_open limit zero state m lines tree found e first = undecided_open lines found (sym (ap (first_in open_at) e) ∙ first)
 found_open limit (suc pivots) state m lines tree found is first =
-    found_at_open (λ next after t. (shape : Tree) × IsDrawn limit after lines shape × Refines (IsFound limit pivots next after) shape t) m lines (drawn_place m lines state) tree found is first
+    found_at_open (λ next after t. (shape : Tree) × IsShapeOn limit after lines shape × Refines (IsFound limit pivots next after) shape t) m lines (drawn_place m lines state) tree found is first
 
 -- ---- the nodes of a decomposition
 
@@ -147,4 +148,5 @@ open_case limit pivots m tree lines is d first =
     let all = all_lines m in
     let are = all_are_lines m is in
     open_refined limit m (IsFound limit (pivots_within m pivots) 1 m) (λ some t found stands e. found_open limit (pivots_within m pivots) 1 m some t found stands e)
-    [] (AllLines (height m) m.width) all (suc (size_of all)) d.shape tree lines are (d.drawn.within all (suc (size_of all)) (lines_themselves m all are) (omega arith)) (d.drawn.shaped [] (AllLines (height m) m.width) (refl, refl)) d.refines first
+    [] (These all) all (suc (size_of (lines_at_root d.shape))) d.shape tree lines are
+    (shape_within limit m is [] (These all) all (suc (size_of (lines_at_root d.shape))) d.shape d.drawn are (subst (λ some. AreLinesOf some all) (sym (shape_lines limit m all d.shape d.drawn)) (lines_themselves m all are)) (omega arith)) d.drawn d.refines first

@@ -1,25 +1,27 @@
 -- Decompositions of whole matrices with what pivots find.
-use Rattle.std.proofs.Common.{◌≡◌, ◌≤◌, ◌<◌, ◌+◌, ◌-◌, ◌∙◌, ℕ, suc, min, List, [], refl, ap, ap₂, sym, subst, arith}
+use Rattle.std.proofs.Common.{◌≡◌, ◌≤◌, ◌<◌, ◌+◌, ◌-◌, ◌∙◌, ℕ, Bool, true, false, min, List, [], refl, ap, ap₂, sym, subst, arith}
 use Rattle.std.proofs.Math.Nat.{min-le_right, zero-min}
-use Rattle.std.specs.List.{AllByRecursion}
 use Rattle.std.proofs.lemmas.List.FromFn.{length-range_with_len}
 use Rattle.cmr_base.specs.declared.line_set.LineSet.{LineSet}
 use Rattle.cmr_base.specs.Matrix.{Matrix, height, IsMatrix}
 use Rattle.cmr_base.specs.LineSets.{AllBelow, first_lines}
-use Rattle.tree_type.specs.DecompositionTrees.{Finding, Tree, Trees, Branch, NoTrees, MoreTrees, count_trees, lines_at_root}
-use Rattle.tree_type.specs.Invariant.{AreLines, IsTreeFor, IsTreeWithin, AreTreesWithin, HasChildren, size_of}
-use Rattle.tree_type.specs.Places.{AllLines, places_from}
+use Rattle.tree_type.specs.DecompositionTrees.{Finding, Undecided, Tree, Trees, Branch, NoTrees, MoreTrees, count_trees, lines_at_root}
+use Rattle.tree_type.specs.Invariant.{AreLines, IsTreeFor, IsTreeWithin, HasChildren, size_of}
+use Rattle.tree_type.specs.Places.{AllLines, These}
 use Rattle.tree_type.specs.Soundness.{IsSoundTree}
-use Rattle.decomp_tree.specs.Refined.{Refines, AllRefine}
-use Rattle.decomp_tree.specs.Shapes.{IsShapedAt}
+use Rattle.decomp_tree.specs.Laws.{ShapesAreTrees, ShapesAreSound}
+use Rattle.decomp_tree.specs.Refined.{is_undecided, Refines, AllRefine}
+use Rattle.decomp_tree.specs.Shapes.{IsShape, IsShapeOn}
 use Rattle.decomp_tree.specs.PivotedShapes.{IsDrawnWith, IsFound, IsShapeWith, all_lines, pivots_within}
 use Rattle.decomp_tree.specs.PivotedLaws.{PivotedShapesAreTrees, PivotedShapesAreSound, NoPivotsChangeNothing}
-use Rattle.decomp_tree.proofs.OnePivoted.{all_themselves}
 use Rattle.decomp_tree.proofs.FaultLines.{lines_themselves}
 use Rattle.decomp_tree.proofs.FoundTrees.{drawn_with_lines, drawn_with_within}
 use Rattle.decomp_tree.proofs.FoundSound.{drawn_with_sound}
 use Rattle.decomp_tree.proofs.Roots.{root_lines}
-use Rattle.decomp_tree.proofs.RefinedTrees.{RefinedNode, replaced, kept, refined_node}
+use Rattle.decomp_tree.proofs.OneTree.{due_here}
+use Rattle.decomp_tree.proofs.RefinedTrees.{RefinedNode, replaced, kept, refined_node, refined_kept}
+use Rattle.decomp_tree.proofs.Settled.{only_undecided_is}
+use Rattle.decomp_tree.proofs.ShapeTrees.{HasCounts, HaveCounts, counts, shape_from, shape_moved}
 
 pub all_are_lines : (m : Matrix) → IsMatrix m → AreLines m (all_lines m)
 all_are_lines m is = root_lines m is (all_lines m) refl refl
@@ -58,7 +60,7 @@ pivoted_shapes_are_trees limit pivots m tree is d =
       root_rows = subst (λ (lines : LineSet). AllBelow (height m) lines.rows) (sym same) are.rows.in_range;
       root_columns = subst (λ (lines : LineSet). AllBelow m.width lines.columns) (sym same) are.columns.in_range;
       nodes = subst (λ (lines : LineSet). IsTreeWithin lines 2001 tree) (sym same)
-          (drawn_with_within limit (pivots_within m pivots) 1 m (all_lines m) tree (all_lines m) 2001 d (lines_themselves m (all_lines m) are) (few_levels m pivots is));
+          (drawn_with_within limit (pivots_within m pivots) 1 m (all_lines m) tree (all_lines m) 2001 is d are (lines_themselves m (all_lines m) are) (few_levels m pivots is));
     }
 
 pub pivoted_shapes_are_sound : PivotedShapesAreSound
@@ -86,25 +88,53 @@ module _ (limit state : ℕ) (m : Matrix) where
   no_children (MoreTrees tree trees) e = cc
 
   mutual
-    refined_is_same : (parent : LineSet) (levels : ℕ) (shape tree : Tree) → IsTreeWithin parent levels shape → Refines (IsFound limit 0 state m) shape tree → tree ≡ shape
-    refined_is_same parent levels (Branch lines finding trees) tree within r =
-        go (refined_node (IsFound limit 0 state m) lines finding trees tree r) (λ below all. each_is_same lines (levels - 1) trees below within.4 all)
+    refined_is_same : (shape tree : Tree) → HasCounts shape → Refines (IsFound limit 0 state m) shape tree → tree ≡ shape
+    refined_is_same (Branch lines finding trees) tree counted r = go (refined_node (IsFound limit 0 state m) lines finding trees tree r) (λ below all. each_is_same trees below counted.1 all)
       where
         go : RefinedNode (IsFound limit 0 state m) lines finding trees tree → ((below : Trees) → AllRefine (IsFound limit 0 state m) trees below → below ≡ trees) → tree ≡ Branch lines finding trees
         go (replaced e is) each =
-            let none : trees ≡ NoTrees = no_children trees (subst (λ f. HasChildren f (count_trees trees)) e within.3) in
+            let none : trees ≡ NoTrees = no_children trees (subst (λ f. HasChildren f (count_trees trees)) e counted.0) in
             is ∙ ap₂ (λ (f : Finding) (ts : Trees). Branch lines f ts) (sym e) (sym none)
         go (kept e below is all) each = is ∙ ap (λ (ts : Trees). Branch lines finding ts) (each below all)
 
-    each_is_same : (parent : LineSet) (levels : ℕ) (trees below : Trees) → AreTreesWithin parent levels trees → AllRefine (IsFound limit 0 state m) trees below → below ≡ trees
-    each_is_same parent levels NoTrees below within e = e
-    each_is_same parent levels (MoreTrees tree trees) below within (first, rest, e, r, all) =
-        e ∙ ap₂ (λ (t : Tree) (ts : Trees). MoreTrees t ts) (refined_is_same parent levels tree first within.0 r) (each_is_same parent levels trees rest within.1 all)
+    each_is_same : (trees below : Trees) → HaveCounts trees → AllRefine (IsFound limit 0 state m) trees below → below ≡ trees
+    each_is_same NoTrees below counted e = e
+    each_is_same (MoreTrees tree trees) below counted (first, rest, e, r, all) =
+        e ∙ ap₂ (λ (t : Tree) (ts : Trees). MoreTrees t ts) (refined_is_same tree first counted.0 r) (each_is_same trees rest counted.1 all)
+
+  mutual
+    refines_itself : (shape : Tree) → HasCounts shape → Refines (IsFound limit 0 state m) shape shape
+    refines_itself (Branch lines finding trees) counted = go (is_undecided finding) refl (each_refines trees counted.1)
+      where
+        go : (b : Bool) → is_undecided finding ≡ b → AllRefine (IsFound limit 0 state m) trees trees → Refines (IsFound limit 0 state m) (Branch lines finding trees) (Branch lines finding trees)
+        go true e all =
+            let is = only_undecided_is finding e in
+            let none : trees ≡ NoTrees = no_children trees (subst (λ f. HasChildren f (count_trees trees)) is counted.0) in
+            subst (λ f. Refines (IsFound limit 0 state m) (Branch lines f trees) (Branch lines f trees)) (sym is) (ap (λ (ts : Trees). Branch lines Undecided ts) none)
+        go false e all = refined_kept (IsFound limit 0 state m) lines finding trees trees e all
+
+    each_refines : (trees : Trees) → HaveCounts trees → AllRefine (IsFound limit 0 state m) trees trees
+    each_refines NoTrees counted = refl
+    each_refines (MoreTrees tree trees) counted = (tree, trees, refl, refines_itself tree counted.0, each_refines trees counted.1)
 
 pub no_pivots_change_nothing : NoPivotsChangeNothing
-no_pivots_change_nothing limit m tree d =
-    let all = all_lines m in
-    let shape = d.drawn.shaped [] (AllLines (height m) m.width) (refl, refl) in
-    let within = d.drawn.within all (suc (size_of all)) (all_themselves m) (omega arith) in
-    let found : Refines (IsFound limit 0 1 m) d.shape tree = subst (λ pivots. Refines (IsFound limit pivots 1 m) d.shape tree) (none_of (2000 - (height m + m.width))) d.refines in
-    subst (λ t. AllByRecursion (IsShapedAt limit m) (places_from [] [] (AllLines (height m) m.width) t)) (sym (refined_is_same limit 1 m all (suc (size_of all)) d.shape tree within found)) shape
+no_pivots_change_nothing limit m tree = (plain, pivoted)
+  where
+    plain : IsShapeWith limit 0 m tree → IsShape limit m tree
+    plain d =
+        let found : Refines (IsFound limit 0 1 m) d.shape tree = subst (λ pivots. Refines (IsFound limit pivots 1 m) d.shape tree) (none_of (2000 - (height m + m.width))) d.refines in
+        let same = refined_is_same limit 1 m d.shape tree (counts limit m [] [] (These (all_lines m)) d.shape d.drawn) found in
+        shape_moved limit m [] (AllLines (height m) m.width) (all_lines m) tree (refl, refl) (subst (IsShapeOn limit m (all_lines m)) (sym same) d.drawn)
+
+    pivoted : IsShape limit m tree → IsShapeWith limit 0 m tree
+    pivoted shape = record {
+      shape = tree;
+      drawn = shape_from limit m (AllLines (height m) m.width) (all_lines m) tree (due_here limit m [] [] (AllLines (height m) m.width) tree shape) shape;
+      refines = subst (λ pivots. Refines (IsFound limit pivots 1 m) tree tree) (sym (none_of (2000 - (height m + m.width)))) (refines_itself limit 1 m tree (counts limit m [] [] (AllLines (height m) m.width) tree shape));
+    }
+
+pub shapes_are_trees : ShapesAreTrees
+shapes_are_trees limit m tree is shape = pivoted_shapes_are_trees limit 0 m tree is ((no_pivots_change_nothing limit m tree).1 shape)
+
+pub shapes_are_sound : ShapesAreSound
+shapes_are_sound limit few m is tree shape = pivoted_shapes_are_sound limit 0 m tree few is ((no_pivots_change_nothing limit m tree).1 shape)

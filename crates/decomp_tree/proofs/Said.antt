@@ -159,7 +159,7 @@ module _ (limit : ℕ) (m : Matrix) (is : IsMatrix m) (lines : LineSet) (are : A
       let e = none.0 in
       omega (arith, l, e)
 
-  seen_cycle : (fault : LineSet) → IsCycleFault (part m lines) fault.rows fault.columns → IsSaid limit m lines (Cycle (set_in lines fault)) []
+  pub seen_cycle : (fault : LineSet) → IsCycleFault (part m lines) fault.rows fault.columns → IsSaid limit m lines (Cycle (set_in lines fault)) []
   seen_cycle fault says = record {
     case = HasFault;
     applies = (says.row, says.first_column, says.last_column, says.path, says.fault);
@@ -238,10 +238,10 @@ module _ (limit : ℕ) (m : Matrix) (is : IsMatrix m) (lines : LineSet) (are : A
     fits = λ trees e. tt;
   }
 
-  pub seen_violator : (fault : LineSet) → limit ≤ 24 → HasNoneBefore limit (part m lines) 10 → HasNoCycleFault (entry (part m lines)) → min (height (part m lines)) (length lines.columns) ≤ limit
+  pub seen_violator : (fault : LineSet) → HasNoneBefore limit (part m lines) 10 → HasNoCycleFault (entry (part m lines)) → min (height (part m lines)) (length lines.columns) ≤ limit
       → IsLeastViolator (part m lines) fault.rows fault.columns → IsSaid limit m lines (Violator (set_in lines fault)) []
-  seen_violator fault few none no_fault short says =
-      let w = least_violator limit few m is lines are fault.rows fault.columns says in
+  seen_violator fault none no_fault short says =
+      let w = least_violator 0 (omega arith) m is lines are fault.rows fault.columns says in
       record {
         case = IsShort;
         applies = short;
@@ -258,8 +258,8 @@ module _ (limit : ℕ) (m : Matrix) (is : IsMatrix m) (lines : LineSet) (are : A
         fits = λ trees e. named fault.rows fault.columns w.0 w.1;
       }
 
-  pub placed_violator : (fault : LineSet) → limit ≤ 24 → IsLeastViolator (part m lines) fault.rows fault.columns → IsPlacedSet lines fault
-  placed_violator fault few says = let w = least_violator limit few m is lines are fault.rows fault.columns says in placed fault.rows fault.columns w.0 w.1
+  pub placed_violator : (fault : LineSet) → IsLeastViolator (part m lines) fault.rows fault.columns → IsPlacedSet lines fault
+  placed_violator fault says = let w = least_violator 0 (omega arith) m is lines are fault.rows fault.columns says in placed fault.rows fault.columns w.0 w.1
 
   pub seen_enumerated : HasNoneBefore limit (part m lines) 10 → HasNoCycleFault (entry (part m lines)) → min (height (part m lines)) (length lines.columns) ≤ limit → HasNoViolator (part m lines) → IsSaid limit m lines Enumerated []
   seen_enumerated none no_fault short says = record {

@@ -1,5 +1,5 @@
 -- What a node says of a separation.
-use Rattle.std.proofs.Common.{◌<◌, ◌≤◌, ℕ, Bool, true, false, [], ◌∷◌, length, refl, subst}
+use Rattle.std.proofs.Common.{◌<◌, ℕ, Bool, true, false, [], ◌∷◌, length, refl, subst, arith}
 use Rattle.std.proofs.lemmas.Bool.{true≢false}
 use Rattle.cmr_base.specs.declared.line_set.LineSet.{LineSet}
 use Rattle.cmr_base.specs.declared.separation.Connector.{Connector}
@@ -23,7 +23,7 @@ use Rattle.decomp_tree.proofs.Kept.{named_contained, named_lines, children_two, 
 use Rattle.decomp_tree.proofs.Said.{placed}
 use Rattle.decomp_tree.proofs.ShapeRules.{short_two, keeps_three}
 
-module _ (limit : ℕ) (few : limit ≤ 24) (m : Matrix) (is : IsMatrix m) (lines : LineSet) (are : AreLines m lines) where
+module _ (limit : ℕ) (m : Matrix) (is : IsMatrix m) (lines : LineSet) (are : AreLines m lines) where
   row_low : (row : ℕ) → row < height (part m lines) → row < length lines.rows
   row_low row l = subst (λ k. row < k) (height_in m lines) l
 
@@ -42,7 +42,7 @@ module _ (limit : ℕ) (few : limit ≤ 24) (m : Matrix) (is : IsMatrix m) (line
 
     pub said_two : HasNoneBefore limit (part m lines) 8 → IsSaid limit m lines (TwoSum (two_in lines two)) (two_one lines (two_in lines two) ∷ two_two lines (two_in lines two) ∷ [])
     said_two none =
-        let children = children_two lines are.rows.rising are.columns.rising (two_in lines two) (short_two limit few m is lines are two found) in
+        let children = children_two lines are.rows.rising are.columns.rising (two_in lines two) (short_two 0 (omega arith) m is lines are two found) in
         record {
           case = IsTwoSum;
           applies = (two.row, two.column, listed two.side.rows two.side.columns, found.separates);
@@ -87,7 +87,7 @@ module _ (limit : ℕ) (few : limit ≤ 24) (m : Matrix) (is : IsMatrix m) (line
 
     pub said_three : HasNoneBefore limit (part m lines) 9 → HasNoCycleFault (entry (part m lines)) → IsSaid limit m lines (ThreeSum (three_in lines t)) (three_one lines (three_in lines t) ∷ three_two lines (three_in lines t) ∷ [])
     said_three none no_fault =
-        let keeps = keeps_three limit few m is lines are t no_fault found in
+        let keeps = keeps_three 0 (omega arith) m is lines are t no_fault found in
         let children = children_three lines are.rows.rising are.columns.rising (three_in lines t) keeps.short in
         record {
           case = IsThreeSum;

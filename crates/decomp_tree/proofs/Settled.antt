@@ -12,15 +12,15 @@ use Rattle.tree_type.specs.DecompositionTrees.{Finding, Empty, Cycle, Reduced, O
 use Rattle.tree_type.proofs.Forests.{count_list, count_of}
 use Rattle.decomp_tree.specs.declared.drafts.Draft.{Draft}
 use Rattle.decomp_tree.specs.declared.drafts.Front.{Front}
-use Rattle.decomp_tree.specs.Shapes.{HasFault, case_number}
-use Rattle.decomp_tree.specs.Seen.{HasNoneAmong, AreFewer, IsNamedFault, IsSaid, is_unsearched, IsDrawn, AreDrawn}
+use Rattle.decomp_tree.specs.Shapes.{HasFault, case_number, IsShapeOn}
+use Rattle.decomp_tree.specs.Seen.{HasNoneAmong, AreFewer, IsNamedFault, IsSaid, is_unsearched}
 use Rattle.decomp_tree.specs.Refined.{is_undecided, AllRefine}
 use Rattle.decomp_tree.specs.PivotedShapes.{IsBehind, IsFound, IsDrawnWith}
 use Rattle.decomp_tree.specs.Fronts.{IsFrontOf}
 use Rattle.decomp_tree.specs.Sketches.{sketches_from, sketch_of, front_in, is_free_in, drafts_in, lines_of_sketch, IsDrafted, AreDrafted, HasNoLateFault}
 use Rattle.decomp_tree.proofs.Children.{has_children}
 use Rattle.decomp_tree.proofs.DraftLemmas.{lines_are, parts_of}
-use Rattle.decomp_tree.proofs.Drawn.{drawn as drawn_node, drawn_more}
+use Rattle.decomp_tree.proofs.Drawn.{AreDrawn, drawn as drawn_node, drawn_more}
 use Rattle.decomp_tree.proofs.RefinedTrees.{count_refined, refined_kept, refined_more}
 use Rattle.decomp_tree.proofs.Said.{seen_fault}
 
@@ -28,7 +28,7 @@ use Rattle.decomp_tree.proofs.Said.{seen_fault}
 abbrev pub AreSettled : ℕ → ℕ → ℕ → Matrix → List LineSet → List Tree → Type 0
 AreSettled limit pivots state m children trees = (shapes : List Tree) × AreDrawn limit m children shapes × AllRefine (IsFound limit pivots state m) (trees_from shapes) (trees_from trees)
 
-only_undecided_is : (finding : Finding) → is_undecided finding ≡ true → finding ≡ Undecided
+pub only_undecided_is : (finding : Finding) → is_undecided finding ≡ true → finding ≡ Undecided
 only_undecided_is Undecided e = refl
 only_undecided_is Empty e = cc
 only_undecided_is (Cycle fault) e = cc
@@ -81,7 +81,7 @@ module _ (limit : ℕ) (m : Matrix) where
 
   -- a node without late cycle fault
   node_drawn : (front : Front) → IsFrontOf limit m front.lines front → HasNoLateFault m front.lines (finding_shown front.finding) → (trees : List Tree) → AreDrawn limit m front.children trees
-      → IsDrawn limit m front.lines (Branch front.lines (finding_shown front.finding) (trees_from trees))
+      → IsShapeOn limit m front.lines (Branch front.lines (finding_shown front.finding) (trees_from trees))
   node_drawn front is late trees children = drawn_node limit m front.lines (finding_shown front.finding) front.children trees is.said (λ l. go (is_unsearched (finding_shown front.finding)) refl l) children
     where
       go : (b : Bool) → is_unsearched (finding_shown front.finding) ≡ b → case_number HasFault < case_number is.said.case → HasNoCycleFault (entry (part m front.lines))
@@ -89,7 +89,7 @@ module _ (limit : ℕ) (m : Matrix) where
       go false e l = is.said.searched e l
 
   -- a node with a late cycle fault
-  fault_drawn : (lines fault : LineSet) → IsMatrix m → AreLines m lines → IsNamedFault m lines fault → IsDrawn limit m lines (Branch lines (Cycle fault) NoTrees)
+  fault_drawn : (lines fault : LineSet) → IsMatrix m → AreLines m lines → IsNamedFault m lines fault → IsShapeOn limit m lines (Branch lines (Cycle fault) NoTrees)
   fault_drawn lines fault is are found =
       let said = seen_fault limit m is lines are fault found in
       drawn_node limit m lines (Cycle fault) [] [] said (said.searched refl) tt

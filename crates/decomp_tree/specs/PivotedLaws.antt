@@ -1,5 +1,5 @@
 -- Laws of decompositions that make pivots where nothing else decides.
-use Rattle.std.specs.Prelude.{◌≡◌, ◌≤◌, ℕ, Some}
+use Rattle.std.specs.Prelude.{◌≡◌, ◌≤◌, ◌↔◌, ℕ, Some}
 use Rattle.cmr_base.specs.declared.limits.TheConstants.{MAX_LINES}
 use Rattle.cmr_base.specs.declared.line_set.LineSet.{LineSet}
 use Rattle.cmr_base.specs.Matrix.{Matrix, height, IsMatrix}
@@ -25,9 +25,9 @@ abbrev pub OnePivotedShape : Type 0
 OnePivotedShape =
     (limit pivots : ℕ) (m : Matrix) (tree other : Tree) → IsShapeWith limit pivots m tree → IsShapeWith limit pivots m other → plain_tree tree ≡ plain_tree other
 
--- where no pivot may be made they are the decompositions that make none
+-- where no pivot may be made they are the decompositions that make none, and no others
 abbrev pub NoPivotsChangeNothing : Type 0
-NoPivotsChangeNothing = (limit : ℕ) (m : Matrix) (tree : Tree) → IsShapeWith limit 0 m tree → IsShape limit m tree
+NoPivotsChangeNothing = (limit : ℕ) (m : Matrix) (tree : Tree) → IsShapeWith limit 0 m tree ↔ IsShape limit m tree
 
 -- the lines that they leave open come to the last case, as where no pivot is made
 abbrev pub OpenLinesAreLeft : Type 0

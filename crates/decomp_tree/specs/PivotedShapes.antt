@@ -14,7 +14,7 @@ use Rattle.tree_type.specs.declared.finding.Finding.TheVariants as held
 use Rattle.tree_type.specs.DecompositionTrees.{Tree, Branch, NoTrees, Undecided, Violator, Pivoted, one_tree}
 use Rattle.tree_type.specs.Verdicts.{Verdict, Yes, No, Open, verdict_of}
 use Rattle.decomp_tree.specs.Refined.{Refines}
-use Rattle.decomp_tree.specs.Seen.{IsDrawn}
+use Rattle.decomp_tree.specs.Shapes.{IsShapeOn}
 
 abbrev pub undecided : LineSet → Tree
 undecided lines = Branch lines Undecided NoTrees
@@ -60,14 +60,14 @@ abbrev pub IsFound : ℕ → ℕ → ℕ → Matrix → LineSet → Tree → Typ
 IsFound limit zero state m lines tree = tree ≡ undecided lines
 IsFound limit (suc pivots) state m lines tree =
     IsFoundAt
-    (λ next after found. (shape : Tree) × IsDrawn limit after lines shape
+    (λ next after found. (shape : Tree) × IsShapeOn limit after lines shape
     × Refines (IsFound limit pivots next after) shape found)
     m lines (drawn_place m lines state) tree
 
 -- the decomposition of the submatrix on some lines, with what is found by pivots in the places of its undecided nodes
 pub record IsDrawnWith (limit pivots state : ℕ) (m : Matrix) (lines : LineSet) (tree : Tree) : Type 0 where
   pub shape : Tree
-  pub drawn : IsDrawn limit m lines shape
+  pub drawn : IsShapeOn limit m lines shape
   pub refines : Refines (IsFound limit pivots state m) shape tree
 
 -- so many pivots that no node stands deeper than 2,000, also where each line is a level

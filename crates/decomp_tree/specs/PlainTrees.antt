@@ -1,8 +1,7 @@
 -- Trees without what their networks say.
 use Rattle.std.specs.Prelude.{◌≡◌, ℕ, []}
 use Rattle.cmr_base.specs.declared.network.Network as net
-use Rattle.cmr_base.specs.Matrix.{Matrix, height}
-use Rattle.tree_type.specs.Invariant.{IsTreeFor}
+use Rattle.cmr_base.specs.Matrix.{Matrix}
 use Rattle.decomp_tree.specs.Shapes.{IsShape}
 use Rattle.tree_type.specs.DecompositionTrees.{Finding, Network, Conetwork, Tree, Trees, Branch, NoTrees, MoreTrees}
 
@@ -25,4 +24,4 @@ abbrev mutual
 
 -- two decompositions of a matrix differ at most in what their networks say
 abbrev pub OneShape : Type 0
-OneShape = (limit : ℕ) (m : Matrix) (tree other : Tree) → IsTreeFor (height m) m.width tree → IsTreeFor (height m) m.width other → IsShape limit m tree → IsShape limit m other → plain_tree tree ≡ plain_tree other
+OneShape = (limit : ℕ) (m : Matrix) (tree other : Tree) → IsShape limit m tree → IsShape limit m other → plain_tree tree ≡ plain_tree other

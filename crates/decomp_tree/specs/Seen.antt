@@ -1,4 +1,4 @@
--- What is seen at a node, and the tree that is drawn of some lines.
+-- What is seen at a node.
 use Rattle.std.specs.Prelude.{◌≡◌, ◌<◌, Bool, true, false, ℕ, suc, List, [], ◌∷◌, length, map, Contains}
 use Rattle.std.specs.List.{AllByRecursion}
 use Rattle.cmr_base.specs.declared.line.Line.{Line}
@@ -10,12 +10,12 @@ use Rattle.cmr_base.specs.LineSets.{AllBelow}
 use Rattle.cmr_base.specs.CyclePlaces.{HasNoCycleFault, IsCycleFault}
 use Rattle.cmr_base.specs.Violator.{IsViolator}
 use Rattle.tree_type.specs.Findings.{finding_shown}
-use Rattle.tree_type.specs.DecompositionTrees.{Finding, Cycle, Reduced, OneSum, Network, Conetwork, TwoSum, Violator, Undecided, Tree, Trees, Branch, NoTrees, MoreTrees, count_trees, lines_at_root}
-use Rattle.tree_type.specs.Invariant.{AreLinesOf, size_of, FitsLines, HasChildren, IsTreeWithin}
-use Rattle.tree_type.specs.Places.{Due, due_child, places_from}
+use Rattle.tree_type.specs.DecompositionTrees.{Finding, Cycle, Reduced, OneSum, Network, Conetwork, TwoSum, Violator, Undecided, Trees, count_trees}
+use Rattle.tree_type.specs.Invariant.{AreLinesOf, size_of, FitsLines, HasChildren}
+use Rattle.tree_type.specs.Places.{due_child}
 use Rattle.tree_type.specs.Soundness.{part, HasItsLines}
 use Rattle.decomp_tree.specs.declared.seen.Seen.{Seen}
-use Rattle.decomp_tree.specs.Shapes.{Case, HasFault, case_number, Applies, NodeSays, finding_in, set_in, HasParts, IsShapedAt}
+use Rattle.decomp_tree.specs.Shapes.{Case, HasFault, case_number, Applies, NodeSays, finding_in, set_in, HasParts}
 
 -- Places of some lines: the lines of the submatrix on them.
 
@@ -94,25 +94,3 @@ pub record IsSaid (limit : ℕ) (m : Matrix) (lines : LineSet) (finding : Findin
 -- what is seen of these lines
 abbrev pub IsSeen : ℕ → Matrix → LineSet → Seen → Type 0
 IsSeen limit m lines seen = IsSaid limit m lines (finding_shown seen.finding) seen.children
-
-abbrev mutual
-  -- each child has fewer lines than its parent
-  pub IsFalling : Tree → Type 0
-  IsFalling (Branch lines finding trees) = AreFalling lines trees
-
-  pub AreFalling : LineSet → Trees → Type 0
-  AreFalling lines NoTrees = Unit {0}
-  AreFalling lines (MoreTrees tree trees) = AreFewer lines (lines_at_root tree) × IsFalling tree × AreFalling lines trees
-
--- the tree is the shape of the submatrix on these lines, with at most as many levels as lines and one more
-pub record IsDrawn (limit : ℕ) (m : Matrix) (lines : LineSet) (tree : Tree) : Type 0 where
-  pub lines_are : lines_at_root tree ≡ lines
-  pub shaped : (path : List ℕ) (due : Due) → HasItsLines due lines → AllByRecursion (IsShapedAt limit m) (places_from path [] due tree)
-  pub within : (parent : LineSet) (levels : ℕ) → AreLinesOf lines parent → size_of lines < levels → IsTreeWithin parent levels tree
-  pub falling : IsFalling tree
-
--- the trees of some sets of lines
-abbrev pub AreDrawn : ℕ → Matrix → List LineSet → List Tree → Type 0
-AreDrawn limit m [] [] = Unit {0}
-AreDrawn limit m (lines ∷ children) (tree ∷ trees) = IsDrawn limit m lines tree × AreDrawn limit m children trees
-AreDrawn limit m children trees = ⊥

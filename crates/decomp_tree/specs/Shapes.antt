@@ -20,7 +20,8 @@ use Rattle.cmr_base.specs.Components.{AreComponents}
 use Rattle.two_sep.specs.FirstSeeds.{IsFirstTwoSeparation}
 use Rattle.three_sep.specs.ThreeSeparations.{IsFirstThreeSeparation}
 use Rattle.tree_type.specs.DecompositionTrees.{Finding, Empty, Cycle, Reduced, OneSum, Network, Conetwork, R10, TwoSum, ThreeSum, Enumerated, Violator, Undecided, Tree}
-use Rattle.tree_type.specs.Places.{Place, places}
+use Rattle.tree_type.specs.Invariant.{HasChildren}
+use Rattle.tree_type.specs.Places.{These, Place, places_from, places}
 use Rattle.tree_type.specs.Soundness.{part, HasItsLines}
 
 -- the cases, in their order
@@ -127,7 +128,8 @@ abbrev pub HasParts : Finding → List LineSet → List LineSet → Type 0
 HasParts OneSum children parts = children ≡ parts
 HasParts finding children parts = Unit {0}
 
--- a node has the lines that it is to have, stands below no pivot, and says what the first case that applies to its submatrix has it say
+-- A node has the lines that it is to have, stands below no pivot, says what the first case that applies to its submatrix has it say, and
+-- has as many children as it is to have.
 pub record IsShapedAt (limit : ℕ) (m : Matrix) (place : Place) : Type 0 where
   pub lines : HasItsLines place.due place.lines
   pub unpivoted : place.pivots ≡ []
@@ -138,7 +140,12 @@ pub record IsShapedAt (limit : ℕ) (m : Matrix) (place : Place) : Type 0 where
   pub says : NodeSays case (part m place.lines) found parts
   pub finding : place.finding ≡ finding_in place.lines found
   pub children : HasParts place.finding place.children (map (set_in place.lines) parts)
+  pub count : HasChildren place.finding (length place.children)
 
 -- the tree is a decomposition of the matrix, with this budget
 abbrev pub IsShape : ℕ → Matrix → Tree → Type 0
 IsShape limit m tree = AllByRecursion (IsShapedAt limit m) (places (height m) m.width tree)
+
+-- the tree is a decomposition of the submatrix on these lines, with the line numbers of the whole matrix
+abbrev pub IsShapeOn : ℕ → Matrix → LineSet → Tree → Type 0
+IsShapeOn limit m lines tree = AllByRecursion (IsShapedAt limit m) (places_from [] [] (These lines) tree)

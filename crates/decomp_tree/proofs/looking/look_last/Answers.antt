@@ -15,7 +15,7 @@ named_set-requires g c =
     let found = c.in-Found.found in
     let searched = subst (λ (n : ℕ). HasSearched c.args.node.now.submatrix.now n c.in_ok-found.field-0) c.lines.ensures c.in_ok-found.ensures in
     let has = subst (λ (k : Matrix). (shorter_side k ≤ limit) × IsLeastViolator k found.rows found.columns) c.args.node.now.submatrix_is (subst (HasSearched c.args.node.now.submatrix.now limit) c.in-Found.is searched) in
-    placed_violator limit c.args.node.now.matrix.now c.args.node.now.shape c.args.node.now.lines.now c.args.node.now.are_lines found c.args.node.now.limits.few_lines has.1
+    placed_violator limit c.args.node.now.matrix.now c.args.node.now.shape c.args.node.now.lines.now c.args.node.now.are_lines found has.1
 
 pub returns : goal.returns
 returns g c =
@@ -28,7 +28,7 @@ returns g c =
           let found = w.in-Found.found in
           let has = subst (λ (k : Matrix). (shorter_side k ≤ limit) × IsLeastViolator k found.rows found.columns) c.args.node.now.submatrix_is (subst (HasSearched c.args.node.now.submatrix.now limit) w.in-Found.is searched) in
           subst (λ (f : Finding). IsSeen limit m lines (record { finding = f; children = [] })) (sym (w.finding-is ∙ ap held.Violator w.in_ok-named_set-in-Found.ensures))
-          (seen_violator limit m c.args.node.now.shape lines c.args.node.now.are_lines found c.args.node.now.limits.few_lines c.requires.none c.requires.faultless has.0 has.1)
+          (seen_violator limit m c.args.node.now.shape lines c.args.node.now.are_lines found c.requires.none c.requires.faultless has.0 has.1)
       | in-Clean w ↦
           let has = subst (λ (k : Matrix). (shorter_side k ≤ limit) × HasNoViolator k) c.args.node.now.submatrix_is (subst (HasSearched c.args.node.now.submatrix.now limit) w.in-Clean.is searched) in
           subst (λ (f : Finding). IsSeen limit m lines (record { finding = f; children = [] })) (sym w.finding-is)

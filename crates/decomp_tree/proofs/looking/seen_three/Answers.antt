@@ -11,7 +11,7 @@ use Rattle.decomp_tree.proofs.looking.seen_three.Goals as goal
 
 pub named_three-requires-clause-side : goal.named_three-requires-clause-side
 named_three-requires-clause-side c =
-    three_side_placed c.args.node.now.limits.lines c.args.node.now.limits.few_lines c.args.node.now.matrix.now c.args.node.now.shape c.args.node.now.lines.now c.args.node.now.are_lines c.args.found.now c.requires.found
+    three_side_placed c.args.node.now.limits.lines c.args.node.now.matrix.now c.args.node.now.shape c.args.node.now.lines.now c.args.node.now.are_lines c.args.found.now c.requires.found
 
 pub returns : goal.returns
 returns c =
@@ -20,4 +20,4 @@ returns c =
     (subst (λ (other : LineSet). IsSaid c.args.node.now.limits.lines c.args.node.now.matrix.now lines (ThreeSum c.in_ok-three.three) (c.in_ok-one.one ∷ other ∷ [])) (sym c.in_ok-other.ensures)
     (subst (λ (one : LineSet). IsSaid c.args.node.now.limits.lines c.args.node.now.matrix.now lines (ThreeSum c.in_ok-three.three) (one ∷ three_two lines c.in_ok-three.three ∷ [])) (sym c.in_ok-one.ensures)
     (subst (λ (three : Three). IsSaid c.args.node.now.limits.lines c.args.node.now.matrix.now lines (ThreeSum three) (three_one lines three ∷ three_two lines three ∷ [])) (sym c.in_ok-three.ensures)
-    (said_three c.args.node.now.limits.lines c.args.node.now.limits.few_lines c.args.node.now.matrix.now c.args.node.now.shape lines c.args.node.now.are_lines c.args.found.now c.requires.found c.requires.none c.requires.faultless))))
+    (said_three c.args.node.now.limits.lines c.args.node.now.matrix.now c.args.node.now.shape lines c.args.node.now.are_lines c.args.found.now c.requires.found c.requires.none c.requires.faultless))))

@@ -11,7 +11,7 @@ use Rattle.decomp_tree.proofs.looking.seen_two.Goals as goal
 
 pub named_two-requires-clause-side : goal.named_two-requires-clause-side
 named_two-requires-clause-side c =
-    two_side_placed c.args.node.now.limits.lines c.args.node.now.limits.few_lines c.args.node.now.matrix.now c.args.node.now.shape c.args.node.now.lines.now c.args.node.now.are_lines c.args.found.now c.requires.found
+    two_side_placed c.args.node.now.limits.lines c.args.node.now.matrix.now c.args.node.now.shape c.args.node.now.lines.now c.args.node.now.are_lines c.args.found.now c.requires.found
 
 pub returns : goal.returns
 returns c =
@@ -20,4 +20,4 @@ returns c =
     (subst (λ (other : LineSet). IsSaid c.args.node.now.limits.lines c.args.node.now.matrix.now lines (TwoSum c.in_ok-two.two) (c.in_ok-one.one ∷ other ∷ [])) (sym c.in_ok-other.ensures)
     (subst (λ (one : LineSet). IsSaid c.args.node.now.limits.lines c.args.node.now.matrix.now lines (TwoSum c.in_ok-two.two) (one ∷ two_two lines c.in_ok-two.two ∷ [])) (sym c.in_ok-one.ensures)
     (subst (λ (two : Two). IsSaid c.args.node.now.limits.lines c.args.node.now.matrix.now lines (TwoSum two) (two_one lines two ∷ two_two lines two ∷ [])) (sym c.in_ok-two.ensures)
-    (said_two c.args.node.now.limits.lines c.args.node.now.limits.few_lines c.args.node.now.matrix.now c.args.node.now.shape lines c.args.node.now.are_lines c.args.found.now c.requires.found c.requires.none))))
+    (said_two c.args.node.now.limits.lines c.args.node.now.matrix.now c.args.node.now.shape lines c.args.node.now.are_lines c.args.found.now c.requires.found c.requires.none))))

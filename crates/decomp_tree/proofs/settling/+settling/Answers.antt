@@ -116,7 +116,7 @@ pub find-taken_back-requires-clause-fault : goal.find-taken_back-requires-clause
 find-taken_back-requires-clause-fault g t c =
     let made = subst (IsPivotedPart c.args.matrix.now c.args.lines.now c.in-Some.drawn.place) c.in-Ternary.is c.in_ok-fault.ensures in
     let are = lines_made c.args.limits.lines c.args.pivots c.args.state c.args.matrix.now c.args.lines.now c.in-Some.drawn (sym c.drawn_place.ensures.drawn ∙ c.in-Some.is) c.in-Ternary.after made c.requires.lines in
-    fault_drawn c.args.limits.lines (c.args.pivots - 1) c.in-Some.drawn.state c.in-Ternary.after c.args.lines.now (tree_of c.in_ok-tree-in-Ternary.tree) are c.in_ok-tree-in-Ternary.ensures
+    fault_drawn c.args.limits.lines (c.args.pivots - 1) c.in-Some.drawn.state c.in-Ternary.after c.args.lines.now (tree_of c.in_ok-tree-in-Ternary.tree) made.shape are c.in_ok-tree-in-Ternary.ensures
 
 pub find-returns-in-Violated : goal.find-returns-in-Violated
 find-returns-in-Violated g t c =
