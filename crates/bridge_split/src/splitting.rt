@@ -19,7 +19,7 @@ use std::alloc::Global;
 pub enum SplitCase {
     /// No column has three nonzeros.
     Star,
-    /// This column is the first with three nonzeros or more, and no row splits the others: the support is not graphic.
+    /// This column is the first with three nonzeros or more, and no row splits the others.
     AllConnected(u32),
     /// The first row that splits, the parts of the other rows by their least rows, and a side, 0 or 1, for each part,
     /// so that parts of one side agree.
@@ -29,7 +29,7 @@ pub enum SplitCase {
         sides: SideList,
     },
     /// The first row that splits, and an odd closed list of parts, each of which is another one than the next and
-    /// disagrees with it: the support is not graphic.
+    /// disagrees with it.
     OddCycle {
         row: u32,
         parts: PartList,

@@ -1,6 +1,7 @@
 -- Laws of matrices without cycle fault, and of chains.
 use Rattle.std.specs.Prelude.{◌≡◌, ◌≢◌, ◌↔◌, ◌*ℤ◌, ℕ, pos, List}
 use Rattle.cmr_base.specs.Matrix.{Matrix, entry, IsMatrix, IsTernary}
+use Rattle.cmr_base.specs.Signing.{IsTotallyUnimodular}
 use Rattle.cmr_base.specs.Supports.{HaveOneSupport}
 use Rattle.cmr_base.specs.Violator.{HasNoViolator}
 use Rattle.cmr_base.specs.CyclePlaces.{HasNoCycleFault}
@@ -28,6 +29,10 @@ ChainsMeanViolators = (a m signs : Matrix) (chain : SizedChain) → IsBinary a �
 -- so none is totally unimodular
 abbrev pub ChainsRefuteRegularity : Type 0
 ChainsRefuteRegularity = (a signs : Matrix) (chain : SizedChain) → IsBinary a → IsTernary a → IsSoundChain a chain signs → ¬ (IsRegular a)
+
+-- if some matrix of its support is totally unimodular, a matrix is totally unimodular if and only if it has no cycle fault
+abbrev pub CycleFaultsDecide : Type 0
+CycleFaultsDecide = (m n : Matrix) → IsTernary m → IsTernary n → HaveOneSupport m n → IsTotallyUnimodular n → IsTotallyUnimodular m ↔ HasNoCycleFault (entry m)
 
 -- Camion's signing of a 0/1 matrix decides: the matrix is regular exactly where the signed one has no violator
 abbrev pub SigningsDecideRegularity : Type 0

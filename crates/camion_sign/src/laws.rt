@@ -1,6 +1,6 @@
 //! Laws over the definitions alone, for all matrices with entries -1, 0 and 1. Each is a function that does
 //! nothing: its contract is the law.
-ghost use Rattle.camion_sign.specs.Laws.{FullSquaresHaveProductOne, ChainsMeanViolators, ChainsRefuteRegularity, SigningsDecideRegularity};
+ghost use Rattle.camion_sign.specs.Laws.{FullSquaresHaveProductOne, ChainsMeanViolators, ChainsRefuteRegularity, CycleFaultsDecide, SigningsDecideRegularity};
 
 /// In a matrix without cycle fault each 2 by 2 submatrix of nonzeros has the product +1, so it has the
 /// determinant 0.
@@ -15,7 +15,13 @@ pub fn chain_means()
     ensures regular { ChainsRefuteRegularity }
 {}
 
-/// Camion's signing of a 0/1 matrix is totally unimodular exactly where some signing is.
+/// If some matrix of its support is totally unimodular, a matrix without cycle fault is, too. A totally unimodular matrix
+/// never has a cycle fault.
+pub fn faults_decide()
+    ensures { CycleFaultsDecide }
+{}
+
+/// Camion's signing of a 0/1 matrix is totally unimodular if and only if some signing is.
 pub fn signing_decides()
     ensures { SigningsDecideRegularity }
 {}

@@ -42,8 +42,8 @@ impl SignedColumns {
         self.passed.fill(0);
     }
 
-    /// Whether some signed column makes a cycle place with a column. The columns before it in their order that do not are
-    /// not asked again.
+    /// Whether some signed column makes a cycle place with a column. A signed column that is known to make none with it is
+    /// not compared again.
     pub fn force(
         &mut self,
         matrix: &ListedMatrix<'_>,

@@ -38,8 +38,8 @@ pub struct ForcedOne {
 /// that are signed, it gets the sign with which the place's cycle has a sum divisible by 4, and else 1. Of the places of a
 /// row the one with the least column without sign comes first, and of these the one with the least signed column. The
 /// signed matrix may still have a cycle fault. The time is one walk through the rows before for each first column of a
-/// place that is asked for, mostly few in a row, and at most one more for each one; besides, at most the square of a row's
-/// ones for each row, and for each forced one the square of the length of its cycle.
+/// place that is asked for, mostly few in a row, and at most one more for each one; besides, at most the product of its ones
+/// and the columns for each row, and for each forced one the square of the length of its cycle.
 pub fn sign(alloc: Global, matrix: &Matrix) -> Result<(Matrix, SignStepList), Memory>
     ensures signed { IfOk result (λ signed. IsSignedBy matrix.now signed.1 signed.0) }
     // Of a 0/1 matrix, the steps are those of a chain.

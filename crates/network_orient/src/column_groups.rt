@@ -80,8 +80,8 @@ impl ColumnGroups {
             self.old.signs.items }
         ensures groups { AreSignedGroups from.now to.now (row + 1) self.new.groups.items
             self.new.signs.items }
-        ensures coarser { IsCoarser from.now.width self.old.groups.items self.new.groups.items }
-        ensures kept { KeepsProducts from.now.width self.old.groups.items self.old.signs.items
+        ensures coarser { IsCoarser from.now.width self.old.groups.items self.new.groups.items
+            × KeepsProducts from.now.width self.old.groups.items self.old.signs.items
             self.new.signs.items }
         ensures joined { group_of self.new.groups.items other
             ≡ group_of self.new.groups.items first }

@@ -52,7 +52,7 @@ pub record IsFirstPair (m : Matrix) (c : Corners) (d : Connectors) : Type 0 wher
 
 -- ---- columns that may be in side two
 
--- each set with row i that two connectors of the form close has the column
+-- for any two connectors of the form, each closed set with row i has the column
 abbrev pub IsHeldBy : Matrix → ℕ → ℕ → Type 0
 IsHeldBy m i column = (d : Connectors) (S : Lines) → IsClosedIn m zeros (spread_at (entry m) d.first d.second) S → S (Row i) ≡ true → S (Column column) ≡ true
 

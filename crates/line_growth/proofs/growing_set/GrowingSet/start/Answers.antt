@@ -1,4 +1,4 @@
-use Rattle.std.proofs.Common.{◌-◌, refl, arith}
+use Rattle.std.proofs.Common.{refl, arith}
 use Rattle.line_growth.proofs.SetSteps.{all_taken, none_taken, one_taken}
 use Rattle.line_growth.proofs.growing_set.GrowingSet.start.Goals as goal
 

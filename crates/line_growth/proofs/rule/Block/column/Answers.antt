@@ -1,5 +1,5 @@
 use Rattle.std.proofs.Common.{◌∙◌, ap, sym, subst, refl, arith, pos}
-use Rattle.cmr_base.specs.Matrix.{entry, height, transposed}
+use Rattle.cmr_base.specs.Matrix.{entry, transposed}
 use Rattle.cmr_base.proofs.Parts.{height-transposed}
 use Rattle.line_growth.specs.declared.rule.Block.{Block}
 use Rattle.line_growth.specs.Rules.{IsBlockOf, block_entry}

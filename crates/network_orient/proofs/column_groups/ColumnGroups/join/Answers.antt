@@ -30,13 +30,12 @@ returns-then-gone-stays-clause-groups c =
 
 pub returns-then-gone-stays-clause-coarser : goal.returns-then-gone-stays-clause-coarser
 returns-then-gone-stays-clause-coarser c =
-    merged_coarser c.args.from.now.width c.args.self.now.groups.items c.merge.new.self.groups.items c.args.self.now.signs.items c.merge.new.self.signs.items _ _ _ (sym c.requires.groups.group_each) c.merge.ensures
-
-pub returns-then-gone-stays-clause-kept : goal.returns-then-gone-stays-clause-kept
-returns-then-gone-stays-clause-kept c =
-    merged_products c.args.from.now.width c.args.self.now.groups.items c.merge.new.self.groups.items c.args.self.now.signs.items c.merge.new.self.signs.items _ _ _ (sym c.requires.groups.group_each)
-    (kept_sign c.product.result (c.product.ensures.sign (kept_sign c.row_sign_by-by_first.result c.row_sign_by-by_first.ensures.sign) (kept_sign c.row_sign_by-by_other.result c.row_sign_by-by_other.ensures.sign)))
-    c.merge.ensures
+    let groups = c.args.self.now.groups.items in
+    let merged = c.merge.new.self in
+    let factor_sign = kept_sign c.product.result (c.product.ensures.sign (kept_sign c.row_sign_by-by_first.result c.row_sign_by-by_first.ensures.sign) (kept_sign c.row_sign_by-by_other.result c.row_sign_by-by_other.ensures.sign)) in (
+      merged_coarser c.args.from.now.width groups merged.groups.items c.args.self.now.signs.items merged.signs.items _ _ _ (sym c.requires.groups.group_each) c.merge.ensures,
+      merged_products c.args.from.now.width groups merged.groups.items c.args.self.now.signs.items merged.signs.items _ _ _ (sym c.requires.groups.group_each) factor_sign c.merge.ensures,
+    )
 
 pub row_sign_by-by_first-requires-clause-groups : goal.row_sign_by-by_first-requires-clause-groups
 row_sign_by-by_first-requires-clause-groups c =

@@ -23,7 +23,7 @@ loop-column-preserved c =
       few = omega arith;
       joined = one_joined m n c.args.row c.in-Some.first old signs next now.groups.items c.join.new.self.groups.items now.signs.items c.join.new.self.signs.items found.1 c.in-Some.ensures.0
           (zeros_joined m n c.args.row c.in-Some.first old signs c.loop-column.place next now.groups.items now.signs.items c.loop-column.invariant.joined (λ column past l. zero_is (entry m c.args.row column) (found.3 column past l)))
-          c.join.ensures.groups c.join.ensures.coarser c.join.ensures.kept c.join.ensures.joined;
+          c.join.ensures.groups c.join.ensures.coarser.0 c.join.ensures.coarser.1 c.join.ensures.joined;
     }
 
 pub returns-clause-joined : goal.returns-clause-joined
