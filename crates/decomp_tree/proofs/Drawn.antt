@@ -7,7 +7,7 @@ use Rattle.cmr_base.specs.Matrix.{Matrix, entry}
 use Rattle.cmr_base.proofs.Lists.{all-append}
 use Rattle.tree_type.specs.DecompositionTrees.{Finding, Tree, Branch, trees_from, count_trees}
 use Rattle.tree_type.specs.Invariant.{HasChildren}
-use Rattle.tree_type.specs.Places.{These, places_from, places_below, due_child, lines_of_each}
+use Rattle.tree_type.specs.Places.{places_from, places_below, due_child, lines_of_each}
 use Rattle.tree_type.specs.Soundness.{part}
 use Rattle.decomp_tree.specs.Shapes.{case_number, IsShapedAt, IsShapeOn, HasParts, set_in}
 use Rattle.decomp_tree.specs.Seen.{AreDue, IsSaid}

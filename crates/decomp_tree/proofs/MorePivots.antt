@@ -1,5 +1,5 @@
 -- More pivots lose no answer: a yes stays with its tree, and a no stays a no.
-use Rattle.std.proofs.Common.{◌≡◌, ◌≤◌, ◌+◌, ◌-◌, ◌∙◌, inl, inr, ℕ, zero, suc, min, List, [], Option, Some, None, refl, ap, ap₂, sym, subst, arith}
+use Rattle.std.proofs.Common.{◌≡◌, ◌≤◌, ◌+◌, ◌-◌, ◌∙◌, inl, inr, ℕ, zero, suc, min, Option, Some, None, refl, ap, ap₂, sym, subst, arith}
 use Rattle.std.specs.Option.{option_or}
 use Rattle.std.proofs.Math.Nat.{min-le_left, min-le_right, le-min}
 use Rattle.cmr_base.specs.declared.line_set.LineSet.{LineSet}
@@ -11,13 +11,13 @@ use Rattle.pivots.specs.declared.drawn.DrawnPlace.{DrawnPlace}
 use Rattle.pivots.specs.declared.place.PlacedPivot.{PlacedPivot}
 use Rattle.pivots.specs.DrawnPlaces.{drawn_place}
 use Rattle.pivots.specs.PivotedParts.{pivoted_part}
-use Rattle.tree_type.specs.DecompositionTrees.{Finding, Violator, Undecided, Pivoted, Tree, Trees, Branch, NoTrees, MoreTrees}
-use Rattle.tree_type.specs.Verdicts.{Verdict, Yes, No, Open, first_in, first_among, fault_at, open_at, verdict_from, verdict_of}
+use Rattle.tree_type.specs.DecompositionTrees.{Finding, Violator, Tree, Trees, Branch, NoTrees, MoreTrees}
+use Rattle.tree_type.specs.Verdicts.{Yes, first_in, first_among, fault_at, open_at, verdict_from, verdict_of}
 use Rattle.decomp_tree.specs.PlainTrees.{plain_finding, plain_tree, plain_trees}
 use Rattle.decomp_tree.specs.Shapes.{IsShapeOn}
 use Rattle.decomp_tree.specs.Refined.{is_undecided, Refines, AllRefine}
 use Rattle.decomp_tree.specs.PivotedLaws.{KeepsAnswer, MorePivotsKeepAnswers}
-use Rattle.decomp_tree.specs.PivotedShapes.{AreBefore, IsToldBeforePivot, IsFoundAt, IsFound, IsDrawnWith, all_lines, pivots_within, undecided}
+use Rattle.decomp_tree.specs.PivotedShapes.{IsToldBeforePivot, IsFoundAt, IsFound, IsDrawnWith, all_lines, pivots_within, undecided}
 use Rattle.decomp_tree.proofs.OnePivoted.{shape_same, told_same, undecided_same}
 use Rattle.decomp_tree.proofs.PlainVerdicts.{fault_plain, verdict_plain}
 use Rattle.decomp_tree.proofs.RefinedTrees.{RefinedNode, replaced, kept, refined_node}

@@ -1,19 +1,17 @@
 -- There is one decomposition of a matrix with what pivots find, but for what its networks say.
-use Rattle.std.proofs.Common.{◌≡◌, ◌<◌, ◌-◌, ◌∙◌, inl, inr, ℕ, zero, suc, List, [], Contains, Option, Some, None, refl, ap, ap₂, sym, subst, arith}
+use Rattle.std.proofs.Common.{◌≡◌, ◌<◌, ◌-◌, ◌∙◌, inl, inr, ℕ, zero, suc, List, [], Contains, Option, Some, None, refl, ap, ap₂, sym, subst}
 use Rattle.cmr_base.specs.declared.line_set.LineSet.{LineSet}
-use Rattle.cmr_base.specs.Matrix.{Matrix, height, entry, IsEntry}
+use Rattle.cmr_base.specs.Matrix.{Matrix, entry, IsEntry}
 use Rattle.ghouila.specs.PivotLaws.{pivot_entry}
 use Rattle.cmr_base.specs.Members.{IsIn}
 use Rattle.cmr_base.proofs.Booleans.{neither, same_or_not, true_is_false}
 use Rattle.cmr_base.proofs.Places.{rising_same}
-use Rattle.cmr_base.proofs.RemovedLines.{first_lines_increase}
 use Rattle.pivots.specs.declared.drawn.DrawnPlace.{DrawnPlace}
 use Rattle.pivots.specs.declared.place.PlacedPivot.{PlacedPivot}
 use Rattle.pivots.specs.DrawnPlaces.{drawn_place}
 use Rattle.pivots.specs.PivotedParts.{ShowsFirstTwoIn, pivoted_part}
 use Rattle.pivots.specs.ChosenLines.{two_lines}
 use Rattle.tree_type.specs.DecompositionTrees.{Finding, Empty, Cycle, Reduced, OneSum, Network, Conetwork, R10, TwoSum, ThreeSum, Enumerated, Violator, Undecided, Pivoted, Tree, Trees, Branch, NoTrees, MoreTrees}
-use Rattle.tree_type.specs.Invariant.{AreLinesOf}
 use Rattle.tree_type.specs.Places.{These}
 use Rattle.tree_type.specs.Verdicts.{Verdict, Yes, No, Open, verdict_of}
 use Rattle.decomp_tree.specs.PlainTrees.{plain_finding, plain_tree, plain_trees}

@@ -1,7 +1,7 @@
-use Rattle.std.proofs.Common.{◌≡◌, ◌∙◌, ℤ, pos, neg_ℤ, ◌-ℤ◌, ◌*ℤ◌, sym, ap, subst, rules, arith, w8, to_z, of_z, SFits}
+use Rattle.std.proofs.Common.{◌∙◌, ℤ, neg_ℤ, ◌-ℤ◌, ◌*ℤ◌, sym, ap, rules, w8, SFits}
 use mathlib.Core.Path.{ap₂}
-use Rattle.std.proofs.lemmas.Int.{ints, to_z-of_z}
-use Rattle.cmr_base.specs.Matrix.{entry, IsEntry}
+use Rattle.std.proofs.lemmas.Int.{to_z-of_z}
+use Rattle.cmr_base.specs.Matrix.{entry}
 use Rattle.cmr_base.proofs.SmallEntries.{entry_as_byte}
 use Rattle.ghouila.specs.PivotLaws.{pivot_entry}
 use Rattle.ghouila.proofs.PivotBytes.{entry_byte, negated_byte}
