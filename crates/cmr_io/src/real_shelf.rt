@@ -1,4 +1,4 @@
-//! The files of the system and standard input: the edge, of whose bytes nothing is claimed.
+//! The files of the system and standard input. Which file a name opens, and what the system's calls do, is not claimed.
 
 ghost use Rattle.std.specs.Prelude.{◌≡◌, ◌≤◌, ◌<◌, [], false, true, None, IsTrue, IfOk, OnErr, is_err, is_ok, length, take};
 ghost use Rattle.std.specs.Io.KnownBytes.{Appends, Consumes, IsAtEnd, Keeps};
@@ -28,8 +28,9 @@ pub enum Open<F, I> {
 }
 
 /// The files of the system. The name `-`, where it is read, is standard input. Contracts see whether a
-/// read or a write is begun, what is left of what is read and what the file that is written has got where the runtime lets that
-/// be known, which reads were begun and what they gave, whether the last call failed, and the count of faults.
+/// read or a write is begun; what is left of what is read, and what the file that is written has got, if the runtime lets that
+/// be known; which reads and writes were begun, and what they gave and took; whether the last call failed; and the count of
+/// faults.
 #[derive(Drop)]
 pub struct RealShelf<'a, R: Files + Input> {
     rt: &'a R,
