@@ -13,7 +13,7 @@ use Rattle.cmr_io.specs.Reads.{Reads}
 use Rattle.cmr_front.specs.Outcome.{stop_report}
 use Rattle.cmr_front.specs.Status.{failure_status}
 use Rattle.cmr_front.specs.Stopped.{StopsInputs, StopsOnText, StopsReading}
-use Rattle.cmr_front.specs.Unread.{AreRead, AreWithin, Between, between, GivesTooMuch, HaveBegun, HaveGiven, IsNameAt}
+use Rattle.cmr_front.specs.Unread.{AreRead, AreWithin, Between, between, HaveBegun, HaveGiven, IsNameAt}
 use Rattle.cmr_front.specs.declared.status.Failure.TheVariants as failures
 
 -- what a place beyond the last one holds
