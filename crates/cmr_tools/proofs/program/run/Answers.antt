@@ -5,6 +5,7 @@ use Rattle.cmr_front.specs.Words.ReadWords.{Gives}
 use Rattle.cmr_front.specs.Ending.{devices, standing}
 use Rattle.cmr_front.specs.Run.{IsNothing}
 use Rattle.cmr_front.proofs.Endings.{IsLawfulOrder, refused_memory, runs}
+use Rattle.cmr_tools.proofs.Obeyed.{read_of}
 use Rattle.cmr_tools.proofs.program.run.Goals as goal
 
 pub returns-in-Err-Refused-clause-runs : goal.returns-in-Err-Refused-clause-runs
@@ -52,3 +53,9 @@ returns-in-Err-Memory-clause-runs g c =
     refused_memory (ordered (order c.args.words.now)) (standing S O E shelf out err) (devices S O E shelf out err)
     (devices S O E done.new.shelf done.new.out done.new.err) done.result
     done.ensures.reads done.ensures.carried_out
+
+pub returns-in-Err-Refused-clause-read : goal.returns-in-Err-Refused-clause-read
+returns-in-Err-Refused-clause-read g c = read_of (order c.args.words.now) _ _ _ _ (returns-in-Err-Refused-clause-runs g c)
+
+pub returns-in-Err-Memory-clause-read : goal.returns-in-Err-Memory-clause-read
+returns-in-Err-Memory-clause-read g c = read_of (order c.args.words.now) _ _ _ _ (returns-in-Err-Memory-clause-runs g c)
