@@ -1,24 +1,26 @@
 -- How a run ends, from what was decided and how that was carried out.
-use Rattle.std.proofs.Common.{◌≡◌, ◌≤◌, ◌⊎◌, ◌∙◌, ℕ, Bool, IsTrue, List, length, Result, Ok, Err, ap, sym, subst, inl, inr, arith, refl}
+use Rattle.std.proofs.Common.{◌≡◌, ◌≤◌, ◌⊎◌, ◌∙◌, ℕ, Bool, IsTrue, List, [], length, Result, Ok, Err, ap, sym, subst, inl, inr, arith, refl}
 use Rattle.std.proofs.lemmas.List.{append-nil}
 use Rattle.std.specs.Prelude.{IfErr, OnErr}
 use Rattle.std.specs.Result.{IsErr, IsErrAnd}
 use Rattle.cmr_io.specs.Causes.{Rose}
+use Rattle.cmr_io.specs.Log.{Log}
 use Rattle.cmr_io.specs.Reads.{Reads}
 use Rattle.cmr_front.specs.declared.outcome.Outcome.{Outcome}
 use Rattle.cmr_front.specs.declared.outcome.Stop.{Stop}
 use Rattle.cmr_front.specs.declared.outcome.Stop.TheVariants as stops
 use Rattle.cmr_front.specs.declared.status.Answer.{Answer}
 use Rattle.cmr_front.specs.declared.status.Failure.TheVariants as failures
-use Rattle.cmr_front.specs.Ending.{Devices, Standing, Telling, devices, telling_of, IsReadyFor, IsCarriedOut, delivered, unwritten, cut_short, CarriesOut}
+use Rattle.cmr_front.specs.Ending.{Devices, Standing, Telling, telling_of, IsDelivered, IsReadyFor, IsCarriedOut, delivered, unwritten, cut_short, CarriesOut}
 use Rattle.cmr_front.specs.Inputs.{Given, given, not_there, too_much, texts}
 use Rattle.cmr_front.specs.Outcome.{ended_report, outcome_report, bad_words, too_long, bad_text, stop_report}
-use Rattle.cmr_front.specs.Report.{Held, Report}
+use Rattle.cmr_front.specs.Report.{Held, Report, after_files}
 use Rattle.cmr_front.specs.Run.{Ordered, nothing, work, IsNothing, IsReportOf, Reports, ReportsGiven, ReportsSome, Means, MeansRead, BeginsInOrder, gives_answer, names_fault, names_too_long, CannotRead, HasEnded, reported, unread, no_memory, Ends, Runs}
 use Rattle.cmr_front.specs.Status.{IsStatus, answer_status, failure_status}
 use Rattle.cmr_front.specs.Tool.{IsDecision, IsLawful, Tool}
 use Rattle.cmr_front.specs.Stopped.{StopsInputs}
 use Rattle.cmr_front.specs.Unread.{AreAllRead, Between, between, HaveGiven}
+use Rattle.cmr_front.proofs.Inputs.{begun_with}
 use Rattle.cmr_front.proofs.Statuses.{answered_or_failed, status_of}
 
 pub pointwise : {A B : Type 0} (f g : A → B) → ((x : A) → f x ≡ g x) → f ≡ g
@@ -42,15 +44,20 @@ abbrev pub IsLawfulOrder : Ordered → Type 0
 IsLawfulOrder nothing = Unit {0}
 IsLawfulOrder (work tool) = IsLawful tool
 
--- What was decided, from what the names held before to after the files were read.
-pub record IsDecided (ordered : Ordered) (standing : Standing) (held read : Held) (reads : Between) (failed : Bool) (before mid : ℕ) (ended : Result Outcome Stop) : Type 0 where
+-- what stands on the devices once the files were read
+abbrev pub after_reading : Devices → Held → Reads → Log → Bool → ℕ → Devices
+after_reading before held reads writes failed faults = record before { held = held; reads = reads; writes = writes; failed = failed; shelf_faults = faults }
+
+-- What was decided, from what stood on the devices before to what stands there once the files were read.
+pub record IsDecided (ordered : Ordered) (standing : Standing) (before mid : Devices) (ended : Result Outcome Stop) : Type 0 where
   pub lawful : IsLawfulOrder ordered
   pub told : IsTrue standing.shelf_is_calm → IsTrue standing.shelf_tells
-  pub ends : Ends ordered held standing.shelf_tells standing.shelf_is_calm reads failed ended
-  pub content : (name : List ℕ) → read name ≡ held name
-  pub later : before ≤ mid
+  pub ends : Ends ordered before.held standing.shelf_tells standing.shelf_is_calm (between before.reads mid.reads) mid.failed ended
+  pub content : (name : List ℕ) → mid.held name ≡ before.held name
+  pub writes : mid.writes ≡ before.writes
+  pub later : before.shelf_faults ≤ mid.shelf_faults
   pub refused : IsNothing ordered → (ended ≡ Err stops.BadWords) ⊎ (ended ≡ Err stops.Memory)
-  pub cause : (ended_report ended).status ≡ failure_status failures.Device → Rose before mid
+  pub cause : (ended_report ended).status ≡ failure_status failures.Device → Rose before.shelf_faults mid.shelf_faults
 
 -- How that was carried out.
 pub record WasCarriedOut (standing : Standing) (ended : Result Outcome Stop) (mid after : Devices) (status : ℕ) : Type 0 where
@@ -83,36 +90,86 @@ ends_after ordered held tells calm before mid after failed still (Err stop) same
     subst (λ reads. Ends ordered held tells calm (between before reads) still (Err stop)) (sym same)
     (subst (λ last. Ends ordered held tells calm (between before mid) last (Err stop)) (sym stays) ends)
 
--- seen from before a read, which changes nothing that the names hold
-seen_from : (ended : Result Outcome Stop) (tells : Telling) (held read : Held) (reads mid_reads : Reads) (failed mid_failed : Bool) (before mid : ℕ) (output : List ℕ) (out : ℕ) (error : List ℕ) (err : ℕ) (after : Devices) (status : ℕ)
-    → read ≡ held → before ≤ mid
-    → CarriesOut ended tells (devices read mid_reads mid_failed mid output out error err) after status → CarriesOut ended tells (devices held reads failed before output out error err) after status
-seen_from ended tells held read reads mid_reads failed mid_failed before mid output out error err after status same h done =
-    later ended after status (subst (λ f. CarriesOut ended tells (devices f mid_reads mid_failed mid output out error err) after status) same done)
+-- seen from before a read, which changes nothing that the names hold, and begins no write
+seen_from : (ended : Result Outcome Stop) (tells : Telling) (before : Devices) (held : Held) (reads : Reads) (writes : Log) (failed : Bool) (faults : ℕ) (after : Devices) (status : ℕ)
+    → held ≡ before.held → writes ≡ before.writes → before.shelf_faults ≤ faults
+    → CarriesOut ended tells (after_reading before held reads writes failed faults) after status → CarriesOut ended tells before after status
+seen_from ended tells before held reads writes failed faults after status same as_before h done =
+    later ended after status
+    (subst (λ log. CarriesOut ended tells (after_reading before before.held reads log failed faults) after status) as_before
+    (subst (λ f. CarriesOut ended tells (after_reading before f reads writes failed faults) after status) same done))
   where
-    carried : (report : Report) (after : Devices) (status : ℕ)
-        → IsCarriedOut report tells (devices held mid_reads mid_failed mid output out error err) after status → IsCarriedOut report tells (devices held reads failed before output out error err) after status
-    carried report after status (delivered e d) = delivered e (record { files = d.files; output = d.output; error = d.error })
+    seen : (report : Report) (after : Devices) → IsDelivered report tells (after_reading before before.held reads before.writes failed faults) after → IsDelivered report tells before after
+    seen report after d = record { files = d.files; writes = d.writes; output = d.output; output_taken = d.output_taken; error = d.error; error_taken = d.error_taken }
+
+    carried : (report : Report) (after : Devices) (status : ℕ) → IsCarriedOut report tells (after_reading before before.held reads before.writes failed faults) after status → IsCarriedOut report tells before after status
+    carried report after status (delivered e d) = delivered e (seen report after d)
     carried report after status (unwritten e u) = unwritten e (record {
       place = u.place;
       file = u.file;
       there = u.there;
       left = u.left;
+      writes = u.writes;
+      failed = u.failed;
       output = u.output;
+      output_taken = u.output_taken;
       error = u.error;
-      cause = rose_from before mid after.shelf_faults h u.cause;
+      error_taken = u.error_taken;
+      cause = rose_from before.shelf_faults faults after.shelf_faults h u.cause;
     })
-    carried report after status (cut_short e c) = cut_short e (record { files = c.files; output = c.output; error = c.error; cause = c.cause })
+    carried report after status (cut_short e c) = cut_short e (record {
+      files = c.files;
+      writes = c.writes;
+      output = c.output;
+      output_taken = c.output_taken;
+      error = c.error;
+      error_taken = c.error_taken;
+      cause = c.cause;
+    })
 
-    later : (ended : Result Outcome Stop) (after : Devices) (status : ℕ)
-        → CarriesOut ended tells (devices held mid_reads mid_failed mid output out error err) after status → CarriesOut ended tells (devices held reads failed before output out error err) after status
+    later : (ended : Result Outcome Stop) (after : Devices) (status : ℕ) → CarriesOut ended tells (after_reading before before.held reads before.writes failed faults) after status → CarriesOut ended tells before after status
     later (Ok outcome) after status done = carried (outcome_report outcome) after status done
-    later (Err stop) after status done = (done.0, record { files = done.1.files; output = done.1.output; error = done.1.error })
+    later (Err stop) after status done = (done.0, seen (stop_report stop) after done.1)
+
+-- the statuses with which no write is begun
+abbrev WritesNothing : ℕ → Type 0
+WritesNothing status = (status ≡ failure_status failures.Words) ⊎ (status ≡ failure_status failures.Text) ⊎ (status ≡ failure_status failures.Memory)
+
+none_by_answer : (status : ℕ) (answer : Answer) → status ≡ answer_status answer → WritesNothing status → ⊥
+none_by_answer status answer e (inl words) = answered_or_failed status answer failures.Words e words
+none_by_answer status answer e (inr (inl text)) = answered_or_failed status answer failures.Text e text
+none_by_answer status answer e (inr (inr memory)) = answered_or_failed status answer failures.Memory e memory
+
+none_by_device : (status : ℕ) → status ≡ failure_status failures.Device → WritesNothing status → ⊥
+none_by_device status e (inl words) = omega (arith, e, words)
+none_by_device status e (inr (inl text)) = omega (arith, e, text)
+none_by_device status e (inr (inr memory)) = omega (arith, e, memory)
+
+-- a stop writes no file
+no_files : (stop : Stop) → (stop_report stop).files ≡ []
+no_files stops.BadWords = refl
+no_files (stops.CannotRead name) = refl
+no_files (stops.TooLong name) = refl
+no_files (stops.BadText name kind place) = refl
+no_files stops.Memory = refl
+
+none_written : (ended : Result Outcome Stop) (tells : Telling) (before after : Devices) (status : ℕ) → CarriesOut ended tells before after status → WritesNothing status → after.writes ≡ before.writes
+none_written (Ok outcome) tells before after status (delivered e d) is = absurd (none_by_answer status outcome.answer e is)
+none_written (Ok outcome) tells before after status (unwritten e u) is = absurd (none_by_device status e is)
+none_written (Ok outcome) tells before after status (cut_short e c) is = absurd (none_by_device status e is)
+none_written (Err stop) tells before after status done is = done.1.writes ∙ ap (after_files before.writes) (no_files stop)
 
 -- no read is begun where the reads are as they were
 pub none_begun : (ordered : Ordered) (before after : Reads) → after ≡ before → BeginsInOrder ordered (between before after)
 none_begun nothing before after same = same
-none_begun (work tool) before after same = (0, ap (λ (reads : Reads). reads.names) same ∙ sym (append-nil before.names))
+none_begun (work tool) before after same = (
+  [],
+  record {
+    have_begun = ap (λ (reads : Reads). reads.names) same ∙ sym (append-nil before.names);
+    given = ap (λ (reads : Reads). reads.texts) same ∙ sym (append-nil before.texts);
+    nearly = tt;
+  },
+)
 
 -- memory is refused before a read is begun, whatever is ordered
 pub refused_memory : (ordered : Ordered) (standing : Standing) (before after : Devices) (status : ℕ) → after.reads ≡ before.reads
@@ -122,6 +179,7 @@ refused_memory ordered standing before after status same done = record {
   means = λ answer is. absurd (answered_or_failed status answer failures.Memory is done.0);
   complete = λ told report is. inr (inr done.0);
   ready = λ report is room. inr done.0;
+  none_written = λ is. done.1.writes;
   refused = λ none. inr done.0;
   refused_only = λ words. absurd (omega (arith, words, done.0));
   device = λ device. absurd (omega (arith, device, done.0));
@@ -205,49 +263,51 @@ means_ended_read ordered law held tells calm reads failed (Err (stops.BadText na
 means_ended_read ordered law held tells calm reads failed (Err (stops.CannotRead name)) ends answer is = absurd (answered_or_failed _ answer failures.Device is refl)
 means_ended_read ordered law held tells calm reads failed (Err stops.Memory) ends answer is = absurd (answered_or_failed _ answer failures.Memory is refl)
 
-pub runs : (ordered : Ordered) (standing : Standing) (held read : Held) (reads mid_reads : Reads) (failed mid_failed : Bool) (before mid : ℕ) (output : List ℕ) (out : ℕ) (error : List ℕ) (err : ℕ)
-    (ended : Result Outcome Stop) (after : Devices) (status : ℕ)
-    → IsDecided ordered standing held read (between reads mid_reads) mid_failed before mid ended → WasCarriedOut standing ended (devices read mid_reads mid_failed mid output out error err) after status
-    → Runs ordered standing (devices held reads failed before output out error err) after status
-runs ordered standing held read reads mid_reads failed mid_failed before mid output out error err ended after status decided carried = record {
-  ended =
-      has_ended ordered standing ended (devices held reads failed before output out error err) after status
-      (ends_after ordered held standing.shelf_tells standing.shelf_is_calm reads mid_reads after.reads mid_failed after.failed ended carried.reads carried.failed decided.ends)
-      (seen_from ended (telling_of standing) held read reads mid_reads failed mid_failed before mid output out error err after status (pointwise read held decided.content) decided.later carried.carried_out)
-      (λ device. rose_until before mid after.shelf_faults carried.later (decided.cause device));
-  means = λ answer is. elim carried.given [
-    | inl s ↦ subst (λ (last : Reads). MeansRead ordered (between reads last) answer) (sym carried.reads)
-        (means_ended_read ordered decided.lawful held standing.shelf_tells standing.shelf_is_calm (between reads mid_reads) mid_failed ended decided.ends answer (sym s ∙ is))
-    | inr cut ↦ absurd (answered_or_failed status answer failures.Device is cut.0)
-  ];
-  complete = λ told report is. elim (the_status ordered decided.lawful held standing.shelf_tells standing.shelf_is_calm (between reads mid_reads) mid_failed ended decided.ends told report is) [
-    | inl one ↦ elim carried.given [ inl s ↦ inl (s ∙ one.status) | inr cut ↦ inr (inl cut.0) ]
-    | inr other ↦ elim other [
-      | inl gone ↦ elim carried.given [ inl s ↦ inr (inl (s ∙ gone.0)) | inr cut ↦ inr (inl cut.0) ]
-      | inr memory ↦ elim carried.given [ inl s ↦ inr (inr (stop_status ended status carried.stopped stops.Memory memory)) | inr cut ↦ inr (inl cut.0) ]
-    ]
-  ];
-  ready = λ report is room. elim (the_status ordered decided.lawful held standing.shelf_tells standing.shelf_is_calm (between reads mid_reads) mid_failed ended decided.ends (decided.told (room report is).shelf) report is) [
-    | inl one ↦ inl (carried.ready (room (ended_report ended) one.reports) ∙ one.status)
-    | inr other ↦ elim other [
-      | inl gone ↦ absurd (gone.1 (room report is).shelf)
-      | inr memory ↦ inr (stop_status ended status carried.stopped stops.Memory memory)
-    ]
-  ];
-  refused = λ none. elim (decided.refused none) [
-    | inl words ↦ inl (stop_status ended status carried.stopped stops.BadWords words)
-    | inr memory ↦ inr (stop_status ended status carried.stopped stops.Memory memory)
-  ];
-  refused_only = λ words. elim carried.given [
-    | inl s ↦ refused_words ordered held standing.shelf_tells standing.shelf_is_calm (between reads mid_reads) mid_failed ended decided.ends (sym s ∙ words)
-    | inr cut ↦ absurd (omega (arith, cut.0))
-  ];
-  device = λ device. elim carried.given [
-    | inl s ↦ inl (rose_until before mid after.shelf_faults carried.later (decided.cause (sym s ∙ device)))
-    | inr cut ↦ elim cut.1 [ inl shelf ↦ inl (rose_from before mid after.shelf_faults decided.later shelf) | inr output' ↦ inr output' ]
-  ];
-  statuses = elim carried.given [ inl s ↦ subst IsStatus (sym s) (is_status ended) | inr cut ↦ inr (failures.Device, cut.0) ];
-}
+pub runs : (ordered : Ordered) (standing : Standing) (before : Devices) (held : Held) (reads : Reads) (writes : Log) (failed : Bool) (faults : ℕ) (ended : Result Outcome Stop) (after : Devices) (status : ℕ)
+    → IsDecided ordered standing before (after_reading before held reads writes failed faults) ended → WasCarriedOut standing ended (after_reading before held reads writes failed faults) after status
+    → Runs ordered standing before after status
+runs ordered standing before held reads writes failed faults ended after status decided carried =
+    let done = seen_from ended (telling_of standing) before held reads writes failed faults after status (pointwise held before.held decided.content) decided.writes decided.later carried.carried_out in
+    record {
+      ended =
+          has_ended ordered standing ended before after status
+          (ends_after ordered before.held standing.shelf_tells standing.shelf_is_calm before.reads reads after.reads failed after.failed ended carried.reads carried.failed decided.ends)
+          done
+          (λ device. rose_until before.shelf_faults faults after.shelf_faults carried.later (decided.cause device));
+      means = λ answer is. elim carried.given [
+        | inl s ↦ subst (λ (last : Reads). MeansRead ordered (between before.reads last) answer) (sym carried.reads)
+            (means_ended_read ordered decided.lawful before.held standing.shelf_tells standing.shelf_is_calm (between before.reads reads) failed ended decided.ends answer (sym s ∙ is))
+        | inr cut ↦ absurd (answered_or_failed status answer failures.Device is cut.0)
+      ];
+      complete = λ told report is. elim (the_status ordered decided.lawful before.held standing.shelf_tells standing.shelf_is_calm (between before.reads reads) failed ended decided.ends told report is) [
+        | inl one ↦ elim carried.given [ inl s ↦ inl (s ∙ one.status) | inr cut ↦ inr (inl cut.0) ]
+        | inr other ↦ elim other [
+          | inl gone ↦ elim carried.given [ inl s ↦ inr (inl (s ∙ gone.0)) | inr cut ↦ inr (inl cut.0) ]
+          | inr memory ↦ elim carried.given [ inl s ↦ inr (inr (stop_status ended status carried.stopped stops.Memory memory)) | inr cut ↦ inr (inl cut.0) ]
+        ]
+      ];
+      ready = λ report is room. elim (the_status ordered decided.lawful before.held standing.shelf_tells standing.shelf_is_calm (between before.reads reads) failed ended decided.ends (decided.told (room report is).shelf) report is) [
+        | inl one ↦ inl (carried.ready (room (ended_report ended) one.reports) ∙ one.status)
+        | inr other ↦ elim other [
+          | inl gone ↦ absurd (gone.1 (room report is).shelf)
+          | inr memory ↦ inr (stop_status ended status carried.stopped stops.Memory memory)
+        ]
+      ];
+      none_written = none_written ended (telling_of standing) before after status done;
+      refused = λ none. elim (decided.refused none) [
+        | inl words ↦ inl (stop_status ended status carried.stopped stops.BadWords words)
+        | inr memory ↦ inr (stop_status ended status carried.stopped stops.Memory memory)
+      ];
+      refused_only = λ words. elim carried.given [
+        | inl s ↦ refused_words ordered before.held standing.shelf_tells standing.shelf_is_calm (between before.reads reads) failed ended decided.ends (sym s ∙ words)
+        | inr cut ↦ absurd (omega (arith, cut.0))
+      ];
+      device = λ device. elim carried.given [
+        | inl s ↦ inl (rose_until before.shelf_faults faults after.shelf_faults carried.later (decided.cause (sym s ∙ device)))
+        | inr cut ↦ elim cut.1 [ inl shelf ↦ inl (rose_from before.shelf_faults faults after.shelf_faults decided.later shelf) | inr output' ↦ inr output' ]
+      ];
+      statuses = elim carried.given [ inl s ↦ subst IsStatus (sym s) (is_status ended) | inr cut ↦ inr (failures.Device, cut.0) ];
+    }
 
 -- ---- what an answer means
 
@@ -284,7 +344,7 @@ decided_ends tool held tells calm reads failed bytes (Err (stops.TooLong name)) 
 decided_ends tool held tells calm reads failed bytes (Err (stops.BadText name kind place)) count all read gave d =
     (names_fault name.now kind place refl bytes count d all gave, λ told. subst (λ g. ReportsGiven tool g (bad_text name.now kind place)) (sym (read told)) d)
 decided_ends tool held tells calm reads failed bytes (Err (stops.CannotRead name)) count all read gave d = absurd d
-decided_ends tool held tells calm reads failed bytes (Err stops.Memory) count all read gave d = (length tool.inputs, all.have_begun)
+decided_ends tool held tells calm reads failed bytes (Err stops.Memory) count all read gave d = (bytes, begun_with tool.inputs bytes (length tool.inputs) reads count all.have_begun gave)
 
 pub stopped_ends : (tool : Tool) (held : Held) (tells calm : Bool) (reads : Between) (failed : Bool) (stop : Stop) → StopsInputs tool.inputs held tells calm reads failed stop
     → Ends (work tool) held tells calm reads failed (Err stop)

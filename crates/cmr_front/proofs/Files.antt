@@ -7,11 +7,12 @@ use Rattle.std.proofs.lemmas.List.{map-append, take_more}
 use Rattle.std.proofs.lemmas.Option.{slice_get-get_or, slice_get-map}
 use Rattle.std.proofs.lemmas.Slice.Eq.{bytes_eq-Decides}
 use Rattle.std.proofs.lemmas.Bool.{false≢true}
+use Rattle.cmr_io.specs.Log.{Log, log_with}
 use Rattle.cmr_io.specs.Whole.{StaysOrHoldsFront}
 use Rattle.cmr_front.specs.declared.outcome.OutputFile.{OutputFile}
-use Rattle.cmr_front.specs.Report.{Held, File, with_file, with_files}
+use Rattle.cmr_front.specs.Report.{Held, File, after_files, with_file, with_files}
 use Rattle.cmr_front.specs.Outcome.{file_of}
-use Rattle.cmr_front.specs.Ending.{HasRooms, IsLeftAt}
+use Rattle.cmr_front.specs.Ending.{HasRooms, IsBegunLast, IsLeftAt}
 
 -- after a write of a file
 pub written : (old new : Held) (file : File) → new file.name ≡ Some file.bytes → ((other : List ℕ) → other ≢ file.name → new other ≡ old other) → (name : List ℕ) → new name ≡ with_file old file name
@@ -25,6 +26,23 @@ with_files-append : (held : Held) (files : List File) (file : File) → with_fil
 with_files-append held [] file = refl
 with_files-append held (f ∷ files) file = with_files-append (with_file held f) files file
 
+after_files-append : (writes : Log) (files : List File) (file : File) → after_files writes (files ++ file ∷ []) ≡ log_with (after_files writes files) file.name file.bytes
+after_files-append writes [] file = refl
+after_files-append writes (f ∷ files) file = after_files-append (log_with writes f.name f.bytes) files file
+
+-- the files before a place, and the one there
+files_on : (files : List OutputFile) (k : ℕ) (file : OutputFile) → k < length files → file ≡ get_or files k file → map file_of (take k files) ++ file_of file ∷ [] ≡ map file_of (take (k + 1) files)
+files_on files k file h is =
+    ap (λ f. map file_of (take k files) ++ file_of f ∷ []) is ∙ sym (ap (map file_of) (take_more files k file h) ∙ map-append file_of (take k files) (get_or files k file ∷ []))
+
+-- a write of a file more
+pub one_more_write : (start mid : Log) (files : List OutputFile) (k : ℕ) (file : OutputFile) → k < length files → file ≡ get_or files k file → mid ≡ after_files start (map file_of (take k files))
+    → log_with mid (file_of file).name (file_of file).bytes ≡ after_files start (map file_of (take (k + 1) files))
+one_more_write start mid files k file h is e =
+    ap (λ log. log_with log (file_of file).name (file_of file).bytes) e
+    ∙ sym (after_files-append start (map file_of (take k files)) (file_of file))
+    ∙ ap (after_files start) (files_on files k file h is)
+
 -- a file more
 pub one_more : (held mid : Held) (files : List OutputFile) (k : ℕ) (file : OutputFile) (name : List ℕ) → k < length files → file ≡ get_or files k file
     → mid name ≡ with_files held (map file_of (take k files)) name
@@ -32,7 +50,7 @@ pub one_more : (held mid : Held) (files : List OutputFile) (k : ℕ) (file : Out
 one_more held mid files k file name h is e =
     ap (λ o. cond (bytes_eq name (file_of file).name) (Some (file_of file).bytes) o) e
     ∙ ap (λ f. f name) (sym (with_files-append held (map file_of (take k files)) (file_of file)))
-    ∙ ap (λ fs. with_files held fs name) (ap (λ f. map file_of (take k files) ++ file_of f ∷ []) is ∙ sym (ap (map file_of) (take_more files k file h) ∙ map-append file_of (take k files) (get_or files k file ∷ [])))
+    ∙ ap (λ fs. with_files held fs name) (files_on files k file h is)
 
 take-map : (files : List OutputFile) (k : ℕ) → take k (map file_of files) ≡ map file_of (take k files)
 take-map files zero = refl
@@ -54,6 +72,12 @@ left_at held mid new files k file before others front =
       others = λ name other. others name other ∙ before name ∙ ap (λ fs. with_files held fs name) (sym same);
       here = subst (λ o. StaysOrHoldsFront o (new (file_of file).name) (file_of file).bytes) (before (file_of file).name ∙ ap (λ fs. with_files held fs (file_of file).name) (sym same)) front;
     }
+
+-- the write of the file at this place was begun behind those before it
+pub begun_last : (start mid new : Log) (files : List OutputFile) (k : ℕ) (file : OutputFile) → mid ≡ after_files start (map file_of (take k files))
+    → (count : ℕ) × (new ≡ log_with mid (file_of file).name (take count (file_of file).bytes)) → IsBegunLast (map file_of files) k (file_of file) start new
+begun_last start mid new files k file before begun =
+    (begun.0, begun.1 ∙ ap (λ log. log_with log (file_of file).name (take begun.0 (file_of file).bytes)) (before ∙ ap (after_files start) (sym (take-map files k))))
 
 room_of : (room : List ℕ → Option ℕ) (files : List OutputFile) (k : ℕ) (d : OutputFile) → k < length files → HasRooms room (map file_of files) → HasRooms room (file_of (get_or files k d) ∷ [])
 room_of room [] k d h rooms = absurd (omega arith)

@@ -1,6 +1,6 @@
 -- What reading some files one after another comes to.
 use Rattle.std.proofs.Common.{◌≡◌, ◌<◌, ◌≤◌, ◌+◌, ◌++◌, ◌∙◌, ℕ, zero, suc, Bool, IsTrue, List, [], ◌∷◌, length, map, take, slice_get, Some, get_or, ap, sym, subst, refl, arith, add-one}
-use Rattle.std.proofs.lemmas.List.{append_assoc, map-append}
+use Rattle.std.proofs.lemmas.List.{append_assoc, length-append, map-append}
 use Rattle.cmr_front.specs.declared.input.Input.{Input}
 use Rattle.cmr_front.specs.declared.input.InputKind.TheVariants.{MatrixText}
 use Rattle.cmr_front.specs.declared.input.Text.{Text}
@@ -13,7 +13,7 @@ use Rattle.cmr_io.specs.Reads.{Reads}
 use Rattle.cmr_front.specs.Outcome.{stop_report}
 use Rattle.cmr_front.specs.Status.{failure_status}
 use Rattle.cmr_front.specs.Stopped.{StopsInputs, StopsOnText, StopsReading}
-use Rattle.cmr_front.specs.Unread.{AreRead, AreWithin, Between, between, GivesTooMuch, HaveBegun, HaveGiven, IsNameAt}
+use Rattle.cmr_front.specs.Unread.{AreNearlyWithin, AreRead, AreWithinLimits, Between, between, HaveBegun, HaveBegunWith, HaveGiven, IsNameAt}
 use Rattle.cmr_front.specs.declared.status.Failure.TheVariants as failures
 
 -- what a place beyond the last one holds
@@ -117,13 +117,35 @@ one_more_begun before mid after inputs k h so_far more =
     ∙ ap (λ (names : List (List ℕ)). before.names ++ names) (one_name_more inputs k h ∙ ap (λ (n : ℕ). take n (names_of inputs)) (sym (add-one k)))
 
 -- one text more within the limit of its file
-within_more : (inputs : List Input) (k : ℕ) (bytes : List (List ℕ)) (text : List ℕ) → k < length inputs → length bytes ≡ k → AreWithin (map input_file inputs) bytes → length text ≤ most_bytes (file_at inputs k).kind
-    → AreWithin (map input_file inputs) (bytes ++ text ∷ [])
+within_more : (inputs : List Input) (k : ℕ) (bytes : List (List ℕ)) (text : List ℕ) → k < length inputs → length bytes ≡ k → AreWithinLimits (map input_file inputs) bytes → length text ≤ most_bytes (file_at inputs k).kind
+    → AreWithinLimits (map input_file inputs) (bytes ++ text ∷ [])
 within_more [] k bytes text h count within here = absurd (omega arith)
 within_more (input ∷ inputs) zero [] text h count within here = (here, tt)
 within_more (input ∷ inputs) zero (first ∷ bytes) text h count within here = absurd (omega arith)
 within_more (input ∷ inputs) (suc k) [] text h count within here = absurd (omega arith)
 within_more (input ∷ inputs) (suc k) (first ∷ bytes) text h count within here = (within.0, within_more inputs k bytes text (omega arith) (omega arith) within.1 here)
+
+-- one text more with at most one byte more than the limit of its file
+nearly_more : (inputs : List Input) (k : ℕ) (bytes : List (List ℕ)) (text : List ℕ) → k < length inputs → length bytes ≡ k → AreNearlyWithin (map input_file inputs) bytes → length text ≤ most_bytes (file_at inputs k).kind + 1
+    → AreNearlyWithin (map input_file inputs) (bytes ++ text ∷ [])
+nearly_more [] k bytes text h count within here = absurd (omega arith)
+nearly_more (input ∷ inputs) zero [] text h count within here = (here, tt)
+nearly_more (input ∷ inputs) zero (first ∷ bytes) text h count within here = absurd (omega arith)
+nearly_more (input ∷ inputs) (suc k) [] text h count within here = absurd (omega arith)
+nearly_more (input ∷ inputs) (suc k) (first ∷ bytes) text h count within here = (within.0, nearly_more inputs k bytes text (omega arith) (omega arith) within.1 here)
+
+pub nearly_within : (files : List InputFile) (bytes : List (List ℕ)) → AreWithinLimits files bytes → AreNearlyWithin files bytes
+nearly_within files [] within = tt
+nearly_within [] (text ∷ bytes) within = absurd within
+nearly_within (file ∷ files) (text ∷ bytes) within = let here = within.0 in (omega (arith, here), nearly_within files bytes within.1)
+
+-- the reads that were begun have given these texts
+pub begun_with : (files : List InputFile) (bytes : List (List ℕ)) (count : ℕ) (reads : Between) → length bytes ≡ count → HaveBegun files count reads → HaveGiven files bytes reads → HaveBegunWith files bytes reads
+begun_with files bytes count reads is begun gave = record {
+  have_begun = subst (λ (n : ℕ). HaveBegun files n reads) (sym is) begun;
+  given = gave.given;
+  nearly = nearly_within files bytes gave.within;
+}
 
 -- one read more has given its text
 pub one_more_given : (before mid after : Reads) (inputs : List Input) (k : ℕ) (bytes : List (List ℕ)) (text : List ℕ) → k < length inputs → length bytes ≡ k
@@ -149,7 +171,7 @@ take_files (input ∷ inputs) (suc k) = ap (λ (files : List InputFile). input_f
 module _ (held mid : Held) (tells tells' calm calm' : Bool) (inputs : List Input) (k : ℕ) (before : List (List ℕ)) (reads : Between) (failed : Bool) where
   pub stopped_at : (stop : Stop) → k < length inputs → ((name : List ℕ) → mid name ≡ held name) → (IsTrue tells → IsTrue tells') → (IsTrue calm → IsTrue calm')
       → (IsTrue tells → given held (map input_file (take k inputs)) ≡ texts before) → AreRead (map input_file inputs) (k + 1) k reads
-      → (mid_texts : List (List ℕ)) → length before ≡ k → mid_texts ≡ reads.before.texts ++ before → AreWithin (map input_file inputs) before → StopsOnText (file_at inputs k) mid_texts reads.after.texts stop
+      → (mid_texts : List (List ℕ)) → length before ≡ k → mid_texts ≡ reads.before.texts ++ before → AreWithinLimits (map input_file inputs) before → StopsOnText (file_at inputs k) mid_texts reads.after.texts stop
       → ((stop_report stop).status ≡ failure_status failures.Device → IsTrue failed)
       → StopsReading (file_at inputs k) mid tells' calm' stop → StopsInputs (map input_file inputs) held tells calm reads failed stop
   stopped_at stops.BadWords h same told is_calm read up_to mid_texts count so_far within gave cause stopped = stopped
@@ -157,6 +179,16 @@ module _ (held mid : Held) (tells tells' calm calm' : Bool) (inputs : List Input
     place = k;
     named = subst (IsNameAt (map input_file inputs) k) (sym stopped.0) (name_at inputs k h);
     read = up_to;
+    part = record {
+      bytes = before;
+      last = gave.0;
+      file = file_at inputs k;
+      count = count;
+      given = gave.1 ∙ ap (λ (texts : List (List ℕ)). texts ++ gave.0 ∷ []) so_far ∙ append_assoc reads.before.texts before (gave.0 ∷ []);
+      within = within;
+      there = there_at inputs k h;
+      size = gave.2;
+    };
     cause = cause refl;
     there = λ t. (before, ap (given held) (take_files inputs k) ∙ read t);
     missing = λ t c.
@@ -174,10 +206,18 @@ module _ (held mid : Held) (tells tells' calm calm' : Bool) (inputs : List Input
       given = gave.1 ∙ ap (λ (texts : List (List ℕ)). texts ++ gave.0 ∷ []) so_far ∙ append_assoc reads.before.texts before (gave.0 ∷ []);
       within = within;
       there = there_at inputs k h;
-      above = gave.2;
+      size = gave.2;
     },
     (λ t.
         stops_above held inputs k before h (read t) (same_reading held mid same (file_at inputs k) ∙ stopped.1 (told t)) ∙ ap too_much (sym stopped.0)),
   )
   stopped_at (stops.BadText name kind place) h same told is_calm read up_to mid_texts count so_far within gave cause stopped = stopped
-  stopped_at stops.Memory h same told is_calm read up_to mid_texts count so_far within gave cause stopped = (k + 1, up_to.have_begun)
+  stopped_at stops.Memory h same told is_calm read up_to mid_texts count so_far within gave cause stopped =
+      let all : length (before ++ gave.0 ∷ []) ≡ k + 1 = omega (arith, count, length-append before (gave.0 ∷ [])) in (
+        before ++ gave.0 ∷ [],
+        record {
+          have_begun = subst (λ (n : ℕ). HaveBegun (map input_file inputs) n reads) (sym all) up_to.have_begun;
+          given = gave.1 ∙ ap (λ (texts : List (List ℕ)). texts ++ gave.0 ∷ []) so_far ∙ append_assoc reads.before.texts before (gave.0 ∷ []);
+          nearly = nearly_more inputs k before gave.0 h count (nearly_within (map input_file inputs) before within) gave.2;
+        },
+      )

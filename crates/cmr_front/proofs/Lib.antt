@@ -11,3 +11,6 @@ pub mod AddedArguments
 pub mod Endings
 pub mod Files
 pub mod Numbers
+pub mod OneReports
+pub mod MinimalSets
+pub mod HeldTexts

@@ -2,9 +2,12 @@
 use Rattle.std.specs.Prelude.{◌≡◌, ◌≢◌, ◌≤◌, ◌++◌, ℕ, Bool, IsTrue, List, length, take, Option, Some, IsSomeAnd, slice_get, codes, Result, Ok, Err}
 use Rattle.std.specs.List.{AllByRecursion}
 use Rattle.cmr_io.specs.Causes.{Rose}
+use Rattle.cmr_io.specs.Log.{Log, log_with}
 use Rattle.cmr_io.specs.Reads.{Reads}
 use Rattle.cmr_io.specs.Whole.{AppendsFront, StaysOrHoldsFront}
-use Rattle.cmr_front.specs.Report.{Held, File, Report, with_files}
+use Rattle.cmr_io.specs.declared.device.Shelf as shelves
+use Rattle.cmr_io.specs.declared.device.Sink as sinks
+use Rattle.cmr_front.specs.Report.{Held, File, Report, after_files, with_files}
 use Rattle.cmr_front.specs.declared.outcome.Outcome.{Outcome}
 use Rattle.cmr_front.specs.declared.outcome.Stop.{Stop}
 use Rattle.cmr_front.specs.declared.status.Failure.TheVariants.{Device}
@@ -12,29 +15,36 @@ use Rattle.cmr_front.specs.Outcome.{cannot_write_line, outcome_report, stop_repo
 use Rattle.cmr_front.specs.Status.{failure_status}
 use Rattle.cmr_front.specs.SinkLines.{IsWritten}
 
--- What the names hold, what all reads of the shelf have given, and whether the last call of the shelf failed; what standard
--- output and standard error have got; and how often a call on each device has failed.
+-- What the names hold, what all reads of the shelf have given, which writes were begun with what each has taken, and whether the
+-- last call of the shelf failed; what standard output and standard error have got, and what they have taken; and how often a
+-- call on each device has failed.
 pub record Devices : Type 0 where
   pub held : Held
   pub reads : Reads
+  pub writes : Log
   pub failed : Bool
-  pub output : List ℕ
-  pub error : List ℕ
   pub shelf_faults : ℕ
+  pub output : List ℕ
+  pub output_taken : List ℕ
   pub output_faults : ℕ
+  pub error : List ℕ
+  pub error_taken : List ℕ
   pub error_faults : ℕ
 
--- the shelf, with its faults, and then the two sinks with theirs
-abbrev pub devices : Held → Reads → Bool → ℕ → List ℕ → ℕ → List ℕ → ℕ → Devices
-devices held reads failed shelf_faults output output_faults error error_faults = record {
-  held = held;
-  reads = reads;
-  failed = failed;
-  output = output;
-  error = error;
-  shelf_faults = shelf_faults;
-  output_faults = output_faults;
-  error_faults = error_faults;
+-- of a shelf, standard output and standard error
+abbrev pub devices : {S O E : Type 0} → shelves.Ghosts S → sinks.Ghosts O → sinks.Ghosts E → S → O → E → Devices
+devices s o e shelf out err = record {
+  held = s.content shelf;
+  reads = s.reads shelf;
+  writes = s.writes shelf;
+  failed = s.failed shelf;
+  shelf_faults = s.faults shelf;
+  output = o.got out;
+  output_taken = o.taken out;
+  output_faults = o.faults out;
+  error = e.got err;
+  error_taken = e.taken err;
+  error_faults = e.faults err;
 }
 
 -- Which devices tell their bytes, which are calm, and what rooms they have.
@@ -47,15 +57,16 @@ pub record Standing : Type 0 where
   pub output_is_calm : Bool
   pub output_room : ℕ
 
-abbrev pub standing : Bool → Bool → Bool → Bool → (List ℕ → Option ℕ) → Bool → ℕ → Standing
-standing shelf_tells output_tells error_tells shelf_is_calm shelf_room output_is_calm output_room = record {
-  shelf_tells = shelf_tells;
-  output_tells = output_tells;
-  error_tells = error_tells;
-  shelf_is_calm = shelf_is_calm;
-  shelf_room = shelf_room;
-  output_is_calm = output_is_calm;
-  output_room = output_room;
+-- of a shelf, standard output and standard error
+abbrev pub standing : {S O E : Type 0} → shelves.Ghosts S → sinks.Ghosts O → sinks.Ghosts E → S → O → E → Standing
+standing s o e shelf out err = record {
+  shelf_tells = s.tells shelf;
+  output_tells = o.tells out;
+  error_tells = e.tells err;
+  shelf_is_calm = s.is_calm shelf;
+  shelf_room = s.room shelf;
+  output_is_calm = o.is_calm out;
+  output_room = o.room out;
 }
 
 -- which devices tell their bytes
@@ -81,32 +92,49 @@ pub record IsReadyFor (report : Report) (devices : Standing) : Type 0 where
   pub rooms : HasRooms devices.shelf_room report.files
   pub room : length report.output ≤ devices.output_room
 
--- All files of the report and all of its standard output were written, and its line to standard error.
+-- All files of the report and all of its standard output were written, and its line to standard error. Whether the devices tell
+-- their bytes or not, the writes that were begun are those of its files, in order, each once and whole, and the sinks have taken
+-- its output and its line.
 pub record IsDelivered (report : Report) (tells : Telling) (before after : Devices) : Type 0 where
   pub files : IsTrue tells.shelf → (name : List ℕ) → after.held name ≡ with_files before.held report.files name
+  pub writes : after.writes ≡ after_files before.writes report.files
   pub output : IsTrue tells.output → after.output ≡ before.output ++ report.output
+  pub output_taken : after.output_taken ≡ before.output_taken ++ report.output
   pub error : IsTrue tells.error → IsWritten before.error after.error before.error_faults after.error_faults report.error
+  pub error_taken : IsWritten before.error_taken after.error_taken before.error_faults after.error_faults report.error
 
 -- The file at a place could not be written: those before it are whole, and it is as before or holds a front of its bytes.
 pub record IsLeftAt (files : List File) (place : ℕ) (file : File) (before after : Held) : Type 0 where
   pub others : (name : List ℕ) → name ≢ file.name → after name ≡ with_files before (take place files) name
   pub here : StaysOrHoldsFront (with_files before (take place files) file.name) (after file.name) file.bytes
 
--- A file could not be written, and nothing was put to standard output.
+-- the write of the file at a place was begun last, behind those of the files before it, and has taken a front of its bytes
+abbrev pub IsBegunLast : List File → ℕ → File → Log → Log → Type 0
+IsBegunLast files place file before after = (count : ℕ) × (after ≡ log_with (after_files before (take place files)) file.name (take count file.bytes))
+
+-- A file could not be written, and nothing was put to standard output: its write was begun last, and the last call of the shelf
+-- failed.
 pub record IsUnwritten (report : Report) (tells : Telling) (before after : Devices) : Type 0 where
   pub place : ℕ
   pub file : File
   pub there : slice_get report.files place ≡ Some file
   pub left : IsTrue tells.shelf → IsLeftAt report.files place file before.held after.held
+  pub writes : IsBegunLast report.files place file before.writes after.writes
+  pub failed : IsTrue after.failed
   pub output : IsTrue tells.output → after.output ≡ before.output
+  pub output_taken : after.output_taken ≡ before.output_taken
   pub error : IsTrue tells.error → IsWritten before.error after.error before.error_faults after.error_faults (cannot_write_line file.name)
+  pub error_taken : IsWritten before.error_taken after.error_taken before.error_faults after.error_faults (cannot_write_line file.name)
   pub cause : Rose before.shelf_faults after.shelf_faults
 
 -- Standard output failed: all files are whole, and a front of it was put.
 pub record IsCutShort (report : Report) (tells : Telling) (before after : Devices) : Type 0 where
   pub files : IsTrue tells.shelf → (name : List ℕ) → after.held name ≡ with_files before.held report.files name
+  pub writes : after.writes ≡ after_files before.writes report.files
   pub output : IsTrue tells.output → AppendsFront before.output after.output report.output
+  pub output_taken : AppendsFront before.output_taken after.output_taken report.output
   pub error : IsTrue tells.error → IsWritten before.error after.error before.error_faults after.error_faults (cannot_write_line (codes "-"))
+  pub error_taken : IsWritten before.error_taken after.error_taken before.error_faults after.error_faults (cannot_write_line (codes "-"))
   pub cause : Rose before.output_faults after.output_faults
 
 -- How a report is carried out: whole, or a device stops it.

@@ -1,6 +1,7 @@
 -- What a run is to give, and what the names of a shelf hold.
 use Rattle.std.specs.Prelude.{ℕ, List, [], ◌∷◌, Option, Some, None, if◌then◌else◌}
 use Rattle.std.specs.Str.{bytes_eq}
+use Rattle.cmr_io.specs.Log.{Log, log_with}
 use Rattle.cmr_front.specs.declared.status.Failure.{Failure}
 use Rattle.cmr_front.specs.Status.{failure_status}
 
@@ -37,3 +38,8 @@ with_file held file name = if bytes_eq name file.name then Some file.bytes else 
 abbrev pub with_files : Held → List File → Held
 with_files held [] = held
 with_files held (file ∷ files) = with_files (with_file held file) files
+
+-- the writes of a shelf after some files were written in order, each once and whole
+abbrev pub after_files : Log → List File → Log
+after_files writes [] = writes
+after_files writes (file ∷ files) = after_files (log_with writes file.name file.bytes) files

@@ -15,7 +15,7 @@ use Rattle.cmr_front.specs.Outcome.{bad_text, bad_words, cannot_read, out_of_mem
 use Rattle.cmr_front.specs.Ending.{Devices, Standing, IsDelivered, IsReadyFor, IsCarriedOut, devices, standing, telling_of}
 use Rattle.cmr_front.specs.Status.{IsStatus, answer_status, failure_status}
 use Rattle.cmr_front.specs.Tool.{Tool}
-use Rattle.cmr_front.specs.Unread.{AreAllRead, AreRead, Between, between, GivesTooMuch, HaveBegun, HaveGiven, IsNameAt, IsUnread}
+use Rattle.cmr_front.specs.Unread.{AreAllRead, AreRead, Between, between, GivesTooMuch, HaveBegunWith, HaveGiven, IsNameAt, IsUnread}
 
 -- what the words order: nothing where they are refused, or a tool with its options
 pub data Ordered : Type 1 where
@@ -56,10 +56,10 @@ abbrev pub CannotRead : Ordered → Held → Bool → Bool → Between → Bool 
 CannotRead nothing held tells calm reads failed name = ⊥
 CannotRead (work tool) held tells calm reads failed name = IsUnread tool.inputs held tells calm reads failed name
 
--- the reads that were begun are those of the first files of the order, in their order and each once
+-- the reads that were begun are those of the first files of the order, in their order and each once, and have given one text each
 abbrev pub BeginsInOrder : Ordered → Between → Type 0
 BeginsInOrder nothing reads = reads.after ≡ reads.before
-BeginsInOrder (work tool) reads = (count : ℕ) × HaveBegun tool.inputs count reads
+BeginsInOrder (work tool) reads = (bytes : List (List ℕ)) × HaveBegunWith tool.inputs bytes reads
 
 -- What a tool reports whatever the shelf tells: an answer without a line of standard error or a fault, on the texts that were
 -- read, one for each file, and then the reads of all files were begun, in order and each once, and came to their ends; or that
@@ -97,6 +97,8 @@ pub record Runs (ordered : Ordered) (standing : Standing) (before after : Device
   -- where the devices are ready for every report, no device gives a status
   pub ready : (report : Report) → Reports ordered before.held report → ((other : Report) → Reports ordered before.held other → IsReadyFor other standing)
       → (status ≡ report.status) ⊎ (status ≡ failure_status failures.Memory)
+  -- no write is begun where words are refused, a text is at fault or memory is refused
+  pub none_written : (status ≡ failure_status failures.Words) ⊎ (status ≡ failure_status failures.Text) ⊎ (status ≡ failure_status failures.Memory) → after.writes ≡ before.writes
   -- words are the cause exactly where they are refused, unless memory is
   pub refused : IsNothing ordered → (status ≡ failure_status failures.Words) ⊎ (status ≡ failure_status failures.Memory)
   pub refused_only : status ≡ failure_status failures.Words → IsNothing ordered
@@ -108,9 +110,9 @@ pub record Runs (ordered : Ordered) (standing : Standing) (before after : Device
 abbrev pub RunsOver : {S O E : Type 0} → shelves.Ghosts S → sinks.Ghosts O → sinks.Ghosts E → Ordered → S → O → E → S → O → E → ℕ → Type 0
 RunsOver s o e ordered shelf out err shelf_after out_after err_after status =
     Runs ordered
-    (standing (s.tells shelf) (o.tells out) (e.tells err) (s.is_calm shelf) (s.room shelf) (o.is_calm out) (o.room out))
-    (devices (s.content shelf) (s.reads shelf) (s.failed shelf) (s.faults shelf) (o.got out) (o.faults out) (e.got err) (e.faults err))
-    (devices (s.content shelf_after) (s.reads shelf_after) (s.failed shelf_after) (s.faults shelf_after) (o.got out_after) (o.faults out_after) (e.got err_after) (e.faults err_after))
+    (standing s o e shelf out err)
+    (devices s o e shelf out err)
+    (devices s o e shelf_after out_after err_after)
     status
 
 -- What an outcome or a stop says for what is ordered, before anything is written: it is a report, but for a file that

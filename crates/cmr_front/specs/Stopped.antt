@@ -1,12 +1,12 @@
 -- Why a run has no outcome.
-use Rattle.std.specs.Prelude.{◌≡◌, ◌<◌, ◌+◌, ◌++◌, ℕ, List, [], ◌∷◌, Bool, IsTrue, Result, Err, length}
+use Rattle.std.specs.Prelude.{◌≡◌, ◌<◌, ◌≤◌, ◌+◌, ◌++◌, ℕ, List, [], ◌∷◌, Bool, IsTrue, Result, Err, length}
 use Rattle.text_fields.specs.Reading.{Fault}
 use Rattle.cmr_front.specs.declared.outcome.FaultKind.{FaultKind}
 use Rattle.cmr_front.specs.declared.outcome.Stop.{Stop}
 use Rattle.cmr_front.specs.declared.outcome.Stop.TheVariants as stops
 use Rattle.cmr_front.specs.Report.{Held}
 use Rattle.cmr_front.specs.Inputs.{InputFile, given, most_bytes, too_much, reading, missing, above_limit}
-use Rattle.cmr_front.specs.Unread.{AreRead, Between, GivesTooMuch, HaveBegun, IsNameAt, IsUnread}
+use Rattle.cmr_front.specs.Unread.{AreRead, Between, GivesTooMuch, HaveBegunWith, IsNameAt, IsUnread}
 
 -- what a stop says of a file that was to be read, where the shelf tells its bytes and is calm
 abbrev pub StopsReading : InputFile → Held → Bool → Bool → Stop → Type 0
@@ -16,13 +16,14 @@ StopsReading file held tells calm (stops.TooLong name) = (name.now ≡ file.name
 StopsReading file held tells calm (stops.BadText name kind place) = ⊥
 StopsReading file held tells calm stops.Memory = Unit {0}
 
--- and of the text that its read gave, whether the shelf tells its bytes or not: a file is too long by what was read of it
+-- and of the text that its read gave, whether the shelf tells its bytes or not: no more than the limit of the file where a call
+-- failed, more where the file is too long, and at most one byte more where memory was refused
 abbrev pub StopsOnText : InputFile → List (List ℕ) → List (List ℕ) → Stop → Type 0
 StopsOnText file before after stops.BadWords = ⊥
-StopsOnText file before after (stops.CannotRead name) = Unit {0}
+StopsOnText file before after (stops.CannotRead name) = (last : List ℕ) × (after ≡ before ++ last ∷ []) × (length last ≤ most_bytes file.kind)
 StopsOnText file before after (stops.TooLong name) = (last : List ℕ) × (after ≡ before ++ last ∷ []) × (most_bytes file.kind < length last)
 StopsOnText file before after (stops.BadText name kind place) = ⊥
-StopsOnText file before after stops.Memory = Unit {0}
+StopsOnText file before after stops.Memory = (last : List ℕ) × (after ≡ before ++ last ∷ []) × (length last ≤ most_bytes file.kind + 1)
 
 -- and of some files, of which those before it were read
 abbrev pub StopsInputs : List InputFile → Held → Bool → Bool → Between → Bool → Stop → Type 0
@@ -31,7 +32,7 @@ StopsInputs files held tells calm reads failed (stops.CannotRead name) = IsUnrea
 StopsInputs files held tells calm reads failed (stops.TooLong name) =
     (place : ℕ) × IsNameAt files place name.now × AreRead files (place + 1) place reads × GivesTooMuch files place reads × (IsTrue tells → given held files ≡ too_much name.now)
 StopsInputs files held tells calm reads failed (stops.BadText name kind place) = ⊥
-StopsInputs files held tells calm reads failed stops.Memory = (count : ℕ) × HaveBegun files count reads
+StopsInputs files held tells calm reads failed stops.Memory = (bytes : List (List ℕ)) × HaveBegunWith files bytes reads
 
 -- what a stop says of a text that was read, whose faults are of this kind
 abbrev pub StopsText : {A K : Type 0} → (K → FaultKind) → List ℕ → Result A (Fault K) → Stop → Type 0

@@ -32,38 +32,61 @@ abbrev pub AreAllRead : List InputFile → Between → Type 0
 AreAllRead files reads = AreRead files (length files) (length files) reads
 
 -- each text is within the limit of its file, and there are not more of them than files
-abbrev pub AreWithin : List InputFile → List (List ℕ) → Type 0
-AreWithin files [] = Unit {0}
-AreWithin [] (text ∷ bytes) = ⊥
-AreWithin (file ∷ files) (text ∷ bytes) = (length text ≤ most_bytes file.kind) × AreWithin files bytes
+abbrev pub AreWithinLimits : List InputFile → List (List ℕ) → Type 0
+AreWithinLimits files [] = Unit {0}
+AreWithinLimits [] (text ∷ bytes) = ⊥
+AreWithinLimits (file ∷ files) (text ∷ bytes) = (length text ≤ most_bytes file.kind) × AreWithinLimits files bytes
+
+-- each text has at most one byte more than the limit of its file, and there are not more of them than files
+abbrev pub AreNearlyWithin : List InputFile → List (List ℕ) → Type 0
+AreNearlyWithin files [] = Unit {0}
+AreNearlyWithin [] (text ∷ bytes) = ⊥
+AreNearlyWithin (file ∷ files) (text ∷ bytes) = (length text ≤ most_bytes file.kind + 1) × AreNearlyWithin files bytes
+
+-- The reads of the first files were begun, in their order and each once, and no other read was. They have given these texts and
+-- nothing else, each at most one byte longer than the limit of its file.
+pub record HaveBegunWith (files : List InputFile) (bytes : List (List ℕ)) (reads : Between) : Type 0 where
+  pub have_begun : HaveBegun files (length bytes) reads
+  pub given : reads.after.texts ≡ reads.before.texts ++ bytes
+  pub nearly : AreNearlyWithin files bytes
 
 -- The reads that were begun have given these texts, in their order, and nothing else; each is within the limit of its file.
 pub record HaveGiven (files : List InputFile) (bytes : List (List ℕ)) (reads : Between) : Type 0 where
   pub given : reads.after.texts ≡ reads.before.texts ++ bytes
-  pub within : AreWithin files bytes
+  pub within : AreWithinLimits files bytes
 
--- The read that was begun last has given more bytes than the limit of its file, and those before it texts within theirs.
-pub record GivesTooMuch (files : List InputFile) (place : ℕ) (reads : Between) : Type 0 where
+-- The read of the file at a place was begun last, and has given as many bytes as is said beside the limit of the file; those
+-- before it have given texts within their limits.
+pub record GivesLast (Says : ℕ → ℕ → Type 0) (files : List InputFile) (place : ℕ) (reads : Between) : Type 0 where
   pub bytes : List (List ℕ)
   pub last : List ℕ
   pub file : InputFile
   pub count : length bytes ≡ place
   pub given : reads.after.texts ≡ reads.before.texts ++ (bytes ++ last ∷ [])
-  pub within : AreWithin files bytes
+  pub within : AreWithinLimits files bytes
   pub there : slice_get files place ≡ Some file
-  pub above : most_bytes file.kind < length last
+  pub size : Says (most_bytes file.kind) (length last)
+
+-- it has given more than the limit
+abbrev pub GivesTooMuch : List InputFile → ℕ → Between → Type 0
+GivesTooMuch files place reads = GivesLast (λ most count. most < count) files place reads
+
+-- it has given a text within the limit, which need not be whole
+abbrev pub GivesPart : List InputFile → ℕ → Between → Type 0
+GivesPart files place reads = GivesLast (λ most count. count ≤ most) files place reads
 
 -- the file at a place has this name
 abbrev pub IsNameAt : List InputFile → ℕ → List ℕ → Type 0
 IsNameAt files place name = slice_get (map (λ file. file.name) files) place ≡ Some name
 
--- A file could not be read: its read was begun last, as many reads came to their ends as files stand before it, and then
--- a call failed, which was the last. Where the shelf tells its bytes, those before it are there and within their
+-- A file could not be read: its read was begun last, as many reads came to their ends as files stand before it, with texts within
+-- their limits, and then a call failed, which was the last. Where the shelf tells its bytes, those before it are there and within their
 -- limits; where the shelf is calm, it is not there.
 pub record IsUnread (files : List InputFile) (held : Held) (tells calm : Bool) (reads : Between) (failed : Bool) (name : List ℕ) : Type 0 where
   pub place : ℕ
   pub named : IsNameAt files place name
   pub read : AreRead files (place + 1) place reads
+  pub part : GivesPart files place reads
   pub cause : IsTrue failed
   pub there : IsTrue tells → (bytes : List (List ℕ)) × (given held (take place files) ≡ texts bytes)
   pub missing : IsTrue tells → IsTrue calm → given held files ≡ not_there name

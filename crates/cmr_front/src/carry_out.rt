@@ -1,12 +1,13 @@
 // Carrying out what a tool decided.
-ghost use Rattle.std.specs.Prelude.{◌≡◌, ◌≢◌, ◌≤◌, ◌<◌, ◌⊎◌, ℕ, List, [], ◌∷◌, IfErr, IsOk, IsTrue, OnErr, OnOk, length, map, slice_get};
+ghost use Rattle.std.specs.Prelude.{◌≡◌, ◌≢◌, ◌≤◌, ◌<◌, ◌⊎◌, ℕ, List, [], ◌∷◌, IfErr, IsOk, IsTrue, OnErr, OnOk, length, map, slice_get, take};
 ghost use Rattle.cmr_io.specs.Causes.{HasCause, Rose};
-ghost use Rattle.cmr_io.specs.Kept.{KeepsStanding};
+ghost use Rattle.cmr_io.specs.Kept.{IsFaultCounted, KeepsStanding};
+ghost use Rattle.cmr_io.specs.Log.{log_with};
 ghost use Rattle.cmr_io.specs.Whole.{StaysOrHoldsFront};
-ghost use Rattle.cmr_front.specs.Report.{File, with_file, with_files};
+ghost use Rattle.cmr_front.specs.Report.{File, after_files, with_file, with_files};
 ghost use Rattle.cmr_front.specs.Status.{answer_status, failure_status};
 ghost use Rattle.cmr_front.specs.declared.status.Failure.TheVariants.{Device};
-ghost use Rattle.cmr_front.specs.Ending.{devices, standing, telling, CarriesOut, HasRooms, IsCarriedOut, IsLeftAt, IsReadyFor};
+ghost use Rattle.cmr_front.specs.Ending.{devices, standing, telling_of, CarriesOut, HasRooms, IsBegunLast, IsCarriedOut, IsLeftAt, IsReadyFor};
 ghost use Rattle.cmr_front.specs.Outcome.{ended_report, file_of, outcome_report, stop_report};
 
 use crate::error_lines::{write_cannot_write, write_stop};
@@ -22,11 +23,9 @@ pub fn carry_out<S: Shelf, O: Sink, E: Sink>(
     err: &mut E,
 ) -> u8
     ensures carried_out { CarriesOut ended.now
-        (telling (S.tells shelf.old) (O.tells out.old) (E.tells err.old))
-        (devices (S.content shelf.old) (S.reads shelf.old) (S.failed shelf.old) (S.faults shelf.old)
-        (O.got out.old) (O.faults out.old) (E.got err.old) (E.faults err.old))
-        (devices (S.content shelf.new) (S.reads shelf.new) (S.failed shelf.new) (S.faults shelf.new)
-        (O.got out.new) (O.faults out.new) (E.got err.new) (E.faults err.new))
+        (telling_of (standing S.Shelf O.Sink E.Sink shelf.old out.old err.old))
+        (devices S.Shelf O.Sink E.Sink shelf.old out.old err.old)
+        (devices S.Shelf O.Sink E.Sink shelf.new out.new err.new)
         result }
     ensures status { (result ≡ (ended_report ended.now).status)
         ⊎ ((result ≡ failure_status Device)
@@ -34,8 +33,7 @@ pub fn carry_out<S: Shelf, O: Sink, E: Sink>(
         ⊎ Rose (O.faults out.old) (O.faults out.new))) }
     ensures ready { IsReadyFor
         (ended_report ended.now)
-        (standing (S.tells shelf.old) (O.tells out.old) (E.tells err.old) (S.is_calm shelf.old)
-        (S.room shelf.old) (O.is_calm out.old) (O.room out.old))
+        (standing S.Shelf O.Sink E.Sink shelf.old out.old err.old)
         → result ≡ (ended_report ended.now).status }
     ensures stopped { IfErr ended.now (λ stop. result ≡ (stop_report stop).status) }
     ensures reads { S.reads shelf.new ≡ S.reads shelf.old }
@@ -59,11 +57,9 @@ fn deliver<S: Shelf, O: Sink, E: Sink>(
 ) -> u8
     ensures carried_out { IsCarriedOut
         (outcome_report outcome.now)
-        (telling (S.tells shelf.old) (O.tells out.old) (E.tells err.old))
-        (devices (S.content shelf.old) (S.reads shelf.old) (S.failed shelf.old) (S.faults shelf.old)
-        (O.got out.old) (O.faults out.old) (E.got err.old) (E.faults err.old))
-        (devices (S.content shelf.new) (S.reads shelf.new) (S.failed shelf.new) (S.faults shelf.new)
-        (O.got out.new) (O.faults out.new) (E.got err.new) (E.faults err.new))
+        (telling_of (standing S.Shelf O.Sink E.Sink shelf.old out.old err.old))
+        (devices S.Shelf O.Sink E.Sink shelf.old out.old err.old)
+        (devices S.Shelf O.Sink E.Sink shelf.new out.new err.new)
         result }
     ensures status { (result ≡ answer_status outcome.now.answer)
         ⊎ ((result ≡ failure_status Device)
@@ -71,8 +67,7 @@ fn deliver<S: Shelf, O: Sink, E: Sink>(
         ⊎ Rose (O.faults out.old) (O.faults out.new))) }
     ensures ready { IsReadyFor
         (outcome_report outcome.now)
-        (standing (S.tells shelf.old) (O.tells out.old) (E.tells err.old) (S.is_calm shelf.old)
-        (S.room shelf.old) (O.is_calm out.old) (O.room out.old))
+        (standing S.Shelf O.Sink E.Sink shelf.old out.old err.old)
         → result ≡ answer_status outcome.now.answer }
     ensures reads { S.reads shelf.new ≡ S.reads shelf.old }
     ensures later { S.faults shelf.old ≤ S.faults shelf.new }
@@ -104,8 +99,13 @@ fn write_files<S: Shelf>(shelf: &mut S, files: &[OutputFile<'_>]) -> Result<(), 
         × (slice_get (map file_of files.now) e.place ≡ Some file)
         × (IsTrue (S.tells shelf.old)
         → IsLeftAt (map file_of files.now) e.place file (S.content shelf.old)
-        (S.content shelf.new))) }
+        (S.content shelf.new))
+        × IsBegunLast (map file_of files.now) e.place file (S.writes shelf.old)
+        (S.writes shelf.new)) }
     ensures within { IfErr result (λ e. e.place < length files.now) }
+    ensures writes { OnOk result (S.writes shelf.new
+        ≡ after_files (S.writes shelf.old) (map file_of files.now)) }
+    ensures failed { OnErr result (IsTrue (S.failed shelf.new)) }
     ensures ready { IsTrue (S.is_calm shelf.old)
         → HasRooms (S.room shelf.old) (map file_of files.now) → IsOk result }
     ensures reads { S.reads shelf.new ≡ S.reads shelf.old }
@@ -130,8 +130,12 @@ fn write_output_file<S: Shelf>(shelf: &mut S, file: &OutputFile<'_>) -> Result<(
     ensures ready { IsTrue (S.is_calm shelf.old)
         → HasRooms (S.room shelf.old) (file_of file.now ∷ []) → IsOk result }
     ensures reads { S.reads shelf.new ≡ S.reads shelf.old }
+    ensures writes { OnOk result (S.writes shelf.new
+        ≡ log_with (S.writes shelf.old) file.now.name.now file.now.bytes.items) }
+    ensures begun { OnErr result ((count : ℕ) × (S.writes shelf.new
+        ≡ log_with (S.writes shelf.old) file.now.name.now (take count file.now.bytes.items))) }
     ensures standing { KeepsStanding S.tells S.is_calm S.room shelf.old shelf.new }
-    ensures cause { HasCause (S.faults shelf.old) (S.faults shelf.new) result }
+    ensures counted { IsFaultCounted S.failed S.faults shelf.old shelf.new result }
 {
     write_file(shelf, file.name, &file.bytes)
 }

@@ -1,9 +1,9 @@
 // The line of standard error.
-ghost use Rattle.std.specs.Prelude.{◌≡◌, ◌++◌, IsTrue, map};
+ghost use Rattle.std.specs.Prelude.{◌≡◌, ◌++◌, map};
 ghost use Rattle.std.specs.List.{concat};
 ghost use Rattle.std.specs.Fmt.{decimal};
 ghost use Rattle.cmr_front.specs.Outcome.{cannot_write_line, fault_line, chain_kind_name, graph_kind_name, kind_name, stop_report, text_kind_name, tree_kind_name};
-ghost use Rattle.cmr_front.specs.SinkLines.{IsWritten};
+ghost use Rattle.cmr_front.specs.SinkLines.{GetsLine};
 
 use crate::outcome::{FaultKind, Stop};
 use camion_sign::ChainKind;
@@ -15,9 +15,7 @@ use tree_text::TreeKind;
 
 /// Writes the line that says why a run has no outcome. A failure changes nothing else.
 pub fn write_stop<E: Sink>(err: &mut E, stop: &Stop<'_>)
-    ensures { IsTrue (E.tells err.old)
-        → IsWritten (E.got err.old) (E.got err.new) (E.faults err.old) (E.faults err.new)
-        (stop_report stop.now).error }
+    ensures { GetsLine E.Sink err.old err.new (stop_report stop.now).error }
 {
     match stop {
         Stop::BadWords => write_line(err, "cmr: bad command line", "", "\n"),
@@ -30,42 +28,32 @@ pub fn write_stop<E: Sink>(err: &mut E, stop: &Stop<'_>)
 
 /// Writes that a name cannot be written. A failure changes nothing else.
 pub fn write_cannot_write<E: Sink>(err: &mut E, name: &str)
-    ensures { IsTrue (E.tells err.old)
-        → IsWritten (E.got err.old) (E.got err.new) (E.faults err.old) (E.faults err.new)
-        (cannot_write_line name.now) }
+    ensures { GetsLine E.Sink err.old err.new (cannot_write_line name.now) }
 {
     write_line(err, "cmr: cannot write ", name, "\n");
 }
 
 fn write_fault<E: Sink>(err: &mut E, name: &str, kind: &str, place: usize)
-    ensures { IsTrue (E.tells err.old)
-        → IsWritten (E.got err.old) (E.got err.new) (E.faults err.old) (E.faults err.new)
-        (fault_line name.now kind.now (decimal place)) }
+    ensures { GetsLine E.Sink err.old err.new (fault_line name.now kind.now (decimal place)) }
 {
     let mut buffer = Buffer::new();
     write_fault_at(err, name, kind, buffer.format(place));
 }
 
 fn write_fault_at<'a, E: Sink>(err: &mut E, name: &'a str, kind: &'a str, place: &'a str)
-    ensures { IsTrue (E.tells err.old)
-        → IsWritten (E.got err.old) (E.got err.new) (E.faults err.old) (E.faults err.new)
-        (fault_line name.now kind.now place.now) }
+    ensures { GetsLine E.Sink err.old err.new (fault_line name.now kind.now place.now) }
 {
     write_parts(err, &["cmr: ", name, ": ", kind, " at byte ", place, "\n"]);
 }
 
 fn write_line<'a, E: Sink>(err: &mut E, before: &'a str, name: &'a str, after: &'a str)
-    ensures { IsTrue (E.tells err.old)
-        → IsWritten (E.got err.old) (E.got err.new) (E.faults err.old) (E.faults err.new)
-        (before.now ++ name.now ++ after.now) }
+    ensures { GetsLine E.Sink err.old err.new (before.now ++ name.now ++ after.now) }
 {
     write_parts(err, &[before, name, after]);
 }
 
 fn write_parts<E: Sink>(err: &mut E, parts: &[&str])
-    ensures { IsTrue (E.tells err.old)
-        → IsWritten (E.got err.old) (E.got err.new) (E.faults err.old) (E.faults err.new)
-        (concat (map (λ part. part.now) parts.now)) }
+    ensures { GetsLine E.Sink err.old err.new (concat (map (λ part. part.now) parts.now)) }
 {
     for part in parts {
         if let Err(WriteFault) = write_whole(err, part.as_bytes()) {

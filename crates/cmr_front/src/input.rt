@@ -70,6 +70,7 @@ pub fn read_inputs<'a, S: Shelf>(
     ensures cause { IfErr result (λ stop. (stop_report stop).status ≡ failure_status Device
         → Rose (S.faults shelf.old) (S.faults shelf.new)) }
     ensures kept { KeepsNames S.content S.tells S.is_calm S.room shelf.old shelf.new }
+    ensures writes { S.writes shelf.new ≡ S.writes shelf.old }
     ensures later { S.faults shelf.old ≤ S.faults shelf.new }
 {
     let mut read = Vec::new(alloc);
@@ -94,20 +95,19 @@ fn read_input<'a, S: Shelf>(
         → reading (S.content shelf.old) (input_file input.entry) ≡ whole (bytes_of text)) }
     ensures begun { (S.reads shelf.new).names
         ≡ (S.reads shelf.old).names ++ input.entry.name.now ∷ [] }
-    ensures text { IfOk result (λ text. (S.reads shelf.new).texts
-        ≡ (S.reads shelf.old).texts ++ bytes_of text ∷ []) }
-    ensures within { IfOk result (λ text. length (bytes_of text) ≤ most_bytes input.entry.kind) }
-    ensures on_text { IfErr result (StopsOnText (input_file input.entry) (S.reads shelf.old).texts
-        (S.reads shelf.new).texts) }
+    ensures text { IfOk result (λ text. ((S.reads shelf.new).texts
+        ≡ (S.reads shelf.old).texts ++ bytes_of text ∷ [])
+        × (length (bytes_of text) ≤ most_bytes input.entry.kind)) }
     ensures ended { OnOk result ((S.reads shelf.new).ends ≡ next_number (S.reads shelf.old).ends) }
     ensures not_ended { OnErr result ((S.reads shelf.new).ends ≡ (S.reads shelf.old).ends) }
-    ensures failed { IfErr result (λ stop. (stop_report stop).status ≡ failure_status Device
-        → IsTrue (S.failed shelf.new)) }
-    ensures stopped { IfErr result (StopsReading (input_file input.entry) (S.content shelf.old)
-        (S.tells shelf.old) (S.is_calm shelf.old)) }
+    ensures stopped { IfErr result (λ stop. StopsReading (input_file input.entry)
+        (S.content shelf.old) (S.tells shelf.old) (S.is_calm shelf.old) stop
+        × StopsOnText (input_file input.entry) (S.reads shelf.old).texts (S.reads shelf.new).texts
+        stop) }
     ensures cause { IfErr result (λ stop. (stop_report stop).status ≡ failure_status Device
-        → Rose (S.faults shelf.old) (S.faults shelf.new)) }
+        → IsTrue (S.failed shelf.new) × Rose (S.faults shelf.old) (S.faults shelf.new)) }
     ensures kept { KeepsNames S.content S.tells S.is_calm S.room shelf.old shelf.new }
+    ensures writes { S.writes shelf.new ≡ S.writes shelf.old }
     ensures later { S.faults shelf.old ≤ S.faults shelf.new }
 {
     let name = input.name;

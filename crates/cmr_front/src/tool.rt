@@ -77,6 +77,7 @@ fn examine<'a, R: Threads + Sync, S: Shelf, T: Tool<'a>>(
     ensures cause { (ended_report result).status ≡ failure_status Device
         → Rose (S.faults shelf.old) (S.faults shelf.new) }
     ensures kept { KeepsNames S.content S.tells S.is_calm S.room shelf.old shelf.new }
+    ensures writes { S.writes shelf.new ≡ S.writes shelf.old }
     ensures later { S.faults shelf.old ≤ S.faults shelf.new }
 {
     let inputs = match tool.inputs(alloc) {

@@ -29,4 +29,4 @@ log_on start mid after name bytes done count before more =
     more
     ∙ ap (λ (log : Log). log_more log (take count (rest bytes done))) before
     ∙ ap (log_of (start.names ++ name ∷ []))
-      (more_of_last start.texts (take done bytes) (take count (rest bytes done)) ∙ ap (λ (text : List ℕ). start.texts ++ text ∷ []) (take-more bytes done count))
+    (more_of_last start.texts (take done bytes) (take count (rest bytes done)) ∙ ap (λ (text : List ℕ). start.texts ++ text ∷ []) (take-more bytes done count))

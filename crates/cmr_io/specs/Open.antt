@@ -18,11 +18,11 @@ is_writing (Input input) = false
 is_writing (Write file) = true
 
 -- what is left of what is read, where that is known
-abbrev pub left_in : {F I : Type 0} → (F → Option (List ℕ)) → (I → Option (List ℕ)) → Open F I → Option (List ℕ)
-left_in of_file of_input Nothing = None
-left_in of_file of_input (Read file) = of_file file
-left_in of_file of_input (Input input) = of_input input
-left_in of_file of_input (Write file) = None
+abbrev pub left_of_open : {F I : Type 0} → (F → Option (List ℕ)) → (I → Option (List ℕ)) → Open F I → Option (List ℕ)
+left_of_open of_file of_input Nothing = None
+left_of_open of_file of_input (Read file) = of_file file
+left_of_open of_file of_input (Input input) = of_input input
+left_of_open of_file of_input (Write file) = None
 
 -- what the file that is written has got, where that is known
 abbrev pub got_in : {F I : Type 0} → (F → Option (List ℕ)) → Open F I → Option (List ℕ)

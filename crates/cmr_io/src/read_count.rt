@@ -1,14 +1,14 @@
 ghost use Rattle.std.specs.Prelude.{◌≡◌, ◌≤◌, length};
 ghost use Rattle.cmr_io.specs.Reads.{no_reads, after_begun, after_piece};
 
-use crate::begun_reads::BegunReads;
+use crate::byte_log::ByteLog;
 use std::marker::Model;
 
 /// Which reads were begun, what each of them has given, how many bytes all have, and how many have come to their ends. Each count
 /// starts at 0, and stays at the last value of a `u64`.
 #[derive(Debug, Drop)]
 pub struct ReadCount {
-    begun: BegunReads,
+    log: ByteLog,
     bytes: u64,
     ends: u64,
 }
@@ -18,7 +18,7 @@ impl Model for ReadCount {
 
     ghost Value = { Reads };
 
-    ghost view = { λ count. record { names = count.begun.names; texts = count.begun.texts; bytes = count.bytes; ends = count.ends } };
+    ghost view = { λ count. record { names = count.log.names; texts = count.log.texts; bytes = count.bytes; ends = count.ends } };
 }
 
 impl ReadCount {
@@ -27,7 +27,7 @@ impl ReadCount {
         ensures { result ≡ no_reads }
     {
         ReadCount {
-            begun: BegunReads::new(),
+            log: ByteLog::new(),
             bytes: 0,
             ends: 0,
         }
@@ -37,7 +37,7 @@ impl ReadCount {
     pub fn begin(&mut self, name: &str)
         ensures { self.new ≡ after_begun self.old name.now }
     {
-        self.begun.begin(name.as_bytes());
+        self.log.begin(name.as_bytes());
     }
 
     /// So many bytes were given at the front of `into`.
@@ -45,7 +45,7 @@ impl ReadCount {
         requires { count ≤ length into.now }
         ensures { self.new ≡ after_piece self.old into.now count }
     {
-        self.begun.give(&into[..count]);
+        self.log.add(&into[..count]);
         self.bytes = self.bytes.saturating_add(count as u64);
         if !into.is_empty() && count == 0 {
             self.ends = self.ends.saturating_add(1);

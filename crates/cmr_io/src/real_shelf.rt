@@ -1,4 +1,4 @@
-//! The files of the system and standard input: the edge, of whose bytes nothing is claimed.
+//! The files of the system and standard input. Which file a name opens, and what the system's calls do, is not claimed.
 
 ghost use Rattle.std.specs.Prelude.{◌≡◌, ◌≤◌, ◌<◌, [], false, true, None, IsTrue, IfOk, OnErr, is_err, is_ok, length, take};
 ghost use Rattle.std.specs.Io.KnownBytes.{Appends, Consumes, IsAtEnd, Keeps};
@@ -28,8 +28,9 @@ pub enum Open<F, I> {
 }
 
 /// The files of the system. The name `-`, where it is read, is standard input. Contracts see whether a
-/// read or a write is begun, what is left of what is read and what the file that is written has got where the runtime lets that
-/// be known, which reads were begun and what they gave, whether the last call failed, and the count of faults.
+/// read or a write is begun; what is left of what is read, and what the file that is written has got, if the runtime lets that
+/// be known; which reads and writes were begun, and what they gave and took; whether the last call failed; and the count of
+/// faults.
 #[derive(Drop)]
 pub struct RealShelf<'a, R: Files + Input> {
     rt: &'a R,
@@ -42,11 +43,11 @@ pub struct RealShelf<'a, R: Files + Input> {
 
 impl<'a, R: Files + Input> Model for RealShelf<'a, R> {
     ghost use Rattle.cmr_io.specs.FileShelf.{FileShelf};
-    ghost use Rattle.cmr_io.specs.Open.{got_in, is_reading, is_writing, left_in};
+    ghost use Rattle.cmr_io.specs.Open.{got_in, is_reading, is_writing, left_of_open};
 
     ghost Value = { FileShelf };
 
-    ghost view = { λ shelf. record { reading = is_reading shelf.opened; writing = is_writing shelf.opened; left = left_in R.File.remaining R.Reader.remaining shelf.opened; got = got_in R.File.contents shelf.opened; reads = shelf.reads; writes = shelf.writes; failed = shelf.failed; faults = shelf.faults } };
+    ghost view = { λ shelf. record { reading = is_reading shelf.opened; writing = is_writing shelf.opened; left = left_of_open R.File.remaining R.Reader.remaining shelf.opened; got = got_in R.File.contents shelf.opened; reads = shelf.reads; writes = shelf.writes; failed = shelf.failed; faults = shelf.faults } };
 }
 
 impl<'a, R: Files + Input> RealShelf<'a, R> {
@@ -139,10 +140,9 @@ impl<R: Files + Input> Shelf for RealShelf<'_, R> {
         ensures end { IfOk result (λ count. count ≡ 0 → 0 < length into.new
             → IsAtEnd self.new.left) }
         ensures err { OnErr result (Keeps self.old.left self.new.left) }
-        ensures begun { self.new.reading ≡ true }
-        ensures writing { self.new.writing ≡ self.old.writing }
-        ensures reads { self.new.reads ≡ after_next self.old.reads into.new result }
-        ensures writes { self.new.writes ≡ self.old.writes }
+        ensures begun { (self.new.reading ≡ true) × (self.new.writing ≡ self.old.writing) }
+        ensures logs { (self.new.reads ≡ after_next self.old.reads into.new result)
+            × (self.new.writes ≡ self.old.writes) }
         ensures failed { self.new.failed ≡ is_err result }
         ensures cause { HasCause self.old.faults self.new.faults result }
     {
@@ -186,10 +186,9 @@ impl<R: Files + Input> Shelf for RealShelf<'_, R> {
         ensures written { IfOk result (λ count.
             Appends self.old.got self.new.got (take count piece.now)) }
         ensures err { OnErr result (Keeps self.old.got self.new.got) }
-        ensures begun { self.new.writing ≡ true }
-        ensures reading { self.new.reading ≡ self.old.reading }
-        ensures reads { self.new.reads ≡ self.old.reads }
-        ensures writes { self.new.writes ≡ after_put self.old.writes piece.now result }
+        ensures begun { (self.new.reading ≡ self.old.reading) × (self.new.writing ≡ true) }
+        ensures logs { (self.new.reads ≡ self.old.reads)
+            × (self.new.writes ≡ after_put self.old.writes piece.now result) }
         ensures failed { self.new.failed ≡ is_err result }
         ensures cause { HasCause self.old.faults self.new.faults result }
     {

@@ -1,13 +1,13 @@
 ghost use Rattle.std.specs.Prelude.{◌≡◌, ◌≤◌, [], length, take};
 ghost use Rattle.cmr_io.specs.Log.{no_log, log_more, log_with};
 
-use crate::begun_reads::BegunReads;
+use crate::byte_log::ByteLog;
 use std::marker::Model;
 
 /// Which writes were begun, and what each of them has taken. Only clauses see it: at run time there is nothing.
 #[derive(Debug, Drop)]
 pub struct WriteLog {
-    begun: BegunReads,
+    log: ByteLog,
 }
 
 impl Model for WriteLog {
@@ -15,7 +15,7 @@ impl Model for WriteLog {
 
     ghost Value = { Log };
 
-    ghost view = { λ log. record { names = log.begun.names; texts = log.begun.texts } };
+    ghost view = { λ log. record { names = log.log.names; texts = log.log.texts } };
 }
 
 impl WriteLog {
@@ -24,7 +24,7 @@ impl WriteLog {
         ensures { result ≡ no_log }
     {
         WriteLog {
-            begun: BegunReads::new(),
+            log: ByteLog::new(),
         }
     }
 
@@ -32,7 +32,7 @@ impl WriteLog {
     pub fn begin(&mut self, name: &str)
         ensures { self.new ≡ log_with self.old name.now [] }
     {
-        self.begun.begin(name.as_bytes());
+        self.log.begin(name.as_bytes());
     }
 
     /// So many bytes at the front of the piece were taken.
@@ -40,6 +40,6 @@ impl WriteLog {
         requires { count ≤ length piece.now }
         ensures { self.new ≡ log_more self.old (take count piece.now) }
     {
-        self.begun.give(&piece[..count]);
+        self.log.add(&piece[..count]);
     }
 }

@@ -1,5 +1,5 @@
 -- What the answers of `balanced` say of the matrix.
-use Rattle.std.proofs.Common.{◌≡◌, ◌<◌, ◌∙◌, inl, inr, ℕ, List, Option, Some, None, refl, subst, sym, arith}
+use Rattle.std.proofs.Common.{◌≡◌, ◌<◌, ◌≤◌, ◌∙◌, inl, inr, ℕ, List, Option, Some, None, refl, subst, sym, arith}
 use Rattle.std.proofs.lemmas.Bool.{cases_lt}
 use Rattle.cmr_base.specs.declared.line_set.LineSet.{LineSet}
 use Rattle.cmr_base.specs.Matrix.{Matrix, height, IsMatrix}
@@ -37,7 +37,7 @@ use Rattle.cmr_reach.proofs.CamionAnswers.{not_both}
 -- ---- faults
 
 -- the least fault is a fault
-least_is_fault : (m : Matrix) (lines : LineSet) → IsLeastFault m lines.rows lines.columns → IsFaultOf m lines
+pub least_is_fault : (m : Matrix) (lines : LineSet) → IsLeastFault m lines.rows lines.columns → IsFaultOf m lines
 least_is_fault m lines is = elim (cases_lt m.width (height m)) [
   | inl few ↦ let by = is.few_columns few in record { row_set = by.rows_least.row_set; column_set = by.column_set; balance_fault = by.rows_least.fault }
   | inr many ↦ let by = is.few_rows (omega arith) in record { row_set = by.row_set; column_set = by.columns_least.column_set; balance_fault = by.columns_least.fault }
@@ -128,13 +128,13 @@ answers o m r (searched untold found has e) = search_answers o m found r e
 pub balanced_lawful : (o : BalancedOrder) → IsLawful (balanced_tool o)
 balanced_lawful o = lawful (balanced_source o) (BalancedDecides o) (BalancedMeans o) (says o) (IsInRanges o) (one_status o) (answers o)
 
--- the numbers that words of `balanced` name are in their ranges
-pub balanced_order-ranges : (words : List Text) (o : BalancedOrder) → balanced_order words ≡ Some o → IsInRanges o
+-- the numbers that words of `balanced` name are in their ranges, and so are the pivots
+pub balanced_order-ranges : (words : List Text) (o : BalancedOrder) → balanced_order words ≡ Some o → IsInRanges o × (o.pivots ≤ 100)
 balanced_order-ranges words o e = go (matches_with_input balanced_app words) e
   where
     order_with : List Row → MatrixForm → ℕ → ℕ → ℕ → BalancedOrder
     order_with rows form lines pivots workers = record { form = form; lines = lines; pivots = pivots; workers = workers; fault = fault_in rows; file = file_in rows }
 
-    go : (rows : Option (List Row)) → (rows >>= balanced_order_in) ≡ Some o → IsInRanges o
+    go : (rows : Option (List Row)) → (rows >>= balanced_order_in) ≡ Some o → IsInRanges o × (o.pivots ≤ 100)
     go None e = cc
-    go (Some rows) e = with_numbers IsInRanges (order_with rows) rows o (λ form lines pivots workers few bound some. record { lines = few; pivots = bound; some = some.0; workers = some.1 }) e
+    go (Some rows) e = with_numbers (λ (x : BalancedOrder). IsInRanges x × (x.pivots ≤ 100)) (order_with rows) rows o (λ form lines pivots workers few bound some. (record { lines = few; some = some.0; workers = some.1 }, bound)) e

@@ -4,5 +4,6 @@ pub mod BalancedAnswers
 pub mod ComposeAnswers
 pub mod PartsAnswers
 pub mod RootSums
-pub mod TextLengths
 pub mod WayBack
+pub mod OneFault
+pub mod FaultReports

@@ -1,43 +1,32 @@
 -- The files that `parts` writes are composed again.
-use Rattle.std.proofs.Common.{◌≡◌, ◌≢◌, ◌≤◌, ◌∙◌, ℕ, Bool, true, false, List, [], ◌∷◌, Some, length, ap, ap₂, sym, subst, refl, arith}
+use Rattle.std.proofs.Common.{◌≡◌, ◌≢◌, ◌≤◌, ℕ, Bool, false, List, [], ◌∷◌, Some, length, ap, ap₂, sym, subst, refl, arith}
 use Rattle.std.specs.Prelude.{if◌then◌else◌}
 use Rattle.std.specs.Str.{bytes_eq}
-use Rattle.std.proofs.lemmas.Slice.Eq.{bytes_eq-Decides}
 use Rattle.cmr_base.specs.LineSets.{submatrix}
 use Rattle.cmr_base.specs.Matrix.{Matrix}
-use Rattle.cmr_base.proofs.Booleans.{is_not_lt}
 use Rattle.text_fields.specs.TextWords.{text_of}
 use Rattle.matrix_text.specs.CanonicalMatrices.{dense_text}
+use Rattle.matrix_text.proofs.TextLengths.{dense_text_within}
 use Rattle.compose.specs.declared.arrangement.Arranged.{Arranged}
 use Rattle.compose.specs.declared.sum_kind.SumKind.{SumKind}
 use Rattle.tree_text.specs.TreeReading.{PlainTree, tree}
 use Rattle.cmr_front.specs.declared.outcome.FaultKind.TheVariants as faults
 use Rattle.cmr_front.specs.declared.status.Answer.TheVariants.{Yes}
 use Rattle.cmr_front.specs.Evidence.{ReportsTree, evidence_files}
-use Rattle.cmr_front.specs.Inputs.{Given, above_limit, and_then, given, not_there, reading, reading_of, texts, too_much, whole}
+use Rattle.cmr_front.specs.Inputs.{Given, and_then, given, not_there, texts, too_much}
 use Rattle.cmr_front.specs.MatrixText.{matrix_file, matrix_in}
 use Rattle.cmr_front.specs.Report.{File, Held, Report, with_files}
 use Rattle.cmr_front.specs.Run.{ReportsGiven, ReportsHeld}
 use Rattle.cmr_front.specs.Status.{answer_status}
+use Rattle.cmr_front.proofs.HeldTexts.{other_name, read_whole, same_name}
 use Rattle.cmr_front.proofs.Statuses.{status_of}
 use Rattle.cmr_front.proofs.Texts.{answered}
 use Rattle.cmr_reach.specs.Compose.{compose_tool, composed_report}
 use Rattle.cmr_reach.specs.Parts.{ArePartsOfRoot, PartsDecides, PartsReports, parted, other_root, refused, parts_report, parts_tool, root_of, root_word, PartsOrder}
 use Rattle.cmr_reach.specs.WayBack.{PartsComposeBack, back_order}
 use Rattle.cmr_reach.proofs.PartsAnswers.{composed_to}
-use Rattle.cmr_reach.proofs.TextLengths.{dense_text_within}
 
 -- ---- what the names hold once two files were written
-
-pub same_name : (x : List ℕ) → bytes_eq x x ≡ true
-same_name x = (bytes_eq-Decides x x).1 refl
-
-other_name : (x y : List ℕ) → x ≢ y → bytes_eq x y ≡ false
-other_name x y apart = go (bytes_eq x y) refl
-  where
-    go : (same : Bool) → bytes_eq x y ≡ same → bytes_eq x y ≡ false
-    go true e = absurd (apart ((bytes_eq-Decides x y).0 e))
-    go false e = e
 
 module _ (held : Held) (f g : File) where
   first_held : f.name ≢ g.name → with_files held (f ∷ g ∷ []) f.name ≡ Some f.bytes
@@ -46,15 +35,12 @@ module _ (held : Held) (f g : File) where
   second_held : with_files held (f ∷ g ∷ []) g.name ≡ Some g.bytes
   second_held = ap (λ (a : Bool). if a then Some g.bytes else (if bytes_eq g.name f.name then Some f.bytes else held g.name)) (same_name g.name)
 
-pub read_whole : (held : Held) (name bytes : List ℕ) → held name ≡ Some bytes → length bytes ≤ 16777216 → reading held (matrix_file name) ≡ whole bytes
-read_whole held name bytes e few = ap (reading_of 16777216) e ∙ ap (λ (b : Bool). if b then above_limit else whole bytes) (is_not_lt 16777216 (length bytes) few)
-
 both_read : (held : Held) (f g : File) → f.name ≢ g.name → length f.bytes ≤ 16777216 → length g.bytes ≤ 16777216
     → given (with_files held (f ∷ g ∷ [])) (matrix_file f.name ∷ matrix_file g.name ∷ []) ≡ texts (f.bytes ∷ g.bytes ∷ [])
 both_read held f g apart few many =
     let written = with_files held (f ∷ g ∷ []) in
     ap₂ (λ x y. and_then f.name x (and_then g.name y (texts [])))
-    (read_whole written f.name f.bytes (first_held held f g apart) few) (read_whole written g.name g.bytes (second_held held f g) many)
+    (read_whole written (matrix_file f.name) f.bytes (first_held held f g apart) few) (read_whole written (matrix_file g.name) g.bytes (second_held held f g) many)
 
 -- ---- what was read
 

@@ -114,7 +114,6 @@ BalancedMeans o m Refused = ⊥
 -- the ranges of its numbers
 pub record IsInRanges (o : BalancedOrder) : Type 0 where
   pub lines : o.lines ≤ MAX_LINES
-  pub pivots : o.pivots ≤ 100
   pub some : 1 ≤ o.workers
   pub workers : o.workers ≤ 64
 

@@ -16,10 +16,10 @@ use Rattle.cmr_front.specs.Inputs.{Given, and_then, given, not_there, texts, too
 use Rattle.cmr_front.specs.MatrixText.{matrix_file, matrix_in}
 use Rattle.cmr_front.specs.Report.{File, Held, Report, asked_file, with_files}
 use Rattle.cmr_front.specs.Run.{ReportsGiven, ReportsHeld}
+use Rattle.cmr_front.proofs.HeldTexts.{read_whole, same_name}
 use Rattle.cmr_front.proofs.MatrixText.{read_is_binary, read_is_matrix}
 use Rattle.cmr_front.proofs.Statuses.{status_of}
 use Rattle.cmr_front.proofs.Texts.{answered}
-use Rattle.cmr_reach.proofs.WayBack.{read_whole, same_name}
 use Rattle.cmr_unimodular.specs.declared.tools.graphic_network.TestedProperty.{TestedProperty}
 use Rattle.cmr_unimodular.specs.declared.tools.graphic_network.TestedProperty.TheVariants.{Graphic, Network}
 use Rattle.cmr_front.specs.declared.status.Answer.TheVariants.{Yes}
@@ -64,7 +64,7 @@ one_read : (held : Held) (file : File) → length file.bytes ≤ 16777216 → gi
 one_read held file few =
     let written = with_files held (file ∷ []) in
     let here : written file.name ≡ Some file.bytes = ap (λ (b : Bool). if b then Some file.bytes else held file.name) (same_name file.name) in
-    ap (λ x. and_then file.name x (texts [])) (read_whole written file.name file.bytes here few)
+    ap (λ x. and_then file.name x (texts [])) (read_whole written (matrix_file file.name) file.bytes here few)
 
 file_gives : (p : TestedProperty) (net : Net) (m : Matrix) (name : List ℕ) (held : Held) → IsMatrix m → IsTestable p m → Shows p net m → FileGivesMatrix p name (with_files held (record { name = name; bytes = graph_text net } ∷ [])) m
 file_gives p net m name held is testable shows =

@@ -1,11 +1,12 @@
 -- A run of the tool that a command names is a run of the command.
-use Rattle.std.proofs.Common.{◌≡◌, ℕ, Bool, IsTrue, sym, subst}
+use Rattle.std.proofs.Common.{◌≡◌, ℕ, Bool, IsTrue, Option, Some, sym, subst}
 use Rattle.cmr_front.specs.Ending.{Devices, Standing}
 use Rattle.cmr_front.specs.Report.{Held}
-use Rattle.cmr_front.specs.Run.{Means, Runs, work}
+use Rattle.cmr_front.specs.Run.{Means, MeansRead, Runs, work}
 use Rattle.cmr_front.specs.Status.{answer_status}
+use Rattle.cmr_front.specs.Unread.{between}
 use Rattle.cmr_front.specs.declared.status.Answer.{Answer}
-use Rattle.cmr_tools.specs.ToolOrders.{order_of, tool_of}
+use Rattle.cmr_tools.specs.ToolOrders.{Order, order_of, ordered, tool_of}
 use Rattle.cmr_tools.specs.declared.command.Command.{Command}
 
 pub runs_of : (command named : Command) (standing : Standing) (before after : Devices) (status : ℕ) → command ≡ named
@@ -16,3 +17,8 @@ pub means_of : (command named : Command) (tells : Bool) (held : Held) (status : 
     → (IsTrue tells → (answer : Answer) → status ≡ answer_status answer → Means (tool_of (order_of named)) held answer)
     → IsTrue tells → (answer : Answer) → status ≡ answer_status answer → Means (tool_of (order_of command)) held answer
 means_of command named tells held status is means = subst (λ it. IsTrue tells → (answer : Answer) → status ≡ answer_status answer → Means (tool_of (order_of it)) held answer) (sym is) means
+
+-- a run of what the words order is one of the order that they give
+pub read_of : (words : Option Order) (standing : Standing) (before after : Devices) (status : ℕ) → Runs (ordered words) standing before after status
+    → (o : Order) → words ≡ Some o → (answer : Answer) → status ≡ answer_status answer → MeansRead (work (tool_of o)) (between before.reads after.reads) answer
+read_of words standing before after status runs o is answer answered = subst (λ (it : Option Order). MeansRead (ordered it) (between before.reads after.reads) answer) is (runs.means answer answered)

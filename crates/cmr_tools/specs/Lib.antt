@@ -1,2 +1,3 @@
 pub mod ToolOrders
 pub mod Laws
+pub mod ReportLaws

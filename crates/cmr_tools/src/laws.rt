@@ -5,6 +5,7 @@ ghost use Rattle.cmr_tools.specs.Laws.{
   GraphsGiveBack,
   HeldGraphsGiveBack,
 };
+ghost use Rattle.cmr_tools.specs.ReportLaws.{ReportsAreAlike, ReportsAreOne, WorkersChangeNothing};
 
 /// Where `graphic` or `network` says yes of a matrix and writes a graph, but not with `-t`, the same tool with `-c` writes
 /// from that graph the canonical dense text of the matrix, and can report nothing else. It does so from the text, and from
@@ -18,4 +19,16 @@ pub fn graphs_give_back()
 /// Whatever texts a tool decides on, a report with the status of a text at fault is the line on a file that the tool reads.
 pub fn faults_are_of_files()
     ensures { FaultsAreOfFiles }
+{}
+
+/// Two reports on the same texts have the same status and the same bytes of standard output, and their files differ at most in which
+/// networks realise a matrix. They are equal where no file is written that may hold a network: a tree of `tu` or `regular`, or a graph.
+pub fn one_report()
+    ensures alike { ReportsAreAlike }
+    ensures one { ReportsAreOne }
+{}
+
+/// The number of workers changes nothing of a report.
+pub fn workers_change_nothing()
+    ensures { WorkersChangeNothing }
 {}

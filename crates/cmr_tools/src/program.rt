@@ -1,7 +1,8 @@
 // The call that the program makes.
 ghost use Rattle.std.specs.Prelude.{◌≡◌, Some, IsTrue};
-ghost use Rattle.cmr_front.specs.Run.{Means, RunsOver};
+ghost use Rattle.cmr_front.specs.Run.{Means, MeansRead, RunsOver, work};
 ghost use Rattle.cmr_front.specs.Status.{answer_status};
+ghost use Rattle.cmr_front.specs.Unread.{between};
 ghost use Rattle.cmr_tools.specs.ToolOrders.{Order, order, ordered, tool_of};
 ghost use Rattle.cmr_front.specs.declared.status.Answer.{Answer};
 
@@ -31,6 +32,9 @@ pub fn run<R: Threads + Sync, S: Shelf, O: Sink, E: Sink>(
     ensures means { IsTrue (S.tells shelf.old) → (o : Order) → order words.now ≡ Some o
         → (answer : Answer) → result ≡ answer_status answer
         → Means (tool_of o) (S.content shelf.old) answer }
+    ensures read { (o : Order) → order words.now ≡ Some o
+        → (answer : Answer) → result ≡ answer_status answer
+        → MeansRead (work (tool_of o)) (between (S.reads shelf.old) (S.reads shelf.new)) answer }
 {
     match read_words(alloc, words) {
         Ok(command) => obey(rt, alloc, &command, shelf, out, err),

@@ -117,7 +117,7 @@ unbroken : (a s end : Matrix) (steps : List SignStep) (lines : LineSet) → Lead
 unbroken a s end [] lines e violator breaks = breaks (subst (λ x. IsSignedViolator a x lines) (sym e) violator)
 unbroken a s end (step ∷ steps) lines (sign, keeps, rest) violator breaks = breaks sign keeps
 
-chain_unbroken : (a : Matrix) (c : SizedChain) (signs : Matrix) (step : ℕ) → IsMatrix a → IsSoundChain a c signs → IsFirstBrokenPart a c step → ⊥
+pub chain_unbroken : (a : Matrix) (c : SizedChain) (signs : Matrix) (step : ℕ) → IsMatrix a → IsSoundChain a c signs → IsFirstBrokenPart a c step → ⊥
 chain_unbroken a c signs step is sound broken = elim broken.broken [
   | inl other ↦ other.0 sound.sizes
   | inr (sizes, (middle, lead, breaks)) ↦ unbroken a middle signs (drop broken.before c.chain.steps) c.chain.violator

@@ -45,7 +45,7 @@ one_generated Network size number m n is_m is_n a b =
     same_matrix m n is_m.rectangular is_n.rectangular high wide (same_entry (generated_network size number) m n a.2 b.2 high wide)
 one_generated TwoSum size number m n is_m is_n a b = a ∙ sym b
 
-one_made : (o : GenerateOrder) (m n : Matrix) → IsMade o m → IsMade o n → m ≡ n
+pub one_made : (o : GenerateOrder) (m n : Matrix) → IsMade o m → IsMade o n → m ≡ n
 one_made o m n a b = one_generated o.what o.size o.number m n a.is_matrix b.is_matrix a.generated b.generated
 
 -- ---- its verdict
@@ -97,7 +97,7 @@ number_in-range rows number e = go (first_of (codes "number") rows) e
     go None e = cc
     go (Some text) e = let within = number_from-between 0 2147483647 text number e in omega arith
 
-pub generate_order-ranges : (words : List Text) (o : GenerateOrder) → generate_order words ≡ Some o → IsInRange o
+pub generate_order-ranges : (words : List Text) (o : GenerateOrder) → generate_order words ≡ Some o → IsInRange o × (o.pivots ≤ 100)
 generate_order-ranges words o e = go (matches_in generate_app words) e
   where
     order_with : MakeKind → Option (List ℕ) → ℕ → ℕ → ℕ → ℕ → ℕ → GenerateOrder
@@ -106,7 +106,7 @@ generate_order-ranges words o e = go (matches_in generate_app words) e
     of_values : (what : MakeKind) (output : Option (List ℕ)) (size number lines pivots workers : Option ℕ)
         → ((n : ℕ) → size ≡ Some n → (1 ≤ n) × (n ≤ most_size what)) → ((n : ℕ) → number ≡ Some n → n < 2 ^ 31) → ((n : ℕ) → lines ≡ Some n → n ≤ MAX_LINES)
         → ((n : ℕ) → pivots ≡ Some n → n ≤ 100) → ((n : ℕ) → workers ≡ Some n → (1 ≤ n) × (n ≤ 64))
-        → (size >>= (λ s. number >>= (λ n. lines >>= (λ l. pivots >>= (λ p. workers >>= (λ w. Some (order_with what output s n l p w))))))) ≡ Some o → IsInRange o
+        → (size >>= (λ s. number >>= (λ n. lines >>= (λ l. pivots >>= (λ p. workers >>= (λ w. Some (order_with what output s n l p w))))))) ≡ Some o → IsInRange o × (o.pivots ≤ 100)
     of_values what output None number lines pivots workers of_size of_number of_lines of_pivots of_workers e = cc
     of_values what output (Some s) None lines pivots workers of_size of_number of_lines of_pivots of_workers e = cc
     of_values what output (Some s) (Some n) None pivots workers of_size of_number of_lines of_pivots of_workers e = cc
@@ -114,16 +114,16 @@ generate_order-ranges words o e = go (matches_in generate_app words) e
     of_values what output (Some s) (Some n) (Some l) (Some p) None of_size of_number of_lines of_pivots of_workers e = cc
     of_values what output (Some s) (Some n) (Some l) (Some p) (Some w) of_size of_number of_lines of_pivots of_workers e =
         let same : order_with what output s n l p w ≡ o = cc in
-        subst IsInRange same
-        (record { positive = (of_size s refl).0; size = (of_size s refl).1; number = of_number n refl; lines = of_lines l refl; pivots = of_pivots p refl; workers = of_workers w refl })
+        subst (λ (x : GenerateOrder). IsInRange x × (x.pivots ≤ 100)) same
+        (record { positive = (of_size s refl).0; size = (of_size s refl).1; number = of_number n refl; lines = of_lines l refl; workers = of_workers w refl }, of_pivots p refl)
 
     of_kind : (what : Option MakeKind) (rows : List Row)
-        → (what >>= (λ k. size_in k rows >>= (λ s. number_in rows >>= (λ n. lines_in rows >>= (λ l. pivots_in rows >>= (λ p. workers_in rows >>= (λ w. Some (order_with k (first_of (codes "output") rows) s n l p w)))))))) ≡ Some o → IsInRange o
+        → (what >>= (λ k. size_in k rows >>= (λ s. number_in rows >>= (λ n. lines_in rows >>= (λ l. pivots_in rows >>= (λ p. workers_in rows >>= (λ w. Some (order_with k (first_of (codes "output") rows) s n l p w)))))))) ≡ Some o → IsInRange o × (o.pivots ≤ 100)
     of_kind None rows e = cc
     of_kind (Some k) rows e =
         of_values k (first_of (codes "output") rows) (size_in k rows) (number_in rows) (lines_in rows) (pivots_in rows) (workers_in rows)
         (size_in-range k rows) (number_in-range rows) (lines_in-le rows) (pivots_in-le rows) (workers_in-between rows) e
 
-    go : (rows : Option (List Row)) → (rows >>= generate_order_in) ≡ Some o → IsInRange o
+    go : (rows : Option (List Row)) → (rows >>= generate_order_in) ≡ Some o → IsInRange o × (o.pivots ≤ 100)
     go None e = cc
     go (Some rows) e = of_kind (make_kind_in rows) rows e

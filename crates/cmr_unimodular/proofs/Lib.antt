@@ -14,3 +14,9 @@ pub mod UpgradeAnswers
 pub mod SeriesParallelAnswers
 pub mod GraphicNetworkAnswers
 pub mod GraphMatrixAnswers
+pub mod PlainOutlines
+pub mod AlikeReports
+pub mod OneCheck
+pub mod EvidenceKinds
+pub mod AcceptedEvidence
+pub mod WorkersOfTests

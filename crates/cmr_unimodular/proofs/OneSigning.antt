@@ -1,5 +1,5 @@
 -- A matrix has one signing by Camion.
-use Rattle.std.proofs.Common.{◌≡◌, ◌∙◌, ◌+ℤ◌, ◌-ℤ◌, inl, inr, ℕ, ℤ, List, [], ◌∷◌, ap, ap₂, sym, subst, arith}
+use Rattle.std.proofs.Common.{◌≡◌, ◌∙◌, ◌+ℤ◌, ◌-ℤ◌, inl, inr, ℕ, ℤ, List, [], ◌∷◌, refl, ap, ap₂, sym, subst, arith}
 use Rattle.cmr_base.specs.Matrix.{Matrix, entry, IsMatrix}
 use Rattle.cmr_base.specs.Members.{IsIn}
 use Rattle.cmr_base.specs.LineSets.{submatrix_sum}
@@ -126,16 +126,18 @@ none_next a s m step v e all next =
     let here = next_one a s step v next in
     subst (AllSigned a) (sym e) all (step_row step) (step_column step) here.one here.no_sign
 
-one_lead : (a s m n : Matrix) (steps others : List SignStep) → IsMatrix a → AreSigns a s → LeadTo (IsNextSign a) s steps m → LeadTo (IsNextSign a) s others n → AllSigned a m → AllSigned a n → m ≡ n
-one_lead a s m n [] [] is signs e f all all' = sym e ∙ f
+one_lead : (a s m n : Matrix) (steps others : List SignStep) → IsMatrix a → AreSigns a s → LeadTo (IsNextSign a) s steps m → LeadTo (IsNextSign a) s others n → AllSigned a m → AllSigned a n → (steps ≡ others) × (m ≡ n)
+one_lead a s m n [] [] is signs e f all all' = (refl, sym e ∙ f)
 one_lead a s m n [] (other ∷ others) is signs e (w, next', rest') all all' = absurd (none_next a s m other w e all next')
 one_lead a s m n (step ∷ steps) [] is signs (v, next, rest) f all all' = absurd (none_next a s n step v f all' next)
 one_lead a s m n (step ∷ steps) (other ∷ others) is signs (v, next, rest) (w, next', rest') all all' =
     let here = next_one a s step v next in
     let row = same_row a s (step_row step) (step_column step) (step_row other) (step_column other) (next_turn a s step v next) (next_turn a s other w next') here (next_one a s other w next') in
     let same = one_next a s is signs step other v w row next next' in
-    one_lead a (signed_by s step v) m n steps others is (signs_more a s is.rectangular signs (step_row step) (step_column step) v here.one (next_sign a s step v next)) rest
-    (subst (λ x. LeadTo (IsNextSign a) (signed_by s step x) others n) (sym same.1) (subst (λ x. LeadTo (IsNextSign a) (signed_by s x w) others n) (sym same.0) rest')) all all'
+    let later = one_lead a (signed_by s step v) m n steps others is (signs_more a s is.rectangular signs (step_row step) (step_column step) v here.one (next_sign a s step v next)) rest
+    (subst (λ x. LeadTo (IsNextSign a) (signed_by s step x) others n) (sym same.1) (subst (λ x. LeadTo (IsNextSign a) (signed_by s x w) others n) (sym same.0) rest')) all all' in
+    (ap₂ (λ first (rest : List SignStep). first ∷ rest) same.0 later.0, later.1)
 
-pub one_signing : (a m n : Matrix) (steps others : List SignStep) → IsMatrix a → IsSignedBy a steps m → IsSignedBy a others n → m ≡ n
+-- two signings by Camion of a matrix have the same steps and the same signs
+pub one_signing : (a m n : Matrix) (steps others : List SignStep) → IsMatrix a → IsSignedBy a steps m → IsSignedBy a others n → (steps ≡ others) × (m ≡ n)
 one_signing a m n steps others is x y = one_lead a (unsigned a) m n steps others is (unsigned_signs a) x.steps_are y.steps_are x.all_signed y.all_signed

@@ -1,8 +1,11 @@
 -- The lines that a decomposition leaves open.
-use Rattle.std.proofs.Common.{◌≡◌, inl, inr, ℕ, min, Some, arith}
+use Rattle.std.proofs.Common.{◌≡◌, inl, inr, ℕ, min, false, length, Option, Some, None, refl, arith}
+use Rattle.std.specs.Prelude.{IsSome}
 use Rattle.std.proofs.lemmas.Bool.{cases_lt}
 use Rattle.cmr_base.specs.declared.line_set.LineSet.{LineSet}
-use Rattle.cmr_base.specs.Matrix.{Matrix, height, IsMatrix}
+use Rattle.cmr_base.specs.Matrix.{Matrix, height, entry, IsMatrix}
+use Rattle.cmr_base.specs.LineSets.{first_lines}
+use Rattle.cmr_base.specs.Reductions.{line_reason}
 use Rattle.tree_type.specs.Soundness.{part}
 use Rattle.tree_type.specs.DecompositionTrees.{Tree}
 use Rattle.tree_type.specs.Verdicts.{first_in, open_at}
@@ -11,11 +14,15 @@ use Rattle.decomp_tree.specs.Shapes.{HasFault, IsReducible, IsApart, IsNetwork, 
 use Rattle.decomp_tree.proofs.OpenNodes.{open_case}
 use Rattle.cmr_unimodular.specs.Verdict.{IsLeftOpen, IsOpenPart}
 
+no_reason : {X : Type 0} (reason : Option X) → ¬ (IsSome reason) → reason ≡ None
+no_reason None none = refl
+no_reason (Some x) none = absurd (none refl)
+
 left_open : (budget : ℕ) (n : Matrix) → IsFirstCase budget n IsLeft → IsLeftOpen budget n
 left_open budget n is = record {
   no_fault = λ row first last path fault. is.first HasFault (omega arith) (row, first, last, path, fault);
-  irreducible = is.first IsReducible (omega arith);
-  connected = is.first IsApart (omega arith);
+  irreducible = λ line here. no_reason (line_reason false (entry n) (first_lines (height n)) (first_lines n.width) line) (λ some. is.first IsReducible (omega arith) (line, here, some));
+  connected = λ parts are. elim (cases_lt (length parts) 2) [ inl one ↦ one | inr two ↦ absurd (is.first IsApart (omega arith) (parts, are, two)) ];
   no_network = is.first IsNetwork (omega arith);
   no_conetwork = is.first IsConetwork (omega arith);
   no_r10 = is.first IsR10Matrix (omega arith);

@@ -1,5 +1,5 @@
 -- What the answers of `regular` say of the matrix.
-use Rattle.std.proofs.Common.{◌≡◌, ◌∙◌, ℕ, List, Result, Ok, Err, refl, sym, subst, arith, Option, Some, None, codes}
+use Rattle.std.proofs.Common.{◌≡◌, ◌≤◌, ◌∙◌, ℕ, List, Result, Ok, Err, refl, sym, subst, arith, Option, Some, None, codes}
 use Rattle.std.specs.Prelude.{IfOk}
 use Rattle.cmr_base.specs.declared.memory.Memory.{Memory}
 use Rattle.cmr_base.specs.declared.line_set.LineSet.{LineSet}
@@ -45,7 +45,7 @@ lines_in_matrix a signed steps (verdicts.No fault) is right = (
 )
 lines_in_matrix a signed steps (verdicts.Open lines) is right = tt
 
-sound : (a signed : Matrix) (steps : List SignStep) (fault : LineSet) → IsSignedTo a steps signed → IsRefuted signed fault → IsSoundChain a (chain_with a steps fault) signed
+pub sound : (a signed : Matrix) (steps : List SignStep) (fault : LineSet) → IsSignedTo a steps signed → IsRefuted signed fault → IsSoundChain a (chain_with a steps fault) signed
 sound a signed steps fault is right = record {
   sizes = (refl, refl);
   steps = is.chain;
@@ -61,7 +61,7 @@ sound a signed steps fault is right = record {
 
 one_status : (o : RegularOrder) (a : Matrix) (r s : Report) → RegularDecides o a r → RegularDecides o a s → r.status ≡ s.status
 one_status o a r s x y =
-    let same : y.signed ≡ x.signed = one_signing a y.signed x.signed y.steps x.steps x.signing.matrix y.signing.by_camion x.signing.by_camion in
+    let same : y.signed ≡ x.signed = (one_signing a y.signed x.signed y.steps x.steps x.signing.matrix y.signing.by_camion x.signing.by_camion).1 in
     let first : Decides (regular_verdict o) x.signed (verdict_report (regular_verdict o) x.signed x.tree) = record { tree = x.tree; decomposition = x.decomposition; told = x.told; report_is = refl } in
     let second : Decides (regular_verdict o) y.signed (verdict_report (regular_verdict o) y.signed y.tree) = record { tree = y.tree; decomposition = y.decomposition; told = y.told; report_is = refl } in
     status_of r _ x.report_is
@@ -113,8 +113,8 @@ pub chain_written : (a : Matrix) (steps : List SignStep) (violator fault : LineS
     → chain_text (record { chain = record { steps = steps; violator = violator }; rows = rows; columns = columns }) ≡ chain_text (chain_with a steps fault)
 chain_written a steps violator fault rows columns e f g = rw (e, f, g) refl
 
--- the numbers that words of `regular` name
-pub regular_order-ranges : (words : List Text) (o : RegularOrder) → regular_order words ≡ Some o → (regular_tool o).InRanges
+-- the numbers that words of `regular` name are in their ranges, and so are the pivots
+pub regular_order-ranges : (words : List Text) (o : RegularOrder) → regular_order words ≡ Some o → (regular_tool o).InRanges × (o.pivots ≤ 100)
 regular_order-ranges words o e = go (matches_with_input regular_app words) e
   where
     order_with : List Row → MatrixForm → ℕ → ℕ → ℕ → RegularOrder
@@ -130,6 +130,6 @@ regular_order-ranges words o e = go (matches_with_input regular_app words) e
       file = file_in rows;
     }
 
-    go : (rows : Option (List Row)) → (rows >>= regular_order_in) ≡ Some o → (regular_tool o).InRanges
+    go : (rows : Option (List Row)) → (rows >>= regular_order_in) ≡ Some o → (regular_tool o).InRanges × (o.pivots ≤ 100)
     go None e = cc
-    go (Some rows) e = with_numbers (λ (x : RegularOrder). (regular_tool x).InRanges) (order_with rows) rows o (λ form lines pivots workers few bound some. (few, bound, some.0, some.1)) e
+    go (Some rows) e = with_numbers (λ (x : RegularOrder). (regular_tool x).InRanges × (x.pivots ≤ 100)) (order_with rows) rows o (λ form lines pivots workers few bound some. ((few, some.0, some.1), bound)) e

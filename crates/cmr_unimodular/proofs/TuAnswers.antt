@@ -1,5 +1,5 @@
 -- What the answers of `tu` say of the matrix.
-use Rattle.std.proofs.Common.{◌≡◌, ◌∙◌, sym, ℕ, List, Option, Some, None, codes}
+use Rattle.std.proofs.Common.{◌≡◌, ◌≤◌, ◌∙◌, sym, ℕ, List, Option, Some, None, codes}
 use Rattle.cmr_base.specs.Matrix.{Matrix}
 use Rattle.cmr_front.specs.declared.status.Answer.{Answer}
 use Rattle.cmr_front.specs.Report.{Report}
@@ -23,13 +23,13 @@ says o m r answer d is = unimodular_means o.lines o.pivots m d.tree d.decomposit
 pub tu_lawful : (o : TuOrder) → IsLawful (tu_tool o)
 tu_lawful o = lawful (tu_source o) (Decides (tu_verdict o)) (TuMeans o) (says o) _ (one_verdict (tu_verdict o)) (λ m r d. (answer_of (verdict_in d.tree), status_of r _ d.report_is))
 
--- the numbers that words of `tu` name
-pub tu_order-ranges : (words : List Text) (o : TuOrder) → tu_order words ≡ Some o → (tu_tool o).InRanges
+-- the numbers that words of `tu` name are in their ranges, and so are the pivots
+pub tu_order-ranges : (words : List Text) (o : TuOrder) → tu_order words ≡ Some o → (tu_tool o).InRanges × (o.pivots ≤ 100)
 tu_order-ranges words o e = go (matches_with_input tu_app words) e
   where
     order_with : List Row → MatrixForm → ℕ → ℕ → ℕ → TuOrder
     order_with rows form lines pivots workers = record { form = form; lines = lines; pivots = pivots; workers = workers; tree = first_of (codes "tree") rows; fault = fault_in rows; file = file_in rows }
 
-    go : (rows : Option (List Row)) → (rows >>= tu_order_in) ≡ Some o → (tu_tool o).InRanges
+    go : (rows : Option (List Row)) → (rows >>= tu_order_in) ≡ Some o → (tu_tool o).InRanges × (o.pivots ≤ 100)
     go None e = cc
-    go (Some rows) e = with_numbers (λ (x : TuOrder). (tu_tool x).InRanges) (order_with rows) rows o (λ form lines pivots workers few bound some. (few, bound, some.0, some.1)) e
+    go (Some rows) e = with_numbers (λ (x : TuOrder). (tu_tool x).InRanges × (x.pivots ≤ 100)) (order_with rows) rows o (λ form lines pivots workers few bound some. ((few, some.0, some.1), bound)) e

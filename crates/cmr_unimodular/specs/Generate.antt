@@ -126,7 +126,6 @@ pub record IsInRange (o : GenerateOrder) : Type 0 where
   pub size : o.size ≤ most_size o.what
   pub number : o.number < 2 ^ 31
   pub lines : o.lines ≤ MAX_LINES
-  pub pivots : o.pivots ≤ 100
   pub workers : (1 ≤ o.workers) × (o.workers ≤ 64)
 
 -- it reads no file

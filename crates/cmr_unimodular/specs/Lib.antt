@@ -8,3 +8,5 @@ pub mod GraphicNetwork
 pub mod GraphMatrix
 pub mod Check
 pub mod Upgrade
+pub mod AlikeReports
+pub mod AcceptedEvidence

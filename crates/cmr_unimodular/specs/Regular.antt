@@ -158,4 +158,4 @@ abbrev pub RegularMeans : RegularOrder → Matrix → Answer → Type 0
 RegularMeans o a answer = (steps : List SignStep) × (signed : Matrix) × IsSignedTo a steps signed × RegularSays o a steps signed answer
 
 abbrev pub regular_tool : RegularOrder → Tool
-regular_tool o = matrix_tool (regular_source o) ((o.lines ≤ MAX_LINES) × (o.pivots ≤ 100) × (1 ≤ o.workers) × (o.workers ≤ 64)) (RegularDecides o) (RegularMeans o)
+regular_tool o = matrix_tool (regular_source o) ((o.lines ≤ MAX_LINES) × (1 ≤ o.workers) × (o.workers ≤ 64)) (RegularDecides o) (RegularMeans o)

@@ -101,4 +101,4 @@ abbrev pub TuMeans : TuOrder → Matrix → Answer → Type 0
 TuMeans o = UnimodularMeans o.lines o.pivots
 
 abbrev pub tu_tool : TuOrder → Tool
-tu_tool o = matrix_tool (tu_source o) ((o.lines ≤ MAX_LINES) × (o.pivots ≤ 100) × (1 ≤ o.workers) × (o.workers ≤ 64)) (Decides (tu_verdict o)) (TuMeans o)
+tu_tool o = matrix_tool (tu_source o) ((o.lines ≤ MAX_LINES) × (1 ≤ o.workers) × (o.workers ≤ 64)) (Decides (tu_verdict o)) (TuMeans o)

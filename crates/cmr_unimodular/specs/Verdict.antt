@@ -1,12 +1,14 @@
 -- What is reported on total unimodularity, under the label of a tool and within a budget of lines.
-use Rattle.std.specs.Prelude.{◌≡◌, ◌<◌, ◌++◌, ℕ, min, List, [], Option, option_map, codes}
+use Rattle.std.specs.Prelude.{◌≡◌, ◌<◌, ◌++◌, ℕ, false, min, List, [], length, Option, option_map, codes}
 use Rattle.cmr_base.specs.declared.line_set.LineSet.{LineSet}
 use Rattle.cmr_base.specs.Matrix.{Matrix, height, entry}
+use Rattle.cmr_base.specs.Components.{AreComponents}
 use Rattle.cmr_base.specs.CyclePlaces.{HasNoCycleFault}
 use Rattle.cmr_base.specs.LineSets.{submatrix_sum}
 use Rattle.cmr_base.specs.R10.{IsR10}
 use Rattle.cmr_base.specs.Trees.{IsNetworkMatrix, IsConetworkMatrix}
 use Rattle.matrix_text.specs.CanonicalMatrices.{submatrix_text}
+use Rattle.sp_reduce.specs.RowDigests.{HasNoReducibleLine}
 use Rattle.two_sep.specs.FirstSeeds.{HasNoTwoSeparation}
 use Rattle.three_sep.specs.ThreeSeparations.{HasNoThreeSeparation}
 use Rattle.tree_type.specs.Invariant.{AreLines, IsDecTree}
@@ -15,7 +17,6 @@ use Rattle.tree_type.specs.DecompositionTrees.{SizedTree, tree_of}
 use Rattle.tree_type.specs.Verdicts as verdicts
 use Rattle.tree_type.specs.Verdicts.{Verdict, verdict_of}
 use Rattle.tree_text.specs.CanonicalTrees.{tree_text}
-use Rattle.decomp_tree.specs.Shapes.{Applies, IsApart, IsReducible}
 use Rattle.decomp_tree.specs.PivotedShapes.{IsShapeWith}
 use Rattle.cert_check.specs.Laws.{Tells}
 use Rattle.cmr_front.specs.declared.status.Answer.{Answer}
@@ -57,11 +58,15 @@ pub record IsDecomposition (budget pivots : ℕ) (m : Matrix) (tree : SizedTree)
 abbrev pub verdict_in : SizedTree → Verdict
 verdict_in tree = verdict_of (tree_of tree.root)
 
+-- it falls into no two parts
+abbrev pub IsConnected : Matrix → Type 0
+IsConnected m = (parts : List LineSet) → AreComponents m parts → length parts < 2
+
 -- What a budget leaves open: a matrix that is neither recognised nor separated, whose shorter side has more lines.
 pub record IsLeftOpen (budget : ℕ) (m : Matrix) : Type 0 where
   pub no_fault : HasNoCycleFault (entry m)
-  pub irreducible : ¬ (Applies budget m IsReducible)
-  pub connected : ¬ (Applies budget m IsApart)
+  pub irreducible : HasNoReducibleLine false m
+  pub connected : IsConnected m
   pub no_network : ¬ (IsNetworkMatrix m)
   pub no_conetwork : ¬ (IsConetworkMatrix m)
   pub no_r10 : ¬ (IsR10 m)

@@ -2,7 +2,7 @@
 ghost use Rattle.balance.specs.BalanceFaults.{IsBalanced};
 ghost use Rattle.balance.specs.SearchedFaults.{HasSearchedFaults};
 ghost use Rattle.clap.specs.Words.{app_of, found_of, rows_of};
-ghost use Rattle.std.specs.Prelude.{◌≡◌, IfOk, IsTrue, false, true};
+ghost use Rattle.std.specs.Prelude.{◌≡◌, ◌≤◌, IfOk, IsTrue, false, true};
 ghost use Rattle.tree_type.specs.Invariant.{IsDecTree};
 ghost use Rattle.tree_type.specs.DecompositionTrees.{tree_of};
 ghost use Rattle.tree_type.specs.Verdicts as verdicts;
@@ -12,6 +12,7 @@ ghost use Rattle.cmr_base.specs.Matrix.{IsMatrix, entry};
 ghost use Rattle.cmr_front.specs.Outcome.{outcome_report};
 ghost use Rattle.cmr_front.specs.Run.{Means, RunsOver, work};
 ghost use Rattle.cmr_front.specs.Status.{answer_status};
+ghost use Rattle.cmr_front.specs.Tool.{HasOneReport};
 ghost use Rattle.cmr_front.specs.Words.ReadWords.{Gives};
 ghost use Rattle.cmr_front.specs.declared.status.Answer.{Answer};
 ghost use Rattle.cmr_reach.specs.Balanced.{BalancedDecides, IsDecomposed, IsInRanges, IsUntold, balanced_app, balanced_order, balanced_order_in, balanced_order_of, balanced_tool, search_report};
@@ -89,6 +90,7 @@ pub fn read_balanced<'a>(
 ) -> Result<BalancedOptions<'a>, WordsError>
     ensures value { Gives balanced_order_of result (balanced_order words.now) }
     ensures ranges { IfOk result (λ options. (balanced_tool (balanced_order_of options)).InRanges) }
+    ensures pivots { IfOk result (λ options. options.pivots ≤ 100) }
 {
     let matches = matches_with_input(balanced_command(alloc)?, words)?;
     options_in(&matches)
@@ -110,6 +112,7 @@ pub fn balanced<R: Threads + Sync, S: Shelf, O: Sink, E: Sink>(
         shelf.old out.old err.old shelf.new out.new err.new result }
     ensures means { IsTrue (S.tells shelf.old) → (answer : Answer) → result ≡ answer_status answer
         → Means (balanced_tool (balanced_order_of options.now)) (S.content shelf.old) answer }
+    ensures one { HasOneReport (balanced_tool (balanced_order_of options.now)) }
 {
     run_tool(rt, alloc, options, shelf, out, err)
 }

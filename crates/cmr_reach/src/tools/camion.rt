@@ -4,6 +4,7 @@ ghost use Rattle.std.specs.Prelude.{◌≡◌, IfOk, IsTrue};
 ghost use Rattle.cmr_front.specs.Outcome.{outcome_report};
 ghost use Rattle.cmr_front.specs.Run.{Means, RunsOver, work};
 ghost use Rattle.cmr_front.specs.Status.{answer_status};
+ghost use Rattle.cmr_front.specs.Tool.{HasOneReport};
 ghost use Rattle.cmr_front.specs.Words.ReadWords.{Gives};
 ghost use Rattle.cmr_front.specs.declared.status.Answer.{Answer};
 ghost use Rattle.cmr_reach.specs.Camion.{CamionDecides, camion_app, camion_order, camion_order_in, camion_order_of, camion_tool};
@@ -77,6 +78,7 @@ pub fn camion<R: Threads + Sync, S: Shelf, O: Sink, E: Sink>(
         shelf.old out.old err.old shelf.new out.new err.new result }
     ensures means { IsTrue (S.tells shelf.old) → (answer : Answer) → result ≡ answer_status answer
         → Means (camion_tool (camion_order_of options.now)) (S.content shelf.old) answer }
+    ensures one { HasOneReport (camion_tool (camion_order_of options.now)) }
 {
     run_tool(rt, alloc, options, shelf, out, err)
 }

@@ -12,7 +12,7 @@ ghost use Rattle.cmr_base.specs.Trees.{IsBinary};
 ghost use Rattle.cmr_front.specs.Outcome.{outcome_report};
 ghost use Rattle.cmr_front.specs.Run.{Means, RunsOver, work};
 ghost use Rattle.cmr_front.specs.Status.{answer_status};
-ghost use Rattle.cmr_front.specs.Tool.{IsDecision};
+ghost use Rattle.cmr_front.specs.Tool.{HasOneReport, IsDecision};
 ghost use Rattle.cmr_front.specs.Words.ReadWords.{Gives};
 ghost use Rattle.cmr_front.specs.declared.status.Answer.{Answer};
 ghost use Rattle.cmr_unimodular.specs.Check.{ChainDecides, CheckReportsBy, EvidenceReports, TreeDecides, ViolatorDecides, accepted_report, check_app, check_order, check_order_in, check_order_of, check_tool, evidence_kind, irregular_report, is_of_support, kind_named, refused_report, refused_step_report, said};
@@ -106,6 +106,7 @@ pub fn check<R: Threads + Sync, S: Shelf, O: Sink, E: Sink>(
         shelf.old out.old err.old shelf.new out.new err.new result }
     ensures means { IsTrue (S.tells shelf.old) → (answer : Answer) → result ≡ answer_status answer
         → Means (check_tool (check_order_of options.now)) (S.content shelf.old) answer }
+    ensures one { HasOneReport (check_tool (check_order_of options.now)) }
 {
     run_tool(rt, alloc, options, shelf, out, err)
 }

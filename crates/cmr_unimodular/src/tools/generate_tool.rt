@@ -1,10 +1,11 @@
 //! Making a matrix from a number, and testing total unimodularity on it.
 ghost use Rattle.clap.specs.Words.{app_of, found_of, rows_of};
-ghost use Rattle.std.specs.Prelude.{◌≡◌, IfOk, IsTrue};
+ghost use Rattle.std.specs.Prelude.{◌≡◌, ◌≤◌, IfOk, IsTrue};
 ghost use Rattle.cmr_base.specs.Matrix.{IsMatrix};
 ghost use Rattle.cmr_front.specs.Outcome.{outcome_report};
 ghost use Rattle.cmr_front.specs.Run.{Means, RunsOver, work};
 ghost use Rattle.cmr_front.specs.Status.{answer_status};
+ghost use Rattle.cmr_front.specs.Tool.{HasOneReport};
 ghost use Rattle.cmr_front.specs.Words.ReadWords.{Gives};
 ghost use Rattle.cmr_front.specs.declared.status.Answer.{Answer};
 ghost use Rattle.cmr_unimodular.specs.Generate.{GenerateDecides, IsInRange, generate_app, generate_order, generate_order_in, generate_order_of, generate_report, generate_tool, generate_verdict, make_kind_in, kind_word, most_size, number_in, size_in, summary_line};
@@ -133,6 +134,7 @@ pub fn read_generate<'a>(
 ) -> Result<GenerateOptions<'a>, WordsError>
     ensures value { Gives generate_order_of result (generate_order words.now) }
     ensures ranges { IfOk result (λ options. (generate_tool (generate_order_of options)).InRanges) }
+    ensures pivots { IfOk result (λ options. options.pivots ≤ 100) }
 {
     let matches = matches_in(generate_command(alloc)?, words)?;
     options_in(&matches)
@@ -151,8 +153,9 @@ pub fn generate_and_run<R: Threads + Sync, S: Shelf, O: Sink, E: Sink>(
     ensures runs { RunsOver S.Shelf O.Sink E.Sink
         (work (generate_tool (generate_order_of options.now)))
         shelf.old out.old err.old shelf.new out.new err.new result }
-    ensures means { IsTrue (S.tells shelf.old) → (answer : Answer) → result ≡ answer_status answer
+    ensures means { (answer : Answer) → result ≡ answer_status answer
         → Means (generate_tool (generate_order_of options.now)) (S.content shelf.old) answer }
+    ensures one { HasOneReport (generate_tool (generate_order_of options.now)) }
 {
     run_tool(rt, alloc, options, shelf, out, err)
 }

@@ -9,6 +9,7 @@ ghost use Rattle.cmr_front.specs.Outcome.{file_of, outcome_report};
 ghost use Rattle.cmr_front.specs.Report.{asked_file};
 ghost use Rattle.cmr_front.specs.Run.{Means, RunsOver, work};
 ghost use Rattle.cmr_front.specs.Status.{answer_status};
+ghost use Rattle.cmr_unimodular.specs.AlikeReports.{HasAlikeReports};
 ghost use Rattle.cmr_front.specs.Words.ReadWords.{Gives};
 ghost use Rattle.cmr_front.specs.declared.status.Answer.{Answer};
 ghost use Rattle.cmr_unimodular.specs.GraphMatrix.{test_tool};
@@ -179,6 +180,7 @@ pub fn test_property<R: Threads + Sync, S: Shelf, O: Sink, E: Sink>(
         shelf.old out.old err.old shelf.new out.new err.new result }
     ensures means { IsTrue (S.tells shelf.old) → (answer : Answer) → result ≡ answer_status answer
         → Means (test_tool property (test_order_of options.now)) (S.content shelf.old) answer }
+    ensures alike { HasAlikeReports (test_tool property (test_order_of options.now)) }
 {
     if options.from_graph {
         let graph = GraphMatrix {

@@ -11,6 +11,7 @@ ghost use Rattle.cmr_front.specs.Outcome.{file_of, outcome_report};
 ghost use Rattle.cmr_front.specs.Report.{asked_file};
 ghost use Rattle.cmr_front.specs.Run.{Means, RunsOver, work};
 ghost use Rattle.cmr_front.specs.Status.{answer_status};
+ghost use Rattle.cmr_unimodular.specs.AlikeReports.{HasAlikeReports};
 ghost use Rattle.cmr_front.specs.Words.ReadWords.{Gives};
 ghost use Rattle.cmr_front.specs.declared.status.Answer.{Answer};
 ghost use Rattle.cmr_unimodular.specs.Regular.{HasLinesIn, IsSignedTo, RegularDecides, chain_file, chain_with, regular_app, regular_order, regular_order_in, regular_order_of, regular_report, regular_tool, regular_verdict};
@@ -96,6 +97,7 @@ fn options_in<'a>(matches: &ArgMatches<'a>) -> Result<RegularOptions<'a>, WordsE
 pub fn read_regular<'a>(alloc: Global, words: &'a [Word]) -> Result<RegularOptions<'a>, WordsError>
     ensures value { Gives regular_order_of result (regular_order words.now) }
     ensures ranges { IfOk result (λ options. (regular_tool (regular_order_of options)).InRanges) }
+    ensures pivots { IfOk result (λ options. options.pivots ≤ 100) }
 {
     let matches = matches_with_input(regular_command(alloc)?, words)?;
     options_in(&matches)
@@ -111,13 +113,13 @@ pub fn regular<R: Threads + Sync, S: Shelf, O: Sink, E: Sink>(
     err: &mut E,
 ) -> u8
     requires lines { options.now.lines ≤ MAX_LINES }
-    requires pivots { options.now.pivots ≤ 100 }
     requires workers { (1 ≤ options.now.workers) × (options.now.workers ≤ 64) }
     ensures runs { RunsOver S.Shelf O.Sink E.Sink
         (work (regular_tool (regular_order_of options.now)))
         shelf.old out.old err.old shelf.new out.new err.new result }
     ensures means { IsTrue (S.tells shelf.old) → (answer : Answer) → result ≡ answer_status answer
         → Means (regular_tool (regular_order_of options.now)) (S.content shelf.old) answer }
+    ensures alike { HasAlikeReports (regular_tool (regular_order_of options.now)) }
 {
     run_tool(rt, alloc, options, shelf, out, err)
 }

@@ -8,6 +8,7 @@ ghost use Rattle.cmr_front.specs.Minimal.{IsMinimalAsked};
 ghost use Rattle.cmr_front.specs.Outcome.{file_of, outcome_report};
 ghost use Rattle.cmr_front.specs.Run.{Means, RunsOver, work};
 ghost use Rattle.cmr_front.specs.Status.{answer_status};
+ghost use Rattle.cmr_front.specs.Tool.{HasOneReport};
 ghost use Rattle.cmr_front.specs.Words.ReadWords.{Gives};
 ghost use Rattle.cmr_front.specs.declared.status.Answer.{Answer};
 ghost use Rattle.cmr_unimodular.specs.SeriesParallel.{IsReduced, SeriesParallelDecides, no_output, series_parallel_name, reduction_files, series_parallel_app, series_parallel_no, series_parallel_order, series_parallel_order_in, series_parallel_order_of, series_parallel_tool, series_parallel_yes};
@@ -102,6 +103,7 @@ pub fn series_parallel<R: Threads + Sync, S: Shelf, O: Sink, E: Sink>(
         (series_parallel_tool (series_parallel_order_of options.now))
         (S.content shelf.old)
         answer }
+    ensures one { HasOneReport (series_parallel_tool (series_parallel_order_of options.now)) }
 {
     run_tool(rt, alloc, options, shelf, out, err)
 }

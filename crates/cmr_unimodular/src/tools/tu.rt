@@ -3,6 +3,7 @@ ghost use Rattle.clap.specs.Words.{app_of, found_of, rows_of};
 ghost use Rattle.std.specs.Prelude.{◌≡◌, ◌≤◌, IfOk, IsTrue};
 ghost use Rattle.cmr_front.specs.Run.{Means, RunsOver, work};
 ghost use Rattle.cmr_front.specs.Status.{answer_status};
+ghost use Rattle.cmr_unimodular.specs.AlikeReports.{HasAlikeReports};
 ghost use Rattle.cmr_front.specs.Words.ReadWords.{Gives};
 ghost use Rattle.cmr_front.specs.declared.status.Answer.{Answer};
 ghost use Rattle.cmr_unimodular.specs.Tu.{tu_app, tu_order, tu_order_in, tu_order_of, tu_tool, tu_verdict};
@@ -77,6 +78,7 @@ fn options_in<'a>(matches: &ArgMatches<'a>) -> Result<TuOptions<'a>, WordsError>
 pub fn read_tu<'a>(alloc: Global, words: &'a [Word]) -> Result<TuOptions<'a>, WordsError>
     ensures value { Gives tu_order_of result (tu_order words.now) }
     ensures ranges { IfOk result (λ options. (tu_tool (tu_order_of options)).InRanges) }
+    ensures pivots { IfOk result (λ options. options.pivots ≤ 100) }
 {
     let matches = matches_with_input(tu_command(alloc)?, words)?;
     options_in(&matches)
@@ -92,13 +94,13 @@ pub fn tu<R: Threads + Sync, S: Shelf, O: Sink, E: Sink>(
     err: &mut E,
 ) -> u8
     requires lines { options.now.lines ≤ MAX_LINES }
-    requires pivots { options.now.pivots ≤ 100 }
     requires workers { (1 ≤ options.now.workers) × (options.now.workers ≤ 64) }
     ensures runs { RunsOver S.Shelf O.Sink E.Sink
         (work (tu_tool (tu_order_of options.now)))
         shelf.old out.old err.old shelf.new out.new err.new result }
     ensures means { IsTrue (S.tells shelf.old) → (answer : Answer) → result ≡ answer_status answer
         → Means (tu_tool (tu_order_of options.now)) (S.content shelf.old) answer }
+    ensures alike { HasAlikeReports (tu_tool (tu_order_of options.now)) }
 {
     run_tool(rt, alloc, options, shelf, out, err)
 }

@@ -1,7 +1,7 @@
 use Rattle.std.proofs.Common.{◌∙◌, arith}
 use Rattle.cmr_io.proofs.KeptLemmas.{keeps_on}
 use Rattle.cmr_front.specs.Outcome.{file_of}
-use Rattle.cmr_front.proofs.Files.{one_more, there, left_at, room_at}
+use Rattle.cmr_front.proofs.Files.{begun_last, one_more, one_more_write, there, left_at, room_at}
 use Rattle.cmr_front.proofs.carry_out.write_files.Goals as goal
 
 pub loop-place-preserved : goal.loop-place-preserved
@@ -12,9 +12,11 @@ loop-place-preserved g c =
     record {
       written = λ told name. wrote.whole (before.standing.telling ∙ told) name
           ∙ one_more (S.content c.args.shelf.now) (S.content c.loop-place.shelf) c.args.files.now c.loop-place.place c.index-files-place.result name c.loop-place-test.true c.index-files-place.is (before.written told name);
+      writes = wrote.writes
+          ∙ one_more_write (S.writes c.args.shelf.now) (S.writes c.loop-place.shelf) c.args.files.now c.loop-place.place c.index-files-place.result c.loop-place-test.true c.index-files-place.is before.writes;
       reads = wrote.reads ∙ before.reads;
       standing = keeps_on before.standing wrote.standing;
-      later = omega (arith, wrote.cause.later, before.later);
+      later = omega (arith, wrote.counted.cause.later, before.later);
     }
 
 pub returns-in-Err-clause-left : goal.returns-in-Err-clause-left
@@ -30,6 +32,7 @@ returns-in-Err-clause-left g c =
           let told' = before.standing.telling ∙ told in
           left_at (S.content c.args.shelf.now) (S.content c.loop-place.shelf) (S.content c.write_output_file.new.shelf) files place file
           (before.written told) (c.in-Err.ensures.others told') (c.in-Err.ensures.front told')),
+      begun_last (S.writes c.args.shelf.now) (S.writes c.loop-place.shelf) (S.writes c.write_output_file.new.shelf) files place file before.writes c.in-Err.ensures.begun,
     )
 
 pub returns-in-Err-clause-ready : goal.returns-in-Err-clause-ready

@@ -1,39 +1,57 @@
-use Rattle.std.proofs.Common.{◌∙◌, ◌++◌, take, drop, map, ◌+◌, ap, sym, subst, inl, inr, append_assoc, arith, []}
+use Rattle.std.proofs.Common.{◌≡◌, ◌∙◌, ◌++◌, List, ℕ, take, drop, map, ◌+◌, ap, sym, subst, inl, inr, append_assoc, arith, []}
 use Rattle.std.specs.List.{concat}
 use Rattle.cmr_front.proofs.Parts.{one_more, at, front}
+use Rattle.cmr_io.specs.Causes.{Rose}
 use Rattle.cmr_io.specs.Whole.{AppendsFront}
 use Rattle.cmr_front.proofs.error_lines.write_parts.Goals as goal
 
+-- a part more
+put_on : (old mid new done part all : List ℕ) → new ≡ mid ++ part → mid ≡ old ++ done → done ++ part ≡ all → new ≡ old ++ all
+put_on old mid new done part all wrote before is = wrote ∙ ap (λ (xs : List ℕ). xs ++ part) before ∙ append_assoc old done part ∙ ap (λ (xs : List ℕ). old ++ xs) is
+
+-- a front of a part, and then no more
+cut_on : (old mid new done part rest all : List ℕ) → AppendsFront mid new part → mid ≡ old ++ done → done ++ (part ++ rest) ≡ all → AppendsFront old new all
+cut_on old mid new done part rest all wrote before is =
+    subst (AppendsFront old new) is (front old done part rest new (subst (λ (xs : List ℕ). AppendsFront xs new part) before wrote))
+
 pub loop-part-preserved : goal.loop-part-preserved
 loop-part-preserved g c =
+    let E = g.E.Sink in
     let before = c.loop-part.invariant in
     let parts = c.args.parts.now in
+    let i = c.loop-part.part-index in
+    let old = c.args.err.now in
+    let mid = c.loop-part.err in
+    let new = c.write_whole.new.sink in
     let wrote = c.in_default.ensures in
+    let part = c.as_bytes.result.now in
+    let done : List ℕ = concat (map (λ p. p.now) (take i parts)) in
+    let all : List ℕ = concat (map (λ p. p.now) (take (i + 1) parts)) in
+    let is : done ++ part ≡ all = ap (λ (r : List ℕ). done ++ r) c.as_bytes.ensures.value ∙ sym (one_more (λ p. p.now) parts i (record { ref_ptr = (0, 0); now = [] }) (omega arith)) in
     record {
-      written = λ told.
-          wrote.whole (before.tells ∙ told)
-          ∙ ap (λ got. got ++ c.as_bytes.result.now) (before.written told)
-          ∙ append_assoc (g.E.Sink.got c.args.err.now) (concat (map (λ p. p.now) (take c.loop-part.part-index parts))) c.as_bytes.result.now
-          ∙ ap (λ r. g.E.Sink.got c.args.err.now ++ r)
-          (ap (λ r. concat (map (λ p. p.now) (take c.loop-part.part-index parts)) ++ r) c.as_bytes.ensures.value
-          ∙ sym (one_more (λ p. p.now) parts c.loop-part.part-index (record { ref_ptr = (0, 0); now = [] }) (omega arith)));
+      written = λ told. put_on (E.got old) (E.got mid) (E.got new) done part all (wrote.whole (before.tells ∙ told)) (before.written told) is;
+      taken = put_on (E.taken old) (E.taken mid) (E.taken new) done part all wrote.taken before.taken is;
       tells = wrote.tells ∙ before.tells;
       later = omega (arith, wrote.cause.later, before.later);
     }
 
 pub returns-in-Err : goal.returns-in-Err
-returns-in-Err g c = λ told.
+returns-in-Err g c =
+    let E = g.E.Sink in
     let before = c.loop-part.invariant in
     let parts = c.args.parts.now in
     let i = c.loop-part.part-index in
-    let old = g.E.Sink.got c.args.err.now in
-    let new = g.E.Sink.got c.write_whole.new.sink in
+    let old = c.args.err.now in
+    let mid = c.loop-part.err in
+    let new = c.write_whole.new.sink in
     let wrote = c.in-Err.ensures in
-    let done = concat (map (λ p. p.now) (take i parts)) in
-    let rest = concat (map (λ p. p.now) (drop (i + 1) parts)) in
-    let all = ap (λ p. done ++ (p ++ rest)) c.as_bytes.ensures.value ∙ sym (at (λ p. p.now) parts i (record { ref_ptr = (0, 0); now = [] }) (omega arith)) in
-    let cut = subst (λ got. AppendsFront got new c.as_bytes.result.now) (before.written told) (wrote.front (before.tells ∙ told)) in
-    inr (
-      elim wrote.cause.failed [ inl up ↦ inl (omega (arith, before.later)) | inr last ↦ inr last ],
-      subst (AppendsFront old new) all (front old done c.as_bytes.result.now rest new cut),
-    )
+    let part = c.as_bytes.result.now in
+    let done : List ℕ = concat (map (λ p. p.now) (take i parts)) in
+    let rest : List ℕ = concat (map (λ p. p.now) (drop (i + 1) parts)) in
+    let all : List ℕ = concat (map (λ p. p.now) parts) in
+    let is : done ++ (part ++ rest) ≡ all = ap (λ (p : List ℕ). done ++ (p ++ rest)) c.as_bytes.ensures.value ∙ sym (at (λ p. p.now) parts i (record { ref_ptr = (0, 0); now = [] }) (omega arith)) in
+    let rose : Rose (E.faults old) (E.faults new) = elim wrote.cause.failed [ inl up ↦ inl (omega (arith, before.later)) | inr last ↦ inr last ] in
+    record {
+      got = λ told. inr (rose, cut_on (E.got old) (E.got mid) (E.got new) done part rest all (wrote.front (before.tells ∙ told)) (before.written told) is);
+      taken = inr (rose, cut_on (E.taken old) (E.taken mid) (E.taken new) done part rest all wrote.cut before.taken is);
+    }

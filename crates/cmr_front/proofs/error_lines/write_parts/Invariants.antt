@@ -8,6 +8,7 @@ invariant-loop-part g l =
     let E = g.E.Sink in
     record {
       written : IsTrue (E.tells l.fn.err) → E.got l.err ≡ E.got l.fn.err ++ concat (map (λ p. p.now) (take l.part-index l.parts));
+      taken : E.taken l.err ≡ E.taken l.fn.err ++ concat (map (λ p. p.now) (take l.part-index l.parts));
       tells : E.tells l.err ≡ E.tells l.fn.err;
       later : E.faults l.fn.err ≤ E.faults l.err;
     }

@@ -5,9 +5,9 @@ use Rattle.cmr_io.proofs.KeptLemmas.{keeps_names_on}
 use Rattle.cmr_front.specs.declared.input.Input.{Input}
 use Rattle.cmr_front.specs.declared.input.Text.{Text}
 use Rattle.cmr_front.specs.Inputs.{bytes_of, given, input_file, texts}
-use Rattle.cmr_front.specs.Unread.{AreRead, AreWithin, HaveGiven, between}
+use Rattle.cmr_front.specs.Unread.{AreRead, AreWithinLimits, HaveGiven, between}
 use Rattle.cmr_front.proofs.Endings.{rose_from}
-use Rattle.cmr_front.proofs.Inputs.{one_more_begun, one_more_ended, one_more_given, stopped_at, texts_more}
+use Rattle.cmr_front.proofs.Inputs.{begun_with, one_more_begun, one_more_ended, one_more_given, stopped_at, texts_more}
 use Rattle.cmr_front.proofs.input.read_inputs.Goals as goal
 
 pub loop-input-init : goal.loop-input-init
@@ -24,7 +24,7 @@ loop-input-init g c =
       };
       texts = record {
         given = sym (append-nil start.texts) ∙ ap (λ (read : List Text). start.texts ++ map bytes_of read) (sym c.new-read.ensures.items);
-        within = subst (λ (read : List Text). AreWithin (map input_file c.args.inputs.now) (map bytes_of read)) (sym c.new-read.ensures.items) tt;
+        within = subst (λ (read : List Text). AreWithinLimits (map input_file c.args.inputs.now) (map bytes_of read)) (sym c.new-read.ensures.items) tt;
       };
       kept = record {
         names = λ name. refl;
@@ -34,6 +34,7 @@ loop-input-init g c =
           rooms = λ name. refl;
         };
       };
+      writes = refl;
       later = omega arith;
     }
 
@@ -53,7 +54,7 @@ returns-clause-ended g c =
 
 pub returns-in-Err-clause-cause : goal.returns-in-Err-clause-cause
 returns-in-Err-clause-cause g c = λ device.
-    rose_from (g.S.Shelf.faults c.args.shelf.now) (g.S.Shelf.faults c.loop-input.shelf) (g.S.Shelf.faults c.read_input.new.shelf) c.loop-input.invariant.later (c.in-Err.ensures.cause device)
+    rose_from (g.S.Shelf.faults c.args.shelf.now) (g.S.Shelf.faults c.loop-input.shelf) (g.S.Shelf.faults c.read_input.new.shelf) c.loop-input.invariant.later (c.in-Err.ensures.cause device).1
 
 pub returns-in-Err-clause-kept : goal.returns-in-Err-clause-kept
 returns-in-Err-clause-kept g c = keeps_names_on c.loop-input.invariant.kept c.in-Err.ensures.kept
@@ -76,7 +77,7 @@ returns-in-Err-clause-stopped g c =
     stopped_at (S.content shelf) (S.content mid) (S.tells shelf) (S.tells mid) (S.is_calm shelf) (S.is_calm mid) c.args.inputs.now c.loop-input.input-index (map bytes_of c.loop-input.read.items)
     (between (S.reads shelf) (S.reads after)) (S.failed after) stop
     c.loop-input-test.true before.kept.names (λ told. before.kept.standing.telling ∙ told) before.kept.standing.calm before.given up_to
-    (S.reads mid).texts (length-map c.loop-input.read.items bytes_of ∙ before.count) before.texts.given before.texts.within c.in-Err.ensures.on_text c.in-Err.ensures.failed c.in-Err.ensures.stopped
+    (S.reads mid).texts (length-map c.loop-input.read.items bytes_of ∙ before.count) before.texts.given before.texts.within c.in-Err.ensures.stopped.1 (λ device. (c.in-Err.ensures.cause device).0) c.in-Err.ensures.stopped.0
 
 pub loop-input-preserved : goal.loop-input-preserved
 loop-input-preserved g c =
@@ -96,15 +97,26 @@ loop-input-preserved g c =
       texts = subst (λ (bytes : List (List ℕ)). HaveGiven (map input_file c.args.inputs.now) bytes (between (S.reads shelf) (S.reads c.read_input.new.shelf)))
           (sym (ap (map bytes_of) c.in-Ok-push.ensures.items ∙ map-append bytes_of c.loop-input.read.items (c.in-Ok.text ∷ [])))
           (one_more_given (S.reads shelf) (S.reads mid) (S.reads c.read_input.new.shelf) c.args.inputs.now c.loop-input.input-index (map bytes_of c.loop-input.read.items) (bytes_of c.in-Ok.text)
-          c.loop-input-test.true (length-map c.loop-input.read.items bytes_of ∙ before.count) before.texts read.text read.within);
+          c.loop-input-test.true (length-map c.loop-input.read.items bytes_of ∙ before.count) before.texts read.text.0 read.text.1);
       kept = keeps_names_on before.kept read.kept;
+      writes = read.writes ∙ before.writes;
       later = omega (arith, read.later, before.later);
     }
 
 pub returns-in-Err-push-clause-stopped : goal.returns-in-Err-push-clause-stopped
 returns-in-Err-push-clause-stopped g c =
-    let S = g.S.Shelf in (
-      c.loop-input.input-index + 1,
-      one_more_begun (S.reads c.args.shelf.now) (S.reads c.loop-input.shelf) (S.reads c.read_input.new.shelf) c.args.inputs.now c.loop-input.input-index c.loop-input-test.true
-          c.loop-input.invariant.ended.have_begun c.in-Ok.ensures.begun,
+    let S = g.S.Shelf in
+    let start = S.reads c.args.shelf.now in
+    let mid = S.reads c.loop-input.shelf in
+    let after = S.reads c.read_input.new.shelf in
+    let inputs = c.args.inputs.now in
+    let k = c.loop-input.input-index in
+    let bytes = map bytes_of c.loop-input.read.items in
+    let text = bytes_of c.in-Ok.text in
+    let count : length bytes ≡ k = length-map c.loop-input.read.items bytes_of ∙ c.loop-input.invariant.count in
+    let all : length (bytes ++ text ∷ []) ≡ k + 1 = omega (arith, count, length-append bytes (text ∷ [])) in (
+      bytes ++ text ∷ [],
+      begun_with (map input_file inputs) (bytes ++ text ∷ []) (k + 1) (between start after) all
+          (one_more_begun start mid after inputs k c.loop-input-test.true c.loop-input.invariant.ended.have_begun c.in-Ok.ensures.begun)
+          (one_more_given start mid after inputs k bytes text c.loop-input-test.true count c.loop-input.invariant.texts c.in-Ok.ensures.text.0 c.in-Ok.ensures.text.1),
     )

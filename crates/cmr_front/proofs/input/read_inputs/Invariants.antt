@@ -14,5 +14,6 @@ invariant-loop-input g l =
       ended : AreRead (map input_file l.inputs) l.input-index l.input-index (between (S.reads l.fn.shelf) (S.reads l.shelf));
       texts : HaveGiven (map input_file l.inputs) (map bytes_of l.read.items) (between (S.reads l.fn.shelf) (S.reads l.shelf));
       kept : KeepsNames S.content S.tells S.is_calm S.room l.fn.shelf l.shelf;
+      writes : S.writes l.shelf ≡ S.writes l.fn.shelf;
       later : S.faults l.fn.shelf ≤ S.faults l.shelf;
     }

@@ -16,23 +16,21 @@ returns-clause-runs g c =
     let err = c.args.err.now in
     let read = c.examine-ended in
     let done = c.carry_out in
-    runs (work (g.T.Tool.tool c.args.tool.now))
-    (standing (S.tells shelf) (O.tells out) (E.tells err) (S.is_calm shelf) (S.room shelf) (O.is_calm out) (O.room out))
-    (S.content shelf) (S.content read.new.shelf) (S.reads shelf) (S.reads read.new.shelf) (S.failed shelf) (S.failed read.new.shelf) (S.faults shelf) (S.faults read.new.shelf) (O.got out) (O.faults out) (E.got err) (E.faults err) read.result
-    (devices (S.content done.new.shelf) (S.reads done.new.shelf) (S.failed done.new.shelf) (S.faults done.new.shelf) (O.got done.new.out) (O.faults done.new.out) (E.got done.new.err) (E.faults done.new.err)) done.result
+    runs (work (g.T.Tool.tool c.args.tool.now)) (standing S O E shelf out err) (devices S O E shelf out err)
+    (S.content read.new.shelf) (S.reads read.new.shelf) (S.writes read.new.shelf) (S.failed read.new.shelf) (S.faults read.new.shelf) read.result
+    (devices S O E done.new.shelf done.new.out done.new.err) done.result
     (record {
       lawful = c.requires.lawful;
       told = g.met.S.Shelf.calm_tells shelf;
       ends = read.ensures.ends;
       content = read.ensures.kept.names;
+      writes = read.ensures.writes;
       later = read.ensures.later;
       refused = λ none. absurd none;
       cause = read.ensures.cause;
     })
     (record {
-      carried_out = subst (λ told. CarriesOut read.result (telling told (O.tells out) (E.tells err))
-          (devices (S.content read.new.shelf) (S.reads read.new.shelf) (S.failed read.new.shelf) (S.faults read.new.shelf) (O.got out) (O.faults out) (E.got err) (E.faults err))
-          (devices (S.content done.new.shelf) (S.reads done.new.shelf) (S.failed done.new.shelf) (S.faults done.new.shelf) (O.got done.new.out) (O.faults done.new.out) (E.got done.new.err) (E.faults done.new.err)) done.result)
+      carried_out = subst (λ told. CarriesOut read.result (telling told (O.tells out) (E.tells err)) (devices S O E read.new.shelf out err) (devices S O E done.new.shelf done.new.out done.new.err) done.result)
           read.ensures.kept.standing.telling done.ensures.carried_out;
       given = done.ensures.status;
       ready = λ room. done.ensures.ready (record { shelf = read.ensures.kept.standing.calm room.shelf; output = room.output; rooms = subst (λ rooms. HasRooms rooms (ended_report read.result).files) (sym (pointwise (S.room read.new.shelf) (S.room shelf) read.ensures.kept.standing.rooms)) room.rooms; room = room.room });
@@ -52,8 +50,6 @@ returns-clause-means g c =
     let err = c.args.err.now in
     let read = c.examine-ended in
     let done = c.carry_out in
-    means (g.T.Tool.tool c.args.tool.now) (c.requires.lawful) (standing (S.tells shelf) (O.tells out) (E.tells err) (S.is_calm shelf) (S.room shelf) (O.is_calm out) (O.room out))
-    (S.content shelf) (between (S.reads shelf) (S.reads read.new.shelf)) (S.failed read.new.shelf) read.result
-    (devices (S.content read.new.shelf) (S.reads read.new.shelf) (S.failed read.new.shelf) (S.faults read.new.shelf) (O.got out) (O.faults out) (E.got err) (E.faults err))
-    (devices (S.content done.new.shelf) (S.reads done.new.shelf) (S.failed done.new.shelf) (S.faults done.new.shelf) (O.got done.new.out) (O.faults done.new.out) (E.got done.new.err) (E.faults done.new.err)) done.result
+    means (g.T.Tool.tool c.args.tool.now) c.requires.lawful (standing S O E shelf out err) (S.content shelf) (between (S.reads shelf) (S.reads read.new.shelf)) (S.failed read.new.shelf) read.result
+    (devices S O E read.new.shelf out err) (devices S O E done.new.shelf done.new.out done.new.err) done.result
     read.ensures.ends done.ensures.status

@@ -28,6 +28,10 @@ rest-preserved g c =
       others = λ told other ne. put.kept.others other (λ e. ne (e ∙ before.target told)) ∙ before.others told other ne;
       reads = put.reads ∙ before.reads;
       writes = log_on (S.writes c.args.shelf.now) (S.writes c.rest.shelf) (S.writes c.put.new.self) c.args.name.now bytes done count before.writes put.writes;
+      failed = put.counted.last;
       standing = keeps_on before.standing put.kept.standing;
       later = omega (arith, put.counted.cause.later, before.later);
     }
+
+pub returns-clause-counted : goal.returns-clause-counted
+returns-clause-counted g c = record { last = c.rest.invariant.failed; cause = record { later = c.rest.invariant.later; failed = tt } }

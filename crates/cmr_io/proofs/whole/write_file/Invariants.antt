@@ -16,6 +16,7 @@ invariant-rest g l =
       others : IsTrue (S.tells l.fn.shelf) → (n : List ℕ) → n ≢ l.name → S.content l.shelf n ≡ S.content l.fn.shelf n;
       reads : S.reads l.shelf ≡ S.reads l.fn.shelf;
       writes : S.writes l.shelf ≡ log_with (S.writes l.fn.shelf) l.name (take l.done l.bytes);
+      failed : S.failed l.shelf ≡ false;
       standing : KeepsStanding S.tells S.is_calm S.room l.fn.shelf l.shelf;
       later : S.faults l.fn.shelf ≤ S.faults l.shelf;
     }

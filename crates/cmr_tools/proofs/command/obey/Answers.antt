@@ -23,7 +23,7 @@ pub returns-in-Generate-clause-runs : goal.returns-in-Generate-clause-runs
 returns-in-Generate-clause-runs g c = runs_of c.args.command.now _ _ _ _ _ c.in-Generate.is c.generate_and_run.ensures.runs
 
 pub returns-in-Generate-clause-means : goal.returns-in-Generate-clause-means
-returns-in-Generate-clause-means g c = means_of c.args.command.now _ _ _ _ c.in-Generate.is c.generate_and_run.ensures.means
+returns-in-Generate-clause-means g c = means_of c.args.command.now _ _ _ _ c.in-Generate.is (λ tells. c.generate_and_run.ensures.means)
 
 pub returns-in-Check-clause-runs : goal.returns-in-Check-clause-runs
 returns-in-Check-clause-runs g c = runs_of c.args.command.now _ _ _ _ _ c.in-Check.is c.check.ensures.runs

@@ -5,6 +5,7 @@ use Rattle.cmr_front.specs.Words.ReadWords.{Gives}
 use Rattle.cmr_front.specs.Ending.{devices, standing}
 use Rattle.cmr_front.specs.Run.{IsNothing}
 use Rattle.cmr_front.proofs.Endings.{IsLawfulOrder, refused_memory, runs}
+use Rattle.cmr_tools.proofs.Obeyed.{read_of}
 use Rattle.cmr_tools.proofs.program.run.Goals as goal
 
 pub returns-in-Err-Refused-clause-runs : goal.returns-in-Err-Refused-clause-runs
@@ -17,15 +18,15 @@ returns-in-Err-Refused-clause-runs g c =
     let err = c.args.err.now in
     let done = c.carry_out in
     let e : order c.args.words.now ≡ None = subst (λ f. Gives order_of (Err f) (order c.args.words.now)) c.in-Err-Refused.field-0-is c.in-Err-Refused.ensures.value in
-    runs (ordered (order c.args.words.now))
-    (standing (S.tells shelf) (O.tells out) (E.tells err) (S.is_calm shelf) (S.room shelf) (O.is_calm out) (O.room out))
-    (S.content shelf) (S.content shelf) (S.reads shelf) (S.reads shelf) (S.failed shelf) (S.failed shelf) (S.faults shelf) (S.faults shelf) (O.got out) (O.faults out) (E.got err) (E.faults err) (Err stops.BadWords)
-    (devices (S.content done.new.shelf) (S.reads done.new.shelf) (S.failed done.new.shelf) (S.faults done.new.shelf) (O.got done.new.out) (O.faults done.new.out) (E.got done.new.err) (E.faults done.new.err)) done.result
+    runs (ordered (order c.args.words.now)) (standing S O E shelf out err) (devices S O E shelf out err)
+    (S.content shelf) (S.reads shelf) (S.writes shelf) (S.failed shelf) (S.faults shelf) (Err stops.BadWords)
+    (devices S O E done.new.shelf done.new.out done.new.err) done.result
     (record {
       lawful = subst (λ o. IsLawfulOrder (ordered o)) (sym e) tt;
       told = g.met.S.Shelf.calm_tells shelf;
       ends = (subst (λ o. IsNothing (ordered o)) (sym e) tt, refl);
       content = λ name. refl;
+      writes = refl;
       later = omega arith;
       refused = λ none. inl refl;
       cause = λ four. absurd (omega arith);
@@ -49,8 +50,12 @@ returns-in-Err-Memory-clause-runs g c =
     let out = c.args.out.now in
     let err = c.args.err.now in
     let done = c.carry_out-in-Err-Memory in
-    refused_memory (ordered (order c.args.words.now))
-    (standing (S.tells shelf) (O.tells out) (E.tells err) (S.is_calm shelf) (S.room shelf) (O.is_calm out) (O.room out))
-    (devices (S.content shelf) (S.reads shelf) (S.failed shelf) (S.faults shelf) (O.got out) (O.faults out) (E.got err) (E.faults err))
-    (devices (S.content done.new.shelf) (S.reads done.new.shelf) (S.failed done.new.shelf) (S.faults done.new.shelf) (O.got done.new.out) (O.faults done.new.out) (E.got done.new.err) (E.faults done.new.err)) done.result
+    refused_memory (ordered (order c.args.words.now)) (standing S O E shelf out err) (devices S O E shelf out err)
+    (devices S O E done.new.shelf done.new.out done.new.err) done.result
     done.ensures.reads done.ensures.carried_out
+
+pub returns-in-Err-Refused-clause-read : goal.returns-in-Err-Refused-clause-read
+returns-in-Err-Refused-clause-read g c = read_of (order c.args.words.now) _ _ _ _ (returns-in-Err-Refused-clause-runs g c)
+
+pub returns-in-Err-Memory-clause-read : goal.returns-in-Err-Memory-clause-read
+returns-in-Err-Memory-clause-read g c = read_of (order c.args.words.now) _ _ _ _ (returns-in-Err-Memory-clause-runs g c)

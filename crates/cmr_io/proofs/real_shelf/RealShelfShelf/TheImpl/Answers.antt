@@ -20,10 +20,10 @@ next-tells g c = record {
   given = grind arith;
   err = grind arith;
   ready = grind arith;
-  begun = record { reading = c.ensures.begun ∙ sym c.requires; writing = c.ensures.writing };
+  begun = record { reading = c.ensures.begun.0 ∙ sym c.requires; writing = c.ensures.begun.1 };
   kept = record { names = λ name. refl; standing = record { telling = refl; calm = λ calm. calm; rooms = λ name. refl } };
-  reads = c.ensures.reads;
-  writes = c.ensures.writes;
+  reads = c.ensures.logs.0;
+  writes = c.ensures.logs.1;
   counted = record { last = c.ensures.failed; cause = c.ensures.cause };
 }
 
@@ -45,10 +45,10 @@ put-tells g c = record {
   taken = c.ensures.taken;
   written = grind arith;
   ready = grind arith;
-  begun = record { reading = c.ensures.reading; writing = c.ensures.begun ∙ sym c.requires };
+  begun = record { reading = c.ensures.begun.0; writing = c.ensures.begun.1 ∙ sym c.requires };
   target = refl;
   kept = record { others = λ name ne. refl; standing = record { telling = refl; calm = λ calm. calm; rooms = λ name. refl } };
-  reads = c.ensures.reads;
-  writes = c.ensures.writes;
+  reads = c.ensures.logs.0;
+  writes = c.ensures.logs.1;
   counted = record { last = c.ensures.failed; cause = c.ensures.cause };
 }

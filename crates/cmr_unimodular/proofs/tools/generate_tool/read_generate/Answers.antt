@@ -17,4 +17,7 @@ returns-clause-value c =
     c.in_ok-generate_command.ensures c.in_ok-matches.ensures c.options_in.ensures
 
 pub returns-clause-ranges : goal.returns-clause-ranges
-returns-clause-ranges c = as_defined generate_order_of (λ o. (generate_tool o).InRanges) c.options_in.result (generate_order c.args.words.now) (returns-clause-value c) (generate_order-ranges c.args.words.now)
+returns-clause-ranges c = as_defined generate_order_of (λ o. (generate_tool o).InRanges) c.options_in.result (generate_order c.args.words.now) (returns-clause-value c) (λ o e. (generate_order-ranges c.args.words.now o e).0)
+
+pub returns-clause-pivots : goal.returns-clause-pivots
+returns-clause-pivots c = as_defined generate_order_of (λ o. o.pivots ≤ 100) c.options_in.result (generate_order c.args.words.now) (returns-clause-value c) (λ o e. (generate_order-ranges c.args.words.now o e).1)

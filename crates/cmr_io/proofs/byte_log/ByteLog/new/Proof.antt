@@ -21,18 +21,18 @@ use denote.Triple.Entry.{on_entry}
 use denote.Triple.Spec.{Meets, triple_of}
 use denote.Triple.Table.{entered}
 use denote.Triple.Walked.{says, ends_at, walked, walk_Meets}
-use Rattle.cmr_io.specs.declared.begun_reads.BegunReads.{BegunReads}
-use Rattle.cmr_io.specs.contracts.begun_reads.BegunReads as T
-use Rattle.cmr_io.specs.contracts.begun_reads.BegunReads.new.Key.{name as #it}
-use Rattle.cmr_io.specs.contracts.begun_reads.BegunReads.new as it
-use Rattle.cmr_io.proofs.begun_reads.BegunReads.new.Statement as stated
-use Rattle.cmr_io.proofs.begun_reads.BegunReads.new.Code as code
+use Rattle.cmr_io.specs.declared.byte_log.ByteLog.{ByteLog}
+use Rattle.cmr_io.specs.contracts.byte_log.ByteLog as T
+use Rattle.cmr_io.specs.contracts.byte_log.ByteLog.new.Key.{name as #it}
+use Rattle.cmr_io.specs.contracts.byte_log.ByteLog.new as it
+use Rattle.cmr_io.proofs.byte_log.ByteLog.new.Statement as stated
+use Rattle.cmr_io.proofs.byte_log.ByteLog.new.Code as code
 
 abbrev v : Val
 v = vstruct (vcons (vstruct vnil) vnil)
 
-abbrev r : BegunReads
-r = record { marker = record {}; names = []; texts = [] }
+abbrev r : ByteLog
+r = record { marker = record {}; names = []; texts = []; all = [] }
 
 meets : {M : Type 1} {𝓤 : Ura M} (𝓛 : Logic 𝓤) → (at_mem : Memory → SProp 𝓤) (run : Routine → Fun 𝓤) (𝓣 : Tables 𝓤 𝓛.H)
     → Meets 𝓛 it.signature (WpFn 𝓤 𝓛.H 𝓣.C 𝓣.Λ code.function) (it.spec 𝓛 at_mem run)
@@ -44,7 +44,7 @@ meets {𝓤 = 𝓤} 𝓛 at_mem run 𝓣 =
     sets ! (agg ! (no_more !)) refl (tt, tt) $ sets ! (agg ! (and_then ! (get ! refl) (no_more !))) refl (tt, (tt, tt)) $
     returns ! (look_at ! 0 refl) $ free_all ! refl $
     pure_i ! ((T.the_row).own_val r (v ∷ [])) ((λ vss. (tt, ((λ uss. (tt, tt)), tt))), tt) (((vstruct vnil ∷ [], tt), (refl, ((tt, (refl, tt)), tt))), tt) $
-    suffices ! _ (ends_at 𝓛 it.ended tt (it.clauses 𝓛 at_mem run) ((κs, qs, bounds, a, tt), g) v r tt tt) $ says ! (refl, refl) $
+    suffices ! _ (ends_at 𝓛 it.ended tt (it.clauses 𝓛 at_mem run) ((κs, qs, bounds, a, tt), g) v r tt tt) $ says ! (refl, refl, refl) $
     nothing ! $ join ! $ nothing ! $ done !)))
 
 pub new_spec : {M : Type 1} → stated.statement M

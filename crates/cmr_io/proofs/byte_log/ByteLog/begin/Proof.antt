@@ -25,12 +25,12 @@ use denote.Triple.Entry.{on_entry}
 use denote.Triple.Spec.{Meets, triple_of}
 use denote.Triple.Table.{entered}
 use denote.Triple.Walked.{says, Stays, stay_ref, walk_of, AllGo, Goes-ref, Walks, ends_at, walked, walk_Meets}
-use Rattle.cmr_io.specs.declared.begun_reads.BegunReads.{BegunReads}
-use Rattle.cmr_io.specs.contracts.begun_reads.BegunReads as T
-use Rattle.cmr_io.specs.contracts.begun_reads.BegunReads.begin.Key.{name as #it}
-use Rattle.cmr_io.specs.contracts.begun_reads.BegunReads.begin as it
-use Rattle.cmr_io.proofs.begun_reads.BegunReads.begin.Statement as stated
-use Rattle.cmr_io.proofs.begun_reads.BegunReads.begin.Code as code
+use Rattle.cmr_io.specs.declared.byte_log.ByteLog.{ByteLog}
+use Rattle.cmr_io.specs.contracts.byte_log.ByteLog as T
+use Rattle.cmr_io.specs.contracts.byte_log.ByteLog.begin.Key.{name as #it}
+use Rattle.cmr_io.specs.contracts.byte_log.ByteLog.begin as it
+use Rattle.cmr_io.proofs.byte_log.ByteLog.begin.Statement as stated
+use Rattle.cmr_io.proofs.byte_log.ByteLog.begin.Code as code
 use denote.Ref.{Bor}
 use denote.Builtin.{u8}
 use denote.Exit.{yes}
@@ -39,19 +39,19 @@ use denote.Triple.Walked.{stay_none_slice, Goes-none_slice}
 use Rattle.std.proofs.Common.{◌<◌, ◌^◌, length}
 
 abbrev Arg : Type 0
-Arg = MutBor BegunReads × (Bor (List ℕ) × Unit {0})
+Arg = MutBor ByteLog × (Bor (List ℕ) × Unit {0})
 
 abbrev stayed : Stays (it.ended).signature.params (it.ended).kept
 stayed = (stay_ref (0 ∷ []) tt (plain (λ _. T.the_row)), (stay_none_slice (1 ∷ []) tt (plain (λ _. u8)) yes, tt))
 
-module _ {M : Type 1} {𝓤 : Ura M} (𝓛 : Logic 𝓤) (at_mem : Memory → SProp 𝓤) (run : Routine → Fun 𝓤) (κ κ' : Lft) (q q' : Share) (b o : ℕ) (γ : GName) (h : BegunReads) (s : Bor (List ℕ)) where
+module _ {M : Type 1} {𝓤 : Ura M} (𝓛 : Logic 𝓤) (at_mem : Memory → SProp 𝓤) (run : Routine → Fun 𝓤) (κ κ' : Lft) (q q' : Share) (b o : ℕ) (γ : GName) (h : ByteLog) (s : Bor (List ℕ)) where
   open 𝓛 use {H, A}
 
   abbrev x : Arg
   x = (record { ref_ptr = (b, o); ghost_name = γ; now = h }, (s, tt))
 
-  abbrev h' : BegunReads
-  h' = record { marker = h.marker; names = h.names ++ s.now ∷ []; texts = h.texts ++ [] ∷ [] }
+  abbrev h' : ByteLog
+  h' = record { marker = h.marker; names = h.names ++ s.now ∷ []; texts = h.texts ++ [] ∷ []; all = h.all }
 
   abbrev at : List Val × (List Val × Unit {0})
   at = (vptr b o ∷ [], (slice_val s.ref_ptr (length s.now) ∷ [], tt))
@@ -65,7 +65,7 @@ module _ {M : Type 1} {𝓤 : Ura M} (𝓛 : Logic 𝓤) (at_mem : Memory → SP
   exits : ent 𝓤 (sep 𝓤 (A.obs γ ((T.the_row).coded.code h')) (sep 𝓤 (A.bor κ (Body (mem T.the_row) b o γ)) (sep 𝓤 (A.lft κ q) (sep 𝓤 (types.Logic.sem 𝓛 rest) (sep 𝓤 (A.lft κ' q') (emp 𝓤)))))) (Post vunit)
   exits =
       qed 𝓛 (‵ (fobs γ ((T.the_row).coded.code h')) ∷ ‵ (fbor κ (Body (mem T.the_row) b o γ)) ∷ ‵ (flft κ q) ∷ ‵ rest ∷ (‵ (flft κ' q') ⊛ ‵ ftrue) ∷ []) ∵
-      suffices ! _ (ends_at 𝓛 it.ended stayed (it.clauses 𝓛 at_mem run) (((κ, (κ', tt)), (q, (q', tt)), tt, x, at), tt) vunit tt (h', (tt, tt)) (tt, (tt, tt))) $ says ! (refl, refl) $ move ! (2 ∷ 4 ∷ []) $ join ! $
+      suffices ! _ (ends_at 𝓛 it.ended stayed (it.clauses 𝓛 at_mem run) (((κ, (κ', tt)), (q, (q', tt)), tt, x, at), tt) vunit tt (h', (tt, tt)) (tt, (tt, tt))) $ says ! (refl, refl, refl) $ move ! (2 ∷ 4 ∷ []) $ join ! $
       frame ! $ feq_i ! (List Val) (vptr b o ∷ []) (vptr b o ∷ []) refl $ fjoin3 ! $ fjoin ! $
       feq_i ! (List Val) (vunit ∷ []) (vunit ∷ []) refl $ move ! (1 ∷ 0 ∷ []) $ done !
 
