@@ -1,3 +1,4 @@
+use Rattle.std.proofs.Common.{◌≤◌}
 use Rattle.clap.specs.Words.{app_of, found_of, rows_of}
 use Rattle.cmr_front.proofs.Matches.{Gives-matches_with_input, as_defined}
 use Rattle.cmr_reach.specs.Balanced.{balanced_app, balanced_order_in, balanced_order_of, balanced_order, balanced_tool}

@@ -1,4 +1,4 @@
-use Rattle.std.proofs.Common.{rules, subst}
+use Rattle.std.proofs.Common.{◌≤◌, rules, subst}
 use Rattle.clap.specs.Words.{app_of, found_of, rows_of}
 use Rattle.cmr_front.specs.Words.Parsing.{matches_with_input}
 use Rattle.cmr_front.specs.Words.ReadWords.{Gives, ◌>>=◌}
