@@ -1,14 +1,16 @@
 -- What the answers of `camion` say of the matrix.
 use Rattle.std.proofs.Common.{◌≡◌, ◌∙◌, sym, arith}
 use Rattle.cmr_base.specs.declared.line_set.LineSet.{LineSet}
-use Rattle.cmr_base.specs.Matrix.{Matrix, entry}
+use Rattle.cmr_base.specs.Matrix.{Matrix, entry, IsMatrix}
 use Rattle.cmr_base.specs.CyclePlaces.{HasNoCycleFault, IsCycleFault}
+use Rattle.cmr_base.proofs.WholeMatrices.{is_ternary}
+use Rattle.camion_sign.proofs.RegularSignings.{fault_free_decides, own_support}
 use Rattle.cmr_front.specs.declared.status.Answer.{Answer}
 use Rattle.cmr_front.specs.declared.status.Answer.TheVariants.{Yes, No, Undecided, Refused}
 use Rattle.cmr_front.specs.Report.{Report}
 use Rattle.cmr_front.specs.Status.{answer_status}
 use Rattle.cmr_front.specs.Tool.{IsLawful}
-use Rattle.cmr_front.proofs.MatrixText.{lawful}
+use Rattle.cmr_front.proofs.MatrixText.{lawful, read_is_matrix}
 use Rattle.cmr_front.proofs.Statuses.{IsAnswered, status_of}
 use Rattle.cmr_reach.specs.Camion.{CamionDecides, CamionMeans, camion_source, camion_tool, no, yes, CamionOrder}
 
@@ -22,7 +24,14 @@ one_status o m r s (yes none e) (no fault is f) = absurd (not_both m fault none 
 one_status o m r s (no fault is e) (yes none f) = absurd (not_both m fault none is)
 one_status o m r s (no fault is e) (no fault' is' f) = status_of r _ e ∙ sym (status_of s _ f)
 
-says : (o : CamionOrder) (m : Matrix) (r : Report) (answer : Answer) → CamionDecides o m r → r.status ≡ answer_status answer → CamionMeans m answer
+-- what an answer tells of a matrix, without what follows of it
+abbrev Tells : Matrix → Answer → Type 0
+Tells m Yes = HasNoCycleFault (entry m)
+Tells m No = (fault : LineSet) × IsCycleFault m fault.rows fault.columns
+Tells m Undecided = ⊥
+Tells m Refused = ⊥
+
+says : (o : CamionOrder) (m : Matrix) (r : Report) (answer : Answer) → CamionDecides o m r → r.status ≡ answer_status answer → Tells m answer
 says o m r Yes (yes none e) is = none
 says o m r No (yes none e) is = let s = status_of r _ e in absurd (omega arith)
 says o m r Undecided (yes none e) is = let s = status_of r _ e in absurd (omega arith)
@@ -32,9 +41,24 @@ says o m r No (no fault lines e) is = (fault, lines)
 says o m r Undecided (no fault lines e) is = let s = status_of r _ e in absurd (omega arith)
 says o m r Refused (no fault lines e) is = let s = status_of r _ e in absurd (omega arith)
 
+-- what follows of it
+means : (m : Matrix) (answer : Answer) → IsMatrix m → Tells m answer → CamionMeans m answer
+means m Yes is none = (none, λ n ternary one unimodular. (fault_free_decides m n (is_ternary m is) ternary one unimodular).1 none)
+means m No is (fault, found) = (fault, found, λ unimodular. not_both m fault ((fault_free_decides m m (is_ternary m is) (is_ternary m is) (own_support m) unimodular).0 unimodular) found)
+means m Undecided is told = told
+means m Refused is told = told
+
 answers : (o : CamionOrder) (m : Matrix) (r : Report) → CamionDecides o m r → IsAnswered r
 answers o m r (yes none e) = (Yes, status_of r _ e)
 answers o m r (no fault is e) = (No, status_of r _ e)
 
 pub camion_lawful : (o : CamionOrder) → IsLawful (camion_tool o)
-camion_lawful o = lawful (camion_source o) (CamionDecides o) CamionMeans (says o) (Unit {0}) (one_status o) (answers o)
+camion_lawful o =
+    let told = lawful (camion_source o) (CamionDecides o) Tells (says o) (Unit {0}) (one_status o) (answers o) in
+    record {
+      one_status = told.one_status;
+      means = λ texts r answer reported is.
+          let found = told.means texts r answer reported is in
+          (found.0, found.1, found.2, found.3, means found.2 answer (read_is_matrix o.form false found.0 found.2 found.3) found.4);
+      at_fault = told.at_fault;
+    }

@@ -1,8 +1,10 @@
 -- What the words of `camion` order, what it reports, and what its answers mean.
 use Rattle.std.specs.Prelude.{◌≡◌, ℕ, false, List, codes, [], ◌∷◌, Option, Some, option_map}
 use Rattle.cmr_base.specs.declared.line_set.LineSet.{LineSet}
-use Rattle.cmr_base.specs.Matrix.{Matrix, entry}
+use Rattle.cmr_base.specs.Matrix.{Matrix, entry, IsTernary}
 use Rattle.cmr_base.specs.CyclePlaces.{HasNoCycleFault, IsCycleFault}
+use Rattle.cmr_base.specs.Signing.{IsTotallyUnimodular}
+use Rattle.cmr_base.specs.Supports.{HaveOneSupport}
 use Rattle.cmr_front.specs.declared.status.Answer.{Answer}
 use Rattle.cmr_front.specs.declared.status.Answer.TheVariants.{Yes, No, Undecided, Refused}
 use Rattle.cmr_front.specs.MatrixText.{Source, matrix_tool, source}
@@ -53,9 +55,13 @@ pub data CamionDecides (o : CamionOrder) (m : Matrix) (report : Report) : Type 0
   yes : HasNoCycleFault (entry m) → report ≡ yes_report camion_label → CamionDecides o m report
   no : (fault : LineSet) → IsCycleFault m fault.rows fault.columns → report ≡ fault_report camion_label o.fault m fault → CamionDecides o m report
 
+-- it is totally unimodular if a matrix of its support is
+abbrev pub IsUnimodularIfSome : Matrix → Type 0
+IsUnimodularIfSome m = (n : Matrix) → IsTernary n → HaveOneSupport m n → IsTotallyUnimodular n → IsTotallyUnimodular m
+
 abbrev pub CamionMeans : Matrix → Answer → Type 0
-CamionMeans m Yes = HasNoCycleFault (entry m)
-CamionMeans m No = (fault : LineSet) × IsCycleFault m fault.rows fault.columns
+CamionMeans m Yes = HasNoCycleFault (entry m) × IsUnimodularIfSome m
+CamionMeans m No = (fault : LineSet) × IsCycleFault m fault.rows fault.columns × ¬ (IsTotallyUnimodular m)
 CamionMeans m Undecided = ⊥
 CamionMeans m Refused = ⊥
 
