@@ -73,7 +73,7 @@ left_at held mid new files k file before others front =
       here = subst (λ o. StaysOrHoldsFront o (new (file_of file).name) (file_of file).bytes) (before (file_of file).name ∙ ap (λ fs. with_files held fs (file_of file).name) (sym same)) front;
     }
 
--- the write of the file at this place was begun behind those before it
+-- the write of the file at this place was begun after those before it
 pub begun_last : (start mid new : Log) (files : List OutputFile) (k : ℕ) (file : OutputFile) → mid ≡ after_files start (map file_of (take k files))
     → (count : ℕ) × (new ≡ log_with mid (file_of file).name (take count (file_of file).bytes)) → IsBegunLast (map file_of files) k (file_of file) start new
 begun_last start mid new files k file before begun =

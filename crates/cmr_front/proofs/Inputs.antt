@@ -27,7 +27,7 @@ module _ (held : Held) where
   abbrev pub given_of : List Input → Given
   given_of inputs = given held (map input_file inputs)
 
-  -- behind a file that is there
+  -- after a file that is there
   one_text_more : (name : List ℕ) (read : Reading) (others all : Given) (before : List (List ℕ)) (bytes : List ℕ) → and_then name read others ≡ texts before
       → ((rest : List (List ℕ)) → others ≡ texts rest → all ≡ texts (rest ++ bytes ∷ [])) → and_then name read all ≡ texts (before ++ bytes ∷ [])
   one_text_more name missing others all before bytes e later = cc
@@ -64,7 +64,7 @@ module _ (held : Held) where
   one_more (input ∷ inputs) (suc k) before bytes h e f =
       one_text_more input.name.now (reading held (input_file input)) (given_of (take k inputs)) (given_of (take (suc k) inputs)) before bytes e (λ rest is. one_more inputs k rest bytes (omega arith) is f)
 
-  -- a file that is not there, behind some that are
+  -- a file that is not there, after some that are
   stops_unread : (inputs : List Input) (k : ℕ) (before : List (List ℕ)) → k < length inputs
       → given_of (take k inputs) ≡ texts before → reading held (file_at inputs k) ≡ missing → given_of inputs ≡ not_there (file_at inputs k).name
   stops_unread [] k before h e f = absurd (omega arith)

@@ -1,4 +1,4 @@
--- Two reports on one text are alike where what is decided on what it stands for is.
+-- Two reports on one text are alike where what is decided on what it represents is.
 use Rattle.std.proofs.Common.{◌≡◌, ◌∙◌, ℕ, List, [], ◌∷◌, Result, Ok, Err, refl, sym}
 use Rattle.cmr_base.specs.Matrix.{Matrix, IsMatrix}
 use Rattle.text_fields.specs.Reading.{Fault}

@@ -19,7 +19,7 @@ at f xs i d h =
     ∙ ap concat (map-append f (take i xs) (get_or xs i d ∷ drop (i + 1) xs))
     ∙ concat-append (map f (take i xs)) (f (get_or xs i d) ∷ map f (drop (i + 1) xs))
 
--- a front of one part, behind the parts before it, is a front of the whole
+-- a prefix of one part, after the parts before it, is a prefix of the whole
 pub front : (old done part rest new : List ℕ) → AppendsFront (old ++ done) new part → AppendsFront old new (done ++ (part ++ rest))
 front old done part rest new (n, less, e) = (
   length done + n,

@@ -19,7 +19,7 @@ use Rattle.cmr_front.specs.Tool.{HasOneReport, IsDecision, IsFaultOfFile, IsLawf
 use Rattle.cmr_front.proofs.Statuses.{IsAnswered, answered_or_failed, no_fault, status_of}
 
 module _ {A K : Type 0} (kind_of : K → FaultKind) (file : List ℕ) (Decides : A → Report → Type 0) where
-  -- what is decided on what a text stands for
+  -- what is decided on what a text represents
   pub read_reported : (read : Result A (Fault K)) (x : A) (report : Report) → read ≡ Ok x → Decides x report → ReportsText kind_of file Decides read report
   read_reported read x report e d = subst (λ r. ReportsText kind_of file Decides r report) (sym e) d
 
@@ -42,12 +42,12 @@ module _ {A K : Type 0} (kind_of : K → FaultKind) (file : List ℕ) (Decides :
   one_report_of_text one (Ok x) r t a b = one x r t a b
   one_report_of_text one (Err fault) r t a b = a ∙ sym b
 
-  -- an answer is one on what the text stands for
+  -- an answer is one on what the text represents
   pub answered : (read : Result A (Fault K)) (r : Report) (answer : Answer) → ReportsText kind_of file Decides read r → r.status ≡ answer_status answer → (x : A) × (read ≡ Ok x) × Decides x r
   answered (Ok x) r answer d is = (x, refl, d)
   answered (Err fault) r answer e is = absurd (answered_or_failed r.status answer failures.Text is (status_of r _ e))
 
-  -- a text at fault is that of its file, where what is decided on what a text stands for names one of the files too
+  -- a text at fault is that of its file, where what is decided on what a text represents names one of the files too
   pub fault_of_text : (files : List InputFile) → Contains (map (λ (f : InputFile). f.name) files) file
       → ((x : A) (r : Report) → Decides x r → r.status ≡ failure_status failures.Text → IsFaultOfFile files r)
       → (read : Result A (Fault K)) (r : Report) → ReportsText kind_of file Decides read r → r.status ≡ failure_status failures.Text → IsFaultOfFile files r

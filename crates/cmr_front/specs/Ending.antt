@@ -108,7 +108,7 @@ pub record IsLeftAt (files : List File) (place : ℕ) (file : File) (before afte
   pub others : (name : List ℕ) → name ≢ file.name → after name ≡ with_files before (take place files) name
   pub here : StaysOrHoldsFront (with_files before (take place files) file.name) (after file.name) file.bytes
 
--- the write of the file at a place was begun last, behind those of the files before it, and has taken a front of its bytes
+-- the write of the file at a place was begun last, after the writes of the files before it, and has taken a prefix of its bytes
 abbrev pub IsBegunLast : List File → ℕ → File → Log → Log → Type 0
 IsBegunLast files place file before after = (count : ℕ) × (after ≡ log_with (after_files before (take place files)) file.name (take count file.bytes))
 

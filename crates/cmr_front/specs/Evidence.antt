@@ -1,4 +1,4 @@
--- Tools that read evidence, alone or behind a matrix text.
+-- Tools that read evidence, by itself or after a matrix text.
 use Rattle.std.specs.Prelude.{◌≡◌, ℕ, List, [], ◌∷◌, Ok}
 use Rattle.cmr_base.specs.Matrix.{Matrix}
 use Rattle.text_fields.specs.TextWords.{text_of}
@@ -26,11 +26,11 @@ evidence_files matrix evidence = matrix_file matrix ∷ evidence_file evidence �
 abbrev pub evidence_tool : List ℕ → List ℕ → (List ℕ → List ℕ → Report → Type 0) → (List ℕ → List ℕ → Answer → Type 0) → Tool
 evidence_tool matrix evidence Reports Says = pair_tool (evidence_files matrix evidence) Reports Says
 
--- what is reported on the tree that a text stands for
+-- what is reported on the tree that a text represents
 abbrev pub ReportsTree : List ℕ → (PlainTree → Report → Type 0) → List ℕ → Report → Type 0
 ReportsTree file Decides bytes report = ReportsText faults.Tree file Decides (tree (text_of bytes)) report
 
--- the text stands for a tree, of which an answer says so
+-- the text represents a tree, of which an answer says so
 abbrev pub SaysOfTree : (PlainTree → Answer → Type 0) → List ℕ → Answer → Type 0
 SaysOfTree Says bytes answer = (t : PlainTree) × (tree (text_of bytes) ≡ Ok t) × Says t answer
 

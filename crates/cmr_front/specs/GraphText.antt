@@ -15,11 +15,11 @@ use Rattle.cmr_front.specs.Report.{Report}
 use Rattle.cmr_front.specs.Texts.{ReportsText}
 use Rattle.cmr_front.specs.Tool.{Tool}
 
--- what is reported on the network that a text stands for, or on its fault
+-- what is reported on the network that a text represents, or on its fault
 abbrev pub ReportsGraph : List ℕ → (SizedNetwork → Report → Type 0) → List ℕ → Report → Type 0
 ReportsGraph file Decides bytes report = (read : Result SizedNetwork (Fault GraphKind)) × IsGraph (text_of bytes) read × ReportsText faults.Graph file Decides read report
 
--- the text stands for a network, of which an answer says so
+-- the text represents a network, of which an answer says so
 abbrev pub SaysOfGraph : (SizedNetwork → Answer → Type 0) → List ℕ → Answer → Type 0
 SaysOfGraph Says bytes answer = (net : SizedNetwork) × IsGraph (text_of bytes) (Ok net) × Says net answer
 

@@ -28,7 +28,7 @@ source form binary file = record { form = form; binary = binary; file = file }
 abbrev pub matrix_file : List ℕ → InputFile
 matrix_file name = record { name = name; kind = MatrixText }
 
--- the matrix that a text of this form stands for, or its first fault
+-- the matrix that a text of this form represents, or its first fault
 abbrev pub matrix_in : MatrixForm → Bool → List ℕ → Result Matrix (Fault TextKind)
 matrix_in Dense binary bytes = dense binary (text_of bytes)
 matrix_in Sparse binary bytes = sparse binary (text_of bytes)
@@ -39,7 +39,7 @@ ReportsMatrix s Decides [] report = ⊥
 ReportsMatrix s Decides (bytes ∷ []) report = ReportsText faults.Matrix s.file Decides (matrix_in s.form s.binary bytes) report
 ReportsMatrix s Decides (bytes ∷ other ∷ texts) report = ⊥
 
--- what an answer says of the matrix that the text stands for
+-- what an answer says of the matrix that the text represents
 abbrev pub SaysOfMatrix : Source → (Matrix → Answer → Type 0) → List (List ℕ) → Answer → Type 0
 SaysOfMatrix s Says texts answer = (bytes : List ℕ) × (texts ≡ bytes ∷ []) × (m : Matrix) × (matrix_in s.form s.binary bytes ≡ Ok m) × Says m answer
 

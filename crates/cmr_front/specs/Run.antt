@@ -91,7 +91,7 @@ pub record Runs (ordered : Ordered) (standing : Standing) (before after : Device
   pub ended : HasEnded ordered standing before after status
   -- what an answer means, whatever the shelf tells: a status of an answer stands on the texts that were read
   pub means : (answer : Answer) → status ≡ answer_status answer → MeansRead ordered (between before.reads after.reads) answer
-  -- the status is that of every report, but for a device or for want of memory
+  -- the status is that of every report, except for a device or an allocation failure
   pub complete : IsTrue standing.shelf_tells → (report : Report) → Reports ordered before.held report
       → (status ≡ report.status) ⊎ (status ≡ failure_status failures.Device) ⊎ (status ≡ failure_status failures.Memory)
   -- where the devices are ready for every report, no device gives a status
@@ -115,8 +115,8 @@ RunsOver s o e ordered shelf out err shelf_after out_after err_after status =
     (devices s o e shelf_after out_after err_after)
     status
 
--- What an outcome or a stop says for what is ordered, before anything is written: it is a report, but for a file that
--- cannot be read, and for want of memory.
+-- What an outcome or a stop says for what is ordered, before anything is written: it is a report, except for a file that
+-- cannot be read, and for an allocation failure.
 abbrev pub Ends : Ordered → Held → Bool → Bool → Between → Bool → Result Outcome Stop → Type 0
 Ends ordered held tells calm reads failed (Ok outcome) = ReportsSome ordered reads (outcome_report outcome) × (IsTrue tells → Reports ordered held (outcome_report outcome))
 Ends ordered held tells calm reads failed (Err stops.BadWords) = IsNothing ordered × (reads.after ≡ reads.before)

@@ -8,7 +8,7 @@ use Rattle.cmr_front.specs.Outcome.{bad_text}
 use Rattle.cmr_front.specs.Report.{Report}
 use Rattle.cmr_front.specs.Tool.{Tool}
 
--- from what is decided on what the text stands for: its first fault where it stands for nothing
+-- from what is decided on what the text represents: its first fault where it represents nothing
 abbrev pub ReportsText : {A K : Type 0} → (K → FaultKind) → List ℕ → (A → Report → Type 0) → Result A (Fault K) → Report → Type 0
 ReportsText kind_of file Decides (Ok x) report = Decides x report
 ReportsText kind_of file Decides (Err fault) report = report ≡ bad_text file (kind_of fault.0) fault.1

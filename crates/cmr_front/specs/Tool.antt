@@ -40,7 +40,7 @@ pub record IsLawful (tool : Tool) : Type 0 where
 abbrev pub HasOneReport : Tool → Type 0
 HasOneReport tool = (bytes : List (List ℕ)) (r s : Report) → tool.Reports bytes r → tool.Reports bytes s → r ≡ s
 
--- What is decided on texts that were read: a report, or want of memory.
+-- What is decided on texts that were read: a report, or an allocation failure.
 abbrev pub IsDecision : (Report → Type 0) → Result Outcome Stop → Type 0
 IsDecision Reports (Ok outcome) = Reports (outcome_report outcome)
 IsDecision Reports (Err stops.BadWords) = ⊥

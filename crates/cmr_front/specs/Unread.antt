@@ -13,15 +13,15 @@ pub record Between : Type 0 where
 abbrev pub between : Reads → Reads → Between
 between before after = record { before = before; after = after }
 
--- so many reads more have come to their ends, as far as the counts tell
+-- this number of reads more have reached their ends, as far as the counts show
 abbrev pub HaveEnded : ℕ → Between → Type 0
 HaveEnded count reads = up_to_last reads.after.ends ≡ up_to_last (reads.before.ends + count)
 
--- the reads that were begun are those of so many files, the first ones, in their order and each once
+-- the reads that were begun are those of a number of files, the first ones, in their order and each once
 abbrev pub HaveBegun : List InputFile → ℕ → Between → Type 0
 HaveBegun files count reads = reads.after.names ≡ reads.before.names ++ take count (map (λ file. file.name) files)
 
--- The reads of so many of the files were begun, of the first ones, in their order and each once, and no other read was; and so
+-- The reads of a number of the files were begun, of the first ones, in their order and each once, and no other read was; and so
 -- many came to their ends.
 pub record AreRead (files : List InputFile) (begun ended : ℕ) (reads : Between) : Type 0 where
   pub have_begun : HaveBegun files begun reads

@@ -1,4 +1,4 @@
-// The files of a tool that reads evidence, alone or behind a matrix text.
+// The files of a tool that reads evidence, by itself or after a matrix text.
 ghost use Rattle.std.specs.Prelude.{◌≡◌, ◌∷◌, [], IfOk, IfErr, Ok, map};
 ghost use Rattle.text_fields.specs.TextWords.{text_of};
 ghost use Rattle.matrix_text.specs.Submatrix.{named_lines};
@@ -38,7 +38,7 @@ pub fn evidence_inputs<'a>(
     Ok(inputs)
 }
 
-/// The one file of a tool that reads evidence alone.
+/// The one file of a tool that reads only evidence.
 pub fn evidence_input<'a>(alloc: Global, name: &'a str) -> Result<Vec<Input<'a>>, Memory>
     ensures { IfOk result (λ inputs. map input_file inputs.items
         ≡ evidence_file name.entry.now ∷ []) }
@@ -57,7 +57,7 @@ fn evidence_of<'a>(name: &'a str) -> Input<'a>
     }
 }
 
-/// The tree that the text of a file stands for, or why the run ends: the text's first fault.
+/// The tree that the text of a file represents, or why the run ends: the text's first fault.
 pub fn read_tree_file<'a>(alloc: Global, name: &'a str, bytes: &[u8]) -> Result<DecTree, Stop<'a>>
     ensures read { IfOk result (λ found. tree (text_of bytes.now) ≡ Ok (plain_of found)) }
     ensures stopped { IfErr result (StopsText faults.Tree name.entry.now (tree
@@ -74,7 +74,7 @@ pub fn read_tree_file<'a>(alloc: Global, name: &'a str, bytes: &[u8]) -> Result<
     }
 }
 
-/// The chain that the text of a file stands for, or why the run ends: the text's first fault.
+/// The chain that the text of a file represents, or why the run ends: the text's first fault.
 pub fn read_chain_file<'a>(
     alloc: Global,
     name: &'a str,

@@ -10,7 +10,7 @@ use crate::outcome::{FaultKind, Stop};
 use graph_text::{GraphError, SizedNetwork, read_graph};
 use std::alloc::Global;
 
-/// The network that the text of a file stands for, or why the run ends: the text's fault.
+/// The network that the text of a file represents, or why the run ends: the text's fault.
 pub fn read_graph_file<'a>(
     alloc: Global,
     name: &'a str,

@@ -18,7 +18,7 @@ use std::alloc::Global;
 /// What a file is read for.
 #[derive(Clone, Copy, Debug, PartialEq, Eq)]
 pub enum InputKind {
-    /// The text of a matrix, or of a graph that stands for one.
+    /// The text of a matrix, or of a graph that represents one.
     MatrixText,
     /// A tree, a violator or a chain.
     Evidence,
@@ -50,7 +50,7 @@ pub struct Text {
 }
 
 /// What the files hold, in their order, or why the run ends. The first that cannot be read or that holds too much
-/// ends it, and those behind it are not read.
+/// ends it, and the files after it are not read.
 pub fn read_inputs<'a, S: Shelf>(
     alloc: Global,
     shelf: &mut S,

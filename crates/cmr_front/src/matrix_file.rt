@@ -35,7 +35,7 @@ pub fn matrix_input<'a>(alloc: Global, name: &'a str) -> Result<Vec<Input<'a>>, 
     Ok(inputs)
 }
 
-/// The matrix that the text of a file stands for, or why the run ends: the text's first fault. With `binary` an
+/// The matrix that the text of a file represents, or why the run ends: the text's first fault. With `binary` an
 /// entry -1 is one.
 pub fn read_matrix<'a>(
     alloc: Global,

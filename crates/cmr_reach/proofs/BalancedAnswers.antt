@@ -47,7 +47,7 @@ least_is_fault m lines is = elim (cases_lt m.width (height m)) [
 pub cycle_is_fault : (m : Matrix) (lines : LineSet) → IsMatrix m → IsCycleFault m lines.rows lines.columns → IsFaultOf m lines
 cycle_is_fault m lines shape is = record { row_set = is.row_set; column_set = is.column_set; balance_fault = cycle_fault_unbalanced m (is_ternary m shape) lines.rows lines.columns is }
 
--- all decompositions within a budget and with so many pivots say yes, or none does
+-- all decompositions within a budget and with this number of pivots say yes, or none does
 pub undecomposed : (budget pivots : ℕ) (m : Matrix) (tree : Tree) → IsTreeFor (height m) m.width tree → IsShapeWith budget pivots m tree → ¬ (verdict_of tree ≡ verdicts.Yes) → ¬ (IsDecomposed budget pivots m)
 undecomposed budget pivots m tree is shape apart other = apart (one_verdict budget pivots m tree other.tree is other.is_tree shape other.shape ∙ other.verdict)
 

@@ -63,7 +63,7 @@ one o matrix evidence = one_report_of_text faults.Matrix o.matrix (λ m. Reports
 pub parts_has_one_report : (o : PartsOrder) → HasOneReport (parts_tool o)
 parts_has_one_report o = one_report_of_pair (PartsReports o) (one o) (PartsSay o) (evidence_files o.matrix o.tree)
 
--- ---- the way back
+-- ---- the inverse
 
 module _ (m : Matrix) (finding : Finding) (kind : SumKind) (both : Arranged) (are : ArePartsOfRoot m finding kind both) where
   abbrev whole : Matrix

@@ -69,7 +69,7 @@ balanced_order_of options = record {
 abbrev pub balanced_label : List ℕ
 balanced_label = codes "balanced"
 
--- the decomposition of the matrix within the budget and with so many pivots says that it is totally unimodular
+-- the decomposition of the matrix within the budget and with this number of pivots says that it is totally unimodular
 pub record IsDecomposed (budget pivots : ℕ) (m : Matrix) : Type 0 where
   pub tree : Tree
   pub is_tree : IsTreeFor (height m) m.width tree

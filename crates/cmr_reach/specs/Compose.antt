@@ -141,7 +141,7 @@ pub data ComposeDecides (o : ComposeOrder) (first second : Matrix) (report : Rep
 
 -- ---- the meaning
 
--- the sum is defined, and the text that is written stands for it
+-- the sum is defined, and the text that is written represents it
 abbrev pub ComposeMeans : ComposeOrder → Matrix → Matrix → Answer → Type 0
 ComposeMeans o first second Yes =
     IsComposed o.sum first second × (dense false (text_of (dense_text (sum_of o.sum first second))) ≡ Ok (sum_of o.sum first second))

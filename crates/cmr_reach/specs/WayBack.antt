@@ -1,4 +1,4 @@
--- The way back from parts: composed with the sum of their kind, the two files that `parts` writes give the matrix with its lines in the
+-- The inverse of parts: composed with the sum of their kind, the two files that `parts` writes give the matrix with its lines in the
 -- order that it prints.
 use Rattle.std.specs.Prelude.{◌≡◌, ◌≢◌, ℕ, false, List, [], ◌∷◌, Ok}
 use Rattle.cmr_base.specs.Matrix.{Matrix}

@@ -1,4 +1,4 @@
-//! Laws over the definitions alone. Each is a function that does nothing: its contract is the law.
+//! Laws about the definitions only. Each is a function that does nothing: its contract is the law.
 ghost use Rattle.cmr_reach.specs.WayBack.{PartsComposeBack};
 
 /// Where `parts` writes two files of different names, `compose` with the sum of the printed kind writes of them the matrix

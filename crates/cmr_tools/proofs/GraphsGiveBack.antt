@@ -86,7 +86,7 @@ read_is_testable : (p : TestedProperty) (form : MatrixForm) (bytes : List ℕ) (
 read_is_testable Graphic form bytes m read = read_is_binary form bytes m read
 read_is_testable Network form bytes m read = tt
 
--- a yes comes of one text, which stands for a matrix
+-- a yes comes of one text, which represents a matrix
 matrix_read : (p : TestedProperty) (o : TestOrder) (read : Given) (report : Report) → ReportsGiven (path_tool p o) read report → report.status ≡ answer_status Yes
     → (bytes : List ℕ) × (read ≡ texts (bytes ∷ [])) × (m : Matrix) × (matrix_in o.form (is_binary p) bytes ≡ Ok m) × TestDecides p o m report
 matrix_read p o (not_there name) report reports status = absurd reports

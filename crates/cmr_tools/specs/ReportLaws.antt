@@ -28,7 +28,7 @@ WritesNoNetwork (compose o) = Unit {0}
 abbrev pub ReportsAreOne : Type 0
 ReportsAreOne = (order : Order) → WritesNoNetwork order → HasOneReport (tool_of order)
 
--- the same order for so many workers
+-- the same order for a number of workers
 abbrev pub with_workers : ℕ → Order → Order
 with_workers n (tu o) = tu (record { form = o.form; lines = o.lines; pivots = o.pivots; workers = n; tree = o.tree; fault = o.fault; file = o.file })
 with_workers n (regular o) = regular (record { form = o.form; lines = o.lines; pivots = o.pivots; workers = n; tree = o.tree; fault = o.fault; signed = o.signed; chain = o.chain; file = o.file })
@@ -43,7 +43,7 @@ with_workers n (balanced o) = balanced (record { form = o.form; lines = o.lines;
 with_workers n (parts o) = parts o
 with_workers n (compose o) = compose o
 
--- so many workers read the same files and report the same
+-- a number of workers read the same files and report the same
 pub record AreReportedAlike (one other : Tool) : Type 0 where
   pub inputs : one.inputs ≡ other.inputs
   pub reports : (bytes : List (List ℕ)) (report : Report) → one.Reports bytes report ↔ other.Reports bytes report

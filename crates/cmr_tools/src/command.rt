@@ -1,5 +1,5 @@
 //! A tool with its options: how it is read from the words of the command line, and how it is carried out. The first word
-//! names the tool, and `clap` reads the others, but for a last word `-`, which says that the tool reads standard input.
+//! names the tool, and `clap` reads the others, except for a last word `-`, which says that the tool reads standard input.
 ghost use Rattle.std.specs.Prelude.{◌≡◌, IfOk, IsTrue};
 ghost use Rattle.cmr_front.specs.Run.{Means, RunsOver, work};
 ghost use Rattle.cmr_front.specs.Status.{answer_status};
@@ -42,7 +42,7 @@ pub enum Command<'a> {
     Generate(GenerateOptions<'a>),
     /// Checks evidence on a matrix.
     Check(CheckOptions<'a>),
-    /// Writes a decomposition tree anew, in its canonical text.
+    /// Writes a decomposition tree again, in its canonical text.
     Upgrade(UpgradeOptions<'a>),
     /// Tests whether a matrix has no cycle fault.
     Camion(CamionOptions<'a>),
@@ -87,7 +87,7 @@ pub fn read_words<'a>(alloc: Global, words: &'a WordList) -> Result<Command<'a>,
     }
 }
 
-// The command of a tool, by the words behind its name.
+// The command of a tool, by the arguments after its name.
 fn read_options<'a>(
     alloc: Global,
     name: ToolName,

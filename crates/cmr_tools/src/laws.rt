@@ -1,4 +1,4 @@
-//! Laws over the definitions alone. Each is a function that does nothing: its contract is the law.
+//! Laws about the definitions only. Each is a function that does nothing: its contract is the law.
 ghost use Rattle.cmr_tools.specs.Laws.{
   FaultsAreOfFiles,
   GraphFilesGiveBack,

@@ -1,4 +1,4 @@
--- The words and the texts determine what the tools of total unimodularity report, but for which networks realise a matrix.
+-- The words and the texts determine what the tools of total unimodularity report, except which networks realise a matrix.
 use Rattle.std.proofs.Common.{◌≡◌, ◌∙◌, ◌++◌, ℕ, Bool, true, false, List, [], ◌∷◌, Option, Some, None, refl, ap, ap₂, sym, subst}
 use Rattle.std.specs.Prelude.{option_map}
 use Rattle.cmr_base.specs.Matrix.{Matrix}

@@ -1,4 +1,4 @@
--- By which word `check` knows what evidence is: a text that stands for a tree, a chain or lines is taken for one.
+-- By which word `check` knows what evidence is: a text that represents a tree, a chain or lines is taken for one.
 use Rattle.std.proofs.Common.{◌≡◌, ◌∙◌, ℕ, Bool, true, false, List, [], ◌∷◌, Result, Ok, Err, refl, ap, sym, subst}
 use Rattle.std.specs.Prelude.{codes, if◌then◌else◌}
 use Rattle.std.specs.Str.{bytes_eq}

@@ -10,7 +10,7 @@ use Rattle.ghouila.proofs.Sublists.{IsSublist, sublist_rises}
 use Rattle.cmr_unimodular.specs.Tu.{HasOtherDeterminant}
 use Rattle.decomp_tree.proofs.OneLeast.{IsOnLines}
 
--- each list with some items left out has a property, or one has another
+-- each list without some of its items has a property, or one has another
 every_or_one : (R : List ℕ) (Holds Fails : List ℕ → Type 0) → ((P : List ℕ) → Holds P ⊎ Fails P) → ((P : List ℕ) → IsSublist P R → Holds P) ⊎ ((P : List ℕ) × IsSublist P R × Fails P)
 every_or_one [] Holds Fails test = elim (test []) [ inl h ↦ inl (λ P e. subst Holds (sym e) h) | inr f ↦ inr ([], refl, f) ]
 every_or_one (x ∷ R) Holds Fails test = go (every_or_one R Holds Fails test) (every_or_one R (λ P. Holds (x ∷ P)) (λ P. Fails (x ∷ P)) (λ P. test (x ∷ P)))

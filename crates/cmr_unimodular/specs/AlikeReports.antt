@@ -1,4 +1,4 @@
--- What the words and the texts determine of a report: all of it, but for which network realises a matrix.
+-- What the words and the texts determine of a report: all of it, except which network realises a matrix.
 use Rattle.std.specs.Prelude.{◌≡◌, ℕ, Bool, List, [], ◌∷◌}
 use Rattle.cmr_base.specs.Matrix.{Matrix}
 use Rattle.cmr_base.specs.declared.network.Network.{Network as Net}
@@ -33,6 +33,6 @@ pub record DifferInNetworks (r s : Report) : Type 0 where
   pub error : r.error ≡ s.error
   pub files : AllAlike r.files s.files
 
--- the texts determine the report, but for its networks
+-- the texts determine the report, except for its networks
 abbrev pub HasAlikeReports : Tool → Type 0
 HasAlikeReports tool = (bytes : List (List ℕ)) (r s : Report) → tool.Reports bytes r → tool.Reports bytes s → DifferInNetworks r s

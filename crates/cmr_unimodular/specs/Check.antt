@@ -166,7 +166,7 @@ ChainMeans a c No = (signs : Matrix) × ShowsIrregular a c signs
 ChainMeans a c Undecided = ⊥
 ChainMeans a c Refused = (step : ℕ) × IsFirstBrokenPart a c step
 
--- the evidence's text stands for a tree, a chain or lines, of which the answer says so
+-- the evidence's text represents a tree, a chain or lines, of which the answer says so
 abbrev pub EvidenceMeans : EvidenceKind → Matrix → List ℕ → Answer → Type 0
 EvidenceMeans kinds.Tree m bytes answer = SaysOfTree (TreeMeans m) bytes answer
 EvidenceMeans kinds.Chain m bytes answer = (c : SizedChain) × (chain (text_of bytes) ≡ Ok c) × ChainMeans m c answer

@@ -101,7 +101,7 @@ summary_line what m =
     codes "generated " ++ kind_word what ++ codes " " ++ decimal (height m) ++ codes "x" ++ decimal m.width
     ++ codes " nonzeros " ++ decimal (nonzeros_of m.rows) ++ codes "\n"
 
--- the summary before what `tu` reports, and the matrix behind its files
+-- the summary before what `tu` reports, and the matrix after its files
 abbrev pub generate_report : GenerateOrder → Matrix → Report → Report
 generate_report o m told = record {
   status = told.status;

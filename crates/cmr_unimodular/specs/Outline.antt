@@ -37,7 +37,7 @@ abbrev pub outline_line : ℕ → LineSet → Finding → List ℕ
 outline_line depth lines finding = decimal depth ++ codes " " ++ word_of_kind (kind_of finding) ++ size_and_place lines finding
 
 abbrev mutual
-  -- a node, and behind it the nodes below it
+  -- a node, and after it the nodes below it
   pub outline_from : ℕ → Tree → List ℕ
   outline_from depth (Branch lines finding trees) = outline_line depth lines finding ++ outline_below (depth + 1) trees
 

@@ -108,7 +108,7 @@ chain_file name a steps verdicts.Yes = []
 chain_file name a steps (verdicts.No fault) = asked_file name (chain_text (chain_with a steps fault))
 chain_file name a steps (verdicts.Open lines) = []
 
--- the violator of a no stands in so many rows and columns
+-- the violator of a no is in this number of rows and columns
 abbrev pub HasLinesIn : ℕ → ℕ → Verdict → Type 0
 HasLinesIn rows columns verdicts.Yes = Unit {0}
 HasLinesIn rows columns (verdicts.No fault) = AreLinesIn rows columns fault
@@ -118,7 +118,7 @@ HasLinesIn rows columns (verdicts.Open lines) = Unit {0}
 abbrev pub signing_files : RegularOrder → Matrix → List SignStep → Matrix → Verdict → List File
 signing_files o a steps signed verdict = asked_file o.signed (dense_text signed) ++ chain_file o.chain a steps verdict
 
--- the verdict over the signed matrix, with these files behind its own
+-- the verdict over the signed matrix, with these files after its own
 abbrev pub regular_report : RegularOrder → Matrix → List SignStep → Matrix → SizedTree → Report
 regular_report o a steps signed tree =
     let told = verdict_report (regular_verdict o) signed tree in

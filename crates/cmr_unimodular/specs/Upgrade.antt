@@ -60,7 +60,7 @@ upgrade_report file t = record {
 abbrev pub UpgradeDecides : List ℕ → PlainTree → Report → Type 0
 UpgradeDecides file t report = report ≡ upgrade_report file t
 
--- the text that is written stands for the tree that was read
+-- the text that is written represents the tree that was read
 abbrev pub UpgradeMeans : PlainTree → Answer → Type 0
 UpgradeMeans t Yes = tree (text_of (upgraded_text t)) ≡ Ok t
 UpgradeMeans t No = ⊥

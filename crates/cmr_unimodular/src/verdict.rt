@@ -114,7 +114,7 @@ pub fn answer_of(verdict: &VerdictOf<'_>) -> Answer
     }
 }
 
-/// What stands behind the label: the answer in words.
+/// What follows the label: the answer in words.
 pub fn answer_word(verdict: &VerdictOf<'_>) -> &'static [u8]
     ensures { result.now ≡ answer_word (verdict_shown verdict.now) }
 {

@@ -81,11 +81,11 @@ output_rule = value_rule (codes "output") 77
 abbrev pub chain_rule : Rule
 chain_rule = value_rule (codes "chain") 67
 
--- an argument that may not be left out
+-- an argument that is required
 abbrev pub required : Rule → Rule
 required rule = record rule { required = true }
 
--- an operand that may not be left out
+-- an operand that is required
 abbrev pub operand_rule : Text → Rule
 operand_rule id = record (new_rule id) { required = true }
 

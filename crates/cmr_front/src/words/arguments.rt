@@ -192,7 +192,7 @@ pub fn chain_option<'a>(alloc: Global) -> Arg<'a>
     value_option(alloc, CHAIN, 'C')
 }
 
-/// An operand that may not be left out.
+/// An operand that is required.
 pub fn operand<'a>(alloc: Global, id: &'a str) -> Arg<'a>
     ensures rule { rule_of result ≡ arguments.operand_rule id.now }
     ensures local { result.global ≡ false }
@@ -200,7 +200,7 @@ pub fn operand<'a>(alloc: Global, id: &'a str) -> Arg<'a>
     Arg::new(alloc, id).required(true)
 }
 
-/// The argument, which may not be left out.
+/// The argument, which is required.
 pub fn required<'a>(arg: Arg<'a>) -> Arg<'a>
     ensures rule { rule_of result ≡ arguments.required (rule_of arg.entry) }
     ensures local { result.global ≡ arg.entry.global }

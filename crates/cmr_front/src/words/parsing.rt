@@ -11,7 +11,7 @@ use crate::words::arguments::{FAULT, FILE, FORMAT, LINES, PIVOTS, WORKERS};
 use clap::{ArgMatches, Command};
 use cmr_base::{MAX_LINES, Word};
 
-// The word that stands for standard input.
+// The word that represents standard input.
 const DASH: &str = "-";
 
 // L where it is left out.
@@ -58,7 +58,7 @@ pub fn value_in<'a>(matches: &ArgMatches<'a>, id: &str) -> Option<&'a str>
     matches.get_str(id)
 }
 
-/// The value of an argument that may not be left out.
+/// The value of an argument that is required.
 pub fn operand_in<'a>(matches: &ArgMatches<'a>, id: &str) -> Result<&'a str, WordsError>
     ensures { Gives (λ text. text.now) result (first_of id.now (rows_of (found_of matches.now))) }
 {

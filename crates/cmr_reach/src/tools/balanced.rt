@@ -83,7 +83,7 @@ fn options_in<'a>(matches: &ArgMatches<'a>) -> Result<BalancedOptions<'a>, Words
     })
 }
 
-/// The options that the words behind `balanced` give: `[-i FORMAT] [--lines L] [--pivots K] [-w N] [-E FILE] [FILE]`.
+/// The options that the arguments after `balanced` give: `[-i FORMAT] [--lines L] [--pivots K] [-w N] [-E FILE] [FILE]`.
 pub fn read_balanced<'a>(
     alloc: Global,
     words: &'a [Word],

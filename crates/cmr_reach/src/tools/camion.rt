@@ -55,7 +55,7 @@ fn options_in<'a>(matches: &ArgMatches<'a>) -> Result<CamionOptions<'a>, WordsEr
     })
 }
 
-/// The options that the words behind `camion` give: `[-i FORMAT] [-E FILE] [FILE]`.
+/// The options that the arguments after `camion` give: `[-i FORMAT] [-E FILE] [FILE]`.
 pub fn read_camion<'a>(alloc: Global, words: &'a [Word]) -> Result<CamionOptions<'a>, WordsError>
     ensures { Gives camion_order_of result (camion_order words.now) }
 {

@@ -105,7 +105,7 @@ fn options_in<'a>(matches: &ArgMatches<'a>) -> Result<ComposeOptions<'a>, WordsE
     }
 }
 
-/// The options that the words behind `compose` give: `[-i FORMAT] SUM FIRST SECOND -M FILE`.
+/// The options that the arguments after `compose` give: `[-i FORMAT] SUM FIRST SECOND -M FILE`.
 pub fn read_compose<'a>(alloc: Global, words: &'a [Word]) -> Result<ComposeOptions<'a>, WordsError>
     ensures { Gives compose_order_of result (compose_order words.now) }
 {

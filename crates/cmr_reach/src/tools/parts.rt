@@ -98,7 +98,7 @@ fn options_in<'a>(matches: &ArgMatches<'a>) -> Result<PartsOptions<'a>, WordsErr
     }
 }
 
-/// The options that the words behind `parts` give: `[-i FORMAT] MATRIX TREE -A FILE -B FILE`.
+/// The options that the arguments after `parts` give: `[-i FORMAT] MATRIX TREE -A FILE -B FILE`.
 pub fn read_parts<'a>(alloc: Global, words: &'a [Word]) -> Result<PartsOptions<'a>, WordsError>
     ensures { Gives parts_order_of result (parts_order words.now) }
 {

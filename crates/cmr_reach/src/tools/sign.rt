@@ -69,7 +69,7 @@ fn options_in<'a>(matches: &ArgMatches<'a>) -> Result<SignOptions<'a>, WordsErro
     }
 }
 
-/// The options that the words behind `sign` give: `[-i FORMAT] MATRIX ROWS`.
+/// The options that the arguments after `sign` give: `[-i FORMAT] MATRIX ROWS`.
 pub fn read_sign<'a>(alloc: Global, words: &'a [Word]) -> Result<SignOptions<'a>, WordsError>
     ensures { Gives sign_order_of result (sign_order words.now) }
 {

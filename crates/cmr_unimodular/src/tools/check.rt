@@ -84,7 +84,7 @@ fn options_in<'a>(matches: &ArgMatches<'a>) -> Result<CheckOptions<'a>, WordsErr
     }
 }
 
-/// The options that the words behind `check` give: `[-i FORMAT] MATRIX EVIDENCE`.
+/// The options that the arguments after `check` give: `[-i FORMAT] MATRIX EVIDENCE`.
 pub fn read_check<'a>(alloc: Global, words: &'a [Word]) -> Result<CheckOptions<'a>, WordsError>
     ensures { Gives check_order_of result (check_order words.now) }
 {

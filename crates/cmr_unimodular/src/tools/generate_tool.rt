@@ -127,7 +127,7 @@ fn options_in<'a>(matches: &ArgMatches<'a>) -> Result<GenerateOptions<'a>, Words
     })
 }
 
-/// The options that the words behind `generate` give: `KIND SIZE NUMBER [--lines L] [--pivots K] [-w N] [-M FILE]`.
+/// The options that the arguments after `generate` give: `KIND SIZE NUMBER [--lines L] [--pivots K] [-w N] [-M FILE]`.
 pub fn read_generate<'a>(
     alloc: Global,
     words: &'a [Word],
@@ -205,7 +205,7 @@ fn verdict_options<'a>(options: &GenerateOptions<'a>) -> VerdictOptions<'a>
     }
 }
 
-// The summary before what is told, and the matrix behind its files.
+// The summary before what is told, and the matrix after its files.
 fn with_summary<'a>(
     alloc: Global,
     options: &GenerateOptions<'a>,

@@ -85,7 +85,7 @@ fn test_command<'a>(alloc: Global, property: TestedProperty) -> Result<Command<'
     arguments::tool_command(alloc, tool_name(property), args)
 }
 
-// Whether an option of the test of a matrix stands among the words, be it with the value that it has where it is left out.
+// Whether an option of the test of a matrix stands among the words, be it with its default value.
 fn is_test_asked(matches: &ArgMatches<'_>) -> bool
     ensures { result ≡ is_test_asked (rows_of (found_of matches.now)) }
 {
@@ -112,7 +112,7 @@ fn options_in<'a>(matches: &ArgMatches<'a>) -> Result<TestOptions<'a>, WordsErro
     })
 }
 
-/// The options that the words behind `graphic` or `network` give:
+/// The options that the arguments after `graphic` or `network` give:
 /// `[-i FORMAT] [-t] [-N FILE] [-G FILE] [FILE]`, or `-c [FILE]`.
 pub fn read_test<'a>(
     alloc: Global,

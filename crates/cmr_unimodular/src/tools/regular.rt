@@ -92,7 +92,7 @@ fn options_in<'a>(matches: &ArgMatches<'a>) -> Result<RegularOptions<'a>, WordsE
     })
 }
 
-/// The options that the words behind `regular` give:
+/// The options that the arguments after `regular` give:
 /// `[-i FORMAT] [--lines L] [--pivots K] [-w N] [-D FILE] [-E FILE] [-M FILE] [-C FILE] [FILE]`.
 pub fn read_regular<'a>(alloc: Global, words: &'a [Word]) -> Result<RegularOptions<'a>, WordsError>
     ensures value { Gives regular_order_of result (regular_order words.now) }
@@ -216,7 +216,7 @@ fn verdict_options<'a>(options: &RegularOptions<'a>) -> VerdictOptions<'a>
     }
 }
 
-// The files of the signed matrix and of the chain behind those of the verdict.
+// The files of the signed matrix and of the chain after those of the verdict.
 fn with_signing<'a>(
     alloc: Global,
     options: &RegularOptions<'a>,

@@ -75,7 +75,7 @@ fn options_in<'a>(matches: &ArgMatches<'a>) -> Result<SpOptions<'a>, WordsError>
     })
 }
 
-/// The options that the words behind `series-parallel` give: `[-i FORMAT] [-b] [-N FILE] [-S FILE] [-R FILE] [FILE]`.
+/// The options that the arguments after `series-parallel` give: `[-i FORMAT] [-b] [-N FILE] [-S FILE] [-R FILE] [FILE]`.
 pub fn read_series_parallel<'a>(
     alloc: Global,
     words: &'a [Word],

@@ -73,7 +73,7 @@ fn options_in<'a>(matches: &ArgMatches<'a>) -> Result<TuOptions<'a>, WordsError>
     })
 }
 
-/// The options that the words behind `tu` give:
+/// The options that the arguments after `tu` give:
 /// `[-i FORMAT] [--lines L] [--pivots K] [-w N] [-D FILE] [-E FILE] [FILE]`.
 pub fn read_tu<'a>(alloc: Global, words: &'a [Word]) -> Result<TuOptions<'a>, WordsError>
     ensures value { Gives tu_order_of result (tu_order words.now) }

@@ -1,4 +1,4 @@
-//! Writing a decomposition tree anew, in its canonical text.
+//! Writing a decomposition tree again, in its canonical text.
 ghost use Rattle.clap.specs.Words.{app_of, found_of, rows_of};
 ghost use Rattle.std.specs.Prelude.{◌≡◌, IfOk, IsTrue};
 ghost use Rattle.tree_text.specs.TreeReading.{plain_of};
@@ -60,7 +60,7 @@ fn options_in<'a>(matches: &ArgMatches<'a>) -> Result<UpgradeOptions<'a>, WordsE
     }
 }
 
-/// The options that the words behind `upgrade` give: `EVIDENCE -D FILE`.
+/// The options that the arguments after `upgrade` give: `EVIDENCE -D FILE`.
 pub fn read_upgrade<'a>(alloc: Global, words: &'a [Word]) -> Result<UpgradeOptions<'a>, WordsError>
     ensures { Gives upgrade_order_of result (upgrade_order words.now) }
 {
