@@ -1,5 +1,5 @@
 -- A run of the tool that a command names is a run of the command.
-use Rattle.std.proofs.Common.{◌≡◌, ℕ, Bool, IsTrue, Option, Some, sym, subst}
+use Rattle.std.proofs.Common.{◌≡◌, ℕ, Bool, IsTrue, Option, Some, None, sym, subst}
 use Rattle.cmr_front.specs.Ending.{Devices, Standing}
 use Rattle.cmr_front.specs.Report.{Held}
 use Rattle.cmr_front.specs.Run.{Means, MeansRead, Runs, work}
@@ -22,3 +22,13 @@ means_of command named tells held status is means = subst (λ it. IsTrue tells �
 pub read_of : (words : Option Order) (standing : Standing) (before after : Devices) (status : ℕ) → Runs (ordered words) standing before after status
     → (o : Order) → words ≡ Some o → (answer : Answer) → status ≡ answer_status answer → MeansRead (work (tool_of o)) (between before.reads after.reads) answer
 read_of words standing before after status runs o is answer answered = subst (λ (it : Option Order). MeansRead (ordered it) (between before.reads after.reads) answer) is (runs.means answer answered)
+
+-- what an answer means for what the words order, if they order anything
+abbrev MeansFor : Option Order → Held → Answer → Type 0
+MeansFor None held answer = Unit {0}
+MeansFor (Some o) held answer = Means (tool_of o) held answer
+
+-- what an answer means for the order that a command names, it means for the order that the words give
+pub means_for : (words : Option Order) (named : Order) (held : Held) (answer : Answer) → words ≡ Some named → Means (tool_of named) held answer
+    → (o : Order) → words ≡ Some o → Means (tool_of o) held answer
+means_for words named held answer given means o is = subst (λ (it : Option Order). MeansFor it held answer) is (subst (λ (it : Option Order). MeansFor it held answer) (sym given) means)

@@ -4,8 +4,14 @@ use Rattle.cmr_tools.proofs.command.obey.Goals as goal
 pub returns-in-Tu-clause-runs : goal.returns-in-Tu-clause-runs
 returns-in-Tu-clause-runs g c = runs_of c.args.command.now _ _ _ _ _ c.in-Tu.is c.tu.ensures.runs
 
+pub returns-in-Tu-clause-means : goal.returns-in-Tu-clause-means
+returns-in-Tu-clause-means g c = means_of c.args.command.now _ _ _ _ c.in-Tu.is c.tu.ensures.means
+
 pub returns-in-SeriesParallel-clause-runs : goal.returns-in-SeriesParallel-clause-runs
 returns-in-SeriesParallel-clause-runs g c = runs_of c.args.command.now _ _ _ _ _ c.in-SeriesParallel.is c.series_parallel.ensures.runs
+
+pub returns-in-SeriesParallel-clause-means : goal.returns-in-SeriesParallel-clause-means
+returns-in-SeriesParallel-clause-means g c = means_of c.args.command.now _ _ _ _ c.in-SeriesParallel.is c.series_parallel.ensures.means
 
 pub returns-in-Test-clause-runs : goal.returns-in-Test-clause-runs
 returns-in-Test-clause-runs g c = runs_of c.args.command.now _ _ _ _ _ c.in-Test.is c.test_property.ensures.runs

@@ -5,8 +5,11 @@ use Rattle.cmr_front.specs.Words.ReadWords.{Gives}
 use Rattle.cmr_front.specs.Ending.{devices, standing}
 use Rattle.cmr_front.specs.Run.{IsNothing}
 use Rattle.cmr_front.proofs.Endings.{IsLawfulOrder, refused_memory, runs}
-use Rattle.cmr_tools.proofs.Obeyed.{read_of}
+use Rattle.cmr_tools.proofs.Obeyed.{means_for, read_of}
 use Rattle.cmr_tools.proofs.program.run.Goals as goal
+
+pub returns-in-Ok-clause-means : goal.returns-in-Ok-clause-means
+returns-in-Ok-clause-means g c tells o is answer answered = means_for (order c.args.words.now) (order_of c.in-Ok.command) _ _ c.in-Ok.ensures.value (c.obey.ensures.means tells answer answered) o is
 
 pub returns-in-Err-Refused-clause-runs : goal.returns-in-Err-Refused-clause-runs
 returns-in-Err-Refused-clause-runs g c =
