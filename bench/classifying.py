@@ -2,9 +2,9 @@
 
     /usr/bin/python3 bench/classifying.py --program crates/cmr/out/cmr
 
-It measures the processor time of the command, its process and all runs of the program. This depends less than the clock on other work of the
-machine, but a run whose memory was given to other processes still takes up to twice as long. So the measurements take turns, and the best
-and the median round are printed.
+It measures the processor time of the command, its process and all runs of the program. This depends less than the clock on other work of
+the machine, but a run whose memory was given to other processes still takes up to twice as long. So the measurements take turns, and the
+best and the median round are printed.
 
 Each kind of matrix is measured with all classes, and with `--infer`, which derives some verdicts from others. Then a run for each class is
 measured by itself, as `cmr-classify` makes it, and a run whose arguments are refused, which is only the start and the end of the program.

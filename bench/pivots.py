@@ -6,10 +6,11 @@
 The models come from python/tests/open_matrices.py. Each has a line with its size, the answers of `tu` without and with pivots, and the
 times.
 
-The option --sums N makes N sums of two to five random networks, conetworks and matrices of R10: two-sums, and three-sums of the forms delta,
-Y and mixed at connecting lines that the networks have. Up to 60 pivots at random nonzeros lead to matrices with separations of all forms;
-then lines are negated and shuffled. `tu --lines 0` runs without pivots and, if the answer is undecided, with them. A no would be a fault.
-The output counts the answers, and names the numbers of the sums that remain undecided; `--text --first N` prints the sum of number N.
+The option --sums N makes N sums of two to five random networks, conetworks and matrices of R10: two-sums, and three-sums of the forms
+delta, Y and mixed at connecting lines that the networks have. Up to 60 pivots at random nonzeros lead to matrices with separations of all
+forms; then lines are negated and shuffled. `tu --lines 0` runs without pivots and, if the answer is undecided, with them. A no would be a
+fault. The output counts the answers, and names the numbers of the sums that remain undecided; `--text --first N` prints the sum of
+number N.
 """
 
 import argparse

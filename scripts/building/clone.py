@@ -58,7 +58,7 @@ class Sources:
         return cls(read, digest.hexdigest())
 
     def made(self, program: Path) -> None:
-        """Records next to a program that it was built from these sources, and sets its time to theirs: the files may have changed since then."""
+        """Records next to a program that it was built from these sources, and sets its time to theirs, since the files may have changed."""
         _beside(program).write_text(f"{self.digest} {_sum_of(program)}\n", encoding="ascii")
         os.utime(program, (self.read, self.read))
 
