@@ -1,8 +1,8 @@
 """Writes a graph of `cmr graphic -G` or `cmr network -G` as a picture in DOT, for example for `dot -Tsvg`.
 
-Where no column has more than two nonzeros, as in the network of a flow model, its rows are the nodes and its columns the edges.
-Else the edges of the tree are drawn in full and the edges that join the ends of paths are dashed. Each has the number or the name
-of the row or column for which it stands. The layout fits to the number of edges: that of dot up to 40, of neato up to 150 (in
+All nodes and edges are drawn: those of the tree in full, and those that join the ends of paths dashed. With --names and without
+--undirected, a graph in which no column has more than two nonzeros is taken for the network of a flow model: its rows are the nodes
+and its columns the edges. Each has the number or the name of the row or column for which it stands. The layout fits to the number of edges: that of dot up to 40, of neato up to 150 (in
 trees 250), and beyond that of sfdp, where names of edges are left out.
 """
 
@@ -26,7 +26,13 @@ def arguments() -> argparse.Namespace:
         "--names", metavar="NAMES", help="the names of model_to_matrix, to stand for the numbers of rows and columns"
     )
     parser.add_argument("--undirected", action="store_true", help="draw no arrows, as it fits a graph of `cmr graphic`")
-    parser.add_argument("--tree", action="store_true", help="draw the tree and its paths in any case")
+    drawn = parser.add_mutually_exclusive_group()
+    drawn.add_argument("--tree", action="store_true", help="draw the tree and its paths in any case")
+    drawn.add_argument(
+        "--rows-as-nodes",
+        action="store_true",
+        help="draw rows as nodes and columns as edges in any case where no column has more than two nonzeros",
+    )
     parser.add_argument(
         "--limit",
         metavar="N",
@@ -41,7 +47,9 @@ def _work(chosen: argparse.Namespace) -> None:
     graph = read_as(chosen.graph, Graph.from_text)
     names = read_as(chosen.names, Names.from_text) if chosen.names else Names.numbered(*graph.shape, first=1)
     names.must_fit(*graph.shape)
-    write_text("-", graph.to_dot(names, directed=not chosen.undirected, limit=chosen.limit, tree=chosen.tree))
+    is_model = bool(chosen.names) and not chosen.undirected
+    tree = chosen.tree or not (chosen.rows_as_nodes or is_model)
+    write_text("-", graph.to_dot(names, directed=not chosen.undirected, limit=chosen.limit, tree=tree))
 
 
 def main() -> int:
