@@ -22,6 +22,7 @@ from .errors import (
     CannotWrite,
     CmrError,
     Family,
+    LibraryMissing,
     OutOfMemory,
     ProgramFault,
     ProgramMissing,
@@ -29,6 +30,7 @@ from .errors import (
     TextPlace,
     TimeLimitReached,
     Undecided,
+    UnprovedProgram,
 )
 from .graphs import Edge, Graph
 from .lines import Line, LineSet, Names
@@ -72,6 +74,7 @@ __all__ = [
     "Family",
     "Graph",
     "Line",
+    "LibraryMissing",
     "LineSet",
     "Matrix",
     "MatrixLike",
@@ -92,6 +95,7 @@ __all__ = [
     "TimeLimitReached",
     "Tree",
     "Undecided",
+    "UnprovedProgram",
     "check",
     "compose",
     "find_program",

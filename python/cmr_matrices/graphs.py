@@ -12,8 +12,10 @@ from typing import Any
 
 from .dot import svg
 from .errors import BadInput
+from .libraries import library
 from .lines import Kind, Line, Names
 from .network_picture import DRAWN, picture
+from .pages import SHOWN, no_picture, paragraph
 
 __all__ = ["Edge", "Graph"]
 
@@ -69,7 +71,7 @@ class Graph:
         Each edge has its `Line` as key and as attribute `line`, the line's name as `name`, and whether it is an arc of the
         tree as `in_tree`.
         """
-        import networkx  # pylint: disable=import-outside-toplevel
+        networkx = library("networkx", "to_networkx")
 
         graph = networkx.MultiDiGraph() if self.directed else networkx.MultiGraph()
         graph.add_nodes_from(range(len(self.arcs) + 1))
@@ -100,8 +102,20 @@ class Graph:
             tree = not directed or (names or self.names) is None
         return picture(self, names or self._names, directed=directed, limit=limit, tree=tree)
 
+    def __repr__(self) -> str:
+        if len(self.edges) > SHOWN:
+            kind = "directed" if self.directed else "undirected"
+            return f"Graph({kind}, {len(self.arcs) + 1} nodes, {len(self.arcs)} arcs, {len(self.walks)} walks)"
+        return f"Graph(arcs={self.arcs}, walks={self.walks}, directed={self.directed})"
+
     def _repr_svg_(self) -> str | None:
         return svg(self.to_dot()) if len(self.edges) <= _DRAWN else None
+
+    def _repr_html_(self) -> str | None:
+        if len(self.edges) > _DRAWN:
+            why = f"more than {_DRAWN} edges are not drawn here; to_dot() writes them for Graphviz"
+            return paragraph(f"{self!r}: {why}")
+        return no_picture("the graph")
 
     def to_text(self) -> str:
         """The graph text, with lines counted from 1."""

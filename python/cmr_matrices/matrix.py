@@ -8,10 +8,13 @@ from collections.abc import Iterable, Sequence
 from contextlib import suppress
 from dataclasses import dataclass, field, replace
 from operator import index
-from typing import Any, cast
+from typing import TYPE_CHECKING, Any, ClassVar, cast
 
+from .dense import nonzeros_of, text_of, units_of
 from .errors import BadEntry, BadInput
+from .libraries import library
 from .lines import Names
+from .pages import matrix_table
 from .sources import MatrixLike, entries_of
 from .words import LIMIT
 
@@ -31,12 +34,23 @@ class Matrix:
     shape: tuple[int, int]
     nonzeros: tuple[tuple[int, int, int], ...] = field(repr=False)
     names: Names | None = field(default=None, compare=False, repr=False)
+    _units: ClassVar[Any] = None
+    # A matrix of an array keeps one of its own, under this name, and lists its nonzeros where they are asked for.
+
+    if not TYPE_CHECKING:
+
+        def __getattr__(self, name: str) -> Any:
+            if name != "nonzeros" or self._units is None:
+                raise AttributeError(f"a Matrix has no attribute {name}")
+            self.__dict__[name] = nonzeros_of(self._units)
+            return self.__dict__[name]
+
+    def __getstate__(self) -> dict[str, Any]:
+        return {"shape": self.shape, "nonzeros": self.nonzeros, "names": self.names}
 
     def __post_init__(self) -> None:
         rows, columns = self.shape
-        for count, kind in ((rows, "rows"), (columns, "columns")):
-            if not 0 <= count <= LIMIT:
-                raise BadInput(f"there are {count} {kind}, and a matrix may have at most {LIMIT}")
+        _must_be_small(rows, columns)
         last = -1
         for row, column, value in self.nonzeros:
             place = row * columns + column
@@ -66,14 +80,35 @@ class Matrix:
 
         Raises `BadEntry` at the first other entry, and `BadInput` where the shape is none.
         """
+        rows, columns = (None if names is None else tuple(names) for names in (row_names, column_names))
         if isinstance(source, Matrix):
-            matrix = source
-        else:
-            found = entries_of(source)
-            matrix = cls.from_triples(found.entries, found.shape)
-            row_names = found.row_names if row_names is None else row_names
-            column_names = found.column_names if column_names is None else column_names
-        return matrix._named(row_names, column_names)
+            return source._named(rows, columns)
+        found = entries_of(source)
+        if rows is None and found.row_names is not None:
+            rows = tuple(found.row_names)
+        if columns is None and found.column_names is not None:
+            columns = tuple(found.column_names)
+        try:
+            matrix = (
+                cls.from_triples(found.entries, found.shape)
+                if found.array is None
+                else cls._of_array(found.array, found.shape)
+            )
+        except BadEntry as fault:
+            raise fault.named(rows, columns) from None
+        return matrix._named(rows, columns)
+
+    @classmethod
+    def _of_array(cls, array: Any, shape: tuple[int, int]) -> Matrix:
+        """The matrix of a plain array of numpy."""
+        _must_be_small(*shape)
+        return cls._of_units(units_of(array), None)
+
+    @classmethod
+    def _of_units(cls, units: Any, names: Names | None) -> Matrix:
+        made = cls.__new__(cls)
+        made.__dict__.update(shape=(int(units.shape[0]), int(units.shape[1])), names=names, _units=units)
+        return made
 
     @classmethod
     def from_triples(cls, triples: Iterable[Sequence[Any]], shape: tuple[int, int]) -> Matrix:
@@ -98,6 +133,8 @@ class Matrix:
     @property
     def T(self) -> Matrix:  # noqa: N802 # pylint: disable=invalid-name
         """The transposed matrix, with its names."""
+        if self._units is not None:
+            return Matrix._of_units(self._units.T.copy(), self.names and self.names.transposed())
         rows, columns = self.shape
         nonzeros = tuple(sorted((column, row, value) for row, column, value in self.nonzeros))
         return Matrix((columns, rows), nonzeros, self.names and self.names.transposed())
@@ -107,6 +144,8 @@ class Matrix:
         rows, columns = self.shape
         if not (0 <= row < rows and 0 <= column < columns):
             raise IndexError(f"there is no place {row}, {column} in a matrix of size {rows}x{columns}")
+        if self._units is not None:
+            return int(self._units[row, column])
         at = bisect_left(self.nonzeros, (row, column))
         found = self.nonzeros[at] if at < len(self.nonzeros) else (rows, 0, 0)
         return found[2] if found[:2] == (row, column) else 0
@@ -149,13 +188,18 @@ class Matrix:
 
     def sum(self) -> int:
         """The sum of all entries."""
+        if self._units is not None:
+            return int(self._units.sum(dtype=int))
         return sum(value for _, _, value in self.nonzeros)
 
     def must_be_binary(self) -> None:
         """Raises `BadEntry` at the first entry -1."""
+        if self._units is not None and not (self._units < 0).any():
+            return
         for row, column, value in self.nonzeros:
             if value < 0:
-                raise BadEntry(row, column, value, "0 and 1")
+                fault = BadEntry(row, column, value, "0 and 1")
+                raise fault if self.names is None else fault.named(self.names.rows, self.names.columns)
 
     def to_lists(self) -> list[list[int]]:
         """The rows as lists of numbers."""
@@ -167,8 +211,9 @@ class Matrix:
 
     def to_numpy(self) -> Any:
         """A numpy array of the same shape, of type int8."""
-        import numpy  # pylint: disable=import-outside-toplevel
-
+        numpy = library("numpy", "to_numpy")
+        if self._units is not None:
+            return self._units.copy()
         triples = numpy.array(self.nonzeros, dtype=numpy.int64).reshape(-1, 3)
         array = numpy.zeros(self.shape, dtype=numpy.int8)
         array[triples[:, 0], triples[:, 1]] = triples[:, 2]
@@ -182,12 +227,13 @@ class Matrix:
 
     def to_scipy(self) -> Any:
         """A sparse array of scipy in the format csr, of type int8."""
-        from scipy import sparse  # pylint: disable=import-outside-toplevel
-
+        sparse = library("scipy.sparse", "to_scipy")
         return sparse.csr_array(self.to_numpy())
 
     def to_text(self) -> str:
         """The canonical sparse text, with lines counted from 1."""
+        if self._units is not None:
+            return text_of(self._units)
         rows, columns = self.shape
         triples = [f"{row + 1} {column + 1} {value}\n" for row, column, value in self.nonzeros]
         return "".join([f"{rows} {columns} {len(triples)}\n", *triples])
@@ -220,13 +266,26 @@ class Matrix:
     def __str__(self) -> str:
         return "\n".join(" ".join(f"{value:2d}" for value in row) for row in self.to_lists())
 
-    def _named(self, row_names: Iterable[object] | None, column_names: Iterable[object] | None) -> Matrix:
+    def _repr_html_(self) -> str:
+        return matrix_table(self)
+
+    def _named(self, row_names: Sequence[object] | None, column_names: Sequence[object] | None) -> Matrix:
         if row_names is None and column_names is None:
             return self
         plain = self.names or Names.numbered(*self.shape)
         rows = plain.rows if row_names is None else tuple(str(name) for name in row_names)
         columns = plain.columns if column_names is None else tuple(str(name) for name in column_names)
-        return replace(self, names=Names(rows, columns))
+        names = Names(rows, columns)
+        if self._units is None:
+            return replace(self, names=names)
+        names.must_fit(*self.shape)
+        return Matrix._of_units(self._units, names)
+
+
+def _must_be_small(rows: int, columns: int) -> None:
+    for count, kind in ((rows, "rows"), (columns, "columns")):
+        if not 0 <= count <= LIMIT:
+            raise BadInput(f"there are {count} {kind}, and a matrix may have at most {LIMIT}")
 
 
 def _places(lines: tuple[int, ...], count: int, kind: str) -> dict[int, int]:

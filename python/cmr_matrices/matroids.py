@@ -13,7 +13,7 @@ from collections.abc import Sequence
 from itertools import combinations
 
 from .edge_lists import graph_of_edges
-from .errors import BadInput
+from .errors import BadInput, shown
 from .lines import Names
 from .matrix import Matrix
 from .walks import arcs_of_walks
@@ -39,6 +39,8 @@ def named(name: str) -> Matrix:
     `K5` and `K3,3` are the matroids of complete graphs, also as `M(K5)` and `M*(K5)`, and `W4` that of the wheel with four spokes. Raises `BadInput` where it is no
     name, or the matrix would have more than 1,000 rows or columns.
     """
+    if not isinstance(name, str):
+        raise BadInput(f"a matroid is known by its name, such as {NAMED}, and here it is {shown(name)}")
     plain = name.replace(" ", "").replace("{", "").replace("}", "").upper().replace("FANO", "F7")
     if of_graph := _OF_GRAPH.fullmatch(plain):
         plain = of_graph["graph"] + of_graph["dual"]

@@ -17,6 +17,7 @@ from pathlib import Path
 from typing import Any
 
 from .errors import BadInput
+from .libraries import library
 from .model_texts import format_of, plain_text
 
 __all__ = ["Coefficient", "Model", "read_model"]
@@ -133,11 +134,7 @@ def _numbers(count: int) -> range:
 
 
 def _glpk() -> Any:
-    try:
-        import swiglpk  # pylint: disable=import-outside-toplevel
-    except ImportError as fault:
-        raise BadInput("reading a model needs Debian's python3-swiglpk") from fault
-    return swiglpk
+    return library("swiglpk", "reading a model")
 
 
 def _read(name: str) -> bytes:

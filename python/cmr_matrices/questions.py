@@ -7,21 +7,21 @@ All take whatever `Matrix.of` takes, and these keywords:
 * `workers`: how many threads share the searches, 1 to 64; it changes no answer;
 * `pivots`: how many pivots may be made on the way to a part that nothing else decides, 0 to 100: docs/DEFINITIONS.md has the rule;
 * `tries`: where the matrix is undecided, in how many other orders of the lines it is asked again, 0 to 1000, with orders that
-  `seed` draws, and with as many pivots in each;
-* `time_limit`: seconds after which the program is ended, and the call, tries and all; an undecided answer is given without the tries
-  that were left;
+  `seed`, any whole number, draws, and with as many pivots in each;
+* `time_limit`: the seconds that the whole call may take, 0 to 2,000,000: what is given is made a matrix, the program is run, and ended
+  where they are over; an undecided answer is given without the tries that were left. None, as it is where it is left out, is no limit;
 * `program`: the program's path, where it is not to be looked for.
 
-All raise `BadEntry` and `BadInput` for what is no matrix of theirs or out of a range, `ProgramMissing`, `TimeLimitReached`, and
-`OutOfMemory`.
+All raise `ProgramMissing` before they look at the matrix, `BadEntry` and `BadInput` for what is no matrix of theirs or out of a range,
+`TimeLimitReached`, and `OutOfMemory`.
 """
 
 from __future__ import annotations
 
-from dataclasses import replace
+from dataclasses import dataclass, replace
 
 from .answers import Answer
-from .clock import Clock
+from .calls import Call
 from .matrix import Matrix
 from .options import budget_words, whole
 from .program import StrPath
@@ -58,11 +58,16 @@ def is_totally_unimodular(
 
     A no has a `violator`, and an undecided answer the part that is `open`. With `certificate` there is the `tree` too.
 
+    `lines` is the budget of the search, 0 to 24 lines (14); `workers` the threads that share it, 1 to 64 (1); `pivots` how many pivots
+    may be made on the way to a part that is left open, 0 to 100 (0); `tries` in how many other orders an undecided matrix is asked again,
+    0 to 1000 (0), which `seed`, any whole number (0), draws. `time_limit` is in seconds, 0 to 2,000,000, for the whole call. `program` is
+    the program's path.
+
     Source: Ghouila-Houri 1962; Hoffman and Kruskal 1956; Seymour 1980.
     """
     words = ("tu", *budget_words(lines, pivots, workers))
     question = Question("totally unimodular", words, {"-D": "tree"})
-    return _tried(question, Matrix.of(matrix), certificate, tries, seed, time_limit, program)
+    return _tried(question, matrix, certificate, _Ways(tries, seed, time_limit, program))
 
 
 def is_regular(
@@ -82,11 +87,16 @@ def is_regular(
     So is whether the binary matroid that it represents, beside the identity, is regular. A no has a `violator` of the signed
     matrix. With `certificate` there are the `signed` matrix, its `tree`, and for a no the `chain`.
 
+    `lines` is the budget of the search, 0 to 24 lines (14); `workers` the threads that share it, 1 to 64 (1); `pivots` how many pivots
+    may be made on the way to a part that is left open, 0 to 100 (0); `tries` in how many other orders an undecided matrix is asked again,
+    0 to 1000 (0), which `seed`, any whole number (0), draws. `time_limit` is in seconds, 0 to 2,000,000, for the whole call. `program` is
+    the program's path.
+
     Source: Camion 1965; Seymour 1980; Truemper, *Matroid Decomposition*.
     """
     words = ("regular", *budget_words(lines, pivots, workers))
     question = Question("regular", words, {"-D": "tree", "-M": "signed", "-C": "chain"})
-    return _tried(question, _binary(matrix), certificate, tries, seed, time_limit, program)
+    return _tried(question, matrix, certificate, _Ways(tries, seed, time_limit, program), is_binary=True)
 
 
 def is_graphic(
@@ -96,18 +106,23 @@ def is_graphic(
 
     With `certificate` a yes has the `graph`, which has no directions, and a no a `minimal` submatrix.
 
+    `time_limit` is in seconds, 0 to 2,000,000, for the whole call, and `program` the program's path.
+
     Source: Tutte 1960; Schrijver, *Theory of Linear and Integer Programming*, chapter 20.
     """
     question = Question("graphic", ("graphic",), _graph_files(certificate))
-    return question.ask(_binary(matrix), program, time_limit)
+    return _asked(question, matrix, time_limit, program, is_binary=True)
 
 
 def is_cographic(
     matrix: MatrixLike, *, certificate: bool = False, time_limit: float | None = None, program: StrPath | None = None
 ) -> Answer:
-    """Whether the transpose of a 0/1 matrix is graphic. The arcs of the `graph` stand for the columns, else as `is_graphic`."""
+    """Whether the transpose of a 0/1 matrix is graphic. The arcs of the `graph` stand for the columns, else as `is_graphic`.
+
+    `time_limit` is in seconds, 0 to 2,000,000, for the whole call, and `program` the program's path.
+    """
     question = Question("cographic", ("graphic", "-t"), _graph_files(certificate))
-    return question.ask(_binary(matrix), program, time_limit)
+    return _asked(question, matrix, time_limit, program, is_binary=True)
 
 
 def is_network(
@@ -117,18 +132,23 @@ def is_network(
 
     With `certificate` a yes has the `graph`, which is directed, and a no a `minimal` submatrix.
 
+    `time_limit` is in seconds, 0 to 2,000,000, for the whole call, and `program` the program's path.
+
     Source: Tutte 1965; Schrijver, *Theory of Linear and Integer Programming*, chapters 19 and 20.
     """
     question = Question("network", ("network",), _graph_files(certificate))
-    return question.ask(Matrix.of(matrix), program, time_limit)
+    return _asked(question, matrix, time_limit, program)
 
 
 def is_conetwork(
     matrix: MatrixLike, *, certificate: bool = False, time_limit: float | None = None, program: StrPath | None = None
 ) -> Answer:
-    """Whether the transposed matrix is a network matrix. The arcs of the `graph` stand for the columns, else as `is_network`."""
+    """Whether the transposed matrix is a network matrix. The arcs of the `graph` stand for the columns, else as `is_network`.
+
+    `time_limit` is in seconds, 0 to 2,000,000, for the whole call, and `program` the program's path.
+    """
     question = Question("conetwork", ("network", "-t"), _graph_files(certificate))
-    return question.ask(Matrix.of(matrix), program, time_limit)
+    return _asked(question, matrix, time_limit, program)
 
 
 def is_series_parallel(
@@ -144,12 +164,14 @@ def is_series_parallel(
     With `binary` the matrix is 0/1, and negatives do not count. A no has the `rest`. With `certificate` there are the
     `reductions`, and for a no a `minimal` submatrix.
 
+    `time_limit` is in seconds, 0 to 2,000,000, for the whole call, and `program` the program's path.
+
     Source: series-parallel matrices of the CMR library.
     """
-    taken = _binary(matrix) if binary else Matrix.of(matrix)
     name = "binary series-parallel" if binary else "series-parallel"
     files = {"-N": "minimal", "-S": "reductions"} if certificate else {}
-    return Question(name, ("series-parallel", *(["-b"] if binary else [])), files).ask(taken, program, time_limit)
+    question = Question(name, ("series-parallel", *(["-b"] if binary else [])), files)
+    return _asked(question, matrix, time_limit, program, is_binary=binary)
 
 
 def is_balanced(
@@ -168,10 +190,15 @@ def is_balanced(
     A no has such a submatrix as its `violator`, and an undecided answer has all lines as `open`. A yes that other orders have found
     has the `tree` of the totally unimodular matrix.
 
+    `lines` is the budget of the search, 0 to 24 lines (14); `workers` the threads that share it, 1 to 64 (1); `pivots` how many pivots
+    may be made on the way to a part that is left open, 0 to 100 (0); `tries` in how many other orders an undecided matrix is asked again,
+    0 to 1000 (0), which `seed`, any whole number (0), draws. `time_limit` is in seconds, 0 to 2,000,000, for the whole call. `program` is
+    the program's path.
+
     Source: Berge 1970; Truemper, *Matroid Decomposition*.
     """
     question = Question("balanced", ("balanced", *budget_words(lines, pivots, workers)))
-    return _tried(question, Matrix.of(matrix), True, tries, seed, time_limit, program)
+    return _tried(question, matrix, True, _Ways(tries, seed, time_limit, program))
 
 
 def has_no_cycle_fault(
@@ -181,34 +208,55 @@ def has_no_cycle_fault(
 
     A no has the cycle fault as its `violator`. Which fault is found depends on the order of the lines.
 
+    `time_limit` is in seconds, 0 to 2,000,000, for the whole call, and `program` the program's path.
+
     Source: Camion 1965; docs/DEFINITIONS.md.
     """
     question = Question("without cycle fault", ("camion",), said="camion")
-    return question.ask(Matrix.of(matrix), program, time_limit)
+    return _asked(question, matrix, time_limit, program)
+
+
+@dataclass(frozen=True)
+class _Ways:
+    """In how many other orders is asked, and with which limits, as a caller has given them."""
+
+    tries: int
+    seed: int
+    time_limit: float | None
+    program: StrPath | None
+
+
+def _asked(
+    question: Question,
+    matrix: MatrixLike,
+    time_limit: float | None,
+    program: StrPath | None,
+    *,
+    is_binary: bool = False,
+) -> Answer:
+    """Asks a question once."""
+    call = Call.begin(program, time_limit)
+    return question.ask(_taken(matrix, is_binary), call.program, call.clock)
 
 
 def _tried(
-    question: Question,
-    matrix: Matrix,
-    certificate: bool,
-    tries: int,
-    seed: int,
-    time_limit: float | None,
-    program: StrPath | None,
+    question: Question, matrix: MatrixLike, certificate: bool, ways: _Ways, *, is_binary: bool = False
 ) -> Answer:
     """Asks, and again in other orders where the answer is undecided. Evidence that is not asked for is left out."""
-    count = whole("tries", tries, 0, 1000)
+    count, seed = whole("tries", ways.tries, 0, 1000), whole("seed", ways.seed)
+    call = Call.begin(ways.program, ways.time_limit)
+    taken = _taken(matrix, is_binary)
     asked = question if certificate or count else replace(question, files={})
-    clock = Clock(time_limit)
-    answer = asked.ask(matrix, program, time_limit)
+    answer = asked.ask(taken, call.program, call.clock)
     if answer.is_undecided and count:
-        answer = Tries(count, seed, clock, program).decided(asked, matrix, answer)
+        answer = Tries(count, seed, call.clock, call.program).decided(asked, taken, answer)
     return answer if certificate else replace(answer, tree=None, signed=None, chain=None)
 
 
-def _binary(matrix: MatrixLike) -> Matrix:
+def _taken(matrix: MatrixLike, is_binary: bool) -> Matrix:
     taken = Matrix.of(matrix)
-    taken.must_be_binary()
+    if is_binary:
+        taken.must_be_binary()
     return taken
 
 

@@ -6,9 +6,10 @@ No library is needed for it: an object is known by its methods, and none is load
 from __future__ import annotations
 
 from collections.abc import Iterable, Iterator, Mapping, Sequence
-from dataclasses import dataclass
+from dataclasses import dataclass, replace
 from typing import Any, Protocol
 
+from .dense import is_plain
 from .errors import BadInput
 
 __all__ = ["Entries", "MatrixLike", "SageLike", "ScipyLike", "ArrayLike", "entries_of"]
@@ -49,12 +50,16 @@ MatrixLike = ArrayLike | ScipyLike | SageLike | Sequence[Any]
 
 @dataclass(frozen=True)
 class Entries:
-    """Entries at places (row, column, value) counted from 0, no place twice, all others 0."""
+    """Entries at places (row, column, value) counted from 0, no place twice, all others 0.
+
+    Where they come from an array of numbers of numpy, `array` is that one.
+    """
 
     shape: tuple[int, int]
     entries: Iterable[tuple[int, int, Any]]
     row_names: Iterable[object] | None = None
     column_names: Iterable[object] | None = None
+    array: Any = None
 
 
 def entries_of(source: Any) -> Entries:
@@ -64,8 +69,7 @@ def entries_of(source: Any) -> Entries:
     if callable(getattr(source, "nrows", None)) and callable(getattr(source, "ncols", None)):
         return _of_sage(source)
     if hasattr(source, "to_numpy") and hasattr(source, "index") and hasattr(source, "columns"):
-        found = _of_array(source.to_numpy())
-        return Entries(found.shape, found.entries, source.index, source.columns)
+        return replace(_of_array(source.to_numpy()), row_names=source.index, column_names=source.columns)
     if hasattr(source, "__array__"):
         return _of_array(source)
     if isinstance(source, Sequence) and not isinstance(source, (str, bytes)):
@@ -97,9 +101,12 @@ def _of_array(source: Any) -> Entries:
     import numpy  # pylint: disable=import-outside-toplevel
 
     array = numpy.asarray(source)
-    shape = _shape(array.shape)
+    return Entries(_shape(array.shape), _nonzeros_of_array(array), array=array if is_plain(array) else None)
+
+
+def _nonzeros_of_array(array: Any) -> Iterator[tuple[int, int, Any]]:
     rows, columns = (array != 0).nonzero()
-    return Entries(shape, zip(rows.tolist(), columns.tolist(), array[rows, columns].tolist()))
+    yield from zip(rows.tolist(), columns.tolist(), array[rows, columns].tolist())
 
 
 def _of_rows(source: Sequence[Any]) -> Entries:

@@ -1,6 +1,7 @@
 """What else the program does with matrices: sign rows, take sums apart and put them together, check evidence, make matrices.
 
-All take `time_limit` in seconds and `program`, and raise what the questions raise.
+All take `time_limit`, the seconds that the whole call may take, 0 to 2,000,000, and `program`, the program's path. They raise what the
+questions raise.
 """
 
 from __future__ import annotations
@@ -8,13 +9,16 @@ from __future__ import annotations
 from collections.abc import Iterable
 from dataclasses import replace
 from operator import index
-from typing import Literal, cast
+from typing import Any, Literal, cast, get_args
 
 from .answers import Answer, Checked, Parts
+from .calls import Call
 from .chains import Chain
-from .errors import BadInput, Refused
+from .clock import TimeLimit
+from .errors import BadCommandLine, BadInput, Refused, shown
 from .graphs import Edge, Graph
 from .matrix import Matrix
+from .options import one_of, whole
 from .printed import line_sets
 from .program import REFUSED, YES, StrPath, run
 from .reading import printed_part, read_answer
@@ -38,35 +42,47 @@ def sign(
 ) -> Answer:
     """Signs some rows, or all, so that every column sum is -1, 0 or 1.
 
-    A yes has the `signing`. A no has a `violator` with rows among these, so the matrix is not totally unimodular; the rows
-    themselves may still have a signing.
+    `rows` are numbers counted from 0. A yes has the `signing`. A no has a `violator` with rows among these, so the matrix is not totally
+    unimodular; the rows themselves may still have a signing.
 
     Source: Ghouila-Houri 1962; Camion 1965; docs/DEFINITIONS.md.
     """
+    call = Call.begin(program, time_limit)
     taken = Matrix.of(matrix)
-    chosen = sorted(set(range(taken.shape[0]) if rows is None else rows))
+    chosen = sorted(set(range(taken.shape[0]) if rows is None else _row_numbers(rows)))
     for row in chosen:
         if not 0 <= row < taken.shape[0]:
             raise BadInput(f"there is no row {row} in a matrix of size {taken.shape[0]}x{taken.shape[1]}")
     inputs = {"matrix": taken.to_text(), "rows": Submatrix(taken.shape, tuple(chosen), ()).to_text()}
-    ran = run(["sign", "-i", "sparse", "matrix", "rows"], inputs=inputs, program=program, time_limit=time_limit)
+    ran = run(["sign", "-i", "sparse", "matrix", "rows"], inputs=inputs, program=call.program, time_limit=call.clock)
     answer = read_answer(ran, taken, "signed")
     return replace(answer, signing=Signing.from_lines(ran.lines[1:], taken.names)) if ran.status == YES else answer
 
 
 def check(
-    matrix: MatrixLike, evidence: Evidence, *, time_limit: float | None = None, program: StrPath | None = None
+    matrix: MatrixLike, evidence: Evidence | Answer, *, time_limit: TimeLimit = None, program: StrPath | None = None
 ) -> Checked:
     """Checks evidence on a matrix apart from what made it: a tree, a chain, a violator, or the text of one of these.
 
-    Raises `BadText` where a text is none of them, with the byte at fault.
+    Of an answer its evidence is checked: the chain of a no on regularity, the tree of a yes on it, on the signed matrix, else the tree,
+    the graph, or the violator. That a graph shows its property is checked by `matrix_of`. Raises `BadInput` where an answer has none
+    of these, and `BadText` where a text is no evidence, with the byte at fault.
     """
-    taken = Matrix.of(matrix)
+    call = Call.begin(program, time_limit)
+    if isinstance(evidence, Answer):
+        return _check_answer(Matrix.of(matrix), evidence, call)
+    return _check(Matrix.of(matrix), evidence, call)
+
+
+def _check(taken: Matrix, evidence: Evidence, call: Call) -> Checked:
+    if not isinstance(evidence, (str, Tree, Chain, Submatrix)):
+        kinds = "a Tree, a Chain, a violator (a Submatrix), an Answer that has one, or the text of one"
+        raise BadInput(f"evidence is {kinds}, and here it is {shown(evidence)}")
     text = evidence if isinstance(evidence, str) else evidence.to_text()
     if text.split(maxsplit=1)[:1] == ["cmr-chain"]:
         taken.must_be_binary()
     inputs = {"matrix": taken.to_text(), "evidence": text}
-    ran = run(["check", "-i", "sparse", "matrix", "evidence"], inputs=inputs, program=program, time_limit=time_limit)
+    ran = run(["check", "-i", "sparse", "matrix", "evidence"], inputs=inputs, program=call.program, time_limit=call.clock)
     if ran.status == REFUSED:
         return _refusal(ran.said("refused"))
     says = cast(Literal["yes", "no", "undecided", "not regular"], ran.said("accepted"))
@@ -82,10 +98,13 @@ def parts(
 
     Raises `Refused` where the root is no two-sum and no three-sum, or the tree breaks a rule.
     """
+    call = Call.begin(program, time_limit)
     taken = Matrix.of(matrix)
+    if not isinstance(tree, (str, Tree)):
+        raise BadInput(f"tree is a Tree or the text of one, and here it is {shown(tree)}")
     inputs = {"matrix": taken.to_text(), "tree": tree if isinstance(tree, str) else tree.to_text()}
     words = ["parts", "-i", "sparse", "matrix", "tree", "-A", "first", "-B", "second"]
-    ran = run(words, inputs=inputs, outputs=("first", "second"), program=program, time_limit=time_limit)
+    ran = run(words, inputs=inputs, outputs=("first", "second"), program=call.program, time_limit=call.clock)
     if ran.status == REFUSED:
         raise Refused(ran.said("refused"))
     said = ran.said("parts")
@@ -105,11 +124,13 @@ def compose(
 ) -> Matrix:
     """The sum of two matrices: a one-sum, a two-sum, or a three-sum in one of its four forms.
 
-    Raises `Refused` where there is none, with the cause of docs/FORMATS.md.
+    `kind` is one, two, delta, y, mixed or concentrated. Raises `Refused` where there is no such sum, with the cause of docs/FORMATS.md.
     """
+    call = Call.begin(program, time_limit)
+    one_of("kind", kind, get_args(SumKind))
     inputs = {"first": Matrix.of(first).to_text(), "second": Matrix.of(second).to_text()}
     words = ["compose", "-i", "sparse", kind, "first", "second", "-M", "sum"]
-    ran = run(words, inputs=inputs, outputs=("sum",), program=program, time_limit=time_limit)
+    ran = run(words, inputs=inputs, outputs=("sum",), program=call.program, time_limit=call.clock)
     if ran.status == REFUSED:
         raise Refused(ran.said("refused"))
     return Matrix.from_text(ran.file("sum"))
@@ -128,8 +149,14 @@ def generate(
     `size` is 1 to 1000, with `twosum` at most 249, and `number` 0 to 2147483647 chooses among them. docs/DEFINITIONS.md has the
     definition. Raises `BadCommandLine` where one is out of its range.
     """
+    call = Call.begin(program, time_limit)
+    one_of("kind", kind, ("network", "twosum"))
+    for name, value, most in (("size", size, 249 if kind == "twosum" else 1000), ("number", number, 2**31 - 1)):
+        least = 0 if name == "number" else 1
+        if not least <= whole(name, value) <= most:
+            raise BadCommandLine(2, f"{name} is a number from {least} to {most}, and here it is {value}")
     words = ["generate", kind, str(index(size)), str(index(number)), "--lines", "0", "-M", "matrix"]
-    return Matrix.from_text(run(words, outputs=("matrix",), program=program, time_limit=time_limit).file("matrix"))
+    return Matrix.from_text(run(words, outputs=("matrix",), program=call.program, time_limit=call.clock).file("matrix"))
 
 
 def matrix_of(graph: Graph | str, *, time_limit: float | None = None, program: StrPath | None = None) -> Matrix:
@@ -137,14 +164,47 @@ def matrix_of(graph: Graph | str, *, time_limit: float | None = None, program: S
 
     Raises `BadText` where a text, which counts as directed, is no graph with its rows first.
     """
-    taken = Graph.from_text(graph) if isinstance(graph, str) else graph
+    call = Call.begin(program, time_limit)
+    if not isinstance(graph, (str, Graph)):
+        raise BadInput(f"graph is a Graph or the text of one, and here it is {shown(graph)}")
+    return _matrix_of(Graph.from_text(graph) if isinstance(graph, str) else graph, call)
+
+
+def _matrix_of(taken: Graph, call: Call) -> Matrix:
     is_turned = taken.arc_kind == "column"
     text = _turned(taken).to_text() if is_turned else taken.to_text()
     tool = "network" if taken.directed else "graphic"
-    ran = run([tool, "-c"], text=text, program=program, time_limit=time_limit)
+    ran = run([tool, "-c"], text=text, program=call.program, time_limit=call.clock)
     matrix = Matrix.from_text("\n".join(ran.lines))
     matrix = matrix.T if is_turned else matrix
     return Matrix(matrix.shape, matrix.nonzeros, taken.names)
+
+
+def _check_answer(matrix: Matrix, answer: Answer, call: Call) -> Checked:
+    if answer.chain is not None:
+        return _check(matrix, answer.chain, call)
+    if answer.signed is not None and answer.tree is not None:
+        if [place[:2] for place in answer.signed.nonzeros] != [place[:2] for place in matrix.nonzeros]:
+            return Checked(accepted=False, rule="the signed matrix has other nonzeros")
+        return _check(answer.signed, answer.tree, call)
+    if answer.tree is not None:
+        return _check(matrix, answer.tree, call)
+    if answer.graph is not None:
+        if answer.graph.shape != matrix.shape or _matrix_of(answer.graph, call) != matrix:
+            return Checked(accepted=False, rule="the graph is that of another matrix")
+        return Checked(accepted=True, says="yes")
+    if answer.violator is not None and answer.property_name != "regular":
+        return _check(matrix, answer.violator, call)
+    raise BadInput(
+        f"the answer `{answer.property_name}: {answer.verdict}` has no tree, chain, graph or violator to check; "
+        "`certificate=True` asks for evidence"
+    )
+
+
+def _row_numbers(rows: Any) -> list[int]:
+    if isinstance(rows, (str, bytes)) or not isinstance(rows, Iterable):
+        raise BadInput(f"rows is a list of numbers of rows, counted from 0, and here it is {shown(rows)}")
+    return [whole("a row", row) for row in rows]
 
 
 def _turned(graph: Graph) -> Graph:

@@ -11,9 +11,11 @@ from dataclasses import dataclass, field
 from typing import Any, Literal
 
 from .dot import svg
+from .libraries import library
 from .lines import LineSet, Names
 from .matrix import Matrix
 from .nodes import LEAVES, Node
+from .pages import no_picture
 from .sources import MatrixLike
 from .submatrices import Submatrix
 from .tree_picture import Style, tree_picture
@@ -67,7 +69,7 @@ class Tree:
 
     def to_networkx(self) -> Any:
         """A `DiGraph` of networkx from parents to children: the nodes in preorder are 0, 1, .., with their `Node` as `node`."""
-        import networkx  # pylint: disable=import-outside-toplevel
+        networkx = library("networkx", "to_networkx")
 
         graph = networkx.DiGraph()
         parents: list[int] = []
@@ -85,6 +87,9 @@ class Tree:
 
     def _repr_svg_(self) -> str | None:
         return svg(self.to_dot())
+
+    def _repr_html_(self) -> str | None:
+        return no_picture("the tree")
 
     def to_text(self) -> str:
         """The canonical tree text, with lines counted from 1."""

@@ -161,11 +161,11 @@ class Tries:
 
     def _ask(self, question: Question, matrix: Matrix) -> Answer:
         """What the program says within the time that is left."""
-        return question.ask(matrix, self.program, self.clock.left())
+        return question.ask(matrix, self.program, self.clock)
 
     def _must_say(self, matrix: Matrix, evidence: Evidence, says: str) -> None:
         """Tests by `check` what evidence from another order says."""
-        checked = check(matrix, evidence, program=self.program, time_limit=self.clock.left())
+        checked = check(matrix, evidence, program=self.program, time_limit=self.clock)
         if checked.says != says:
             raise ProgramFault(REFUSED, f"the evidence of another order is refused: {checked.rule or checked.says}")
 

@@ -8,11 +8,12 @@ import shutil
 import sys
 import time
 import unittest
+import warnings
 from collections.abc import Callable
 from pathlib import Path
 from typing import Any, TypeVar
 
-from cmr_matrices import ProgramMissing, find_program
+from cmr_matrices import ProgramMissing, UnprovedProgram, find_program
 
 TOP = Path(__file__).resolve().parents[2]
 EXAMPLES = TOP / "examples"
@@ -32,8 +33,10 @@ _Test = TypeVar("_Test", bound=Callable[..., Any])
 
 def _is_built() -> bool:
     try:
-        find_program()
-    except ProgramMissing:
+        with warnings.catch_warnings():
+            warnings.simplefilter("error", UnprovedProgram)
+            find_program()
+    except (ProgramMissing, UnprovedProgram):
         return False
     return True
 

@@ -1,6 +1,7 @@
 """Tests of `explain`: a table of mistakes, with what is said of each beside the program's own line."""
 
 import os
+import shutil
 import unittest
 from itertools import product
 
@@ -280,6 +281,20 @@ class Mistakes(ScriptTest):
         run = self.run_script("explain", "tu", "m.txt", env={"CMR_PROGRAM": "/none", "PATH": os.environ["PATH"]})
         self.assertEqual((run.returncode, run.stdout), (70, ""))
         self.assertIn("the program cmr is not there", run.stderr)
+        self.assertIn("`./try-cmr` compiles it without proofs", run.stderr)
+
+    def test_a_clone_that_has_the_unproved_program_alone(self):
+        for part in ("scripts/explain", "python/cmr_matrices"):
+            (self.folder / part).parent.mkdir()
+            copied = shutil.copytree if (TOP / part).is_dir() else shutil.copy2
+            copied(TOP / part, self.folder / part)
+        program = self.folder / "out" / "unproved" / "cmr"
+        program.parent.mkdir(parents=True)
+        program.write_text("#!/bin/sh\necho network: yes\n", encoding="ascii")
+        program.chmod(0o755)
+        run = self.run_script(self.folder / "scripts" / "explain", "network", env={"PATH": "/usr/bin:/bin"})
+        self.assertEqual((run.returncode, run.stdout), (0, "network: yes\n"))
+        self.assertEqual(run.stderr, "explain: nothing is proved of this run; ./cmr proves and builds the program\n")
 
 
 # Two goods over six connections between three places, with a joint capacity for each connection.

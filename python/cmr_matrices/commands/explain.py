@@ -10,15 +10,16 @@ import os
 import re
 import subprocess
 import sys
+import warnings
 from collections.abc import Iterable, Iterator
 from pathlib import Path
 
-from ..errors import ProgramMissing
+from ..errors import ProgramMissing, UnprovedProgram
 from ..explained.answers import refused, undecided
 from ..explained.faults import text_fault
 from ..explained.files import before_the_run, cannot_read, cannot_write, written_inputs
 from ..explained.words import TOOLS, Order, WordFault, read_words
-from ..program import REFUSED, UNDECIDED, find_program
+from ..program import REFUSED, UNDECIDED, find_program, unproved
 
 __all__ = ["main"]
 
@@ -41,7 +42,12 @@ def _run(words: list[str]) -> int:
         _say(before_the_run(order, at_terminal=sys.stdin is not None and sys.stdin.isatty()))
         if "-" in order.inputs.values() and sys.stdin is not None:
             data = sys.stdin.buffer.read()
-    command = [str(find_program()), *words]
+    with warnings.catch_warnings():
+        warnings.simplefilter("ignore", UnprovedProgram)
+        program = find_program()
+    if program == unproved():
+        _say(["nothing is proved of this run; ./cmr proves and builds the program"])
+    command = [str(program), *words]
     ran = subprocess.run(command, input=data, capture_output=True, check=False)
     sys.stderr.buffer.write(ran.stderr)
     sys.stderr.flush()
