@@ -8,6 +8,7 @@ import signal
 import subprocess
 import sys
 import tempfile
+import tomllib
 import unittest
 from pathlib import Path
 from unittest import mock
@@ -124,6 +125,10 @@ class InstallTest(unittest.TestCase):
     def test_each_command_of_the_package_is_installed(self):
         modules = {it.stem for it in (TOP / "python" / "cmr_matrices" / "commands").glob("*.py")} - {"__init__", "command", "signals"}
         self.assertEqual({it.replace("-", "_") for it in SCRIPTS.values()}, modules)
+        with open(TOP / "python" / "pyproject.toml", "rb") as file:
+            commands = tomllib.load(file)["project"]["scripts"]
+        modules_of = {name: command.removeprefix("cmr_matrices.commands.").removesuffix(":main") for name, command in commands.items()}
+        self.assertEqual(modules_of, {name: script.replace("-", "_") for name, script in SCRIPTS.items()})
         for file in ("INSTALLING.md", "cmr.1"):
             text = (TOP / "docs" / file).read_text(encoding="utf-8").replace("\\-", "-")
             self.assertEqual([it for it in SCRIPTS if it not in text], [], file)
