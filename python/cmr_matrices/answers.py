@@ -107,7 +107,7 @@ class Checked:
     step: int | None = None
     """The first step of a chain that breaks a rule, counted from 0. The violator counts as the step after the last."""
     rule: str | None = None
-    """The rule of docs/FORMATS.md that the node breaks."""
+    """The rule of docs/FORMATS.md that the node breaks; of an answer also what its graph, signs or violator lack."""
 
     def __bool__(self) -> bool:
         return self.accepted

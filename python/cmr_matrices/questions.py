@@ -8,8 +8,9 @@ All take whatever `Matrix.of` takes, and these keywords:
 * `pivots`: how many pivots may be made on the way to a part that nothing else decides, 0 to 100: docs/DEFINITIONS.md has the rule;
 * `tries`: where the matrix is undecided, in how many other orders of the lines it is asked again, 0 to 1000, with orders that
   `seed`, any whole number, draws, and with as many pivots in each;
-* `time_limit`: the seconds that the whole call may take, 0 to 2,000,000: what is given is made a matrix, the program is run, and ended
-  where they are over; an undecided answer is given without the tries that were left. None, as it is where it is left out, is no limit;
+* `time_limit`: the seconds that the whole call may take, 0 to 2,000,000, or None, as where it is left out, for no limit: what is given is
+  made a matrix, which is not interrupted, and then the program is run, and ended where they are over; an undecided answer is given
+  without the tries that were left;
 * `program`: the program's path, where it is not to be looked for.
 
 All raise `ProgramMissing` before they look at the matrix, `BadEntry` and `BadInput` for what is no matrix of theirs or out of a range,

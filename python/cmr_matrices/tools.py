@@ -27,7 +27,7 @@ from .sources import MatrixLike
 from .submatrices import Submatrix
 from .trees import Tree
 
-__all__ = ["Evidence", "SumKind", "check", "compose", "generate", "matrix_of", "parts", "sign"]
+__all__ = ["Evidence", "SumKind", "check", "compose", "generate", "is_cycle", "matrix_of", "parts", "sign"]
 
 SumKind = Literal["one", "two", "delta", "y", "mixed", "concentrated"]
 Evidence = Tree | Chain | Submatrix | str
@@ -65,7 +65,8 @@ def check(
     """Checks evidence on a matrix apart from what made it: a tree, a chain, a violator, or the text of one of these.
 
     Of an answer its evidence is checked: the chain of a no on regularity, the tree of a yes on it, on the signed matrix, else the tree,
-    the graph, or the violator. That a graph shows its property is checked by `matrix_of`. Raises `BadInput` where an answer has none
+    the graph, or the violator. A graph is accepted where its matrix, that of `matrix_of`, is this one, and the violator of a no on balance
+    where it has two nonzeros in each line too. Raises `BadInput` where an answer has none
     of these, and `BadText` where a text is no evidence, with the byte at fault.
     """
     call = Call.begin(program, time_limit)
@@ -194,11 +195,23 @@ def _check_answer(matrix: Matrix, answer: Answer, call: Call) -> Checked:
             return Checked(accepted=False, rule="the graph is that of another matrix")
         return Checked(accepted=True, says="yes")
     if answer.violator is not None and answer.property_name != "regular":
+        if answer.property_name in ("balanced", "without cycle fault") and not is_cycle(matrix, answer.violator):
+            return Checked(accepted=False, rule="the violator has not two nonzeros in each line")
         return _check(matrix, answer.violator, call)
     raise BadInput(
         f"the answer `{answer.property_name}: {answer.verdict}` has no tree, chain, graph or violator to check; "
-        "`certificate=True` asks for evidence"
+        "`certificate=True` asks for one, where its question has one"
     )
+
+
+def is_cycle(matrix: Matrix, fault: Submatrix) -> bool:
+    """Whether a violator has two nonzeros in each line, as a fault of balance and one of Camion's test have."""
+    part = fault.submatrix(matrix)
+    counts = [[0] * size for size in part.shape]
+    for row, column, _ in part.nonzeros:
+        counts[0][row] += 1
+        counts[1][column] += 1
+    return set(counts[0] + counts[1]) == {2}
 
 
 def _row_numbers(rows: Any) -> list[int]:

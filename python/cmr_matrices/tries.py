@@ -24,7 +24,7 @@ from .nodes import Node
 from .program import REFUSED, StrPath
 from .reading import Question
 from .submatrices import Submatrix
-from .tools import Evidence, check
+from .tools import Evidence, check, is_cycle
 from .trees import Tree
 
 __all__ = ["Tries"]
@@ -103,7 +103,8 @@ class Tries:
             fault = self._fault(order)
             if fault is not None:
                 self._must_say(matrix, fault, "no")
-                _must_be_cycle(matrix, fault)
+                if not is_cycle(matrix, fault):
+                    raise ProgramFault(REFUSED, "the fault of another order is refused: it is no cycle")
                 yield replace(undecided, verdict="no", violator=fault, open=None)
             yield None
         unimodular = Question("totally unimodular", ("tu", *question.words[1:]), {"-D": "tree"})
@@ -179,13 +180,3 @@ class _WithFault:
 
     def __call__(self, node: Node, children: tuple[Node, ...]) -> Node:
         return Node("violator", node.lines, fault=self.fault) if node is self.part else replace(node, children=children)
-
-
-def _must_be_cycle(matrix: Matrix, fault: Submatrix) -> None:
-    """Tests that a violator has two nonzeros in each line, as a fault of balance has."""
-    part = fault.submatrix(matrix)
-    counts = [
-        sum(1 for place in part.nonzeros if place[kind] == line) for kind in (0, 1) for line in range(part.shape[kind])
-    ]
-    if set(counts) != {2}:
-        raise ProgramFault(REFUSED, "the fault of another order is refused: it is no cycle")

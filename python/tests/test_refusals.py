@@ -11,6 +11,7 @@ from unittest import mock
 
 import cmr_matrices as cmr
 from cmr_matrices import (
+    Answer,
     BadCommandLine,
     BadEntry,
     BadInput,
@@ -18,6 +19,7 @@ from cmr_matrices import (
     LibraryMissing,
     Matrix,
     ProgramMissing,
+    Submatrix,
     TimeLimitReached,
     check,
     is_graphic,
@@ -141,12 +143,16 @@ class Answers(unittest.TestCase):
         self.assertFalse(check([[1, 1, 0], [0, 1, 1], [0, 0, 1]], is_graphic(TRIANGLE, certificate=True)))
         self.assertFalse(check([[1, 1], [1, 1]], is_graphic(TRIANGLE, certificate=True)))
         self.assertFalse(check(TRIANGLE, is_regular(R10, certificate=True)))
+        # A violator of total unimodularity is none of balance, where a line has more than two nonzeros.
+        violator = Submatrix((2, 4), (0, 1), (0, 1, 2, 3))
+        rows = [[1, 1, 1, 1], [1, 1, 1, -1]]
+        self.assertFalse(check(rows, Answer("balanced", "no", violator=violator)))
 
     def test_an_answer_without_evidence(self) -> None:
         for answer in (is_totally_unimodular([[1]]), is_regular(FANO), is_series_parallel(R10), sign([[1]])):
             with self.subTest(answer=answer), self.assertRaises(BadInput) as refused:
                 check(FANO, answer)
-            self.assertIn("`certificate=True` asks for evidence", str(refused.exception))
+            self.assertIn("`certificate=True` asks for one, where its question has one", str(refused.exception))
 
     def test_an_answer_is_no_truth_value(self) -> None:
         answer = is_totally_unimodular([[1]])
