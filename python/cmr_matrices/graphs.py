@@ -12,6 +12,7 @@ from typing import Any
 
 from .dot import svg
 from .errors import BadInput
+from .given import text_given
 from .libraries import library
 from .lines import Kind, Line, Names
 from .network_picture import DRAWN, picture
@@ -125,7 +126,7 @@ class Graph:
     def from_text(cls, text: str, *, directed: bool = True, names: Names | None = None) -> Graph:
         """The graph that a text has. Raises `BadInput` where it is none."""
         edges = []
-        for place, line in enumerate(text.splitlines(), 1):
+        for place, line in enumerate(text_given("no graph", text).splitlines(), 1):
             found = _EDGE.fullmatch(line)
             if not found:
                 raise BadInput(f"no graph, line {place} is not `TAIL HEAD rI` or `TAIL HEAD cJ`")

@@ -7,6 +7,7 @@ from dataclasses import dataclass
 from typing import Literal
 
 from .errors import BadInput
+from .given import text_given
 
 __all__ = ["Kind", "Line", "LineSet", "Names"]
 
@@ -135,7 +136,7 @@ class Names:
         """The names that a text has. A name is all that stands behind the first space of its line."""
         rows: list[str] = []
         columns: list[str] = []
-        for place, line in enumerate(text.splitlines(), 1):
+        for place, line in enumerate(text_given("no names", text).splitlines(), 1):
             word, _, name = line.partition(" ")
             if name and not columns and word == f"r{len(rows) + 1}":
                 rows.append(name)

@@ -11,7 +11,8 @@ from operator import index
 from typing import TYPE_CHECKING, Any, ClassVar, cast
 
 from .dense import nonzeros_of, text_of, units_of
-from .errors import BadEntry, BadInput
+from .errors import BadEntry, BadInput, shown
+from .given import listed, text_given, whole
 from .libraries import library
 from .lines import Names
 from .pages import matrix_table
@@ -80,7 +81,8 @@ class Matrix:
 
         Raises `BadEntry` at the first other entry, and `BadInput` where the shape is none.
         """
-        rows, columns = (None if names is None else tuple(names) for names in (row_names, column_names))
+        rows = None if row_names is None else _names("row_names", row_names)
+        columns = None if column_names is None else _names("column_names", column_names)
         if isinstance(source, Matrix):
             return source._named(rows, columns)
         found = entries_of(source)
@@ -116,10 +118,14 @@ class Matrix:
 
         Raises `BadInput` where a place is named twice or is outside of the shape, and `BadEntry` for a value other than -1, 0, 1.
         """
-        rows, columns = shape
+        rows, columns = _pair("shape", shape)
         entries: dict[tuple[int, int], int] = {}
-        for given_row, given_column, value in triples:
-            row, column = index(given_row), index(given_column)
+        for triple in triples if isinstance(triples, Iterable) else listed("triples", triples, "triples"):
+            try:
+                given_row, given_column, value = triple
+                row, column = index(given_row), index(given_column)
+            except (TypeError, ValueError):
+                raise BadInput(f"{shown(triple)} is no triple of a row, a column and a value") from None
             if not (0 <= row < rows and 0 <= column < columns):
                 raise BadInput(
                     f"row {row}, column {column}: there is no such place in a matrix of size {rows}x{columns}"
@@ -140,7 +146,7 @@ class Matrix:
         return Matrix((columns, rows), nonzeros, self.names and self.names.transposed())
 
     def __getitem__(self, place: tuple[int, int]) -> int:
-        row, column = place
+        row, column = _pair("a place", place)
         rows, columns = self.shape
         if not (0 <= row < rows and 0 <= column < columns):
             raise IndexError(f"there is no place {row}, {column} in a matrix of size {rows}x{columns}")
@@ -155,7 +161,10 @@ class Matrix:
 
         Raises `BadInput` where a line is given twice, or is none of the matrix.
         """
-        rows, columns = tuple(rows), tuple(columns)
+        rows, columns = (
+            tuple(whole(f"a {kind}", line) for line in listed(f"{kind}s", lines, f"numbers of {kind}s"))
+            for kind, lines in (("row", rows), ("column", columns))
+        )
         row_places = _places(rows, self.shape[0], "row")
         column_places = _places(columns, self.shape[1], "column")
         nonzeros = sorted(
@@ -241,7 +250,7 @@ class Matrix:
     @classmethod
     def from_text(cls, text: str, *, sparse: bool = False) -> Matrix:
         """The matrix that a dense or a sparse text stands for. Raises `BadInput` or `BadEntry` where it is none."""
-        if not _NUMBERS.fullmatch(text):
+        if not _NUMBERS.fullmatch(text_given("no matrix", text)):
             raise BadInput("no matrix: the text has other words than numbers")
         try:
             numbers = [int(word) for word in text.split()]
@@ -280,6 +289,20 @@ class Matrix:
             return replace(self, names=names)
         names.must_fit(*self.shape)
         return Matrix._of_units(self._units, names)
+
+
+def _pair(name: str, pair: Any) -> tuple[int, int]:
+    try:
+        first, second = pair
+        return index(first), index(second)
+    except (TypeError, ValueError):
+        raise BadInput(f"{name} is a pair of whole numbers, of rows and of columns, and here it is {shown(pair)}") from None
+
+
+def _names(name: str, names: Any) -> tuple[object, ...]:
+    if not isinstance(names, Iterable):
+        raise BadInput(f"{name} is a list of names, and here it is {shown(names)}")
+    return tuple(names)
 
 
 def _must_be_small(rows: int, columns: int) -> None:

@@ -16,11 +16,11 @@ from typing import Any, Literal, get_args
 
 from .constraints import Choice, Constraints, Scaling, constraints_of_model, matrix_of_constraints, matrix_of_model
 from .errors import BadCoefficients, BadInput, shown
+from .given import one_of
 from .libraries import library
 from .matrix import Matrix
 from .model_reductions import connected_parts, reduced
 from .models import Coefficient, Model, read_model
-from .options import one_of
 from .program import StrPath
 from .reductions import Reductions
 from .sources import MatrixLike, entries_of
@@ -102,6 +102,8 @@ def constraints_of_file(path: StrPath, form: Format | None, choice: Choice, data
     """The chosen constraints of a model in a file, of any number. Every fault names the file."""
     if not isinstance(path, (str, os.PathLike)):
         raise BadInput(f"a model is the path of its file, and here it is {shown(path)}")
+    if data is not None and not isinstance(data, (str, os.PathLike)):
+        raise BadInput(f"data is the path of the file with the data, and here it is {shown(data)}")
     if form is not None:
         one_of("form", form, get_args(Format))
     name = os.fspath(path)

@@ -23,8 +23,9 @@ from dataclasses import dataclass, replace
 
 from .answers import Answer
 from .calls import Call
+from .given import whole
 from .matrix import Matrix
-from .options import budget_words, whole
+from .options import budget_words
 from .program import StrPath
 from .reading import Question
 from .sources import MatrixLike

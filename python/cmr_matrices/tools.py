@@ -9,16 +9,16 @@ from __future__ import annotations
 from collections.abc import Iterable
 from dataclasses import replace
 from operator import index
-from typing import Any, Literal, cast, get_args
+from typing import Literal, cast, get_args
 
 from .answers import Answer, Checked, Parts
 from .calls import Call
 from .chains import Chain
 from .clock import TimeLimit
 from .errors import BadCommandLine, BadInput, Refused, shown
+from .given import listed, one_of, whole
 from .graphs import Edge, Graph
 from .matrix import Matrix
-from .options import one_of, whole
 from .printed import line_sets
 from .program import REFUSED, YES, StrPath, run
 from .reading import printed_part, read_answer
@@ -49,7 +49,7 @@ def sign(
     """
     call = Call.begin(program, time_limit)
     taken = Matrix.of(matrix)
-    chosen = sorted(set(range(taken.shape[0]) if rows is None else _row_numbers(rows)))
+    chosen = sorted(set(range(taken.shape[0]) if rows is None else (whole("a row", row) for row in listed("rows", rows, "numbers of rows, counted from 0"))))
     for row in chosen:
         if not 0 <= row < taken.shape[0]:
             raise BadInput(f"there is no row {row} in a matrix of size {taken.shape[0]}x{taken.shape[1]}")
@@ -212,12 +212,6 @@ def is_cycle(matrix: Matrix, fault: Submatrix) -> bool:
         counts[0][row] += 1
         counts[1][column] += 1
     return set(counts[0] + counts[1]) == {2}
-
-
-def _row_numbers(rows: Any) -> list[int]:
-    if isinstance(rows, (str, bytes)) or not isinstance(rows, Iterable):
-        raise BadInput(f"rows is a list of numbers of rows, counted from 0, and here it is {shown(rows)}")
-    return [whole("a row", row) for row in rows]
 
 
 def _turned(graph: Graph) -> Graph:

@@ -82,6 +82,22 @@ class Refusals(unittest.TestCase):
         self.says("a model of linopy is a linopy.Model, and here it is 5", cmr.from_linopy, 5)
         self.says("row 0, column 0: the coefficient 'a' is no number", cmr.from_scipy, [["a"]])
 
+    def test_texts_and_lists(self) -> None:
+        for kind in (cmr.Tree, cmr.Graph, cmr.Chain, cmr.Names, cmr.Reductions, cmr.Signing, Submatrix, Matrix):
+            self.says("and here it is None", kind.from_text, None)  # type: ignore[attr-defined]
+        matrix = Matrix.of(FANO)
+        self.says("a graph of networkx is taken, and here it is 5", cmr.graph_of_networkx, 5)
+        self.says("edges is a list of edges", cmr.graph_of_edges, 5)
+        self.says("5 is no edge, which has two ends and may have a name", cmr.graph_of_edges, [5])
+        self.says("shape is a pair of whole numbers", Matrix.from_triples, [], 5)
+        self.says("triples is a list of triples, and here it is 5", Matrix.from_triples, 5, (1, 1))
+        self.says("[1] is no triple of a row, a column and a value", Matrix.from_triples, [[1]], (1, 1))
+        self.says("rows is a list of numbers of rows, and here it is 5", matrix.submatrix, 5, [0])
+        self.says("a column is a whole number, and here it is 'a'", matrix.submatrix, [0], ["a"])
+        self.says("a place is a pair of whole numbers", matrix.pivoted, "a", 0)
+        self.says("row_names is a list of names, and here it is 5", Matrix.of, FANO, row_names=5)
+        self.says("data is the path of the file with the data", cmr.from_model, EXAMPLES / "wards.mod", data=5)
+
     def test_libraries_that_are_missing(self) -> None:
         uses: list[tuple[str, Call, str]] = [
             ("swiglpk", lambda: cmr.from_model(EXAMPLES / "assignment.mps"), "`pip install swiglpk`, or Debian's python3-swiglpk"),
