@@ -10,7 +10,7 @@ from typing import Any
 from .errors import BadEntry
 from .words import LIMIT
 
-__all__ = ["is_plain", "nonzeros_of", "text_of", "units_of"]
+__all__ = ["dense_text_of", "is_plain", "nonzeros_of", "text_of", "units_of"]
 
 
 def is_plain(array: Any) -> bool:
@@ -51,3 +51,13 @@ def text_of(units: Any) -> str:
     lines["value"] = numpy.array(["-1\n", "", "1\n"], dtype="S3")[units[rows, columns] + 1]
     head = f"{units.shape[0]} {units.shape[1]} {len(rows)}\n"
     return head + lines.tobytes().translate(None, b"\0").decode("ascii")
+
+
+def dense_text_of(units: Any) -> str | None:
+    """A dense text, with each entry in three characters, or None where the sparse text, with about ten for each nonzero, is shorter."""
+    import numpy  # pylint: disable=import-outside-toplevel
+
+    if 10 * numpy.count_nonzero(units) <= 3 * units.size:
+        return None
+    entries: bytes = numpy.array([" 0 ", " 1 ", "-1 "], dtype="S3")[units].tobytes()
+    return f"{units.shape[0]} {units.shape[1]}\n{entries.decode('ascii')}\n"

@@ -10,7 +10,7 @@ from dataclasses import dataclass, field, replace
 from operator import index
 from typing import TYPE_CHECKING, Any, ClassVar, cast
 
-from .dense import nonzeros_of, text_of, units_of
+from .dense import dense_text_of, nonzeros_of, text_of, units_of
 from .errors import BadEntry, BadInput, shown
 from .given import listed, text_given, whole
 from .libraries import library
@@ -246,6 +246,11 @@ class Matrix:
         rows, columns = self.shape
         triples = [f"{row + 1} {column + 1} {value}\n" for row, column, value in self.nonzeros]
         return "".join([f"{rows} {columns} {len(triples)}\n", *triples])
+
+    def for_program(self) -> tuple[str, str]:
+        """A text for the program, with its format: the sparse one, or of an array with many nonzeros a dense one, which is shorter."""
+        dense = None if self._units is None else dense_text_of(self._units)
+        return ("sparse", self.to_text()) if dense is None else ("dense", dense)
 
     @classmethod
     def from_text(cls, text: str, *, sparse: bool = False) -> Matrix:

@@ -34,9 +34,10 @@ class Question:
 
     def ask(self, matrix: Matrix, program: StrPath | None, time_limit: TimeLimit) -> Answer:
         """What the program says of a matrix."""
+        form, text = matrix.for_program()
         ran = run(
-            [*self.words, "-i", "sparse", *(word for option in self.files.items() for word in option)],
-            text=matrix.to_text(),
+            [*self.words, "-i", form, *(word for option in self.files.items() for word in option)],
+            text=text,
             outputs=tuple(self.files.values()),
             program=program,
             time_limit=time_limit,

@@ -41,6 +41,9 @@ class Arrays(unittest.TestCase):
         for of_array, plain in self.both():
             with self.subTest(shape=plain.shape):
                 self.assertEqual(of_array.to_text(), plain.to_text())
+                form, text = of_array.for_program()
+                self.assertEqual(Matrix.from_text(text, sparse=form == "sparse"), plain)
+                self.assertEqual(plain.for_program(), ("sparse", plain.to_text()))
                 self.assertEqual(of_array.sum(), plain.sum())
                 self.assertEqual(of_array.to_numpy().tolist(), plain.to_lists())
                 self.assertEqual(of_array.T, plain.T)
@@ -115,16 +118,20 @@ class Arrays(unittest.TestCase):
         spent = []
         for _ in range(3):
             before = time.process_time()
-            Matrix.of(array).to_text()
+            Matrix.of(array).for_program()
             spent.append(time.process_time() - before)
-        # 0.1 seconds where nothing else runs; a step for each entry took 3.
-        self.assertLess(min(spent), 0.5)
+        # 0.02 seconds where nothing else runs; a step for each entry took 3.
+        self.assertLess(min(spent), 0.3)
+        before = time.process_time()
+        Matrix.of(array).to_text()
+        self.assertLess(time.process_time() - before, 1)
 
     @needs_program
     def test_questions(self) -> None:
         import numpy
 
         self.assertTrue(is_totally_unimodular(numpy.eye(1000)))
+        self.assertTrue(is_totally_unimodular(numpy.ones((1000, 1000))))
         self.assertFalse(is_totally_unimodular(numpy.array([[1, 1], [-1, 1]])))
 
 
