@@ -3,6 +3,8 @@
 from __future__ import annotations
 
 import unittest
+import warnings
+from importlib import import_module
 from typing import Any
 from unittest import mock
 
@@ -23,6 +25,7 @@ from tests.support import FANO, TRIANGLE, needs_command, needs_module, needs_pro
 
 K4 = "0 1 r1\n0 2 r2\n0 3 r3\n1 2 c1\n1 3 c2\n2 3 c3\n"
 NAMES = Names(("from_a", "from_b", "from_c"), ("ab", "ac", "bc"))
+DRAWN: tuple[Graph | Tree, ...] = (Graph.from_text(K4), Tree.from_text("cmr-tree 2\n0 0\nempty 0 0\n"))
 STAR = "".join(f"0 {row} r{row}\n" for row in range(1, 4)) + "".join(f"1 2 c{column}\n" for column in range(1, 301))
 
 
@@ -59,7 +62,7 @@ class Pictures(unittest.TestCase):
 
     @needs_command("dot")
     def test_a_picture_is_an_element_alone(self) -> None:
-        for value in (Graph.from_text(K4), Tree.from_text("cmr-tree 2\n0 0\nempty 0 0\n")):
+        for value in DRAWN:
             drawn = value._repr_svg_()
             assert drawn is not None
             self.assertTrue(drawn.startswith("<svg ") and drawn.rstrip().endswith("</svg>"), drawn)
@@ -72,7 +75,7 @@ class Pictures(unittest.TestCase):
         self.assertIn("more than 200 edges are not drawn here", graph._repr_html_() or "")
         self.assertTrue(repr(Graph.from_text(K4)).startswith("Graph(arcs=(Edge("))
         with mock.patch("shutil.which", return_value=None):
-            for value in (Graph.from_text(K4), Tree.from_text("cmr-tree 2\n0 0\nempty 0 0\n")):
+            for value in DRAWN:
                 self.assertIsNone(value._repr_svg_())
                 self.assertIn("is drawn where Graphviz is there", value._repr_html_() or "")
 
@@ -123,18 +126,16 @@ class Pages(unittest.TestCase):
     """Each value is the last line of a cell, as it would be where a kernel ran it."""
 
     def page(self, *values: Any) -> str:
-        from IPython.core.formatters import DisplayFormatter
-        from nbconvert import HTMLExporter
-        from nbformat.v4 import new_code_cell, new_notebook, new_output
-
-        formatter = DisplayFormatter()
+        formats: Any = import_module("nbformat.v4")
+        formatter = import_module("IPython.core.formatters").DisplayFormatter()
         formatter.active_types = formatter.format_types
         bundles = [formatter.format(value)[0] for value in values]
-        outputs = [new_output("execute_result", data=data, execution_count=1) for data in bundles]
-        notebook = new_notebook(cells=[new_code_cell("", outputs=[output]) for output in outputs])
-        body: str
-        body, _ = HTMLExporter().from_notebook_node(notebook)
-        return body
+        outputs = [formats.new_output("execute_result", data=data, execution_count=1) for data in bundles]
+        notebook = formats.new_notebook(cells=[formats.new_code_cell("", outputs=[it]) for it in outputs])
+        with warnings.catch_warnings():
+            warnings.simplefilter("ignore")
+            body, _ = import_module("nbconvert").HTMLExporter().from_notebook_node(notebook)
+        return str(body)
 
     def test_nbconvert_makes_a_page(self) -> None:
         answer = is_graphic(named("W4"), certificate=True)

@@ -214,7 +214,8 @@ class Order(unittest.TestCase):
                 time.sleep(0.3)
                 return iter([1])
 
-        for call in (is_totally_unimodular, is_graphic, sign):
+        calls: tuple[Call, ...] = (is_totally_unimodular, is_graphic, sign)
+        for call in calls:
             with self.subTest(call=call.__name__), self.assertRaises(TimeLimitReached) as reached:
                 call([Slow()], time_limit=0.2)
             self.assertEqual(reached.exception.seconds, 0.2)
