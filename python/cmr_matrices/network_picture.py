@@ -68,7 +68,8 @@ class _Drawn:
 def picture(graph: Graph, names: Names, *, directed: bool, limit: int = DRAWN, tree: bool = False) -> str:
     """The graph in DOT. With more edges than the limit the families of its lines are drawn, with their counts.
 
-    `tree` draws the tree in any case, and else the rows are nodes where no walk takes more than two arcs. The layout is chosen by the number of edges, and any program of Graphviz then uses it.
+    `tree` draws the tree in any case, and else the rows are nodes where no walk takes more than two arcs. The layout is chosen by the
+    number of edges, and any program of Graphviz then uses it.
     """
     taken = None if tree else arcs_of_walks(graph, 2)
     count = len(graph.edges) if taken is None else len(graph.walks)

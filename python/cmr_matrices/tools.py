@@ -49,7 +49,8 @@ def sign(
     """
     call = Call.begin(program, time_limit)
     taken = Matrix.of(matrix)
-    chosen = sorted(set(range(taken.shape[0]) if rows is None else (whole("a row", row) for row in listed("rows", rows, "numbers of rows, counted from 0"))))
+    given = range(taken.shape[0]) if rows is None else listed("rows", rows, "numbers of rows, counted from 0")
+    chosen = sorted({whole("a row", row) for row in given})
     for row in chosen:
         if not 0 <= row < taken.shape[0]:
             raise BadInput(f"there is no row {row} in a matrix of size {taken.shape[0]}x{taken.shape[1]}")

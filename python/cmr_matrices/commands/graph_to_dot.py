@@ -2,8 +2,8 @@
 
 All nodes and edges are drawn: those of the tree in full, and those that join the ends of paths dashed. With --names and without
 --undirected, a graph in which no column has more than two nonzeros is taken for the network of a flow model: its rows are the nodes
-and its columns the edges. Each has the number or the name of the row or column for which it stands. The layout fits to the number of edges: that of dot up to 40, of neato up to 150 (in
-trees 250), and beyond that of sfdp, where names of edges are left out.
+and its columns the edges. Each has the number or the name of the row or column for which it stands. The layout fits to the number
+of edges: that of dot up to 40, of neato up to 150 (in trees 250), and beyond that of sfdp, where names of edges are left out.
 """
 
 from __future__ import annotations
