@@ -67,8 +67,9 @@ def check(
 
     Of an answer its evidence is checked: the chain of a no on regularity, the tree of a yes on it, on the signed matrix, else the tree,
     the graph, or the violator. A graph is accepted where its matrix, that of `matrix_of`, is this one, and the violator of a no on balance
-    where it has two nonzeros in each line too. Raises `BadInput` where an answer has none
-    of these, and `BadText` where a text is no evidence, with the byte at fault.
+    where it has two nonzeros in each line too.
+
+    Raises `BadInput` where an answer has none of these, and `BadText` where a text is no evidence, with the byte at fault.
     """
     call = Call.begin(program, time_limit)
     if isinstance(evidence, Answer):
@@ -186,6 +187,7 @@ def _check_answer(matrix: Matrix, answer: Answer, call: Call) -> Checked:
     if answer.chain is not None:
         return _check(matrix, answer.chain, call)
     if answer.signed is not None and answer.tree is not None:
+        matrix.must_be_binary()
         if [place[:2] for place in answer.signed.nonzeros] != [place[:2] for place in matrix.nonzeros]:
             return Checked(accepted=False, rule="the signed matrix has other nonzeros")
         return _check(answer.signed, answer.tree, call)
