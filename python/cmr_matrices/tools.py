@@ -45,6 +45,8 @@ def sign(
     `rows` are numbers counted from 0. A yes has the `signing`. A no has a `violator` with rows among these, so the matrix is not totally
     unimodular; the rows themselves may still have a signing.
 
+    `time_limit` is in seconds, 0 to 2,000,000, for the whole call, and `program` the program's path.
+
     Source: Ghouila-Houri 1962; Camion 1965; docs/DEFINITIONS.md.
     """
     call = Call.begin(program, time_limit)
@@ -68,6 +70,8 @@ def check(
     Of an answer its evidence is checked: the chain of a no on regularity, the tree of a yes on it, on the signed matrix, else the tree,
     the graph, or the violator. A graph is accepted where its matrix, that of `matrix_of`, is this one, and the violator of a no on balance
     where it has two nonzeros in each line too.
+
+    `time_limit` is in seconds, 0 to 2,000,000, for the whole call, and `program` the program's path.
 
     Raises `BadInput` where an answer has none of these, and `BadText` where a text is no evidence, with the byte at fault.
     """
@@ -99,6 +103,8 @@ def parts(
 ) -> Parts:
     """The two matrices of which a matrix is the sum that the root of its tree says. `compose` is the way back.
 
+    `time_limit` is in seconds, 0 to 2,000,000, for the whole call, and `program` the program's path.
+
     Raises `Refused` where the root is no two-sum and no three-sum, or the tree breaks a rule.
     """
     call = Call.begin(program, time_limit)
@@ -127,6 +133,8 @@ def compose(
 ) -> Matrix:
     """The sum of two matrices: a one-sum, a two-sum, or a three-sum in one of its four forms.
 
+    `time_limit` is in seconds, 0 to 2,000,000, for the whole call, and `program` the program's path.
+
     `kind` is one, two, delta, y, mixed or concentrated. Raises `Refused` where there is no such sum, with the cause of docs/FORMATS.md.
     """
     call = Call.begin(program, time_limit)
@@ -149,6 +157,8 @@ def generate(
 ) -> Matrix:
     """A matrix that is the same on every machine: a random network matrix, or the two-sum of `size` matrices of R10.
 
+    `time_limit` is in seconds, 0 to 2,000,000, for the whole call, and `program` the program's path.
+
     `size` is 1 to 1000, with `twosum` at most 249, and `number` 0 to 2147483647 chooses among them. docs/DEFINITIONS.md has the
     definition. Raises `BadCommandLine` where one is out of its range.
     """
@@ -164,6 +174,8 @@ def generate(
 
 def matrix_of(graph: Graph | str, *, time_limit: float | None = None, program: StrPath | None = None) -> Matrix:
     """The one matrix for which a graph shows the property: that of its paths, with directions where it is directed.
+
+    `time_limit` is in seconds, 0 to 2,000,000, for the whole call, and `program` the program's path.
 
     Raises `BadText` where a text, which counts as directed, is no graph with its rows first.
     """
