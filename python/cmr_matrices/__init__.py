@@ -30,10 +30,12 @@ from .errors import (
     TimeLimitReached,
     Undecided,
 )
+from .excluded import ExcludedMinor
 from .graphs import Edge, Graph
 from .lines import Line, LineSet, Names
 from .matrix import Matrix
 from .matroids import named
+from .minors import excluded_minor
 from .modellers import from_linopy, from_model, from_model_scaled, from_pulp, from_pyomo, from_scipy, reduced_parts
 from .nodes import Node
 from .program import find_program
@@ -49,6 +51,7 @@ from .questions import (
     is_totally_unimodular,
 )
 from .reductions import Reduction, Reductions
+from .represented import Matroid
 from .signings import Signing, SigningStep
 from .sources import MatrixLike
 from .submatrices import Submatrix
@@ -69,12 +72,14 @@ __all__ = [
     "Checked",
     "CmrError",
     "Edge",
+    "ExcludedMinor",
     "Family",
     "Graph",
     "Line",
     "LineSet",
     "Matrix",
     "MatrixLike",
+    "Matroid",
     "Names",
     "Node",
     "OutOfMemory",
@@ -94,6 +99,7 @@ __all__ = [
     "Undecided",
     "check",
     "compose",
+    "excluded_minor",
     "find_program",
     "from_linopy",
     "from_model",
