@@ -15,53 +15,65 @@ from .lines import Line
 from .matrix import Matrix
 from .program import NO
 from .represented import Matroid
-from .submatrices import Submatrix
 from .tableaux import Field, Operation, Tableau, bits_of
 
-__all__ = ["Outside", "four_points", "least_minor", "named_minor"]
+__all__ = ["Outside", "fewer_lines", "four_points", "least_minor", "line_tableau", "named_minor"]
 
-Outside = Callable[[Matrix], bool | None]
-"""Whether a matrix is outside of a class; None where that is undecided."""
+Outside = Callable[[Tableau[Line]], bool | None]
+"""Whether the matrix of a tableau is outside of a class; None where that is undecided."""
+
+def line_tableau(matrix: Matrix, field: Field) -> Tableau[Line]:
+    """The tableau of a matrix whose elements are its lines."""
+    return Tableau.of(matrix, field, *elements_after(matrix.shape, ()))
+
+
+def fewer_lines(tableau: Tableau[Line], outside: Outside) -> None:
+    """Takes lines of a tableau outside of a class away, many at once and then fewer, while it stays outside."""
+    reduction = _Reduction(tableau, outside)
+    size = len(tableau) // 2
+    while size:
+        reduction.try_all(size, with_pivots=False)
+        size = min(size, len(tableau)) // 2
+
 
 def least_minor(tableau: Tableau[Line], kind: MinorClass, outside: Outside) -> None:
     """Leaves of a tableau outside of a class an excluded minor. Raises `Undecided` where the class of a smaller minor is undecided.
 
-    Series and parallel elements go unasked, since the excluded minors have none. Many elements are tried at once first, and fewer then.
+    Lines are taken away before there are pivots, so that few are needed. Series and parallel elements go unasked, since the excluded minors
+    have none.
     """
-    reduction = _Reduction(tableau, kind, outside)
-    size = max(len(tableau) // 2, 1)
+    fewer_lines(tableau, outside)
+    reduction = _Reduction(tableau, outside, lambda: _recognised(tableau, kind) is not None)
+    size = len(tableau) // 2
     while size and not reduction.is_done():
-        reduction.try_all(size)
-        size //= 2
+        reduction.try_all(size, with_pivots=True)
+        size = min(size, len(tableau)) // 2
     while not reduction.is_done() and reduction.try_open():
         pass
     if reduction.open and not reduction.is_done():
-        rows, columns = tableau.matrix().shape
+        rows, columns = tableau.shape
         raise Undecided(f"a minor of size {rows}x{columns} is outside of the class, and whether smaller ones are is undecided")
 
 
 class _Reduction:
     """A tableau outside of a class, and what is known of its elements."""
 
-    def __init__(self, tableau: Tableau[Line], kind: MinorClass, outside: Outside) -> None:
+    def __init__(self, tableau: Tableau[Line], outside: Outside, is_done: Callable[[], bool] = lambda: False) -> None:
         self._tableau = tableau
-        self._kind = kind
         self._outside = outside
+        self.is_done = is_done
         self._needed: set[tuple[Line, Operation]] = set()
         self.open: set[tuple[Line, Operation]] = set()
         """What is left undecided: deleting or contracting an element."""
         tableau.simplify()
 
-    def is_done(self) -> bool:
-        """Whether an excluded minor is left."""
-        return _recognised(self._tableau, self._kind) is not None
-
-    def try_all(self, size: int) -> None:
-        """Tries all elements, so many at once: to take their lines away, and then the other of deleting and contracting."""
+    def try_all(self, size: int, *, with_pivots: bool) -> None:
+        """Tries all elements, so many at once: to take their lines away, and then, with pivots, the other of deleting and contracting."""
         elements = self._tableau.elements
         for start in range(0, len(elements), size):
-            chunk = [one for one in elements[start : start + size] if self._tableau.place_of(one) is not None]
-            if chunk and (self._goes(chunk, by_lines=True) or self._goes(chunk, by_lines=False)) and self.is_done():
+            chunk = elements[start : start + size]
+            goes = self._goes(chunk, by_lines=True) or (with_pivots and self._goes(chunk, by_lines=False))
+            if goes and self.is_done():
                 return
 
     def try_open(self) -> bool:
@@ -70,22 +82,24 @@ class _Reduction:
         return any([self._can_go([one]) for one in sorted(again)])
 
     def _goes(self, chunk: Sequence[Line], *, by_lines: bool) -> bool:
-        basis = set(self._tableau.row_elements.values())
+        """Whether the elements of a chunk go that are left, all at once."""
+        places = self._tableau.places
         operations: list[tuple[Line, Operation]] = [
-            (element, "contract" if (element in basis) == by_lines else "delete") for element in chunk
+            (element, "contract" if (places[element].kind == "row") == by_lines else "delete")
+            for element in chunk
+            if element in places
         ]
         return self._can_go(operations)
 
     def _can_go(self, operations: Sequence[tuple[Line, Operation]]) -> bool:
         """Does operations where the matroid stays outside of the class. One that is known to lead into it is left out."""
-        chosen = [one for one in operations if one not in self._needed and self._tableau.place_of(one[0]) is not None]
+        chosen = [one for one in operations if one not in self._needed and one[0] in self._tableau.places]
         if not chosen:
             return False
         smaller = self._tableau.copy()
-        for element, operation in chosen:
-            smaller.apply(operation, element)
+        smaller.apply(chosen)
         smaller.simplify()
-        is_outside = len(smaller) > 0 and self._outside(smaller.matrix())
+        is_outside = len(smaller) > 0 and self._outside(smaller)
         if is_outside:
             self._tableau.take(smaller)
         elif len(chosen) == 1:
@@ -95,7 +109,7 @@ class _Reduction:
 
 def _recognised(tableau: Tableau[Line], kind: MinorClass) -> tuple[str, list[Line]] | None:
     """The excluded minor that is left, by its name and with its elements in the order of the named matroid, or None."""
-    shape = len(tableau.row_elements), len(tableau.column_elements)
+    shape = tableau.shape
     for name in kind.excluded:
         wanted = Matroid.from_named(name)
         if wanted.matrix.shape == shape:
@@ -114,7 +128,7 @@ def named_minor(tableau: Tableau[Line], matrix: Matrix, kind: MinorClass) -> Exc
     """
     found = _recognised(tableau, kind)
     if found is None:
-        rows, columns = tableau.matrix().shape
+        rows, columns = tableau.shape
         raise ProgramFault(NO, f"what is left, of size {rows}x{columns}, is no excluded minor of the class {kind.name}")
     return _displayed_minor(tableau, matrix, kind, *found)
 
@@ -146,7 +160,7 @@ def _pivots_between(
     matrix: Matrix, field: Field, leaving: Sequence[int], entering: Sequence[int]
 ) -> tuple[tuple[int, int], ...]:
     """Pivots that bring the elements of some columns into the basis, and those of as many rows out of it."""
-    tableau = Tableau.of(matrix, field, *map(range, matrix.shape))
+    tableau = line_tableau(matrix, field)
     tableau.keep(leaving, entering)
     for column in entering:
         row = next(row for row in tableau.rows if tableau.entry(row, column))
@@ -155,22 +169,20 @@ def _pivots_between(
     return tuple(tableau.pivots)
 
 
-def four_points(matrix: Matrix, violator: Submatrix) -> Tableau[Line]:
-    """A minor U2,4 of the matroid of a matrix over GF(3), by pivots inside a violator.
+def four_points(tableau: Tableau[Line]) -> None:
+    """Leaves of a tableau over GF(3) that is a violator a minor U2,4, by pivots.
 
     A pivot keeps the sums of a violator even, and their sum modulo 4, on the other rows and columns (over the whole numbers). So there is
     a pivot which makes an entry 2 or -2: then its row, the row of that entry and the two columns are the minor.
     """
-    tableau = Tableau.of(matrix, 3, *elements_after(matrix.shape, ()))
-    tableau.keep(violator.rows, violator.columns)
     while True:
         row, column = _first_nonzero(tableau)
         found = next(_odd_squares(tableau, row, column), None)
         if found is not None:
-            for other in [other for other in tableau.rows if other not in (row, found[0])]:
+            for other in tableau.rows.keys() - {row, found[0]}:
                 tableau.remove_row(other)
-            tableau.remove_columns([at for at in tableau.column_elements if at not in (column, found[1])])
-            return tableau
+            tableau.remove_columns(tableau.column_elements.keys() - {column, found[1]})
+            return
         tableau.pivot(row, column)
         tableau.remove_row(row)
         tableau.remove_columns([column])

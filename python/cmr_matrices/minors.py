@@ -2,18 +2,17 @@
 
 from __future__ import annotations
 
-from collections.abc import Callable
 from dataclasses import dataclass
-from functools import partial
 
-from .answers import Answer
 from .clock import Clock
-from .excluded import ExcludedMinor, MinorClass, elements_after, minor_class
-from .lines import LineSet
+from .excluded import ExcludedMinor, MinorClass, minor_class
+from .lines import Line
 from .matrix import Matrix
-from .minor_search import Outside, four_points, least_minor, named_minor
-from .program import StrPath
-from .questions import is_cographic, is_graphic, is_network, is_regular, is_series_parallel, is_totally_unimodular
+from .minor_search import Outside, fewer_lines, four_points, least_minor, line_tableau, named_minor
+from .options import budget_words
+from .program import StrPath, run
+from .questions import is_regular, is_totally_unimodular
+from .reading import read_answer
 from .sources import MatrixLike
 from .tableaux import Tableau
 
@@ -65,74 +64,76 @@ class _Asked:
 
     def minor(self, kind: MinorClass, matrix: Matrix) -> ExcludedMinor | None:
         """A minor that a class excludes, or None where the matrix is in the class."""
+        tableau = line_tableau(matrix, kind.field)
+        if not (self._narrowed(kind, tableau) if kind.name in _GRAPHS else self._test(kind.name)(tableau)):
+            return None
         if kind.name == "totally unimodular":
-            answer = self._budgeted(is_totally_unimodular, matrix)
-            if answer.violator is None:
-                _must_be_decided(answer)
-                return None
-            tableau = four_points(matrix, answer.violator)
+            four_points(tableau)
         else:
-            outside = self._lines_outside(kind, matrix)
-            if outside is None:
-                return None
-            tableau = Tableau.of(matrix, kind.field, *elements_after(matrix.shape, ()))
-            tableau.keep(outside.rows, outside.columns)
-            least_minor(tableau, kind, self._test(kind))
+            least_minor(tableau, kind, self._test(kind.name))
         return named_minor(tableau, matrix, kind)
 
-    def _lines_outside(self, kind: MinorClass, matrix: Matrix) -> LineSet | None:
-        """Lines on which a matrix is outside of a class, or None where it is in the class."""
-        if kind.name == "regular":
-            return self._lines_not_regular(matrix)
-        answer = self._ask(_QUESTIONS[kind.name], matrix, certificate=True)
-        return None if answer.minimal is None else answer.minimal.lines
+    def _narrowed(self, kind: MinorClass, tableau: Tableau[Line]) -> bool:
+        """Whether a matrix is not totally unimodular, or not regular. Then lines are left on which it is not.
 
-    def _lines_not_regular(self, matrix: Matrix) -> LineSet | None:
-        """Lines on which a 0/1 matrix is not regular, or None.
-
-        What is not regular is neither graphic nor cographic. Where a small part that shows this is not regular either, the whole matrix,
-        on which the program may spend long, is not asked. Else the steps on which the violator of its chain depends have the lines.
+        What is not, is outside of two classes of graphs, too. Where a small part that shows this is not totally unimodular either, or not
+        regular, the whole matrix, on which the program may spend long, is not asked.
         """
-        for question in (is_graphic, is_cographic):
-            answer = self._ask(question, matrix, certificate=True)
-            if answer.minimal is None:
-                return None
-            if self._budgeted(is_regular, answer.minimal.submatrix(matrix)).verdict == "no":
-                return answer.minimal.lines
-        answer = self._budgeted(is_regular, matrix, certificate=True)
-        _must_be_decided(answer)
-        return None if answer.chain is None else answer.chain.needed
+        for graphs in _GRAPHS[kind.name]:
+            smaller, outside = tableau.copy(), self._test(graphs)
+            if not outside(smaller):
+                return False
+            fewer_lines(smaller, outside)
+            if self._shown(kind, smaller):
+                tableau.take(smaller)
+                return True
+        return self._shown(kind, tableau, must_be_decided=True)
 
-    def _test(self, kind: MinorClass) -> Outside:
-        """Whether the matrices of minors are outside of a class."""
-        if kind.name == "regular":
-            return lambda matrix: _is_no(self._budgeted(is_regular, matrix))
-        if kind.name in ("graphic", "network"):
-            return lambda matrix: _is_no(self._ask(_QUESTIONS[kind.name], matrix))
-        # What is left of a tableau after series-parallel reductions is outside.
-        return lambda matrix: True
+    def _shown(self, kind: MinorClass, tableau: Tableau[Line], *, must_be_decided: bool = False) -> bool:
+        """Whether a no is shown by lines of a tableau, which are then left: a violator, or the lines of the steps of a chain."""
+        question = is_regular if kind.name == "regular" else is_totally_unimodular
+        answer = question(
+            tableau.matrix(),
+            certificate=kind.name == "regular",
+            lines=self.lines,
+            workers=self.workers,
+            pivots=self.pivots,
+            time_limit=self.clock.left(),
+            program=self.program,
+        )
+        if answer.is_undecided and must_be_decided:
+            bool(answer)
+        shown = answer.chain.needed if answer.chain is not None else answer.violator
+        if shown is not None:
+            tableau.keep(shown.rows, shown.columns)
+        return shown is not None
 
-    def _ask(self, question: Callable[..., Answer], matrix: Matrix, **options: bool) -> Answer:
-        return question(matrix, time_limit=self.clock.left(), program=self.program, **options)
+    def _test(self, name: str) -> Outside:
+        """The test whether a tableau is outside of a class."""
+        words = _WORDS[name]
+        budget = budget_words(self.lines, self.pivots, self.workers) if name == "regular" else []
 
-    def _budgeted(self, question: Callable[..., Answer], matrix: Matrix, **options: bool) -> Answer:
-        budget = partial(question, lines=self.lines, workers=self.workers, pivots=self.pivots)
-        return self._ask(budget, matrix, **options)
+        def outside(tableau: Tableau[Line]) -> bool | None:
+            ran = run(
+                [*words, *budget, "-i", "dense"],
+                text=tableau.to_text(),
+                program=self.program,
+                time_limit=self.clock.left(),
+            )
+            answer = read_answer(ran, Matrix(tableau.shape, ()), name)
+            return None if answer.is_undecided else answer.verdict == "no"
+
+        return outside
 
 
-_QUESTIONS: dict[str, Callable[..., Answer]] = {
-    "graphic": is_graphic,
-    "network": is_network,
-    "series-parallel": is_series_parallel,
-    "binary series-parallel": partial(is_series_parallel, binary=True),
+_WORDS = {
+    "regular": ("regular",),
+    "graphic": ("graphic",),
+    "cographic": ("graphic", "-t"),
+    "network": ("network",),
+    "conetwork": ("network", "-t"),
+    "series-parallel": ("series-parallel",),
+    "binary series-parallel": ("series-parallel", "-b"),
 }
-
-
-def _is_no(answer: Answer) -> bool | None:
-    return None if answer.is_undecided else answer.verdict == "no"
-
-
-def _must_be_decided(answer: Answer) -> None:
-    """Raises `Undecided` for an answer that is."""
-    if answer.is_undecided:
-        bool(answer)
+_GRAPHS = {"totally unimodular": ("network", "conetwork"), "regular": ("graphic", "cographic")}
+"""Classes of graphs that are within a class."""

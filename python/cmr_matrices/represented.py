@@ -109,10 +109,8 @@ class Matroid:
                 raise BadInput(f"there is no element {element}")
         if set(deleted) & set(contracted):
             raise BadInput("an element is to be deleted and contracted")
-        for element in deleted:
-            tableau.apply("delete", element)
-        for element in contracted:
-            tableau.apply("contract", element)
+        tableau.apply([(element, "delete") for element in set(deleted)])
+        tableau.apply([(element, "contract") for element in set(contracted)])
         return self._of(tableau)
 
     def simplify(self) -> Matroid:

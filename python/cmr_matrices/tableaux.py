@@ -6,12 +6,13 @@ changes the basis: its row and its column then stand for each other's elements. 
 
 from __future__ import annotations
 
-from collections.abc import Hashable, Iterable, Iterator, Sequence
+from collections.abc import Callable, Hashable, Iterable, Iterator, Sequence
 from dataclasses import dataclass
+from operator import itemgetter
 from typing import Generic, Literal, TypeVar
 
 from .errors import BadInput
-from .lines import Kind
+from .lines import Line
 from .matrix import Matrix
 
 __all__ = ["Field", "Operation", "Tableau", "bits_of"]
@@ -39,6 +40,8 @@ class Tableau(Generic[Element]):
     rows: dict[int, Row]
     row_elements: dict[int, Element]
     column_elements: dict[int, Element]
+    places: dict[Element, Line]
+    """The line at which each element stands."""
     pivots: list[tuple[int, int]]
 
     @classmethod
@@ -50,20 +53,22 @@ class Tableau(Generic[Element]):
         for row, column, value in matrix.nonzeros:
             planes[row][value < 0] |= 1 << column
         rows = {row: (plus, minus) for row, (plus, minus) in planes.items()}
-        return cls(field, rows, dict(enumerate(basis)), dict(enumerate(others)), [])
+        places = {element: Line("row", row) for row, element in enumerate(basis)}
+        places |= {element: Line("column", column) for column, element in enumerate(others)}
+        return cls(field, rows, dict(enumerate(basis)), dict(enumerate(others)), places, [])
 
     def copy(self) -> Tableau[Element]:
         """Another tableau that is the same."""
         elements = dict(self.row_elements), dict(self.column_elements)
-        return Tableau(self.field, dict(self.rows), *elements, list(self.pivots))
+        return Tableau(self.field, dict(self.rows), *elements, dict(self.places), list(self.pivots))
 
     def take(self, other: Tableau[Element]) -> None:
         """Becomes another tableau, which is not used any more."""
         self.rows, self.pivots = other.rows, other.pivots
-        self.row_elements, self.column_elements = other.row_elements, other.column_elements
+        self.row_elements, self.column_elements, self.places = other.row_elements, other.column_elements, other.places
 
     def __len__(self) -> int:
-        return len(self.row_elements) + len(self.column_elements)
+        return len(self.places)
 
     @property
     def elements(self) -> tuple[Element, ...]:
@@ -74,6 +79,22 @@ class Tableau(Generic[Element]):
         """The entry at a place."""
         plus, minus = self.rows[row]
         return (plus >> column & 1) - (minus >> column & 1)
+
+    @property
+    def shape(self) -> tuple[int, int]:
+        """The numbers of rows and columns that are left."""
+        return len(self.row_elements), len(self.column_elements)
+
+    def to_text(self) -> str:
+        """The dense text of `matrix`, which the program reads."""
+        pick = _picker(self.column_elements)
+        width = 1 + max(self.column_elements, default=0)
+        lines = ["{} {}".format(*self.shape)]
+        for row in self.row_elements:
+            plus, minus = (f"{plane:0{width}b}"[::-1] for plane in self.rows[row])
+            entries = pick(plus) if self.field == 2 else map(_ENTRIES.__getitem__, zip(pick(plus), pick(minus)))
+            lines.append(" ".join(entries))
+        return "\n".join([*lines, ""])
 
     def matrix(self) -> Matrix:
         """The matrix of the lines that are left, in their order."""
@@ -95,16 +116,16 @@ class Tableau(Generic[Element]):
 
     def remove_row(self, row: int) -> None:
         """Contracts the element of a row."""
-        del self.rows[row], self.row_elements[row]
+        del self.rows[row], self.places[self.row_elements.pop(row)]
 
     def remove_columns(self, columns: Iterable[int]) -> None:
         """Deletes the elements of some columns."""
         gone = 0
         for column in tuple(columns):
-            del self.column_elements[column]
+            del self.places[self.column_elements.pop(column)]
             gone |= 1 << column
-        for row, (plus, minus) in self.rows.items():
-            self.rows[row] = plus & ~gone, minus & ~gone
+        if gone:
+            self.rows = {row: (plus & ~gone, minus & ~gone) for row, (plus, minus) in self.rows.items()}
 
     def pivot(self, row: int, column: int) -> None:
         """Pivots at a nonzero a: an entry beside its lines becomes `A[i][j] - A[i][column] A[row][j] / a`.
@@ -124,49 +145,56 @@ class Tableau(Generic[Element]):
             negative = below * value > 0 and self.field == 3
             self.rows[other] = (rest[0], rest[1] | bit) if negative else (rest[0] | bit, rest[1])
         self.rows[row] = (without[0] | bit, without[1]) if value > 0 else (without[0], without[1] | bit)
-        self.row_elements[row], self.column_elements[column] = self.column_elements[column], self.row_elements[row]
+        leaving, entering = self.row_elements[row], self.column_elements[column]
+        self.row_elements[row], self.column_elements[column] = entering, leaving
+        self.places[entering], self.places[leaving] = Line("row", row), Line("column", column)
         self.pivots.append((row, column))
 
-    def place_of(self, element: Element) -> tuple[Kind, int] | None:
-        """Where an element stands, or None where it is gone."""
-        places: tuple[tuple[Kind, dict[int, Element]], ...] = (("row", self.row_elements), ("column", self.column_elements))
-        found = ((kind, number) for kind, elements in places for number, at in elements.items() if at == element)
-        return next(found, None)
+    def remove_lines(self, elements: Iterable[Element]) -> None:
+        """Takes the lines of elements away: those of the basis are contracted, and the others deleted."""
+        lines = [self.places[element] for element in elements]
+        for line in lines:
+            if line.kind == "row":
+                self.remove_row(line.number)
+        self.remove_columns(line.number for line in lines if line.kind == "column")
 
-    def apply(self, operation: Operation, element: Element) -> None:
-        """Deletes or contracts an element. Where it stands on the other side, a pivot changes that before."""
-        place = self.place_of(element)
-        if place is None:
-            return
-        kind, number = place
-        if (kind == "row") == (operation == "contract"):
-            self._remove(kind, number)
-            return
-        partner = self._partner(kind, number)
-        if partner is None:
-            # A loop or a coloop: deleting and contracting it are the same.
-            self._remove(kind, number)
-        elif kind == "row":
-            self.pivot(number, partner)
-            self.remove_columns([partner])
-        else:
-            self.pivot(partner, number)
-            self.remove_row(partner)
+    def apply(self, operations: Iterable[tuple[Element, Operation]]) -> None:
+        """Deletes and contracts elements. Where one stands on the other side, a pivot changes that before."""
+        chosen = tuple(operations)
+        by_line = [one for one in chosen if (self.places[one[0]].kind == "row") == (one[1] == "contract")]
+        self.remove_lines(element for element, _ in by_line)
+        for element, operation in chosen:
+            if element in self.places:
+                self._apply(operation, element)
+
+    def _apply(self, operation: Operation, element: Element) -> None:
+        line = self.places[element]
+        if (line.kind == "row") != (operation == "contract"):
+            partner = self._partner(line)
+            if partner is not None:
+                # Without a partner it is a loop or a coloop, and deleting and contracting it are the same.
+                self.pivot(*((line.number, partner) if line.kind == "row" else (partner, line.number)))
+        self.remove_lines([element])
 
     def move(self, element: Element, kept: Iterable[Element]) -> None:
         """Brings an element into the basis, in the place of one that is not among those that are to be kept there."""
-        kind, number = self.place_of(element) or ("row", 0)
-        if kind == "row":
-            return
-        stay = set(kept)
-        row = next(row for row, at in self.row_elements.items() if at not in stay and self.entry(row, number))
-        self.pivot(row, number)
+        line, stay = self.places[element], set(kept)
+        if line.kind == "column":
+            rows = (row for row, at in self.row_elements.items() if at not in stay and self.entry(row, line.number))
+            self.pivot(next(rows), line.number)
 
-    def column(self, column: int) -> Row:
-        """The places of the ones and of the entries -1 of a column, as bits."""
-        bit = 1 << column
-        plus = sum(1 << row for row, (ones, _) in self.rows.items() if ones & bit)
-        return plus, sum(1 << row for row, (_, others) in self.rows.items() if others & bit)
+    def columns(self) -> dict[int, Row]:
+        """The columns, each with the places of its ones and of its entries -1, as bits by the order of the rows."""
+        return dict(zip(self.column_elements, zip(self._turned(0), self._turned(1))))
+
+    def _turned(self, plane: Literal[0, 1]) -> list[int]:
+        """The columns of ones, or those of entries -1. Texts are turned many times faster than bits one by one."""
+        if not self.rows:
+            return [0] * len(self.column_elements)
+        pick = _picker(self.column_elements)
+        width = 1 + max(self.column_elements, default=0)
+        texts = (pick(f"{row[plane]:0{width}b}"[::-1]) for row in self.rows.values())
+        return [int("".join(bits), 2) for bits in zip(*texts)]
 
     def simplify(self) -> None:
         """Takes away lines that are zero, have one nonzero, or equal another or its negative, until none is left that can go.
@@ -185,23 +213,17 @@ class Tableau(Generic[Element]):
 
     def remove_reducible_columns(self) -> bool:
         """Deletes loops, and all but one of the elements that are parallel. Whether there was one."""
-        columns = _reducible((column, self.column(column)) for column in self.column_elements)
+        columns = _reducible(self.columns().items())
         self.remove_columns(columns)
         return bool(columns)
 
-    def _remove(self, kind: Kind, number: int) -> None:
-        if kind == "row":
-            self.remove_row(number)
-        else:
-            self.remove_columns([number])
-
-    def _partner(self, kind: Kind, number: int) -> int | None:
+    def _partner(self, line: Line) -> int | None:
         """A line that crosses a line at a nonzero, with few nonzeros where there is a choice."""
-        if kind == "row":
-            return next(bits_of(self.rows[number][0] | self.rows[number][1]), None)
-        bit = 1 << number
+        if line.kind == "row":
+            return next(bits_of(sum(self.rows[line.number])), None)
+        bit = 1 << line.number
         crossing = [row for row, (plus, minus) in self.rows.items() if (plus | minus) & bit]
-        return min(crossing, key=lambda row: (self.rows[row][0] | self.rows[row][1]).bit_count()) if crossing else None
+        return min(crossing, key=lambda row: sum(self.rows[row]).bit_count()) if crossing else None
 
     def _sum(self, first: Row, second: Row) -> Row:
         if self.field == 2:
@@ -214,6 +236,18 @@ class Tableau(Generic[Element]):
 
     def _negated(self, row: Row) -> Row:
         return row if self.field == 2 else _negative(row)
+
+
+_ENTRIES = {("0", "0"): "0", ("1", "0"): "1", ("0", "1"): "-1"}
+"""The word of an entry by its bits."""
+
+
+def _picker(places: Iterable[int]) -> Callable[[str], tuple[str, ...]]:
+    """What picks the characters at some places of a text."""
+    wanted = tuple(places)
+    if len(wanted) < 2:
+        return lambda text: tuple(text[place] for place in wanted)
+    return itemgetter(*wanted)
 
 
 def _negative(row: Row) -> Row:

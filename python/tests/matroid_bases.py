@@ -29,7 +29,7 @@ def rank(vectors: Iterable[Sequence[int]], field: int) -> int:
 
 
 def columns_of(rows: Rows) -> list[tuple[int, ...]]:
-    """The columns of `[I A]`: an element for each row, and then one for each column."""
+    """The columns of `[I A]`: an element for each row, and then one for each column. There has to be a row."""
     height = len(rows)
     return [tuple(int(row == place) for row in range(height)) for place in range(height)] + [*zip(*rows)]
 
@@ -39,7 +39,7 @@ def minor_bases(rows: Rows, field: int, contracted: Sequence[int], names: dict[i
 
     Elements are numbered as the columns of `[I A]`.
     """
-    vectors = columns_of(rows)
+    vectors = columns_of(rows) if rows else [()] * (1 + max([*contracted, *names], default=-1))
     below = [vectors[element] for element in contracted]
     least = rank(below, field)
     size = rank([*below, *(vectors[element] for element in names)], field) - least

@@ -11,7 +11,7 @@ from dataclasses import replace
 import cmr_matrices as cmr
 from cmr_matrices import Answer, BadInput, ExcludedMinor, Line, Matrix, Undecided, excluded_minor
 from cmr_matrices.excluded import CLASSES, elements_after, minor_class
-from cmr_matrices.minor_search import least_minor, named_minor
+from cmr_matrices.minor_search import least_minor, line_tableau, named_minor
 from cmr_matrices.tableaux import Tableau
 from tests import matroid_bases
 from tests.support import FANO, K5, R10, TRIANGLE, needs_program
@@ -190,10 +190,10 @@ class Reductions(unittest.TestCase):
 
     def reduced(self, most: int) -> Tableau[Line]:
         matrix = cmr.named("K6")
-        tableau = Tableau.of(matrix, 2, *elements_after(matrix.shape, ()))
+        tableau = line_tableau(matrix, 2)
 
-        def outside(smaller: Matrix) -> bool | None:
-            return None if sum(smaller.shape) > most else True
+        def outside(smaller: Tableau[Line]) -> bool | None:
+            return None if len(smaller) > most else True
 
         least_minor(tableau, minor_class("binary series-parallel"), outside)
         minor = named_minor(tableau, matrix, minor_class("binary series-parallel"))

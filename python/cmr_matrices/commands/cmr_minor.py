@@ -1,12 +1,12 @@
 """Names an excluded minor of a matrix that is outside of a class, or checks one that was written.
 
-    cmr-minor CLASS [MATRIX]       asks cmr, and prints a minor where the answer is no; standard input is read where MATRIX is left out
+    cmr-minor CLASS [MATRIX]       asks cmr, and prints a minor where the answer is no; MATRIX may be standard input
     cmr-minor check MATRIX MINOR   checks what -M wrote on a matrix, by plain arithmetic, without cmr
 
 CLASS is one of tu, regular, graphic, cographic, network, conetwork, series-parallel and binary-series-parallel.
 
-Status: 0 for a yes, 1 for a no and for a minor that holds, 2 where the words are refused, 3 where a text is, 4 where a file cannot be read or
-written, 6 for an undecided answer, 7 where check refuses a minor, 70 where there is no program.
+Status: 0 for a yes, 1 for a no and for a minor that holds, 2 where the words are refused, 3 where a text is, 4 where a file cannot be
+read or written, 5 where memory is refused, 6 for an undecided answer, 7 where check refuses a minor, 70 where there is no program.
 """
 
 from __future__ import annotations
@@ -90,7 +90,8 @@ def _asked(chosen: argparse.Namespace) -> int:
         _print([f"{kind.name}: yes"])
         return YES
     if chosen.minor:
-        _usable(lambda: write_text(chosen.minor, minor.to_text()))
+        text = minor.to_text()
+        _usable(lambda: write_text(chosen.minor, text))
     _print([f"{kind.name}: no", *_lines(minor, matrix, chosen.sage)])
     return NO
 
@@ -109,13 +110,16 @@ def _checked(chosen: argparse.Namespace) -> int:
 
 def _matrix(chosen: argparse.Namespace, name: str) -> Matrix:
     matrix = _read(name, lambda text: Matrix.from_text(text, sparse=chosen.format == "sparse"))
-    names = _read(chosen.names, Names.from_text) if chosen.names else None
-    return Matrix.of(matrix, row_names=names and names.rows, column_names=names and names.columns)
+    if not chosen.names:
+        return matrix
+    names = _read(chosen.names, Names.from_text)
+    return Matrix.of(matrix, row_names=names.rows, column_names=names.columns)
 
 
 def _lines(minor: ExcludedMinor, matrix: Matrix, with_sage: bool) -> Iterator[str]:
     """The printed lines, with the names of the matrix or with numbers counted from 1."""
-    name, names = (lambda line: line.word) if minor.names is None else minor.names.line, minor.names
+    names = minor.names
+    name: Callable[[Line], str] = (lambda line: line.word) if names is None else names.line
     yield f"minor {minor.name}"
     for row, column in minor.pivots:
         yield f"pivot {name(Line('row', row))} {name(Line('column', column))}"
@@ -124,8 +128,8 @@ def _lines(minor: ExcludedMinor, matrix: Matrix, with_sage: bool) -> Iterator[st
         yield f"{what} {_numbers(lines) if names is None else names.line_set(lines)}"
     if with_sage:
         shown = minor.displayed(matrix)
-        labels = [name(line) for line in minor.elements]
-        yield Matroid.of(shown, minor.field, row_names=labels[: shown.shape[0]], column_names=labels[shown.shape[0] :]).to_sage()
+        labels, rank = [name(line) for line in minor.elements], shown.shape[0]
+        yield Matroid.of(shown, minor.field, row_names=labels[:rank], column_names=labels[rank:]).to_sage()
 
 
 def _numbers(lines: LineSet) -> str:
