@@ -1,26 +1,27 @@
 """Excluded minors as evidence: matroids of the literature that a matrix has as minors, and that no matrix of a class has.
 
-Of binary matroids, those that 0/1 matrices represent over GF(2), the regular ones are those without a minor F7 or F7* (Tutte 1958), and the
-graphic ones those without F7, F7*, M*(K5) and M*(K3,3) (Tutte 1959); the dual ones follow. Of matroids over GF(3) the regular ones are those
-without a minor U2,4, since these are the ones that are binary too (Tutte 1958).
+Of binary matroids, those that 0/1 matrices represent over GF(2), the regular ones are those without a minor F7 or F7* (Tutte 1958), and
+the graphic ones those without F7, F7*, M*(K5) and M*(K3,3) (Tutte 1959); the dual ones follow. Of matroids over GF(3) the regular ones are
+those without a minor U2,4, since these are the ones that are binary too (Tutte 1958).
 
 A matrix with entries -1, 0 and 1 is totally unimodular exactly where the matroid that it represents over GF(3) is regular: over GF(3) two
-representations with one basis differ by signs of lines alone (Brylawski and Lucas 1976), and one of a regular matroid is totally unimodular.
-So it has a minor U2,4 where it is not totally unimodular, also where its support is regular and the signs alone are at fault. A violator
-of it is the source of such a minor: pivots inside the violator keep its sums and make it smaller, until the determinant of a square of two
-lines is 2 or -2, which is 0 over GF(2) and not over GF(3). It is a network matrix where that matroid is graphic.
+representations with one basis differ by signs of lines alone (Brylawski and Lucas 1976), and one of a regular matroid is totally
+unimodular. So it has a minor U2,4 where it is not totally unimodular, also where its support is regular and the signs alone are at fault. A
+violator is the source of such a minor: pivots inside it keep its sums and make it smaller, until the determinant of a square of two lines
+is 2 or -2, which is 0 over GF(2) and not over GF(3). It is a network matrix where that matroid is graphic.
 
 Series-parallel matroids are those without a minor U2,4 or M(K4) (Dirac 1952; Duffin 1965; Brylawski 1971).
 
-Source: Oxley, *Matroid Theory*; Truemper, *Matroid Decomposition*; Schrijver, *Theory of Linear and Integer Programming*, chapters 19 to 21.
+Source: Oxley, *Matroid Theory*; Truemper, *Matroid Decomposition*; Schrijver, *Theory of Linear and Integer Programming*, chapters 19
+to 21.
 """
 
 from __future__ import annotations
 
-from collections.abc import Iterable, Iterator, Sequence
+from collections.abc import Iterable, Iterator
 from dataclasses import dataclass, field, replace
-from itertools import combinations
 
+from .bases import bases, left_after
 from .errors import BadInput
 from .lines import Line, LineSet, Names
 from .matrix import Matrix
@@ -114,17 +115,11 @@ class ExcludedMinor:
         _, columns = elements_after(self.shape, self.pivots)
         return _line_set(line for column, line in enumerate(columns) if column not in set(self.columns))
 
-    @property
-    def lines(self) -> LineSet:
-        """The rows and columns of the matrix that matter: all rows but those that are contracted where they stand, and so on."""
-        rows = {*self.rows, *(row for row, _ in self.pivots)}
-        return LineSet(tuple(sorted(rows)), tuple(sorted({*self.columns, *(column for _, column in self.pivots)})))
-
     def displayed(self, matrix: MatrixLike) -> Matrix:
-        """The submatrix that is left after the pivots, with the names of its elements. Raises `BadInput` where it is none of this matrix."""
+        """The submatrix that is left after the pivots, with names of elements. Raises `BadInput` where the matrix is another."""
         rows, columns = elements_after(self.shape, self.pivots)
         return Matrix.of(
-            _displayed(self._entries(matrix), self, self.field),
+            left_after(self._entries(matrix), self.field, self.pivots, self.rows, self.columns),
             row_names=[self._line_name(rows[row]) for row in self.rows],
             column_names=[self._line_name(columns[column]) for column in self.columns],
         )
@@ -132,7 +127,7 @@ class ExcludedMinor:
     def verify(self, matrix: MatrixLike) -> bool:
         """Whether this is a minor of the matroid of the matrix, and one that the class excludes.
 
-        Neither the program nor what has found the minor is asked: the pivots are made, and all sets of elements are tried for being a basis.
+        Neither the program nor what has found the minor is asked: the pivots are made, and sets of elements are tried for being a basis.
         """
         return self.fault(matrix) is None
 
@@ -143,13 +138,13 @@ class ExcludedMinor:
             kind = minor_class(self.property_name)
             if self.name not in kind.excluded:
                 return f"{self.name} is no excluded minor of the class {kind.name}"
-            left = _displayed(entries, self, kind.field)
+            left = left_after(entries, kind.field, self.pivots, self.rows, self.columns)
         except BadInput as fault:
             return str(fault)
         wanted = self.matroid
         if (len(self.rows), len(self.columns)) != wanted.matrix.shape:
             return f"{self.name} has another rank, or another number of elements"
-        if _bases(left, kind.field) != _bases(wanted.matrix.to_lists(), wanted.field):
+        if bases(left, kind.field) != bases(wanted.matrix.to_lists(), wanted.field):
             return f"what is left is not {self.name}"
         return None
 
@@ -247,63 +242,3 @@ def _line_set(lines: Iterator[Line]) -> LineSet:
     found = tuple(lines)
     rows = tuple(sorted(line.number for line in found if line.kind == "row"))
     return LineSet(rows, tuple(sorted(line.number for line in found if line.kind == "column")))
-
-
-def _displayed(entries: list[list[int]], minor: ExcludedMinor, of: Field) -> list[list[int]]:
-    """The submatrix on the rows and columns of a minor after its pivots, with entries -1, 0 and 1."""
-    for numbers, kind in ((minor.rows, "row"), (minor.columns, "column")):
-        if len(set(numbers)) < len(numbers):
-            raise BadInput(f"a {kind} is given twice")
-    lines = minor.lines
-    for row, column in minor.pivots:
-        entries = _pivoted(entries, row, column, of, lines)
-    left = ([entries[row][column] % of for column in minor.columns] for row in minor.rows)
-    return [[value - of if value == 2 else value for value in row] for row in left]
-
-
-def _pivoted(entries: list[list[int]], row: int, column: int, of: Field, lines: LineSet) -> list[list[int]]:
-    """The pivot of a matrix over a field, on some of its lines."""
-    pivot = entries[row][column] % of
-    if not pivot:
-        raise BadInput(f"there is no pivot at row {row}, column {column}, where the entry is 0")
-    inverse = pow(pivot, -1, of)
-    across = [(at, entries[row][at] * inverse % of) for at in lines.columns if at != column]
-    made = list(entries)
-    for at in lines.rows:
-        factor = entries[at][column] % of
-        if at != row and factor:
-            changed = list(entries[at])
-            for other, value in across:
-                changed[other] = (changed[other] - factor * value) % of
-            changed[column] = -factor * inverse % of
-            made[at] = changed
-    own = list(entries[row])
-    for other, value in across:
-        own[other] = value
-    own[column] = inverse
-    made[row] = own
-    return made
-
-
-def _bases(entries: Sequence[Sequence[int]], of: Field) -> set[tuple[int, ...]]:
-    """The bases of the matroid of `[I A]`: the rows are its first elements, and then come the columns."""
-    height = len(entries)
-    vectors = [tuple(int(row == place) for row in range(height)) for place in range(height)]
-    vectors += [tuple(column) for column in zip(*entries)]
-    sets = combinations(range(len(vectors)), height)
-    return {chosen for chosen in sets if _are_independent([vectors[element] for element in chosen], of)}
-
-
-def _are_independent(vectors: list[tuple[int, ...]], of: Field) -> bool:
-    """Whether vectors are independent over a field, by elimination."""
-    left = [list(vector) for vector in vectors]
-    while left:
-        first = left.pop()
-        place = next((at for at, value in enumerate(first) if value % of), None)
-        if place is None:
-            return False
-        factors = (vector[place] * pow(first[place] % of, -1, of) for vector in left)
-        left = [
-            [(value - factor * own) % of for value, own in zip(vector, first)] for factor, vector in zip(factors, left)
-        ]
-    return True

@@ -1,7 +1,7 @@
 """The way from a matrix outside of a class to a minor that the class excludes: what is not needed is deleted or contracted.
 
-An element that can neither be deleted nor contracted, since the matroid is in the class after either, is in each minor that is outside of
-the class, and stays so in every minor. So each element is tried once, and what is left at the end has no smaller minor outside of the class.
+An element that can neither be deleted nor contracted, since the matroid is in the class after either, is in each minor that is outside
+of the class, and stays so in every minor. So each element is tried once, and what is left has no smaller minor outside of the class.
 """
 
 from __future__ import annotations
@@ -136,7 +136,7 @@ def named_minor(tableau: Tableau[Line], matrix: Matrix, kind: MinorClass) -> Exc
 def _displayed_minor(
     tableau: Tableau[Line], matrix: Matrix, kind: MinorClass, name: str, elements: Sequence[Line]
 ) -> ExcludedMinor:
-    """The minor with these elements, in the order of the named matroid, by pivots of the whole matrix that bring its basis into the rows."""
+    """The minor with these elements, in the order of the named matroid, by pivots that bring its basis into rows of the whole matrix."""
     basis, others = elements[: len(tableau.row_elements)], elements[len(tableau.row_elements) :]
     for element in basis:
         tableau.move(element, basis)

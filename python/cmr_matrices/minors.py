@@ -21,7 +21,7 @@ __all__ = ["excluded_minor"]
 
 def excluded_minor(
     matrix: MatrixLike,
-    of: str = "regular",
+    of: str,
     *,
     lines: int | None = None,
     workers: int | None = None,

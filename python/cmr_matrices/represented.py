@@ -20,7 +20,7 @@ _FOUR_POINTS = Matrix.of([[1, 1], [1, -1]], row_names=["1", "2"], column_names=[
 
 @dataclass(frozen=True, eq=False)
 class Matroid:
-    """The matroid that `[I A]` represents over a field: `matrix` is `A`, its rows are named as a basis and its columns as the other elements.
+    """The matroid that `[I A]` represents over a field: `matrix` is `A`, and names a basis by its rows and the others by its columns.
 
     Two are equal where the matrices, the names and the fields are; `is_isomorphic` asks whether the matroids are the same up to names.
     """

@@ -1,7 +1,7 @@
 """Standard matrices over GF(2) and GF(3) while lines go and elements change their sides, with rows as sets of bits.
 
-The rows of a standard matrix `A` stand for a basis of the matroid that `[I A]` represents, and its columns for all other elements. A pivot
-changes the basis: its row and its column then stand for each other's elements. A row that goes is contracted, a column that goes is deleted.
+The rows of a standard matrix `A` stand for a basis of the matroid that `[I A]` represents, and its columns for all other elements. A
+pivot changes the basis: its row and its column then stand for each other's elements. A row that goes is contracted, and a column deleted.
 """
 
 from __future__ import annotations

@@ -5,7 +5,7 @@ from __future__ import annotations
 import itertools
 import random
 import unittest
-from collections.abc import Callable
+from collections.abc import Callable, Sequence
 from dataclasses import replace
 
 import cmr_matrices as cmr
@@ -15,6 +15,7 @@ from cmr_matrices.minor_search import least_minor, line_tableau, named_minor
 from cmr_matrices.tableaux import Tableau
 from tests import matroid_bases
 from tests.support import FANO, K5, R10, TRIANGLE, needs_program
+from tests.test_binary_matroids import example
 from tests.test_random import drawn
 
 MATRICES = 80
@@ -35,6 +36,13 @@ Rows = list[list[int]]
 def number_of(line: Line, rows: Rows) -> int:
     """The number of an element among the columns of `[I A]`."""
     return line.number if line.kind == "row" else len(rows) + line.number
+
+
+def block_diagonal(blocks: Sequence[Rows]) -> Rows:
+    widths = [len(block[0]) for block in blocks]
+    return [
+        [0] * sum(widths[:place]) + row + [0] * sum(widths[place + 1 :]) for place, block in enumerate(blocks) for row in block
+    ]
 
 
 def holds(minor: ExcludedMinor, rows: Rows) -> bool:
@@ -76,6 +84,8 @@ class Values(unittest.TestCase):
             (replace(self.minor, columns=(0, 1, 2)), "another rank"),
             (replace(self.minor, columns=(0, 1, 3, 2)), "what is left is not F7"),
             (replace(self.minor, rows=(0, 1, 1)), "a row is given twice"),
+            (replace(self.minor, rows=(0, 1, -1)), "is none of the matrix"),
+            (replace(self.minor, columns=(0, 1, 2, 4)), "is none of the matrix"),
             (replace(self.minor, pivots=((0, 2),)), "where the entry is 0"),
             (replace(self.minor, pivots=((0, 0),)), "what is left is not F7"),
             (replace(self.minor, shape=(4, 3)), "of shape"),
@@ -167,20 +177,51 @@ class Found(unittest.TestCase):
         self.assertEqual(minor.name, "M*(K3,3)")
         self.holds(minor, signed.to_lists())
 
+    def test_binary_matroids(self) -> None:
+        """Of the 342 binary matroids with eight elements ten are not regular."""
+        representations = example("binary_matroids").representations
+        found = []
+        for height in range(9):
+            for columns in representations(height, 8 - height):
+                triples = ((row, at, one) for at, column in enumerate(columns) for row, one in enumerate(column))
+                matrix = Matrix.from_triples(triples, (height, len(columns)))
+                minor = excluded_minor(matrix, "regular")
+                if minor is not None:
+                    self.holds(minor, matrix.to_lists())
+                    found.append(minor.name)
+        self.assertEqual((len(found), set(found)), (10, {"F7", "F7*"}))
+
+    def test_parts_that_are_regular(self) -> None:
+        """Where the parts that are left of the graphs' classes are regular, the chain of the whole matrix shows the lines."""
+        blocks = [cmr.named(name).to_lists() for name in ("F7", "K5*", "K5")]
+        for order in itertools.permutations(blocks):
+            rows = block_diagonal(order)
+            minor = excluded_minor(rows, "regular")
+            assert minor is not None
+            self.holds(minor, rows)
+
     def test_names(self) -> None:
         matrix = Matrix.of(FANO, row_names="abc", column_names="defg")
         minor = excluded_minor(matrix, "regular")
         self.assertEqual(str(minor).splitlines()[0], "minor F7: a=1 b=2 c=3 d=4 e=5 f=6 g=7")
 
     def test_undecided(self) -> None:
-        square = [
-            [int(cell[i] == pair[0] and cell[j] == pair[1]) for cell in itertools.product(range(3), repeat=3)]
-            for i, j in ((0, 1), (0, 2), (1, 2))
-            for pair in itertools.product(range(3), repeat=2)
-        ]
+        """Two goods over six connections are totally unimodular, which is found behind pivots alone."""
+        balances = [[-1, -1, 0, -1, -1, 0], [1, 0, -1, 1, 0, -1]]
+        goods = [[*row, *[0] * 6] for row in balances] + [[*[0] * 6, *row] for row in balances]
+        goods += [[int(connection == other) for _ in range(2) for other in range(6)] for connection in range(6)]
         with self.assertRaises(Undecided):
-            excluded_minor(square, "totally unimodular", lines=0, pivots=0)
-        minor = excluded_minor(square, "totally unimodular")
+            excluded_minor(goods, "totally unimodular", lines=0, pivots=0)
+        self.assertIsNone(excluded_minor(goods, "totally unimodular"))
+
+    def test_a_part_decides(self) -> None:
+        """Latin squares of order 3 are undecided without pivots, and a part that is no network matrix is not."""
+        cells, pairs = [list(itertools.product(range(3), repeat=count)) for count in (3, 2)]
+        square = [
+            [int((cell[i], cell[j]) == pair) for cell in cells] for i, j in ((0, 1), (0, 2), (1, 2)) for pair in pairs
+        ]
+        self.assertTrue(cmr.is_totally_unimodular(square).is_undecided)
+        minor = excluded_minor(square, "totally unimodular", pivots=0)
         assert minor is not None
         self.assertTrue(minor.verify(square))
 
