@@ -66,7 +66,11 @@ def _kinds(found: frozenset[int], size: int) -> list[Kind]:
 
 
 def _maps(
-    first: frozenset[int], second: frozenset[int], order: list[int], kinds: tuple[list[Kind], list[Kind]], to: dict[int, int]
+    first: frozenset[int],
+    second: frozenset[int],
+    order: list[int],
+    kinds: tuple[list[Kind], list[Kind]],
+    to: dict[int, int],
 ) -> Iterator[tuple[int, ...]]:
     """All ways to map the elements that are left, so that the circuits among those that are mapped fit after each."""
     if len(to) == len(order):

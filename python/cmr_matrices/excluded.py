@@ -199,7 +199,8 @@ class ExcludedMinor:
     def __str__(self) -> str:
         elements = " ".join(f"{self._line_name(line)}={element}" for line, element in self.elements.items())
         sets = (("deleted", self.deleted), ("contracted", self.contracted))
-        return "\n".join([f"minor {self.name}: {elements}", *(f"{what} {self._set_name(lines)}" for what, lines in sets)])
+        lines = (f"{what} {self._set_name(lines)}" for what, lines in sets)
+        return "\n".join([f"minor {self.name}: {elements}", *lines])
 
     def _line_name(self, line: Line) -> str:
         return (self.names or Names.numbered(*self.shape)).line(line)

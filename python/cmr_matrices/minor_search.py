@@ -22,6 +22,7 @@ __all__ = ["Outside", "fewer_lines", "four_points", "least_minor", "line_tableau
 Outside = Callable[[Tableau[Line]], bool | None]
 """Whether the matrix of a tableau is outside of a class; None where that is undecided."""
 
+
 def line_tableau(matrix: Matrix, field: Field) -> Tableau[Line]:
     """The tableau of a matrix whose elements are its lines."""
     return Tableau.of(matrix, field, *elements_after(matrix.shape, ()))
@@ -29,11 +30,7 @@ def line_tableau(matrix: Matrix, field: Field) -> Tableau[Line]:
 
 def fewer_lines(tableau: Tableau[Line], outside: Outside) -> None:
     """Takes lines of a tableau outside of a class away, many at once and then fewer, while it stays outside."""
-    reduction = _Reduction(tableau, outside)
-    size = len(tableau) // 2
-    while size:
-        reduction.try_all(size, with_pivots=False)
-        size = min(size, len(tableau)) // 2
+    _Reduction(tableau, outside).reduce(with_pivots=False)
 
 
 def least_minor(tableau: Tableau[Line], kind: MinorClass, outside: Outside) -> None:
@@ -42,17 +39,15 @@ def least_minor(tableau: Tableau[Line], kind: MinorClass, outside: Outside) -> N
     Lines are taken away before there are pivots, so that few are needed. Series and parallel elements go unasked, since the excluded minors
     have none.
     """
-    fewer_lines(tableau, outside)
     reduction = _Reduction(tableau, outside, lambda: _recognised(tableau, kind) is not None)
-    size = len(tableau) // 2
-    while size and not reduction.is_done():
-        reduction.try_all(size, with_pivots=True)
-        size = min(size, len(tableau)) // 2
+    reduction.reduce(with_pivots=False)
+    reduction.reduce(with_pivots=True)
     while not reduction.is_done() and reduction.try_open():
         pass
     if reduction.open and not reduction.is_done():
         rows, columns = tableau.shape
-        raise Undecided(f"a minor of size {rows}x{columns} is outside of the class, and whether smaller ones are is undecided")
+        left = f"a minor of size {rows}x{columns} is outside of the class"
+        raise Undecided(f"{left}, and whether smaller ones are is undecided")
 
 
 class _Reduction:
@@ -67,8 +62,14 @@ class _Reduction:
         """What is left undecided: deleting or contracting an element."""
         tableau.simplify()
 
-    def try_all(self, size: int, *, with_pivots: bool) -> None:
-        """Tries all elements, so many at once: to take their lines away, and then, with pivots, the other of deleting and contracting."""
+    def reduce(self, *, with_pivots: bool) -> None:
+        """Tries all elements, many at once and then fewer: to take their lines away, and with pivots what that leaves out."""
+        size = len(self._tableau) // 2
+        while size and not self.is_done():
+            self._try_all(size, with_pivots)
+            size = min(size, len(self._tableau)) // 2
+
+    def _try_all(self, size: int, with_pivots: bool) -> None:
         elements = self._tableau.elements
         for start in range(0, len(elements), size):
             chunk = elements[start : start + size]

@@ -54,7 +54,8 @@ def spanning_trees(edges: Iterable[str]) -> Bases:
     """The spanning trees of a connected graph with edges such as `1-2`."""
     pairs = {edge: tuple(edge.split("-")) for edge in edges}
     nodes = {node for pair in pairs.values() for node in pair}
-    return {frozenset(chosen) for chosen in combinations(pairs, len(nodes) - 1) if _is_tree([pairs[edge] for edge in chosen])}
+    sets = combinations(pairs, len(nodes) - 1)
+    return {frozenset(chosen) for chosen in sets if _is_tree([pairs[edge] for edge in chosen])}
 
 
 def _is_tree(pairs: list[tuple[str, ...]]) -> bool:

@@ -41,7 +41,9 @@ def number_of(line: Line, rows: Rows) -> int:
 def block_diagonal(blocks: Sequence[Rows]) -> Rows:
     widths = [len(block[0]) for block in blocks]
     return [
-        [0] * sum(widths[:place]) + row + [0] * sum(widths[place + 1 :]) for place, block in enumerate(blocks) for row in block
+        [0] * sum(widths[:place]) + row + [0] * sum(widths[place + 1 :])
+        for place, block in enumerate(blocks)
+        for row in block
     ]
 
 
@@ -149,7 +151,8 @@ class Found(unittest.TestCase):
             self.holds(minor, matrix.to_lists())
 
     def test_classes_that_have_none(self) -> None:
-        for rows, of in [(R10, "regular"), (K5, "graphic"), (TRIANGLE, "regular"), ([[1, 0], [0, 1]], "network"), ([], "tu")]:
+        unit = [[1, 0], [0, 1]]
+        for rows, of in [(R10, "regular"), (K5, "graphic"), (TRIANGLE, "regular"), (unit, "network"), ([], "tu")]:
             self.assertIsNone(excluded_minor(rows, of))
         with self.assertRaisesRegex(BadInput, "planar is no class"):
             excluded_minor(R10, "planar")

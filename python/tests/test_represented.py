@@ -104,7 +104,8 @@ class Isomorphisms(unittest.TestCase):
             for _ in range(6):
                 row, column, _ = draw.choice(other.matrix.nonzeros)
                 other = other.pivot(other.basis[row], other.elements[other.rank + column])
-            names = {element: f"e{place}" for place, element in enumerate(draw.sample(other.elements, len(other.elements)))}
+            shuffled = draw.sample(other.elements, len(other.elements))
+            names = {element: f"e{place}" for place, element in enumerate(shuffled)}
             renamed = Matroid.of(
                 other.matrix,
                 other.field,

@@ -102,7 +102,8 @@ class Minors(ScriptTest):
         self.write("names", "r1 a\nr2 b\nr3 c\nc1 d\nc2 e\nc3 f\nc4 g\n")
         status, lines, _ = self.check("regular", FANO, "--names", "names", "--sage")
         self.assertEqual((status, lines[2]), (1, "elements a=1 b=2 c=3 d=4 e=5 f=6 g=7"))
-        self.assertTrue(lines[-1].startswith("Matroid(groundset=['a', 'b', 'c', 'd', 'e', 'f', 'g'], matrix=Matrix(GF(2), [[1, 0, 0, "))
+        front = "Matroid(groundset=['a', 'b', 'c', 'd', 'e', 'f', 'g'], matrix=Matrix(GF(2), [[1, 0, 0, "
+        self.assertTrue(lines[-1].startswith(front))
 
 
 if __name__ == "__main__":
