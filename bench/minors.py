@@ -4,11 +4,12 @@
 
 The matrices are random ones, half of whose entries are 1, and those of networks.py with one nonzero more or one sign turned, in random
 trees and in one path; for classes of binary matroids each nonzero is 1. Printed for each matrix and class: the minor, its pivots, the runs
-of the program, the seconds of the search, those that the program took of them, and the seconds of the check.
+of the program, the seconds of the search, the processor seconds of Python and of the program in it, and the seconds of the check.
 """
 
 import argparse
 import random
+import resource
 import sys
 import time
 from pathlib import Path
@@ -22,38 +23,44 @@ from cmr_matrices.excluded import minor_class  # noqa: E402
 
 
 class Counted:
-    """The runs of the program, which are counted and timed."""
+    """The runs of the program, which are counted."""
 
     def __init__(self):
-        self.count, self.seconds, self._run = 0, 0.0, minors.run
+        self.count, self._run = 0, minors.run
+
+    def __enter__(self):
+        minors.run = reading.run = self
+        return self
+
+    def __exit__(self, *_):
+        minors.run = reading.run = self._run
 
     def __call__(self, *words, **settings):
-        start = time.perf_counter()
-        try:
-            return self._run(*words, **settings)
-        finally:
-            self.count += 1
-            self.seconds += time.perf_counter() - start
+        self.count += 1
+        return self._run(*words, **settings)
+
+
+def used():
+    """The seconds by the clock, and the processor seconds of this process and of those that it ran."""
+    times = [resource.getrusage(who) for who in (resource.RUSAGE_SELF, resource.RUSAGE_CHILDREN)]
+    return [time.perf_counter(), *(it.ru_utime + it.ru_stime for it in times)]
 
 
 def measured(matrix, of, program, limit):
     """A search and a check, in words."""
-    counted = Counted()
-    minors.run = reading.run = counted
-    start = time.perf_counter()
+    start = used()
     try:
-        minor = excluded_minor(matrix, of, program=program, time_limit=limit)
+        with Counted() as runs:
+            minor = excluded_minor(matrix, of, program=program, time_limit=limit)
     except CmrError as fault:
         return f"{type(fault).__name__}, {fault}"
-    finally:
-        minors.run = reading.run = counted._run
-    found = time.perf_counter() - start
-    runs = f"{counted.count} runs, {found:.2f} s, of which {counted.seconds:.2f} s in runs"
+    clock, own, others = (now - before for now, before in zip(used(), start))
+    search = f"{runs.count} runs, {clock:.2f} s, of processors {own:.2f} s in Python and {others:.2f} s in runs"
     if minor is None:
-        return f"none, {runs}"
-    start = time.perf_counter()
+        return f"none, {search}"
+    start = time.process_time()
     assert minor.verify(matrix)
-    return f"{minor.name}, {len(minor.pivots)} pivots, {runs}, checked in {time.perf_counter() - start:.2f} s"
+    return f"{minor.name}, {len(minor.pivots)} pivots, {search}, checked in {time.process_time() - start:.2f} s"
 
 
 def matrices(kind, size, seed, is_binary):

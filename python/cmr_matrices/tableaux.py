@@ -189,7 +189,7 @@ class Tableau(Generic[Element]):
 
     def _turned(self, plane: Literal[0, 1]) -> list[int]:
         """The columns of ones, or those of entries -1. Texts are turned many times faster than bits one by one."""
-        if not self.rows:
+        if not any(row[plane] for row in self.rows.values()):
             return [0] * len(self.column_elements)
         pick = _picker(self.column_elements)
         width = 1 + max(self.column_elements, default=0)
