@@ -3,7 +3,7 @@
 from __future__ import annotations
 
 from collections.abc import Iterable
-from dataclasses import dataclass, replace
+from dataclasses import dataclass
 
 from .circuits import circuits, isomorphism
 from .errors import BadInput
@@ -78,11 +78,8 @@ class Matroid:
         return self.matrix.shape[0]
 
     def dual(self) -> Matroid:
-        """The matroid whose bases are what the bases leave: that of `-A` transposed."""
-        turned = self.matrix.T
-        if self.field == 3:
-            turned = replace(turned, nonzeros=tuple((row, column, -value) for row, column, value in turned.nonzeros))
-        return Matroid(Matrix.of(turned, row_names=self._names.columns, column_names=self._names.rows), self.field)
+        """The matroid whose bases are what the bases leave: that of `A` transposed, since signs of lines change no matroid."""
+        return Matroid(Matrix.of(self.matrix.T, row_names=self._names.columns, column_names=self._names.rows), self.field)
 
     def pivot(self, basic: str, other: str) -> Matroid:
         """The same matroid by the basis in which another element has the place of one. Raises `BadInput` where that is no basis."""
