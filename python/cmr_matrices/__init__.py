@@ -32,10 +32,12 @@ from .errors import (
     Undecided,
     UnprovedProgram,
 )
+from .excluded import ExcludedMinor
 from .graphs import Edge, Graph
 from .lines import Line, LineSet, Names
 from .matrix import Matrix
 from .matroids import named
+from .minors import excluded_minor
 from .modellers import from_linopy, from_model, from_model_scaled, from_pulp, from_pyomo, from_scipy, reduced_parts
 from .nodes import Node
 from .program import find_program
@@ -51,6 +53,7 @@ from .questions import (
     is_totally_unimodular,
 )
 from .reductions import Reduction, Reductions
+from .represented import Matroid
 from .signings import Signing, SigningStep
 from .sources import MatrixLike
 from .submatrices import Submatrix
@@ -71,6 +74,7 @@ __all__ = [
     "Checked",
     "CmrError",
     "Edge",
+    "ExcludedMinor",
     "Family",
     "Graph",
     "Line",
@@ -78,6 +82,7 @@ __all__ = [
     "LineSet",
     "Matrix",
     "MatrixLike",
+    "Matroid",
     "Names",
     "Node",
     "OutOfMemory",
@@ -98,6 +103,7 @@ __all__ = [
     "UnprovedProgram",
     "check",
     "compose",
+    "excluded_minor",
     "find_program",
     "from_linopy",
     "from_model",

@@ -11,11 +11,12 @@ import unittest
 from dataclasses import replace
 from pathlib import Path
 
-from cmr_matrices import Matrix, find_program
+from cmr_matrices import ExcludedMinor, Matrix, find_program
 from cmr_matrices.classifying.classes import CLASS_NAMES, CLASSES, INCLUSIONS, contradictions, settle
 from cmr_matrices.classifying.streams import Item
 from cmr_matrices.classifying.work import CONTRADICTION, Settings, classify
-from tests.support import R10, TRIANGLE, needs_program
+from cmr_matrices.excluded import CLASSES as MINOR_CLASSES
+from tests.support import FANO, R10, TRIANGLE, needs_program
 from tests.test_random import drawn
 
 
@@ -68,6 +69,19 @@ class Classified(unittest.TestCase):
         row = classify(item(TRIANGLE), replace(self.settings, evidence=True))
         self.assertLessEqual({"tu/tree", "tu/violator", "graphic/graph", "network/minimal"}, set(row.evidence))
         self.assertNotIn("regular/chain", row.evidence)
+
+    def test_minors(self) -> None:
+        settings = replace(self.settings, evidence=True, minors=True)
+        row = classify(item(FANO), settings)
+        minors = {name: text for name, text in row.evidence.items() if name.endswith("/minor")}
+        for kind in MINOR_CLASSES:
+            minor = ExcludedMinor.from_text(minors.pop(f"{kind.word}/minor").decode())
+            self.assertEqual((minor.property_name, minor.fault(FANO)), (kind.name, None))
+        self.assertEqual(minors, {})
+        row = classify(item(TRIANGLE), settings)
+        names = {name.removesuffix("/minor") for name in row.evidence if name.endswith("/minor")}
+        outside = {name for name, verdict in row.verdicts.items() if verdict == "no"}
+        self.assertEqual(names, outside - {"balanced", "camion"})
 
     def test_undecided(self) -> None:
         rows = [[1, 1, 0, 1], [1, 0, 1, 0], [1, 0, 1, 1], [0, 0, 1, 1]]

@@ -29,6 +29,7 @@ SCRIPTS = {
     "cmr-tree-to-dot": "tree_to_dot",
     "cmr-explain": "explain",
     "cmr-named": "named",
+    "cmr-minor": "cmr-minor",
     "cmr-edges-to-graph": "edges_to_graph",
 }
 

@@ -5,12 +5,14 @@ from __future__ import annotations
 import tempfile
 import time
 from collections.abc import Mapping, Sequence
-from contextlib import ExitStack
+from contextlib import ExitStack, suppress
 from dataclasses import dataclass, field, replace
 from pathlib import Path
 
-from ..errors import BadInput, BadText, CmrError, ProgramFault
+from ..errors import BadInput, BadText, CmrError, ProgramFault, TimeLimitReached, Undecided
+from ..excluded import CLASSES as MINOR_CLASSES
 from ..matrix import Matrix
+from ..minors import excluded_minor
 from ..modellers import from_model
 from .asking import ask, fault_words, held_text
 from .classes import CLASSES, MatrixClass, asking_order, contradictions, settle
@@ -37,6 +39,8 @@ class Settings:
     """Whether a class is not asked where the inclusions settle it. Else the verdicts are held against them."""
     pivots: int = 0
     """The most pivots on the way to a part that nothing else decides."""
+    minors: bool = False
+    """Whether the excluded minors of each no are evidence too."""
 
     def budget(self, kind: MatrixClass) -> list[str]:
         """The words that say how long a class is looked for."""
@@ -121,6 +125,8 @@ def _read_and_asked(item: Item, settings: Settings) -> Row:
 
 def _row(item: Item, shape: _Shape, asked: _Asked, text: bytes) -> Row:
     asked.all_classes(shape)
+    if asked.settings.minors:
+        asked.add_minors(text)
     fault, message = asked.fault
     broken = [] if asked.settings.infers else [str(one) for one in contradictions(asked.verdicts)]
     if not asked.settings.infers and not shape.is_binary and not asked.support_fits(text):
@@ -167,6 +173,24 @@ class _Asked:
                 self._ask(kind)
                 if self.settings.infers:
                     settle(self.verdicts, names)
+
+    def add_minors(self, text: bytes) -> None:
+        """Finds the excluded minor of each no. Where that takes longer than the limit of time, or is undecided, there is none."""
+        matrix = Matrix.from_text(text.decode("ascii"), sparse=self._form == "sparse")
+        settings = self.settings
+        for kind in MINOR_CLASSES:
+            if self.verdicts.get(kind.word) == "no":
+                with suppress(TimeLimitReached, Undecided):
+                    minor = excluded_minor(
+                        matrix,
+                        kind.name,
+                        lines=settings.lines,
+                        pivots=settings.pivots,
+                        time_limit=settings.time_limit,
+                        program=settings.program,
+                    )
+                    if minor is not None:
+                        self.evidence[f"{kind.word}/minor"] = minor.to_text().encode("ascii")
 
     def must_be_read(self) -> None:
         """Raises the fault that the text has, where no class is asked that would find it."""

@@ -89,6 +89,7 @@ def arguments() -> argparse.Namespace:
     add("--resume", action="store_true", help="go on with a table: what has a row there is not done again")
     add("--part", metavar="K/N", type=part, default=(1, 1), help="take every N-th matrix from the K-th on")
     add("--evidence", metavar="DIR", help="keep evidence in DIR/CLASS/FILE/NUMBER.KIND")
+    add("--minors", action="store_true", help="keep excluded minors too, for each no of a class that has some")
     add("--lines", metavar="L", type=number(0, 24), help="the budget of the searches (14)")
     add("--pivots", metavar="K", type=number(0, 100), default=0, help="go on behind so many pivots (0)")
     add("--time-limit", metavar="S", type=number(1, 10**8), help="leave a class undecided after so many seconds")
@@ -106,6 +107,8 @@ def arguments() -> argparse.Namespace:
     chosen = parser.parse_args()
     if chosen.resume and chosen.output == "-":
         parser.error("--resume needs --output")
+    if chosen.minors and not chosen.evidence:
+        parser.error("--minors needs --evidence")
     if chosen.worker_program and not chosen.dask:
         parser.error("--worker-program goes with --dask")
     return chosen
@@ -178,6 +181,7 @@ class _Run:
             chosen.evidence is not None,
             chosen.infer,
             chosen.pivots,
+            chosen.minors,
         )
         if chosen.dask:
             return Cluster(chosen.dask, settings, chosen.worker_program)
