@@ -49,6 +49,7 @@ from .questions import (
     is_totally_unimodular,
 )
 from .reductions import Reduction, Reductions
+from .reporting.report import FamilyLine, ModelReport, model_report
 from .signings import Signing, SigningStep
 from .sources import MatrixLike
 from .submatrices import Submatrix
@@ -70,11 +71,13 @@ __all__ = [
     "CmrError",
     "Edge",
     "Family",
+    "FamilyLine",
     "Graph",
     "Line",
     "LineSet",
     "Matrix",
     "MatrixLike",
+    "ModelReport",
     "Names",
     "Node",
     "OutOfMemory",
@@ -114,6 +117,7 @@ __all__ = [
     "is_series_parallel",
     "is_totally_unimodular",
     "matrix_of",
+    "model_report",
     "named",
     "parts",
     "reduced_parts",

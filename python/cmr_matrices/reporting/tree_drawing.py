@@ -1,0 +1,117 @@
+"""A decomposition tree drawn in SVG, from the root down."""
+
+from __future__ import annotations
+
+from collections.abc import Iterator
+from dataclasses import dataclass, field
+from html import escape
+
+from ..lines import Names
+from ..tree_picture import COLOURS, Box, Style, label_of, look_of, tree_boxes
+from ..trees import Tree
+
+__all__ = ["drawn_tree"]
+
+_CHARACTER, _LINE, _GAP, _LEVEL = 6.1, 14.0, 14.0, 30.0
+_MOST_LINES = 7
+
+
+@dataclass
+class _Placed:
+    """A box with its text, what is below it, and where it stands."""
+
+    lines: list[str]
+    colour: str
+    is_many: bool
+    children: list[_Placed] = field(default_factory=list)
+    x: float = 0.0
+    y: float = 0.0
+
+    @property
+    def width(self) -> float:
+        return 24 + max(1.12 * _CHARACTER * len(self.lines[0]), *(_CHARACTER * len(line) for line in self.lines))
+
+    @property
+    def height(self) -> float:
+        return 12 + _LINE * len(self.lines)
+
+    @property
+    def span(self) -> float:
+        """The width of all that stands at this box and below."""
+        below = sum(child.span for child in self.children) + _GAP * max(len(self.children) - 1, 0)
+        return max(self.width, below)
+
+
+def drawn_tree(tree: Tree, limit: int = 40) -> str:
+    """The picture of a tree with about so many boxes at most."""
+    style = Style(tree.names or Names.numbered(*tree.shape, first=1), 12)
+    root = _placed(tree_boxes(tree.root, limit), style)
+    levels = _heights(root)
+    _place(root, 4.0, 4.0, levels)
+    boxes = list(_walk(root))
+    width = max(box.x + box.width for box in boxes) + 6
+    height = max(box.y + box.height for box in boxes) + 6
+    head = f'<svg class="tree" viewBox="0 0 {width:.0f} {height:.0f}" width="{width:.0f}" height="{height:.0f}" role="img" '
+    lines = [f'{head}aria-label="the decomposition tree">']
+    lines += (_edge(box, child) for box in boxes for child in box.children)
+    lines += (_box(box) for box in boxes)
+    return "\n".join([*lines, "</svg>"])
+
+
+def _placed(box: Box, style: Style) -> _Placed:
+    lines = label_of(box, style)
+    if len(lines) > _MOST_LINES:
+        lines = [*lines[: _MOST_LINES - 1], ".."]
+    placed = _Placed(lines, COLOURS[look_of(box)], box.whole or len(box.nodes) > 1)
+    placed.children = [_placed(child, style) for child in box.children]
+    return placed
+
+
+def _heights(root: _Placed) -> list[float]:
+    """The height of the highest box of each level."""
+    heights: list[float] = []
+    level = [root]
+    while level:
+        heights.append(max(box.height for box in level))
+        level = [child for box in level for child in box.children]
+    return heights
+
+
+def _place(box: _Placed, x: float, y: float, heights: list[float]) -> None:
+    span = box.span
+    box.x, box.y = x + (span - box.width) / 2, y
+    below = sum(child.span for child in box.children) + _GAP * max(len(box.children) - 1, 0)
+    at = x + (span - below) / 2
+    for child in box.children:
+        _place(child, at, y + heights[0] + _LEVEL, heights[1:])
+        at += child.span + _GAP
+
+
+def _walk(box: _Placed) -> Iterator[_Placed]:
+    yield box
+    for child in box.children:
+        yield from _walk(child)
+
+
+def _edge(box: _Placed, child: _Placed) -> str:
+    x, y = box.x + box.width / 2, box.y + box.height
+    to, down = child.x + child.width / 2, child.y
+    middle = (y + down) / 2
+    return f'<path d="M{x:.1f} {y:.1f}C{x:.1f} {middle:.1f} {to:.1f} {middle:.1f} {to:.1f} {down:.1f}" fill="none" stroke="#8793a0" stroke-width="1.3"/>'
+
+
+def _box(box: _Placed) -> str:
+    x, y = box.x, box.y
+    colour = "#ffffff" if box.colour == "white" else box.colour
+    behind = ""
+    if box.is_many:
+        behind = f'<rect x="{x + 3:.1f}" y="{y + 3:.1f}" width="{box.width:.1f}" height="{box.height:.1f}" rx="7" fill="{colour}" stroke="#8793a0"/>'
+    text = "".join(
+        f'<text x="{x + box.width / 2:.1f}" y="{y + 17 + _LINE * number:.1f}" text-anchor="middle"{" class=" + chr(34) + "kind" + chr(34) if not number else ""}>'
+        f"{escape(line)}</text>"
+        for number, line in enumerate(box.lines)
+    )
+    return (
+        f'<g>{behind}<rect x="{x:.1f}" y="{y:.1f}" width="{box.width:.1f}" height="{box.height:.1f}" rx="7" fill="{colour}" '
+        f'stroke="#5f6b78"/>{text}</g>'
+    )
