@@ -81,21 +81,23 @@ class ReportTest(unittest.TestCase):
 @needs_command("glpsol")
 class Reports(ReportTest):
     def test_the_crews(self) -> None:
-        report = model_report(EXAMPLES / "crew.lp")
+        report = model_report(EXAMPLES / "crews.mod")
         self.holds(report)
         self.assertEqual(report.verdict, "no")
         assert report.kept is not None
         self.assertTrue(report.kept.is_largest)
-        self.assertEqual(report.relaxed, (4, 6, 7, 9))
+        self.assertEqual((report.relax, report.relaxed), (("skill[0..3]", "total", "pay"), tuple(range(8, 14))))
 
     def test_a_yes_and_its_reasons(self) -> None:
-        for name, word in (("assignment.mps", "network"), ("maxflow.mod", "network"), ("shifts.lp", "sums"), ("wards.mod", "network")):
+        words = {"assignment.mps": "network", "maxflow.mod": "network", "shifts.lp": "sums", "wards.mod": "network"}
+        for name, word in words.items():
             with self.subTest(name=name):
                 report = model_report(EXAMPLES / name)
                 assert report.reason is not None
                 self.assertEqual((report.verdict, report.reason.word, report.relax), ("yes", word, ()))
                 self.assertEqual(report.not_whole, ())
-        turned = self.write("turned.lp", lp_text({f"r{at}": [int(at <= column < at + 3) for column in range(6)] for at in range(4)}))
+        rows = {f"r{at}": [int(at <= column < at + 3) for column in range(6)] for at in range(4)}
+        turned = self.write("turned.lp", lp_text(rows))
         report = model_report(turned)
         assert report.reason is not None
         self.assertIn("intervals", report.reason.sentence)
@@ -103,7 +105,8 @@ class Reports(ReportTest):
     def test_sides_that_are_not_whole(self) -> None:
         path = self.write("sides.lp", lp_text({"a": [2, 2, 0], "b": [0, 1, 1]}, [3, 2.5]))
         report = model_report(path)
-        self.assertEqual((report.verdict, [str(it) for it in report.not_whole]), ("yes", ["right-hand side 1.5 of a", "right-hand side 2.5 of b"]))
+        self.assertEqual(report.verdict, "yes")
+        self.assertEqual([str(it) for it in report.not_whole], ["right-hand side 1.5 of a", "right-hand side 2.5 of b"])
         self.assertIn("No whole numbers: right-hand side 1.5 of a and right-hand side 2.5 of b.", report.to_text())
         bounds = self.write("bounds.lp", "Minimize\n x + y\nSubject To\n c: x + y <= 3\nBounds\n x <= 1.5\nEnd\n")
         self.assertEqual([str(it) for it in model_report(bounds).not_whole], ["bound 1.5 of x"])
@@ -118,7 +121,9 @@ class Reports(ReportTest):
         chance = random.Random(7)
         spoiled = 0
         for number in range(25):
-            names = [f"{family}({at})" for family in "abcd"[: chance.randint(2, 4)] for at in range(chance.randint(1, 3))]
+            names = [
+                f"{family}({at})" for family in "abcd"[: chance.randint(2, 4)] for at in range(chance.randint(1, 3))
+            ]
             entries = {name: [chance.choice((0, 0, 1, 1, -1)) for _ in range(5)] for name in names}
             entries = {name: row if any(row) else [1, 0, 0, 0, 0] for name, row in entries.items()}
             with self.subTest(number=number):
@@ -130,17 +135,16 @@ class Reports(ReportTest):
                 spoiled += 1
                 assert report.kept is not None
                 self.assertTrue(report.kept.is_largest)
-                self.assertEqual(len(report.kept.blocks), self.most_families(entries))
+                kept = report.kept.answer.rows if report.kept.answer else ()
+                self.assertEqual(len(kept), self.most_rows(entries))
         self.assertGreater(spoiled, 10)
 
-    def most_families(self, entries: dict[str, list[int]]) -> int:
-        """How many families can be kept, by all sets of them."""
+    def most_rows(self, entries: dict[str, list[int]]) -> int:
+        """How many rows whole families can keep, by all sets of them."""
         families = sorted({name[0] for name in entries})
-        for size in range(len(families), 0, -1):
-            for chosen in combinations(families, size):
-                if is_unimodular([row for name, row in entries.items() if name[0] in chosen]):
-                    return size
-        return 0
+        sets = [chosen for size in range(len(families) + 1) for chosen in combinations(families, size)]
+        kept = ([row for name, row in entries.items() if name[0] in chosen] for chosen in sets)
+        return max(len(rows) for rows in kept if not rows or is_unimodular(rows))
 
     def test_many_families_are_searched_greedily(self) -> None:
         letters = "abcdefghijklmnop"
@@ -173,10 +177,10 @@ class Reports(ReportTest):
         with self.assertRaisesRegex(BadInput, "there are no rows"):
             model_report(self.write("none.mps", "NAME\nROWS\n N cost\nCOLUMNS\n x cost 1\nRHS\nENDATA\n"))
         with self.assertRaisesRegex(BadInput, "questions is a number from 1"):
-            model_report(EXAMPLES / "crew.lp", questions=0)
+            model_report(EXAMPLES / "crews.mod", questions=0)
 
     def test_the_matrix_is_that_of_model_to_matrix(self) -> None:
-        for name in ("crew.lp", "knapsack.mps", "shifts.lp", "goods.mod"):
+        for name in ("crews.mod", "knapsack.mps", "shifts.lp", "goods.mod"):
             report = model_report(EXAMPLES / name)
             choice = Choice(unit_rows=bool(report.rows.refused), scale=bool(report.rows.divided))
             found = constraints_of_file(EXAMPLES / name, None, choice, None)
@@ -200,28 +204,36 @@ class Pages(ReportTest):
 
     def test_names_are_escaped(self) -> None:
         page = model_report(self.model()).to_html()
-        self.assertNotIn("<b>&\"", page)
+        self.assertNotIn('<b>&"', page)
         self.assertNotIn("<i>hard", page)
         self.assertIn(f"r{HARD}[0]", unescape(page))
 
     def test_a_page_needs_nothing_else(self) -> None:
-        for name in ("crew.lp", "shifts.lp", "wards.mod"):
+        for name in ("crews.mod", "shifts.lp", "wards.mod"):
             page = model_report(EXAMPLES / name).to_html()
             self.assertEqual(re.findall(r"<(?:script|link|img|iframe|object|base)\b|\bsrc=|\bhref=|@import", page), [])
-            self.assertEqual(set(re.findall(r"url\([^)]*\)|https?:[^\s\"<]*", page)), {"url(#hatch)"} if "hatch)" in page else set())
+            self.assertEqual(
+                set(re.findall(r"url\([^)]*\)|https?:[^\s\"<]*", page)), {"url(#hatch)"} if "hatch)" in page else set()
+            )
             self.assertIn("default-src 'none'", page)
 
     @needs_command("chromium")
     def test_a_browser_shows_it(self) -> None:
-        for name, path in (("hard", self.model()), ("wards", EXAMPLES / "wards.mod"), ("crew", EXAMPLES / "crew.lp")):
+        for name, path in (("hard", self.model()), ("wards", EXAMPLES / "wards.mod"), ("crew", EXAMPLES / "crews.mod")):
             page = self.write(f"{name}.html", model_report(path).to_html())
-            words = ["chromium", "--headless", "--no-sandbox", "--disable-gpu", f"--user-data-dir={self.folder / 'profile'}"]
+            words = [
+                "chromium",
+                "--headless",
+                "--no-sandbox",
+                "--disable-gpu",
+                f"--user-data-dir={self.folder / 'profile'}",
+            ]
             picture = self.folder / f"{name}.png"
             with self.subTest(name=name):
                 ran = subprocess.run([*words, "--dump-dom", page.as_uri()], capture_output=True, text=True, check=True)
                 self.assertEqual(ran.stdout.count("<h1>"), 1)
                 self.assertIn("<h2>How to repeat it</h2>", ran.stdout)
-                self.assertNotIn("<b>&amp;\"", ran.stdout.replace("<b>network</b>", ""))
+                self.assertNotIn('<b>&amp;"', ran.stdout.replace("<b>network</b>", ""))
                 size = ["--window-size=1400,1000", f"--screenshot={picture}"]
                 subprocess.run([*words, *size, page.as_uri()], capture_output=True, check=True)
                 self.assertGreater(picture.stat().st_size, 20_000)
@@ -239,7 +251,9 @@ class Words(unittest.TestCase):
         names = ["skill(0)", "skill(1)", "total", "totals", "cap_1_2", "a.b", "axb"]
         for wanted in (["skill(0)", "skill(1)"], ["total"], ["cap_1_2", "total"], ["skill(1)"], ["a.b"], names):
             pattern = row_pattern(wanted, names)
-            self.assertEqual([name for name in names if re.search(pattern, name)], [name for name in names if name in wanted])
+            self.assertEqual(
+                [name for name in names if re.search(pattern, name)], [name for name in names if name in wanted]
+            )
 
     def test_determinants(self) -> None:
         self.assertEqual(determinant([[1, 1, 0], [0, 1, 1], [1, 0, 1]]), 2)
@@ -251,14 +265,15 @@ class Words(unittest.TestCase):
 
 @needs_program
 @needs_module("swiglpk")
+@needs_command("glpsol")
 class Objects(ReportTest):
     def test_an_object_of_json(self) -> None:
-        found = json.loads(model_report(EXAMPLES / "crew.lp").to_json())
+        found = json.loads(model_report(EXAMPLES / "crews.mod").to_json())
         self.assertEqual(found["totally_unimodular"], "no")
-        self.assertEqual(found["relax"]["rows"], ["skill(0)", "skill(2)", "skill(3)", "hours"])
-        self.assertEqual(found["coefficients"], {"refused": ["hours"], "divided": {"hours": "2"}})
-        self.assertEqual(found["fault"]["determinant"], -2)
-        self.assertEqual({it["family"]: it["state"] for it in found["families"]}["period(..)"], "kept")
+        self.assertEqual(found["relax"]["rows"], [*(f"skill[{at}]" for at in range(4)), "total", "pay"])
+        self.assertEqual(found["coefficients"], {"refused": ["pay"], "divided": {}})
+        self.assertEqual(found["violator"]["determinant"], 2)
+        self.assertEqual({it["family"]: it["state"] for it in found["families"]}["period[..]"], "kept")
 
 
 if __name__ == "__main__":

@@ -25,7 +25,7 @@ class ModelTest(ScriptTest):
     def test_statuses(self):
         for name, words, status in (
             ("assignment.mps", [], 0),
-            ("crew.lp", [], 1),
+            ("crews.mod", [], 1),
             ("goods.mod", [], 1),
             ("goods.mod", ["--pivots", "0"], 6),
             ("goods.mod", ["--data", EXAMPLES / "three_places.dat"], 0),
@@ -41,27 +41,27 @@ class ModelTest(ScriptTest):
         for words, status, line in (
             ([model], 3, f"cmr-model: {model}: no model, line "),
             (["nothing.lp"], 4, "cmr-model: cannot read nothing.lp: No such file or directory"),
-            ([EXAMPLES / "crew.lp", "--html", "none/page.html"], 4, "cmr-model: cannot write none/page.html: No such file"),
-            ([EXAMPLES / "crew.lp", "--program", "none"], 70, "cmr-model: the program cmr is not there"),
-            ([EXAMPLES / "crew.lp", "--program", "/bin/false"], 70, "cmr-model: "),
+            ([EXAMPLES / "crews.mod", "--html", "none/page.html"], 4, "cmr-model: cannot write none/page.html: No such file"),
+            ([EXAMPLES / "crews.mod", "--program", "none"], 70, "cmr-model: the program cmr is not there"),
+            ([EXAMPLES / "crews.mod", "--program", "/bin/false"], 70, "cmr-model: "),
         ):
             with self.subTest(words=words):
                 run = self.run_script("cmr-model", *words)
                 self.assertEqual((run.returncode, run.stdout, run.stderr.count("\n")), (status, "", 1), run.stderr)
                 self.assertTrue(run.stderr.startswith(line), run.stderr)
-        run = self.run_script("cmr-model", EXAMPLES / "crew.lp", "--pivots", "200")
+        run = self.run_script("cmr-model", EXAMPLES / "crews.mod", "--pivots", "200")
         self.assertEqual((run.returncode, run.stdout), (2, ""))
 
     def test_the_same_page_each_time(self):
         pages = []
         for number in range(2):
-            self.run_script("cmr-model", EXAMPLES / "crew.lp", "--html", f"{number}.html")
+            self.run_script("cmr-model", EXAMPLES / "crews.mod", "--html", f"{number}.html")
             pages.append(self.read(f"{number}.html"))
         self.assertEqual(*pages)
 
     def test_the_commands_of_a_report_give_its_answers_again(self):
         commands = 0
-        for name in ("assignment.mps", "crew.lp", "goods.mod", "knapsack.mps", "shifts.lp", "wards.mod"):
+        for name in ("assignment.mps", "crews.mod", "goods.mod", "knapsack.mps", "shifts.lp", "wards.mod"):
             report, _ = self.report(EXAMPLES / name)
             with self.subTest(name=name):
                 commands += self.repeats(report)
@@ -88,8 +88,8 @@ class ModelTest(ScriptTest):
         return count
 
     def test_what_is_relaxed_is_left_out_by_the_commands(self):
-        report, _ = self.report(EXAMPLES / "crew.lp")
+        report, _ = self.report(EXAMPLES / "crews.mod")
         self.repeats(report)
-        rest = Path(self.folder, "crew-rest.names").read_text(encoding="utf-8")
+        rest = Path(self.folder, "crews-rest.names").read_text(encoding="utf-8")
         rows = [line.split(" ", 1)[1] for line in rest.splitlines() if line.startswith("r")]
-        self.assertEqual(rows, [f"period({at})" for at in range(4)] + ["skill(1)", "total"])
+        self.assertEqual(rows, [f"period[{at}]" for at in range(8)])

@@ -59,7 +59,13 @@ def arguments() -> argparse.Namespace:
         default=QUESTIONS,
         help=f"the most questions of each search for rows to keep ({QUESTIONS})",
     )
-    add("--time-limit", metavar="S", type=number(1, 10**8), default=8, help="the seconds for all questions together (8)")
+    add(
+        "--time-limit",
+        metavar="S",
+        type=number(1, 10**8),
+        default=8,
+        help="the seconds for all questions together (8)",
+    )
     add("--program", metavar="PATH", help="the program cmr, where it is not to be looked for")
     return parser.parse_args()
 

@@ -2,7 +2,7 @@
 
 from __future__ import annotations
 
-from collections.abc import Iterator, Sequence
+from collections.abc import Iterable, Iterator, Sequence
 from dataclasses import dataclass, field
 from itertools import combinations
 
@@ -33,7 +33,7 @@ class Kept:
     """The blocks that are kept, by their places, the answer on their rows, and for each other one why it cannot be added.
 
     That is a violator within the kept rows and its own, or None where it is open, or was not asked. It is proved largest where every
-    set of more blocks has a violator.
+    set of blocks with more rows has a violator.
     """
 
     blocks: tuple[int, ...]
@@ -42,6 +42,8 @@ class Kept:
     is_largest: bool = False
     is_cut: bool = False
     """Whether questions or time were over before the end."""
+    violators: tuple[tuple[frozenset[int], Cells], ...] = ()
+    """All violators that were found, each with the blocks in which it lies: no set with all of these can be kept."""
 
 
 def keep_blocks(asker: Asker, base: Sequence[int], blocks: Sequence[Block], budget: Budget, *, all_sets: bool) -> Kept:
@@ -67,28 +69,30 @@ class _Work:
         self._base = base
         self._blocks = blocks
         self._owner = {row: place for place, block in enumerate(blocks) for row in block}
-        self._faults: list[tuple[frozenset[int], Cells]] = []
+        self._violators: list[tuple[frozenset[int], Cells]] = []
         self._open: list[frozenset[int]] = []
 
     def largest(self) -> Kept | None:
-        """The first set that is kept, of the largest ones first, and of these the one with most rows. None where the budget is over."""
+        """The first set that is kept, of those with most rows first. None where the budget is over."""
         for chosen in self._by_size():
-            if self._fault_in(chosen) is not None:
+            if self._violated(chosen) is not None:
                 continue
             if self._asker.is_spent:
                 return None
             answer = self._ask(chosen)
             if answer.verdict == "yes":
-                is_largest = all(len(left) <= len(chosen) for left in self._open)
+                is_largest = all(self._rows(left) <= self._rows(chosen) for left in self._open)
                 return self._kept(chosen, answer, is_largest=is_largest, is_cut=False)
         return self._kept(frozenset(), None, is_largest=not self._open, is_cut=False)
 
     def _by_size(self) -> Iterator[frozenset[int]]:
-        every = frozenset(range(len(self._blocks)))
-        for size in range(len(every)):
-            # Of families with as many rows the first ones are kept.
-            removals = sorted(combinations(sorted(every, reverse=True), size), key=lambda it: sum(map(self._size, it)))
-            yield from (every - set(removed) for removed in removals)
+        """All sets but the empty one, those with most rows first. Of these come first those with more blocks, and with earlier ones."""
+        every = tuple(range(len(self._blocks)))
+        sets = [chosen for size in reversed(every) for chosen in combinations(every, size + 1)]
+        yield from (frozenset(chosen) for chosen in sorted(sets, key=self._rows, reverse=True))
+
+    def _rows(self, chosen: Iterable[int]) -> int:
+        return sum(map(self._size, chosen))
 
     def greedy(self) -> Kept:
         """Adds some blocks at once, and leaves out one of each violator. Then takes back what can be taken back."""
@@ -104,7 +108,7 @@ class _Work:
                 chosen, answer = added, found
             dropped += [place for place in some if place not in chosen]
         for place in dropped:
-            if self._fault_in(chosen | {place}) is not None:
+            if self._violated(chosen | {place}) is not None:
                 continue
             if self._asker.is_spent:
                 is_cut = True
@@ -117,16 +121,16 @@ class _Work:
     def _added(self, chosen: frozenset[int], some: frozenset[int]) -> tuple[frozenset[int], Asked | None, bool]:
         """What is left of some blocks beside chosen ones, when one of them goes for each violator; and whether the budget was over."""
         while some:
-            fault = self._fault_in(chosen | some)
-            if fault is None:
+            found = self._violated(chosen | some)
+            if found is None:
                 if self._asker.is_spent:
                     return chosen, None, True
                 answer = self._ask(chosen | some)
                 if answer.verdict != "no":
                     return chosen | some, answer if answer.verdict == "yes" else None, False
-                fault = self._fault_in(chosen | some)
-                assert fault is not None
-            own = fault & some
+                found = self._violated(chosen | some)
+                assert found is not None
+            own = found & some
             if not own:
                 # It lies in what was kept before, which the first rows of the base alone can do.
                 return chosen, None, False
@@ -139,20 +143,20 @@ class _Work:
         for place in range(len(self._blocks)):
             if place not in chosen:
                 among = chosen | {place}
-                refused[place] = next((cells for blocks, cells in self._faults if blocks <= among), None)
-        return Kept(tuple(sorted(chosen)), answer, refused, is_largest, is_cut)
+                refused[place] = next((cells for blocks, cells in self._violators if blocks <= among), None)
+        return Kept(tuple(sorted(chosen)), answer, refused, is_largest, is_cut, tuple(self._violators))
 
     def _ask(self, chosen: frozenset[int]) -> Asked:
         answer = self._asker.ask([*self._base, *(row for place in chosen for row in self._blocks[place])])
         if answer.violator is not None:
             owners = frozenset(self._owner[row] for row in answer.violator.rows if row in self._owner)
-            self._faults.append((owners, answer.violator))
+            self._violators.append((owners, answer.violator))
         elif answer.verdict == "undecided":
             self._open.append(chosen)
         return answer
 
-    def _fault_in(self, chosen: frozenset[int]) -> frozenset[int] | None:
-        return next((blocks for blocks, _ in self._faults if blocks <= chosen), None)
+    def _violated(self, chosen: frozenset[int]) -> frozenset[int] | None:
+        return next((blocks for blocks, _ in self._violators if blocks <= chosen), None)
 
     def _size(self, place: int) -> int:
         return len(self._blocks[place])

@@ -31,7 +31,7 @@ class Minimal:
 
 def minimal_violator(asker: Asker, violator: Cells, part: float) -> Minimal:
     """What is left of a violator when one line after another is left out, as long as a violator stays."""
-    asker.begin("the smallest fault", _QUESTIONS, part)
+    asker.begin("the smallest violator", _QUESTIONS, part)
     found, is_minimal = violator, True
     for kind in ("row", "column"):
         for line in found.rows if kind == "row" else found.columns:

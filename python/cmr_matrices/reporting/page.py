@@ -32,8 +32,8 @@ _KINDS = {
     "mixed": "a three-sum of two parts",
     "concentrated": "a three-sum of two parts",
     "pivoted": "the same behind a step of the simplex method",
-    "cycle": "a fault: a cycle with a sum of 2 modulo 4",
-    "violator": "a fault",
+    "cycle": "a violator: a cycle with a sum of 2 modulo 4",
+    "violator": "a violator",
     "undecided": "left open",
 }
 """What the kinds of nodes are."""
@@ -67,19 +67,22 @@ th { color: var(--soft); font-weight: 600; font-size: 13px; white-space: nowrap;
 table.families th.why { width: 60%; }
 td.name { min-width: 150px; max-width: 420px; } td.state, td.number { white-space: nowrap; } td.name { overflow-wrap: break-word; }
 .pill { border-radius: 99px; padding: 1px 10px; font-size: 13px; font-weight: 600; }
-.pill.kept { background: #dcefdc; color: #14532d; } .pill.relaxed { background: #f6cccc; color: #7a1410; } .pill.partly { background: #fdf0c4; color: #6b4700; }
+.pill.kept { background: #dcefdc; color: #14532d; } .pill.relaxed { background: #f6cccc; color: #7a1410; }
+.pill.partly { background: #fdf0c4; color: #6b4700; }
 .chip { display: inline-block; width: 11px; height: 11px; border-radius: 3px; margin-right: 8px; }
-table.fault { font-family: ui-monospace, "DejaVu Sans Mono", monospace; font-size: 13px; }
-table.fault td, table.fault th { border: 1px solid var(--line); padding: 4px 10px; text-align: center; }
-table.fault th { color: var(--ink); } table.fault tbody th { text-align: right; }
-table.fault td.one { background: #cfdcec; } table.fault td.minus { background: #e3e8ee; } table.fault td.zero { color: #b5bfca; }
+table.violator { font-family: ui-monospace, "DejaVu Sans Mono", monospace; font-size: 13px; }
+table.violator td, table.violator th { border: 1px solid var(--line); padding: 4px 10px; text-align: center; }
+table.violator th { color: var(--ink); } table.violator tbody th { text-align: right; }
+table.violator td.one { background: #cfdcec; } table.violator td.minus { background: #e3e8ee; } table.violator td.zero { color: #b5bfca; }
 svg text { font: 11px "DejaVu Sans", system-ui, Arial, sans-serif; fill: #33404d; }
 svg text.kind { font-weight: 700; } svg text.hit { font-weight: 700; fill: var(--no); }
-svg .one { fill: #24384f; } svg g.minus { fill: #fff; stroke: #24384f; stroke-width: 1.5; } svg path.minus { fill: #7f9bb8; } svg .other { fill: #b3261e; }
+svg .one { fill: #24384f; } svg g.minus { fill: #fff; stroke: #24384f; stroke-width: 1.5; }
+svg path.minus { fill: #7f9bb8; } svg .other { fill: #b3261e; }
 svg .beam { fill: #b3261e; fill-opacity: 0.1; } svg .ring { fill: none; stroke: #b3261e; stroke-width: 1.6; }
 .legend { display: flex; gap: 6px 20px; flex-wrap: wrap; font-size: 13px; color: var(--soft); margin: 10px 0 0; }
 .legend i { display: inline-block; width: 12px; height: 12px; border-radius: 3px; margin-right: 6px; vertical-align: -1px; }
-pre { background: #f1f4f7; border: 1px solid var(--line); border-radius: 8px; padding: 10px 14px; overflow-x: auto; font-size: 12.5px; line-height: 1.5; margin: 4px 0 2px; }
+pre { background: #f1f4f7; border: 1px solid var(--line); border-radius: 8px; padding: 10px 14px; overflow-x: auto;
+  font-size: 12.5px; line-height: 1.5; margin: 4px 0 2px; }
 code, pre { font-family: ui-monospace, "DejaVu Sans Mono", Menlo, monospace; }
 details summary { cursor: pointer; color: var(--soft); }
 footer { color: var(--soft); font-size: 13px; }
@@ -148,12 +151,12 @@ def _answer(report: ModelReport) -> Iterator[str]:
 
 
 def _pictures(report: ModelReport) -> Iterator[str]:
-    """The matrix, and beside it the fault where both have room."""
+    """The matrix, and beside it the violator where both have room."""
     yield '<section><div class="beside"><div>'
     yield f'<h2>The matrix</h2><div class="scroll">{spy(report)}</div></div>'
     if report.minimal is not None:
         yield "<div>"
-        yield from _fault(report)
+        yield from _violator(report)
         yield "</div>"
     yield "</div>"
     yield from _legend(report)
@@ -169,23 +172,23 @@ def _legend(report: ModelReport) -> Iterator[str]:
     if report.relaxed:
         yield '<span><i style="background:repeating-linear-gradient(45deg,#eecdcb 0 3px,#fff 3px 6px)"></i>relaxed</span>'
     if report.minimal:
-        yield '<span><i style="border:2px solid #b3261e"></i>the smallest fault</span>'
+        yield '<span><i style="border:2px solid #b3261e"></i>the smallest violator</span>'
     if len(report.families) <= 2 * len(COLOURS):
         for number, family in enumerate(report.families):
             yield f'<span><i style="background:{COLOURS[number % len(COLOURS)]}"></i>{escape(family.said)}</span>'
     yield "</div>"
 
 
-def _fault(report: ModelReport) -> Iterator[str]:
+def _violator(report: ModelReport) -> Iterator[str]:
     found = report.minimal
     if found is None:
         return
-    said = sentences.of_fault(report)
-    yield f"<h2>The smallest fault that was found</h2><p>{escape(said[:1].upper() + said[1:])}.</p>"
+    said = sentences.of_violator(report)
+    yield f"<h2>The smallest violator that was found</h2><p>{escape(said[:1].upper() + said[1:])}.</p>"
     if max(len(found.row_names), len(found.column_names)) > 24:
         yield f"<p>rows {escape(', '.join(found.row_names))}</p><p>columns {escape(', '.join(found.column_names))}</p>"
     else:
-        yield '<div class="scroll"><table class="fault"><thead><tr><th></th>'
+        yield '<div class="scroll"><table class="violator"><thead><tr><th></th>'
         yield from (f"<th>{escape(name)}</th>" for name in found.column_names)
         yield "</tr></thead><tbody>"
         for name, entries in zip(found.row_names, found.entries):
@@ -205,7 +208,8 @@ def _cell(entry: int) -> str:
 
 def _families(report: ModelReport) -> Iterator[str]:
     yield '<section><h2>The families of rows</h2><table class="families"><thead><tr><th>family</th><th class="number">rows</th>'
-    yield '<th>what</th><th class="number">relaxed</th><th class="why">why</th></tr></thead><tbody>'
+    more = '<th class="number">relaxed</th><th class="why">why</th>' if report.relaxed else ""
+    yield f"<th>what</th>{more}</tr></thead><tbody>"
     ordered = sorted(enumerate(report.families), key=lambda pair: pair[1].state == "kept")
     for number, family in ordered[:_MOST]:
         yield _family(report, number, family)
@@ -222,10 +226,10 @@ def _family(report: ModelReport, number: int, family: FamilyLine) -> str:
         names = [report.rows.model.rows[row] for row in family.relaxed]
         why = f"{why}; relaxed: {sentences.listed(names, 12)}"
     chip = f'<span class="chip" style="background:{COLOURS[number % len(COLOURS)]}"></span>'
+    more = f'<td class="number">{len(family.relaxed) or ""}</td><td>{escape(why)}</td>' if report.relaxed else ""
     return (
         f'<tr><td class="name">{chip}{escape(family.said)}</td><td class="number">{family.rows}</td>'
-        f'<td class="state"><span class="pill {look}">{words}</span></td><td class="number">{len(family.relaxed) or ""}</td>'
-        f"<td>{escape(why)}</td></tr>"
+        f'<td class="state"><span class="pill {look}">{words}</span></td>{more}</tr>'
     )
 
 
@@ -262,8 +266,9 @@ def _before(report: ModelReport) -> Iterator[str]:
 def _commands(report: ModelReport) -> Iterator[str]:
     yield "<section><h2>How to repeat it</h2>"
     yield (
-        '<p class="soft">These commands give each answer again, one after another in one folder. In a clone <code>model_to_matrix</code> and '
-        "<code>name_lines</code> stand in <code>scripts/</code>, and <code>./cmr</code> is the program; where it is installed they are "
+        '<p class="soft">These commands give each answer again, one after another in one folder. In a clone '
+        "<code>model_to_matrix</code> and <code>name_lines</code> stand in <code>scripts/</code>, and <code>./cmr</code> "
+        "is the program; where it is installed they are "
         "<code>cmr-from-model</code> and <code>cmr-names</code>.</p>"
     )
     for it in repeated(report):
@@ -275,8 +280,9 @@ def _commands(report: ModelReport) -> Iterator[str]:
 
 
 def _foot(report: ModelReport) -> Iterator[str]:
+    asked = sentences.counted(report.asked, "question was", "questions were")
+    checked = sentences.counted(report.checked, "piece of evidence was", "pieces of evidence were")
     yield (
-        f"<footer><p>{sentences.counted(report.asked, 'question was', 'questions were')} put to the proved program <code>cmr</code>. "
-        f"{sentences.counted(report.checked, 'piece of evidence was', 'pieces of evidence were')} accepted by <code>cmr check</code>, which knows "
-        "nothing of the search. Graphs, reductions and determinants were computed again by the package. Nothing else is said here.</p></footer>"
+        f"<footer><p>{asked} put to the proved program <code>cmr</code>. {checked} accepted by <code>cmr check</code>, which knows nothing "
+        "of the search. Graphs, reductions and determinants were computed again by the package. Nothing else is said here.</p></footer>"
     )

@@ -47,17 +47,30 @@ class _Commands:
         if report.reason and report.reason.words and report.whole.verdict == "yes" and not report.whole.is_reduced:
             yield self._class(self._stem)
         if report.minimal is not None:
-            yield self._violator("the smallest fault", f"{self._stem}-fault", report.minimal.cells)
+            yield self._violator("the smallest violator", f"{self._stem}-violator", report.minimal.cells)
         for number, family in enumerate(report.families, 1):
             if family.violator is not None:
                 what = f"why {family.said} cannot be kept beside the others"
                 yield self._violator(what, f"{self._stem}-family{number}", family.violator)
+        yield from self._other_violators()
         if report.rest is not None and report.rest is not report.whole:
             name = f"{self._stem}-rest"
             relaxed = [row for row in report.relaxed if row not in report.rows.refused]
             yield from self._asked("what is left once these rows are relaxed", name, report.rest, relaxed)
             if report.reason and report.reason.words and not report.rest.is_reduced:
                 yield self._class(name)
+
+    def _other_violators(self) -> Iterable[Repeated]:
+        """The violators by which sets with more families are ruled out, but for those of the families that are relaxed."""
+        report = self._report
+        if report.kept is None or not report.kept.is_largest:
+            return
+        told = {family.violator for family in report.families}
+        families = [family for family in report.families if len(family.coefficients) < family.rows]
+        others = [(blocks, cells) for blocks, cells in report.kept.violators if cells not in told]
+        for number, (blocks, cells) in enumerate(others, 1):
+            said = ", ".join(families[at].said for at in sorted(blocks))
+            yield self._violator(f"why not all of {said} can be kept", f"{self._stem}-set{number}", cells)
 
     def _source(self) -> list[str]:
         report = self._report

@@ -143,7 +143,7 @@ def model_report(
     """The report of a model in a file, of the formats of `from_model`.
 
     Is its constraint matrix totally unimodular, and why? If not, which families of rows spoil it, and which to relax so that what is
-    left is? `time_limit` are the seconds for all questions, on the whole matrix, for a smallest fault, on the families, and on the rows of
+    left is? `time_limit` are the seconds for all questions, on the whole matrix, for a smallest violator, on the families, and on the rows of
     one of them. The last two put at most so many `questions` each, and `tell` is told of them.
     """
     name = os.fspath(path)
@@ -216,9 +216,10 @@ class _Work:
         budget = Budget("families of rows", self._questions, _FAMILIES)
         kept = keep_blocks(self._asker, (), blocks, budget, all_sets=True)
         base = [row for at in kept.blocks for row in blocks[at]]
-        smallest = min(kept.refused, key=lambda at: (len(blocks[at]), at))
+        several = [at for at in kept.refused if len(blocks[at]) > 1]
+        smallest = min(several or kept.refused, key=lambda at: (len(blocks[at]), at))
         within = None
-        if len(blocks[smallest]) > 1:
+        if several:
             budget = Budget(f"rows of {self._families[taken[smallest]].name}", self._questions, _ROWS)
             single = [(row,) for row in blocks[smallest]]
             within = keep_blocks(self._asker, base, single, budget, all_sets=False)
@@ -248,7 +249,11 @@ class _Work:
                 "network",
                 f"Each of its {len(found)} connected parts is a network matrix, so the network simplex method solves it.",
             )
-        kinds = {"network": "network matrices", "conetwork": "transposed network matrices", "sums": "put together of such"}
+        kinds = {
+            "network": "network matrices",
+            "conetwork": "transposed network matrices",
+            "sums": "put together of such",
+        }
         said = " or ".join(kind for word, kind in kinds.items() if word in words)
         return Reason("sums", f"Its {len(found)} connected parts are {said}.")
 

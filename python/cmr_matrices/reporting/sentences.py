@@ -11,7 +11,7 @@ __all__ = [
     "left_open",
     "listed",
     "of_coefficients",
-    "of_fault",
+    "of_violator",
     "of_reductions",
     "of_relaxation",
     "of_sides",
@@ -74,7 +74,11 @@ def of_coefficients(report: ModelReport) -> list[str]:
             count = len(family.coefficients)
             rows = family.said if count == family.rows else f"{count} of {counted(family.rows, 'row')} of {family.said}"
             divided = ", once the row is divided," if row in report.rows.divided else ""
-            at = model.columns[column] if family.said == model.rows[row] else f"{model.columns[column]} of {model.rows[row]}"
+            at = (
+                model.columns[column]
+                if family.said == model.rows[row]
+                else f"{model.columns[column]} of {model.rows[row]}"
+            )
             said.append(f"{rows}: the coefficient {float(entry):.12g} at {at}{divided} is none of -1, 0 and 1")
     kept = [str(scaling) for row, scaling in report.rows.divided.items() if row not in report.rows.refused]
     if kept:
@@ -82,8 +86,8 @@ def of_coefficients(report: ModelReport) -> list[str]:
     return said
 
 
-def of_fault(report: ModelReport) -> str:
-    """What the smallest fault is."""
+def of_violator(report: ModelReport) -> str:
+    """What the smallest violator is."""
     found = report.minimal
     assert found is not None
     size = f"{counted(len(found.row_names), 'row')} and {counted(len(found.column_names), 'column')}"
@@ -123,7 +127,7 @@ def _how(report: ModelReport) -> str:
     kept = report.kept
     assert kept is not None
     if kept.is_largest:
-        return "No larger number of families can be kept: each larger set of them has a fault."
+        return "No other choice of families keeps more rows: each one that would has a violator."
     if kept.is_cut:
         return "The search was ended by its limit, so more families may be kept."
     is_sure = all(violator is not None for violator in kept.refused.values())
@@ -156,7 +160,7 @@ def why_relaxed(report: ModelReport, family: FamilyLine) -> str:
         said.append(f"{which} other than -1, 0 and 1")
     if family.violator is not None:
         rows, columns = report.names_of(family.violator)
-        said.append(f"a fault with rows {listed(rows, 5)}, columns {listed(columns, 5)}")
+        said.append(f"a violator with rows {listed(rows, 5)}, columns {listed(columns, 5)}")
     elif family.is_open:
         said.append("left open beside what is kept")
     return "; ".join(said)
@@ -172,7 +176,7 @@ def of_reductions(report: ModelReport) -> str:
     left = "nothing is left" if 0 in found.left else f"{found.left[0]} rows and {found.left[1]} columns stand for all"
     parts = f", in {counted(found.parts, 'connected part')}" if found.parts > 1 else ""
     return (
-        f"{found.rows} of {counted(rows, 'row')} and {found.columns} of {counted(columns, 'column')} neither make nor lose a fault "
+        f"{found.rows} of {counted(rows, 'row')} and {found.columns} of {counted(columns, 'column')} neither make nor lose a violator "
         f"({reasons}): {left}{parts}."
     )
 

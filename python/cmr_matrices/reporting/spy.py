@@ -1,4 +1,4 @@
-"""The matrix of a model as a picture in SVG: rows in bands of their families, and the smallest fault marked."""
+"""The matrix of a model as a picture in SVG: rows in bands of their families, and the smallest violator marked."""
 
 from __future__ import annotations
 
@@ -90,7 +90,7 @@ def spy(report: ModelReport) -> str:
         *_columns(at),
         *_names(report, at),
         *_entries(report, at),
-        *_fault(report, at),
+        *_violator(report, at),
         "</svg>",
     ]
     return "\n".join(parts)
@@ -103,7 +103,7 @@ def _bands(report: ModelReport, at: _Layout) -> Iterator[str]:
         family = families[band.name]
         top, size = at.y(band.begin), at.cell * (band.end - band.begin)
         yield (
-            f'<g><title>{escape(family.said)}: {family.rows} rows, {len(family.relaxed)} relaxed</title>'
+            f"<g><title>{escape(family.said)}: {family.rows} rows, {len(family.relaxed)} relaxed</title>"
             f'<rect x="{at.left:.1f}" y="{top}" width="{at.cell * at.width:.1f}" height="{size:.2f}" fill="{colour}" '
             f'fill-opacity="0.13"/><rect x="{at.left - 6:.1f}" y="{top}" width="4" height="{max(size - 0.4, 0.6):.2f}" '
             f'fill="{colour}"/></g>'
@@ -195,8 +195,8 @@ def _strokes(at: _Layout, places: Iterable[tuple[int, int]]) -> Iterator[str]:
         yield f"M{at.x(column * at.step)} {at.y(row * at.step)}h{side}v{side}h-{side}z"
 
 
-def _fault(report: ModelReport, at: _Layout) -> Iterator[str]:
-    """The lines of the smallest fault as thin beams, and its nonzeros in rings."""
+def _violator(report: ModelReport, at: _Layout) -> Iterator[str]:
+    """The lines of the smallest violator as thin beams, and its nonzeros in rings."""
     if report.minimal is None:
         return
     cells = report.minimal.cells

@@ -15,7 +15,7 @@ from .rows import NotWhole
 __all__ = ["report_json", "report_text"]
 
 _MOST = 20
-"""The most families that are listed, and the most lines of a tree and of a fault."""
+"""The most families that are listed, and the most lines of a tree and of a violator."""
 
 _STATES = {"kept": "keep", "relaxed": "relax", "partly": "in part"}
 
@@ -33,7 +33,7 @@ def _lines(report: ModelReport) -> Iterator[str]:
     yield from _titled("Coefficients", sentences.of_coefficients(report))
     if report.minimal is not None:
         yield ""
-        yield f"The smallest fault that was found: {sentences.of_fault(report)}."
+        yield f"The smallest violator that was found: {sentences.of_violator(report)}."
         yield from _table(report)
     if report.verdict != "yes":
         yield ""
@@ -42,7 +42,8 @@ def _lines(report: ModelReport) -> Iterator[str]:
     yield from _titled("Reductions", [sentences.of_reductions(report)])
     yield from _tree(report)
     yield ""
-    yield f"{sentences.counted(report.asked, 'question')} to cmr; cmr check accepted {sentences.counted(report.checked, 'evidence', 'pieces of evidence')}."
+    checked = sentences.counted(report.checked, "piece of evidence", "pieces of evidence")
+    yield f"{sentences.counted(report.asked, 'question')} to cmr; cmr check accepted {checked}."
 
 
 def _titled(title: str, lines: list[str]) -> Iterator[str]:
@@ -113,7 +114,7 @@ def _object(report: ModelReport) -> dict[str, Any]:
             "refused": [model.rows[row] for row in sorted(report.rows.refused)],
             "divided": {scaling.name: str(scaling.factor) for scaling in report.rows.divided.values()},
         },
-        "fault": found
+        "violator": found
         and {
             "rows": found.row_names,
             "columns": found.column_names,

@@ -97,21 +97,23 @@ def _edge(box: _Placed, child: _Placed) -> str:
     x, y = box.x + box.width / 2, box.y + box.height
     to, down = child.x + child.width / 2, child.y
     middle = (y + down) / 2
-    return f'<path d="M{x:.1f} {y:.1f}C{x:.1f} {middle:.1f} {to:.1f} {middle:.1f} {to:.1f} {down:.1f}" fill="none" stroke="#8793a0" stroke-width="1.3"/>'
+    bend = f"M{x:.1f} {y:.1f}C{x:.1f} {middle:.1f} {to:.1f} {middle:.1f} {to:.1f} {down:.1f}"
+    return f'<path d="{bend}" fill="none" stroke="#8793a0" stroke-width="1.3"/>'
 
 
 def _box(box: _Placed) -> str:
-    x, y = box.x, box.y
+    behind = _frame(box, 3.0, "#8793a0") if box.is_many else ""
+    text = "".join(_text(box, number, line) for number, line in enumerate(box.lines))
+    return f"<g>{behind}{_frame(box, 0.0, '#5f6b78')}{text}</g>"
+
+
+def _frame(box: _Placed, shift: float, stroke: str) -> str:
     colour = "#ffffff" if box.colour == "white" else box.colour
-    behind = ""
-    if box.is_many:
-        behind = f'<rect x="{x + 3:.1f}" y="{y + 3:.1f}" width="{box.width:.1f}" height="{box.height:.1f}" rx="7" fill="{colour}" stroke="#8793a0"/>'
-    text = "".join(
-        f'<text x="{x + box.width / 2:.1f}" y="{y + 17 + _LINE * number:.1f}" text-anchor="middle"{" class=" + chr(34) + "kind" + chr(34) if not number else ""}>'
-        f"{escape(line)}</text>"
-        for number, line in enumerate(box.lines)
-    )
-    return (
-        f'<g>{behind}<rect x="{x:.1f}" y="{y:.1f}" width="{box.width:.1f}" height="{box.height:.1f}" rx="7" fill="{colour}" '
-        f'stroke="#5f6b78"/>{text}</g>'
-    )
+    place = f'x="{box.x + shift:.1f}" y="{box.y + shift:.1f}" width="{box.width:.1f}" height="{box.height:.1f}"'
+    return f'<rect {place} rx="7" fill="{colour}" stroke="{stroke}"/>'
+
+
+def _text(box: _Placed, number: int, line: str) -> str:
+    look = "" if number else ' class="kind"'
+    place = f'x="{box.x + box.width / 2:.1f}" y="{box.y + 17 + _LINE * number:.1f}"'
+    return f'<text {place} text-anchor="middle"{look}>{escape(line)}</text>'
