@@ -168,10 +168,17 @@ class Reports(ReportTest):
         self.assertEqual((hasty.verdict, hasty.whole.why_open, hasty.asked), ("undecided", "the time is over", 0))
 
     def test_left_open(self) -> None:
-        report = model_report(EXAMPLES / "goods.mod", pivots=0)
+        report = model_report(EXAMPLES / "goods.mod", pivots=0, questions=1)
         self.assertEqual(report.verdict, "undecided")
         self.assertIn("a part of 16x16 is neither recognised nor separated", report.to_text())
         self.assertIn("</html>", report.to_html())
+
+    def test_some_rows_decide_what_is_left_open(self) -> None:
+        report = model_report(EXAMPLES / "goods.mod", pivots=0)
+        self.assertEqual((report.whole.verdict, report.verdict), ("undecided", "no"))
+        assert report.minimal is not None
+        self.assertIn(report.minimal.determinant, (2, -2))
+        self.assertNotIn(None, [family.violator for family in report.families if family.relaxed])
 
     def test_refused(self) -> None:
         with self.assertRaisesRegex(BadInput, "there are no rows"):

@@ -27,7 +27,7 @@ class ModelTest(ScriptTest):
             ("assignment.mps", [], 0),
             ("crews.mod", [], 1),
             ("goods.mod", [], 1),
-            ("goods.mod", ["--pivots", "0"], 6),
+            ("goods.mod", ["--pivots", "0", "--questions", "1"], 6),
             ("goods.mod", ["--data", EXAMPLES / "three_places.dat"], 0),
         ):
             with self.subTest(name=name, words=words):

@@ -60,7 +60,7 @@ section { background: #fff; border: 1px solid var(--line); border-radius: 12px; 
 .warn { color: var(--open); font-weight: 600; }
 .scroll { overflow-x: auto; max-width: 100%; }
 .beside { display: flex; gap: 20px 48px; flex-wrap: wrap; align-items: flex-start; }
-.beside > div { max-width: 100%; } .beside > div + div { flex: 1 1 380px; }
+.beside > div { max-width: 100%; } .beside > div.grows { flex: 1 1 380px; }
 table { border-collapse: collapse; font-size: 14px; }
 th, td { text-align: left; padding: 6px 12px 6px 0; border-bottom: 1px solid var(--line); vertical-align: top; overflow-wrap: anywhere; }
 th { color: var(--soft); font-weight: 600; font-size: 13px; white-space: nowrap; } td.number, th.number { text-align: right; }
@@ -155,7 +155,7 @@ def _pictures(report: ModelReport) -> Iterator[str]:
     yield '<section><div class="beside"><div>'
     yield f'<h2>The matrix</h2><div class="scroll">{spy(report)}</div></div>'
     if report.minimal is not None:
-        yield "<div>"
+        yield '<div class="grows">'
         yield from _violator(report)
         yield "</div>"
     yield "</div>"
@@ -242,8 +242,9 @@ def _trees(report: ModelReport) -> Iterator[str]:
     yield f"<section><h2>{title}</h2>"
     if report.reason and asked.verdict == "yes":
         yield f"<p>{escape(report.reason.sentence)}</p>"
-    for tree in trees[:_TREES]:
-        yield f'<div class="scroll">{drawn_tree(tree)}</div>'
+    yield '<div class="beside">'
+    yield from (f'<div class="scroll">{drawn_tree(tree)}</div>' for tree in trees[:_TREES])
+    yield "</div>"
     if len(trees) > _TREES:
         yield f'<p class="soft">and {len(trees) - _TREES} other connected parts</p>'
     kinds = dict.fromkeys(node.kind for tree in trees[:_TREES] for _, node in tree.walk())

@@ -28,7 +28,7 @@ QUESTIONS = 300
 
 _FEW = 6
 # When the steps end, as parts of all time.
-_WHOLE, _FAULT, _FAMILIES, _ROWS = 0.4, 0.5, 0.75, 1.0
+_WHOLE, _SMALLER, _FAMILIES, _ROWS, _ALL = 0.4, 0.5, 0.75, 0.92, 1.0
 
 
 @dataclass(frozen=True)
@@ -158,7 +158,7 @@ def model_report(
     found = work.done()
     return ModelReport(
         model=name,
-        verdict="no" if rows.refused else found.whole.verdict,
+        verdict="no" if rows.refused or found.minimal is not None else found.whole.verdict,
         rows=rows,
         pivots=pivots,
         lines=lines,
@@ -210,7 +210,7 @@ class _Work:
             return _Found(
                 whole, reduced, self._reason(whole), None, self._lines(None, None, None), None, None, None, whole
             )
-        minimal = minimal_violator(self._asker, whole.violator, _FAULT) if whole.violator else None
+        minimal = minimal_violator(self._asker, whole.violator, _SMALLER) if whole.violator else None
         taken = [place for place, family in enumerate(self._families) if family.rows]
         blocks = [self._families[place].rows for place in taken]
         budget = Budget("families of rows", self._questions, _FAMILIES)
@@ -223,6 +223,11 @@ class _Work:
             budget = Budget(f"rows of {self._families[taken[smallest]].name}", self._questions, _ROWS)
             single = [(row,) for row in blocks[smallest]]
             within = keep_blocks(self._asker, base, single, budget, all_sets=False)
+        # Where the whole matrix is left open, a violator of some of its rows decides it.
+        others = [cells for search in (kept, within) if search is not None for _, cells in search.violators]
+        if minimal is None and others:
+            smaller = min(others, key=lambda cells: len(cells.rows) + len(cells.columns))
+            minimal = minimal_violator(self._asker, smaller, _ALL)
         rest = (within.answer if within else None) or kept.answer
         families = self._lines((taken, kept), taken[smallest], within)
         inside = self._families[taken[smallest]].name if within else None
@@ -272,7 +277,9 @@ class _Work:
         spoiling: Iterable[int] = ()
         if kept is not None and place in kept.refused:
             assert place is not None
-            violator = kept.refused[place]
+            # Rows of the family may show by themselves what is left open of all of them.
+            found = [cells for _, cells in within.violators] if within else []
+            violator = kept.refused[place] or next(iter(found), None)
             is_open = violator is None
             spoiling = [family.rows[at] for at in within.refused] if within else family.rows
         relaxed = tuple(sorted({*family.refused, *spoiling}))

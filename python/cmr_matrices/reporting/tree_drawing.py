@@ -18,7 +18,7 @@ _MOST_LINES = 7
 
 @dataclass
 class _Placed:
-    """A box with its text, what is below it, and where it stands."""
+    """A box with its text, what is below it, and the place of its middle, first beside that of its parent."""
 
     lines: list[str]
     colour: str
@@ -35,21 +35,15 @@ class _Placed:
     def height(self) -> float:
         return 12 + _LINE * len(self.lines)
 
-    @property
-    def span(self) -> float:
-        """The width of all that stands at this box and below."""
-        below = sum(child.span for child in self.children) + _GAP * max(len(self.children) - 1, 0)
-        return max(self.width, below)
-
 
 def drawn_tree(tree: Tree, limit: int = 40) -> str:
     """The picture of a tree with about so many boxes at most."""
     style = Style(tree.names or Names.numbered(*tree.shape, first=1), 12)
     root = _placed(tree_boxes(tree.root, limit), style)
-    levels = _heights(root)
-    _place(root, 4.0, 4.0, levels)
+    sides = _sides(root)
+    _place(root, 4.0 - min(left for left, _ in sides), 4.0, _heights(root))
     boxes = list(_walk(root))
-    width = max(box.x + box.width for box in boxes) + 6
+    width = max(box.x + box.width / 2 for box in boxes) + 6
     height = max(box.y + box.height for box in boxes) + 6
     head = f'<svg class="tree" viewBox="0 0 {width:.0f} {height:.0f}" width="{width:.0f}" height="{height:.0f}" role="img" '
     lines = [f'{head}aria-label="the decomposition tree">']
@@ -77,14 +71,25 @@ def _heights(root: _Placed) -> list[float]:
     return heights
 
 
-def _place(box: _Placed, x: float, y: float, heights: list[float]) -> None:
-    span = box.span
-    box.x, box.y = x + (span - box.width) / 2, y
-    below = sum(child.span for child in box.children) + _GAP * max(len(box.children) - 1, 0)
-    at = x + (span - below) / 2
+def _sides(box: _Placed) -> list[tuple[float, float]]:
+    """Sets what is below a box side by side, as near as the boxes of each level allow. Gives the two sides of each level."""
+    levels: list[tuple[float, float]] = []
     for child in box.children:
-        _place(child, at, y + heights[0] + _LEVEL, heights[1:])
-        at += child.span + _GAP
+        own = _sides(child)
+        child.x = max((at[1] - other[0] + _GAP for at, other in zip(levels, own)), default=0.0)
+        moved = [(left + child.x, right + child.x) for left, right in own]
+        both = [(at[0], other[1]) for at, other in zip(levels, moved)]
+        levels = [*both, *levels[len(both) :], *moved[len(both) :]]
+    middle = (box.children[0].x + box.children[-1].x) / 2 if box.children else 0.0
+    for child in box.children:
+        child.x -= middle
+    return [(-box.width / 2, box.width / 2), *((left - middle, right - middle) for left, right in levels)]
+
+
+def _place(box: _Placed, x: float, y: float, heights: list[float]) -> None:
+    box.x, box.y = x, y
+    for child in box.children:
+        _place(child, x + child.x, y + heights[0] + _LEVEL, heights[1:])
 
 
 def _walk(box: _Placed) -> Iterator[_Placed]:
@@ -94,8 +99,7 @@ def _walk(box: _Placed) -> Iterator[_Placed]:
 
 
 def _edge(box: _Placed, child: _Placed) -> str:
-    x, y = box.x + box.width / 2, box.y + box.height
-    to, down = child.x + child.width / 2, child.y
+    x, y, to, down = box.x, box.y + box.height, child.x, child.y
     middle = (y + down) / 2
     bend = f"M{x:.1f} {y:.1f}C{x:.1f} {middle:.1f} {to:.1f} {middle:.1f} {to:.1f} {down:.1f}"
     return f'<path d="{bend}" fill="none" stroke="#8793a0" stroke-width="1.3"/>'
@@ -109,11 +113,11 @@ def _box(box: _Placed) -> str:
 
 def _frame(box: _Placed, shift: float, stroke: str) -> str:
     colour = "#ffffff" if box.colour == "white" else box.colour
-    place = f'x="{box.x + shift:.1f}" y="{box.y + shift:.1f}" width="{box.width:.1f}" height="{box.height:.1f}"'
+    place = f'x="{box.x - box.width / 2 + shift:.1f}" y="{box.y + shift:.1f}" width="{box.width:.1f}" height="{box.height:.1f}"'
     return f'<rect {place} rx="7" fill="{colour}" stroke="{stroke}"/>'
 
 
 def _text(box: _Placed, number: int, line: str) -> str:
     look = "" if number else ' class="kind"'
-    place = f'x="{box.x + box.width / 2:.1f}" y="{box.y + 17 + _LINE * number:.1f}"'
+    place = f'x="{box.x:.1f}" y="{box.y + 17 + _LINE * number:.1f}"'
     return f'<text {place} text-anchor="middle"{look}>{escape(line)}</text>'
