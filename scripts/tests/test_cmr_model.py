@@ -10,6 +10,16 @@ from tests.support import TOP, ScriptTest, needs_glpsol, needs_program, needs_py
 
 EXAMPLES = TOP / "examples"
 
+# Nine parts, which have more than 1,000 rows together.
+PARTS = """
+set parts := 1..9; set hours := 1..130;
+var x{parts, hours} integer >= 0;
+minimize cost: sum{p in parts, h in hours} x[p,h];
+two{p in parts, h in hours: h < 130}: x[p,h] + x[p,h+1] >= 1;
+three{p in parts, h in hours: h < 129}: x[p,h] + x[p,h+1] + x[p,h+2] >= 1;
+end;
+"""
+
 
 @needs_python
 @needs_swiglpk
@@ -66,6 +76,14 @@ class ModelTest(ScriptTest):
             with self.subTest(name=name):
                 commands += self.repeats(report)
         self.assertGreater(commands, 40)
+
+    def test_the_commands_of_a_model_of_many_parts(self):
+        model = self.write("parts.mod", PARTS)
+        report, status = self.report(model)
+        self.assertEqual(status, 0)
+        self.assertEqual([it["what"] for it in report["commands"]], ["the whole matrix, part by part"])
+        self.assertEqual(self.repeats(report), 3)
+        self.assertEqual(len(list((self.folder / "parts").glob("*.tree"))), 9)
 
     def repeats(self, report):
         """Runs the commands of a report, and counts them."""

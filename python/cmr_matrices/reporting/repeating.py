@@ -16,6 +16,9 @@ from .report import ModelReport
 
 __all__ = ["Repeated", "repeated", "row_pattern"]
 
+_APART = 6
+"""Up to so many parts have commands of their own."""
+
 
 @dataclass(frozen=True)
 class Repeated:
@@ -91,18 +94,33 @@ class _Commands:
         names = self._report.rows.model.rows
         without = ["--without", row_pattern([names[row] for row in relaxed], names)] if relaxed else []
         first = self._matrix(name, without, asked.is_reduced)
-        for number, piece in enumerate(asked.pieces, 1):
-            if piece.answer is None:
-                continue
-            text, about = (f"{name}/{number}", f"{what}, part {number}") if asked.is_reduced else (name, what)
-            commands = [
-                *([first] if number == 1 else []),
-                f"{self._tu()} -D {text}.tree {text}.txt | name_lines {text}.names",
-                f"cmr check -i sparse {text}.txt {text}.tree | name_lines {text}.names",
-            ]
-            yield Repeated(about, tuple(commands), f"accepted: {piece.answer.verdict}")
+        answered = [number for number, piece in enumerate(asked.pieces, 1) if piece.answer is not None]
         if not asked.pieces:
             yield Repeated(what, (first,), "")
+        elif any(piece.matrix is None for piece in asked.pieces):
+            # A part is too large, and model_to_matrix writes none of them.
+            return
+        elif len(answered) > _APART:
+            verdict = self._verdict(asked, answered[0])
+            loop = f"for part in {' '.join(map(str, answered))}; do"
+            commands = [f"{loop} {command}; done" for command in self._of_part(f"{name}/$part")]
+            yield Repeated(f"{what}, part by part", (first, *commands), verdict)
+        else:
+            for number in answered:
+                text, about = (f"{name}/{number}", f"{what}, part {number}") if asked.is_reduced else (name, what)
+                start = [first] if number == answered[0] else []
+                yield Repeated(about, (*start, *self._of_part(text)), self._verdict(asked, number))
+
+    def _of_part(self, text: str) -> list[str]:
+        """The question on a matrix, and the check of its tree."""
+        return [
+            f"{self._tu()} -D {text}.tree {text}.txt | name_lines {text}.names",
+            f"cmr check -i sparse {text}.txt {text}.tree | name_lines {text}.names",
+        ]
+
+    def _verdict(self, asked: Asked, number: int) -> str:
+        answer = asked.pieces[number - 1].answer
+        return "" if answer is None else f"accepted: {answer.verdict}"
 
     def _tu(self) -> str:
         report = self._report
