@@ -54,6 +54,7 @@ from .questions import (
 )
 from .reductions import Reduction, Reductions
 from .represented import Matroid
+from .reporting.report import FamilyLine, ModelReport, model_report
 from .signings import Signing, SigningStep
 from .sources import MatrixLike
 from .submatrices import Submatrix
@@ -76,6 +77,7 @@ __all__ = [
     "Edge",
     "ExcludedMinor",
     "Family",
+    "FamilyLine",
     "Graph",
     "Line",
     "LibraryMissing",
@@ -83,6 +85,7 @@ __all__ = [
     "Matrix",
     "MatrixLike",
     "Matroid",
+    "ModelReport",
     "Names",
     "Node",
     "OutOfMemory",
@@ -124,6 +127,7 @@ __all__ = [
     "is_series_parallel",
     "is_totally_unimodular",
     "matrix_of",
+    "model_report",
     "named",
     "parts",
     "reduced_parts",

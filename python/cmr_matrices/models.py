@@ -38,13 +38,16 @@ class Coefficient:
 class Model:
     """The constraints of a linear model: free rows, such as the objective, are none of them.
 
-    `sides` has the right-hand sides of each row, two for a range, where they are known.
+    `sides` has the right-hand sides of each row, two for a range, `bounds` the finite bounds of each column, and `whole` tells which
+    columns are variables in whole numbers, where these are known.
     """
 
     rows: tuple[str, ...]
     columns: tuple[str, ...]
     coefficients: tuple[Coefficient, ...]
     sides: tuple[tuple[float, ...], ...] = ()
+    bounds: tuple[tuple[float, ...], ...] = ()
+    whole: tuple[bool, ...] = ()
 
 
 def read_model(name: str, form: str | None, data: str | None = None) -> Model:
@@ -119,6 +122,8 @@ def _constraints(glpk: Any, problem: Any) -> Model:
         tuple(glpk.glp_get_col_name(problem, column) for column in columns),
         tuple(coefficients),
         tuple(_sides(glpk, problem, row) for row in kept),
+        tuple(_bounds(glpk, problem, column) for column in columns),
+        tuple(glpk.glp_get_col_kind(problem, column) != glpk.GLP_CV for column in columns),
     )
 
 
@@ -126,6 +131,13 @@ def _sides(glpk: Any, problem: Any, row: int) -> tuple[float, ...]:
     kind = glpk.glp_get_row_type(problem, row)
     lower = [glpk.glp_get_row_lb(problem, row)] if kind in (glpk.GLP_LO, glpk.GLP_DB, glpk.GLP_FX) else []
     upper = [glpk.glp_get_row_ub(problem, row)] if kind in (glpk.GLP_UP, glpk.GLP_DB) else []
+    return tuple(lower + upper)
+
+
+def _bounds(glpk: Any, problem: Any, column: int) -> tuple[float, ...]:
+    kind = glpk.glp_get_col_type(problem, column)
+    lower = [glpk.glp_get_col_lb(problem, column)] if kind in (glpk.GLP_LO, glpk.GLP_DB, glpk.GLP_FX) else []
+    upper = [glpk.glp_get_col_ub(problem, column)] if kind in (glpk.GLP_UP, glpk.GLP_DB) else []
     return tuple(lower + upper)
 
 

@@ -23,6 +23,7 @@ FIRST_LINE = "cmr-installed 1"
 # The commands of the package, by the names that they have where they are installed.
 SCRIPTS = {
     "cmr-classify": "cmr-classify",
+    "cmr-model": "cmr-model",
     "cmr-from-model": "model_to_matrix",
     "cmr-names": "name_lines",
     "cmr-graph-to-dot": "graph_to_dot",
