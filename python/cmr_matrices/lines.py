@@ -121,6 +121,12 @@ class Names:
         """The names of a submatrix."""
         return Names(tuple(self.rows[row] for row in rows), tuple(self.columns[column] for column in columns))
 
+    def exchanged(self, row: int, column: int) -> Names:
+        """The names after a pivot, which exchanges those of a row and a column."""
+        rows, columns = list(self.rows), list(self.columns)
+        rows[row], columns[column] = columns[column], rows[row]
+        return Names(tuple(rows), tuple(columns))
+
     def transposed(self) -> Names:
         """The names of the transposed matrix."""
         return Names(self.columns, self.rows)

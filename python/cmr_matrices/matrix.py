@@ -11,6 +11,7 @@ from operator import index
 from typing import TYPE_CHECKING, Any, ClassVar, cast
 
 from .dense import dense_text_of, nonzeros_of, text_of, units_of
+from .determinants import determinant
 from .errors import BadEntry, BadInput, shown
 from .given import listed, text_given, whole
 from .libraries import library
@@ -178,7 +179,9 @@ class Matrix:
         """The pivot at a nonzero a: a step of the simplex method in the tableau of `A x + y = b`, which the same pivot undoes.
 
         Beside row and column an entry becomes A[i][j] - a A[i][column] A[row][j]; the row is multiplied by a and the column by -a, and
-        a stays. Raises `BadEntry` where the entry is 0, or where one of the pivot is none of -1, 0 and 1.
+        a stays. The row and the column exchange their names, since each then stands for the variable, or the element of the matroid, of
+        the other. Raises `BadEntry` where the entry is 0, or where one of the pivot is none of -1, 0 and 1: `Matroid.pivot` pivots over
+        GF(2) and GF(3), where every entry stays in the field.
         """
         pivot = self[row, column]
         if pivot == 0:
@@ -193,7 +196,24 @@ class Matrix:
         for across, beside in in_row:
             entries[row, across] = pivot * beside
         made = Matrix.from_triples(((at, across, value) for (at, across), value in entries.items()), self.shape)
-        return replace(made, names=self.names)
+        return replace(made, names=self.names and self.names.exchanged(row, column))
+
+    def determinant(self) -> int:
+        """The determinant of a square matrix, by elimination in whole numbers. Raises `BadInput` if the matrix is not square.
+
+        A violator that contains no smaller violator is square, and its determinant is 2 or -2. So each violator contains a square
+        submatrix with such a determinant.
+
+        Source: Gomory, in Camion 1965; Schrijver, *Theory of Linear and Integer Programming*, theorem 19.3.
+        """
+        rows, columns = self.shape
+        if rows != columns:
+            raise BadInput(f"a square matrix has a determinant, and here the size is {rows}x{columns}")
+        return determinant(self.to_lists())
+
+    def support(self) -> Matrix:
+        """The 0/1 matrix with a one at each nonzero."""
+        return Matrix(self.shape, tuple((row, column, 1) for row, column, _ in self.nonzeros), self.names)
 
     def sum(self) -> int:
         """The sum of all entries."""
