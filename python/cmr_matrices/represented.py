@@ -2,20 +2,24 @@
 
 from __future__ import annotations
 
+import ast
+import re
 from collections.abc import Iterable
 from dataclasses import dataclass
+from typing import Any
 
 from .circuits import circuits, isomorphism
 from .errors import BadInput
+from .given import listed, text_given
 from .lines import Names
 from .matrix import Matrix
-from .matroids import named
+from .matroids import field_of_named, named
 from .sources import MatrixLike
 from .tableaux import Field, Tableau
 
 __all__ = ["Matroid"]
 
-_FOUR_POINTS = Matrix.of([[1, 1], [1, -1]], row_names=["1", "2"], column_names=["3", "4"])
+_SAGE = re.compile(r"\s*Matroid\(groundset=(?P<elements>\[.*\]),\s*matrix=Matrix\(GF\((?P<field>[23])\),\s*(?P<rows>.*)\)\)\s*", re.S)
 
 
 @dataclass(frozen=True, eq=False)
@@ -49,10 +53,57 @@ class Matroid:
         return cls(Matrix.of(matrix, row_names=row_names, column_names=column_names), field)
 
     @classmethod
-    def from_named(cls, name: str) -> Matroid:
-        """A matroid of the literature: `U2,4` over GF(3), and over GF(2) what `named` knows, such as `F7*`, `R10` or `M*(K3,3)`."""
-        plain = name.replace(" ", "").replace("_", "").replace("{", "").replace("}", "").upper()
-        return cls(_FOUR_POINTS, 3) if plain in ("U2,4", "U24") else cls(named(name))
+    def from_named(cls, name: str, field: Field | None = None) -> Matroid:
+        """A matroid of the literature that `named` knows, such as `F7*`, `R10`, `M*(K3,3)` or `U2,4`.
+
+        It is represented over the `field`: if that is None, over GF(3) if the matroid is not binary, and else over GF(2).
+        """
+        chosen = field_of_named(name) if field is None else field
+        return cls(named(name, chosen), chosen)
+
+    @classmethod
+    def from_representation(
+        cls, matrix: MatrixLike, field: Field = 2, *, elements: Iterable[object] | None = None
+    ) -> Matroid:
+        """The matroid of the columns of any matrix over a field: its elements are the columns, in any representation.
+
+        Entries are -1, 0 and 1; over GF(2) -1 is 1. The basis is the first in the order of the columns. Elements without names are those
+        of a frame's columns, or else `e0`, `e1`, ..
+        """
+        taken = Matrix.of(matrix)
+        count = taken.shape[1]
+        names = taken.names.columns if taken.names else tuple(f"e{place}" for place in range(count))
+        if elements is not None:
+            names = tuple(str(element) for element in elements)
+        if len(names) != count:
+            raise BadInput(f"there are {len(names)} elements, and {count} columns")
+        signs = ((row, column, 1 if field == 2 else value) for row, column, value in taken.nonzeros)
+        tableau: Tableau[int | str] = Tableau.of(Matrix(taken.shape, tuple(signs)), field, range(taken.shape[0]), names)
+        for column in range(count):
+            # The numbers are elements of a basis that is there at first, and each is replaced by an element of the matroid.
+            rows = (row for row, at in tableau.row_elements.items() if isinstance(at, int) and tableau.entry(row, column))
+            row = next(rows, None)
+            if row is not None:
+                tableau.pivot(row, column)
+        tableau.remove_lines([element for element in tableau.elements if isinstance(element, int)])
+        return cls._of(tableau, field)
+
+    @classmethod
+    def from_sage(cls, text: str) -> Matroid:
+        """The matroid of a text as `to_sage` writes it, with any matrix that has a column for each element. Raises `BadInput` if it is none."""
+        found = _SAGE.fullmatch(text_given("no matroid", text))
+        try:
+            if found is None:
+                raise ValueError("it is not `Matroid(groundset=[..], matrix=Matrix(GF(2), [..]))`")
+            field: Field = 2 if found["field"] == "2" else 3
+            elements, rows = ast.literal_eval(found["elements"]), ast.literal_eval(found["rows"])
+            if isinstance(rows, tuple):
+                height, width = rows
+                return cls.from_representation(Matrix((height, width), ()), field, elements=elements)
+            signs = [[-1 if field == 3 and entry == 2 else entry for entry in row] for row in rows]
+            return cls.from_representation(signs, field, elements=elements)
+        except (ValueError, TypeError, SyntaxError, RecursionError, MemoryError) as fault:
+            raise BadInput(f"no matroid: {fault}") from fault
 
     def __eq__(self, other: object) -> bool:
         if not isinstance(other, Matroid):
@@ -82,12 +133,15 @@ class Matroid:
         return Matroid(Matrix.of(self.matrix.T, row_names=self._names.columns, column_names=self._names.rows), self.field)
 
     def pivot(self, basic: str, other: str) -> Matroid:
-        """The same matroid by the basis in which another element has the place of one. Raises `BadInput` where that is no basis."""
+        """The same matroid by the basis in which `other` replaces `basic`: a pivot of the matrix over the field.
+
+        Raises `BadInput` if these elements then are no basis.
+        """
         if basic not in self._names.rows or other not in self._names.columns:
             raise BadInput(f"a pivot is at an element of the basis and another, and here it is at {basic} and {other}")
         tableau = self._tableau()
         tableau.pivot(self._names.rows.index(basic), self._names.columns.index(other))
-        return self._of(tableau)
+        return self._of(tableau, self.field)
 
     def delete(self, *elements: str) -> Matroid:
         """The minor without some elements."""
@@ -99,28 +153,31 @@ class Matroid:
 
     def minor(self, *, delete: Iterable[str] = (), contract: Iterable[str] = ()) -> Matroid:
         """The minor in which some elements are deleted and others contracted. Raises `BadInput` for what is no element, or is both."""
-        deleted, contracted = tuple(delete), tuple(contract)
+        deleted, contracted = (
+            dict.fromkeys(listed(name, given, "names of elements"))
+            for name, given in (("delete", delete), ("contract", contract))
+        )
         tableau = self._tableau()
         for element in (*deleted, *contracted):
             if element not in self.elements:
                 raise BadInput(f"there is no element {element}")
-        if set(deleted) & set(contracted):
+        if deleted.keys() & contracted.keys():
             raise BadInput("an element is to be deleted and contracted")
-        tableau.apply([(element, "delete") for element in set(deleted)])
-        tableau.apply([(element, "contract") for element in set(contracted)])
-        return self._of(tableau)
+        tableau.apply([(element, "delete") for element in deleted])
+        tableau.apply([(element, "contract") for element in contracted])
+        return self._of(tableau, self.field)
 
     def simplify(self) -> Matroid:
         """The minor without loops, and with one of all elements that are parallel."""
         tableau = self._tableau()
         tableau.remove_reducible_columns()
-        return self._of(tableau)
+        return self._of(tableau, self.field)
 
     def cosimplify(self) -> Matroid:
         """The minor without coloops, and with one of all elements that are in series."""
         tableau = self._tableau()
         tableau.remove_reducible_rows()
-        return self._of(tableau)
+        return self._of(tableau, self.field)
 
     def circuits(self) -> frozenset[frozenset[str]]:
         """The least dependent sets, for a matroid with few elements beside a basis: up to 12 over GF(2) and 7 over GF(3)."""
@@ -159,6 +216,7 @@ class Matroid:
     def _tableau(self) -> Tableau[str]:
         return Tableau.of(self.matrix, self.field, self._names.rows, self._names.columns)
 
-    def _of(self, tableau: Tableau[str]) -> Matroid:
+    @classmethod
+    def _of(cls, tableau: Tableau[Any], field: Field) -> Matroid:
         names = tableau.row_elements.values(), tableau.column_elements.values()
-        return Matroid(Matrix.of(tableau.matrix(), row_names=names[0], column_names=names[1]), self.field)
+        return cls(Matrix.of(tableau.matrix(), row_names=names[0], column_names=names[1]), field)

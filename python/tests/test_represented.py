@@ -5,12 +5,13 @@ from __future__ import annotations
 import itertools
 import random
 import unittest
+from collections import Counter
 from typing import Literal
 
-from cmr_matrices import BadInput, Matroid, named
+from cmr_matrices import BadInput, Matrix, Matroid, named
 from tests import matroid_bases
 from tests.matroid_bases import Bases, minor_bases
-from tests.support import FANO
+from tests.support import FANO, needs_module
 
 FIELDS: tuple[Literal[2, 3], ...] = (2, 3)
 
@@ -89,6 +90,108 @@ class Operations(unittest.TestCase):
                 wrong()
 
 
+class Named(unittest.TestCase):
+    """Matroids of the literature, by what it says of them. Their bases are found by brute force."""
+
+    def small_circuits(self, name: str) -> dict[int, int]:
+        """How many circuits of each size below the rank there are, and at it."""
+        matroid = Matroid.from_named(name)
+        sizes = Counter(map(len, circuits(bases(matroid), matroid.elements)))
+        return {size: count for size, count in sorted(sizes.items()) if size <= matroid.rank}
+
+    def test_circuits(self) -> None:
+        for name, wanted in [
+            ("U2,4", {}),
+            ("F7", {3: 7}),
+            ("AG(3,2)", {4: 14}),
+            ("S8", {3: 3, 4: 7}),
+            ("P8", {4: 10}),
+            ("T8", {4: 11}),
+            ("R9", {3: 15}),
+            ("Z4", {3: 4, 4: 14}),
+        ]:
+            with self.subTest(name=name):
+                self.assertEqual(self.small_circuits(name), wanted)
+                dual = Matroid.from_named(name).dual()
+                self.assertTrue(Matroid.from_named(f"{name}*").is_isomorphic(dual))
+                self.assertEqual(Matroid.from_named(name).is_isomorphic(dual), name in ("U2,4", "AG(3,2)", "S8", "P8", "T8"))
+
+    def test_lines_of_the_ternary_reid_geometry(self) -> None:
+        """R9 is PG(2,3) without three points of a line and a point beside it: two lines have four points, and seven have three."""
+        matroid = Matroid.from_named("R9")
+        found = bases(matroid)
+        lines = {
+            frozenset(pair).union(*({one} for one in matroid.elements if not frozenset((*pair, one)) in found))
+            for pair in itertools.combinations(matroid.elements, 2)
+        }
+        self.assertEqual(Counter(map(len, lines)), {4: 2, 3: 7, 2: 3})
+
+    def test_circuit_hyperplanes(self) -> None:
+        """P8 has one pair of disjoint circuits of four elements, and each single-element deletion of AG(3,2) is the dual of F7."""
+        matroid = Matroid.from_named("P8")
+        fours = [circuit for circuit in circuits(bases(matroid), matroid.elements) if len(circuit) == 4]
+        self.assertEqual(sum(not one & two for one, two in itertools.combinations(fours, 2)), 1)
+        cube = Matroid.from_named("AG(3,2)")
+        for element in cube.elements:
+            self.assertTrue(cube.contract(element).is_isomorphic(Matroid.from_named("F7")))
+            self.assertTrue(cube.delete(element).is_isomorphic(Matroid.from_named("F7*")))
+
+    def test_spikes(self) -> None:
+        """The spike of rank 4 without its tip is AG(3,2), and without another element S8; that of rank 3 is F7."""
+        spike = Matroid.from_named("Z4")
+        self.assertTrue(spike.delete("t").is_isomorphic(Matroid.from_named("AG(3,2)")))
+        for element in spike.elements:
+            if element != "t":
+                self.assertTrue(spike.delete(element).is_isomorphic(Matroid.from_named("S8")))
+        self.assertTrue(Matroid.from_named("Z3").is_isomorphic(Matroid.from_named("F7")))
+        self.assertEqual(Matroid.from_named("PG(2,2)"), Matroid.from_named("F7"))
+
+    @needs_module("networkx")
+    def test_graphs(self) -> None:
+        import networkx
+
+        for name, graph in [("Petersen", networkx.petersen_graph()), ("V8", networkx.circulant_graph(8, [1, 4]))]:
+            made = networkx.Graph([element.split("-") for element in Matroid.from_named(name).elements])
+            self.assertTrue(networkx.is_isomorphic(made, graph))
+
+    def test_both_fields(self) -> None:
+        """A regular matroid has the same bases over both fields, and one that is not binary, or not ternary, has a matrix over one."""
+        for name in ("R10", "R12", "K5", "K3,3*", "W4"):
+            self.assertEqual(bases(Matroid.from_named(name, 3)), bases(Matroid.from_named(name)))
+        self.assertEqual([Matroid.from_named(name).field for name in ("U2,4", "T8", "R9", "P8", "S8")], [3, 3, 3, 3, 2])
+        for name, field, piece in [
+            ("U2,4", 2, "U2,4 is not binary, so no 0/1 matrix represents it"),
+            ("T8*", 2, "T8. is not binary"),
+            ("F7", 3, "F7 is binary and not regular"),
+            ("Z4", 3, "Z4 is binary and not regular"),
+            ("K5", 4, "the field has 2 or 3 elements, and here it is 4"),
+        ]:
+            with self.assertRaisesRegex(BadInput, piece):
+                named(name, field)  # type: ignore[arg-type]
+
+    def test_representations(self) -> None:
+        """Any matrix with a column for each element: its bases are the sets of columns that are."""
+        draw = random.Random(4)
+        for number in range(100):
+            field = FIELDS[number % 2]
+            height, width = draw.randint(0, 4), draw.randint(0, 6)
+            rows = [[draw.choice((0, 1, -1)) for _ in range(width)] for _ in range(height)]
+            taken = Matrix.of(rows) if rows else Matrix((0, width), ())
+            matroid = Matroid.from_representation(taken, field, elements=range(width))
+            rank = matroid_bases.rank(rows, field) if rows else 0
+            sets = itertools.combinations(range(width), rank)
+            wanted = {
+                frozenset(map(str, chosen))
+                for chosen in sets
+                if matroid_bases.rank([[row[at] for at in chosen] for row in rows], field) == rank
+            }
+            with self.subTest(number=number, rows=rows, field=field):
+                self.assertEqual(bases(matroid), wanted)
+                self.assertEqual(Matroid.from_sage(matroid.to_sage()), matroid)
+        with self.assertRaisesRegex(BadInput, "there are 1 elements, and 2 columns"):
+            Matroid.from_representation([[1, 1]], elements="a")
+
+
 class Isomorphisms(unittest.TestCase):
     def test_the_excluded_minors(self) -> None:
         for name, wanted in matroid_bases.EXCLUDED.items():
@@ -130,6 +233,18 @@ class Isomorphisms(unittest.TestCase):
             "Matroid(groundset=['1', '2', '3', '4'], matrix=Matrix(GF(3), [[1, 0, 1, 1], [0, 1, 1, 2]]))",
         )
         self.assertEqual(Matroid.of([]).to_sage(), "Matroid(groundset=[], matrix=Matrix(GF(2), 0, 0))")
+        text = "Matroid(groundset=['a', 1, 2], matrix=Matrix(GF(3), [[2, 1, 0], [1, 2, 0]]))"
+        self.assertEqual(Matroid.from_sage(text).circuits(), {frozenset("a1"), frozenset("2")})
+        for wrong, piece in [
+            ("Matroid([1])", "it is not `Matroid"),
+            (text.replace("GF(3)", "GF(4)"), "it is not `Matroid"),
+            (text.replace("2, 0", "5, 0"), "the entry 5 is none of"),
+            (text.replace("'a', 1, 2", "'a'"), "there are 1 elements, and 3 columns"),
+            (text.replace("'a', 1, 2", "1, 1, 2"), "two elements have one name"),
+            (text.replace("[2, 1, 0]", "f(1)"), "no matroid: "),
+        ]:
+            with self.assertRaisesRegex(BadInput, piece):
+                Matroid.from_sage(wrong)
 
 
 if __name__ == "__main__":
