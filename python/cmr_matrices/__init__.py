@@ -55,6 +55,7 @@ from .questions import (
 from .reductions import Reduction, Reductions
 from .represented import Matroid
 from .reporting.report import FamilyLine, ModelReport, model_report
+from .separations import Separation
 from .signings import Signing, SigningStep
 from .sources import MatrixLike
 from .submatrices import Submatrix
@@ -96,6 +97,7 @@ __all__ = [
     "Reductions",
     "Refused",
     "Scaling",
+    "Separation",
     "Signing",
     "SigningStep",
     "Submatrix",

@@ -16,6 +16,7 @@ from .lines import LineSet, Names
 from .matrix import Matrix
 from .nodes import LEAVES, Node
 from .pages import no_picture
+from .separations import Separation, separations_of
 from .sources import MatrixLike
 from .submatrices import Submatrix
 from .tree_picture import Style, tree_picture
@@ -54,6 +55,13 @@ class Tree:
                 row, column = node.place
                 part = part.pivoted(node.rows.index(row.number), node.columns.index(column.number))
             pending.extend((child, part, node.lines) for child in reversed(node.children))
+
+    def separations(self) -> tuple[Separation, ...]:
+        """The 1-, 2- and 3-separations at its sums, in preorder, each with its sides and the rank between them.
+
+        A leaf may have more separations, which no tool seeks: a network matrix is not separated.
+        """
+        return tuple(separations_of(self.root))
 
     @property
     def verdict(self) -> Literal["yes", "no", "undecided"]:
