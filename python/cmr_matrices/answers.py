@@ -65,8 +65,8 @@ class Answer:
     def __bool__(self) -> bool:
         if self.is_undecided:
             raise Undecided(
-                f"{self.property_name}: undecided, the open part is larger than the budget; "
-                "`pivots=20` goes on behind pivots of it, and `lines` up to 24 is a larger budget"
+                f"{self.property_name}: undecided, the open part is larger than the budget; `pivots=100` makes more pivots of it, "
+                "`lines` up to 24 is a larger budget, and `tries=20` asks again in other orders of the lines"
             )
         return self.verdict == "yes"
 

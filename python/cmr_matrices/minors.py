@@ -2,17 +2,15 @@
 
 from __future__ import annotations
 
-from dataclasses import dataclass
-
-from .clock import Clock
+from .calls import Call
 from .excluded import ExcludedMinor, MinorClass, minor_class
 from .lines import Line
 from .matrix import Matrix
-from .minor_search import Outside, fewer_lines, four_points, least_minor, line_tableau, named_minor
+from .minor_search import four_points, least_minor, line_tableau, named_minor
+from .narrowing import GRAPHS, Narrowing
 from .options import budget_words
-from .program import StrPath, run
-from .questions import is_regular, is_totally_unimodular
-from .reading import read_answer
+from .program import StrPath
+from .reading import Question
 from .sources import MatrixLike
 from .tableaux import Tableau
 
@@ -45,99 +43,54 @@ def excluded_minor(
     Source: Tutte 1958 and 1959; Oxley, *Matroid Theory*; `cmr_matrices.excluded` says why.
     """
     kind = minor_class(of)
+    budget = tuple(budget_words(lines, pivots, workers))
+    call = Call.begin(program, time_limit)
     taken = Matrix.of(matrix)
     if kind.field == 2:
         taken.must_be_binary()
-    asked = _Asked(lines, workers, pivots, Clock(time_limit), program)
+    narrowing = Narrowing(call.clock, call.program, budget)
     if kind.name in ("cographic", "conetwork"):
         dual = minor_class(kind.name.removeprefix("co"))
-        found = asked.minor(dual, taken.T)
+        found = _minor(narrowing, dual, taken.T)
         return None if found is None else found.transposed()
-    return asked.minor(kind, taken)
+    return _minor(narrowing, kind, taken)
 
 
-@dataclass(frozen=True)
-class _Asked:
-    """The program with what it may spend."""
-
-    lines: int | None
-    workers: int | None
-    pivots: int
-    clock: Clock
-    program: StrPath | None
-
-    def minor(self, kind: MinorClass, matrix: Matrix) -> ExcludedMinor | None:
-        """A minor that a class excludes, or None where the matrix is in the class."""
-        tableau = line_tableau(matrix, kind.field)
-        if not (self._narrowed(kind, tableau) if kind.name in _GRAPHS else self._test(kind.name)(tableau)):
-            return None
-        if kind.name == "totally unimodular":
-            four_points(tableau)
-        else:
-            least_minor(tableau, kind, self._test(kind.name))
-        return named_minor(tableau, matrix, kind)
-
-    def _narrowed(self, kind: MinorClass, tableau: Tableau[Line]) -> bool:
-        """Whether a matrix is not totally unimodular, or not regular. Then lines are left on which it is not.
-
-        What is not, is outside of two classes of graphs, too. Where a small part that shows this is not totally unimodular either, or not
-        regular, the whole matrix, on which the program may spend long, is not asked.
-        """
-        for graphs in _GRAPHS[kind.name]:
-            smaller, outside = tableau.copy(), self._test(graphs)
-            if not outside(smaller):
-                return False
-            fewer_lines(smaller, outside)
-            if self._shown(kind, smaller):
-                tableau.take(smaller)
-                return True
-        return self._shown(kind, tableau, must_be_decided=True)
-
-    def _shown(self, kind: MinorClass, tableau: Tableau[Line], *, must_be_decided: bool = False) -> bool:
-        """Whether a no is shown by lines of a tableau, which are then left: a violator, or the lines of the steps of a chain."""
-        question = is_regular if kind.name == "regular" else is_totally_unimodular
-        answer = question(
-            tableau.matrix(),
-            certificate=kind.name == "regular",
-            lines=self.lines,
-            workers=self.workers,
-            pivots=self.pivots,
-            time_limit=self.clock.left(),
-            program=self.program,
-        )
-        if answer.is_undecided and must_be_decided:
-            bool(answer)
-        shown = answer.chain.needed if answer.chain is not None else answer.violator
-        if shown is not None:
-            tableau.keep(shown.rows, shown.columns)
-        return shown is not None
-
-    def _test(self, name: str) -> Outside:
-        """The test whether a tableau is outside of a class."""
-        words = _WORDS[name]
-        budget = budget_words(self.lines, self.pivots, self.workers) if name == "regular" else []
-
-        def outside(tableau: Tableau[Line]) -> bool | None:
-            ran = run(
-                [*words, *budget, "-i", "dense"],
-                text=tableau.to_text(),
-                program=self.program,
-                time_limit=self.clock.left(),
-            )
-            answer = read_answer(ran, Matrix(tableau.shape, ()), name)
-            return None if answer.is_undecided else answer.verdict == "no"
-
-        return outside
+def _minor(narrowing: Narrowing, kind: MinorClass, matrix: Matrix) -> ExcludedMinor | None:
+    """A minor that a class excludes, or None if the matrix is in the class."""
+    tableau = line_tableau(matrix, kind.field)
+    outside = narrowing.outside(kind.name) if kind.name not in GRAPHS else None
+    if not (_narrowed(narrowing, kind, tableau) if outside is None else outside(tableau)):
+        return None
+    if kind.name == "totally unimodular":
+        four_points(tableau)
+    else:
+        least_minor(tableau, kind, outside or narrowing.outside(kind.name))
+    return named_minor(tableau, matrix, kind)
 
 
-_WORDS = {
-    "regular": ("regular",),
-    "graphic": ("graphic",),
-    "cographic": ("graphic", "-t"),
-    "network": ("network",),
-    "conetwork": ("network", "-t"),
-    "series-parallel": ("series-parallel",),
-    "binary series-parallel": ("series-parallel", "-b"),
-}
-_GRAPHS = {"totally unimodular": ("network", "conetwork"), "regular": ("graphic", "cographic")}
-"""Classes of graphs that are within a class."""
+def _narrowed(narrowing: Narrowing, kind: MinorClass, tableau: Tableau[Line]) -> bool:
+    """Whether a matrix is not totally unimodular, or not regular. Then lines are left on which it is not.
+
+    The whole matrix, on which the program may spend long, is asked only if no part of it that is outside of a class of graphs shows a no.
+    """
+    parts = 0
+    for part in narrowing.parts(tableau, kind.name):
+        parts += 1
+        if _shown(narrowing, kind, part):
+            tableau.take(part)
+            return True
+    return parts == len(GRAPHS[kind.name]) and _shown(narrowing, kind, tableau, must_be_decided=True)
+
+
+def _shown(narrowing: Narrowing, kind: MinorClass, tableau: Tableau[Line], *, must_be_decided: bool = False) -> bool:
+    """Whether a no is shown by lines of a tableau, which are then left: a violator, or the lines of the steps of a chain."""
+    files = {"-C": "chain"} if kind.name == "regular" else {}
+    question = Question(kind.name, (kind.word, *narrowing.budget), files)
+    answer = question.ask(tableau.matrix(), narrowing.program, narrowing.clock)
+    if answer.is_undecided and must_be_decided:
+        bool(answer)
+    shown = answer.chain.needed if answer.chain is not None else answer.violator
+    if shown is not None:
+        tableau.keep(shown.rows, shown.columns)
+    return shown is not None

@@ -5,12 +5,13 @@ All take whatever `Matrix.of` takes, and these keywords:
 * `certificate`: whether evidence is computed that costs more than the answer;
 * `lines`: the budget of the search through row sets, 0 to 24, and 14 where it is left out;
 * `workers`: how many threads share the searches, 1 to 64; it changes no answer;
-* `pivots`: how many pivots may be made on the way to a part that nothing else decides, 0 to 100: docs/DEFINITIONS.md has the rule;
+* `pivots`: how many pivots may be made on the way to a part that nothing else decides, 0 to 100, and 20 where it is left out:
+  docs/DEFINITIONS.md has the rule;
 * `tries`: where the matrix is undecided, in how many other orders of the lines it is asked again, 0 to 1000, with orders that
   `seed`, any whole number, draws, and with as many pivots in each;
 * `time_limit`: the seconds that the whole call may take, 0 to 2,000,000, or None, as where it is left out, for no limit: what is given is
-  made a matrix, which is not interrupted, and then the program is run, and ended where they are over; an undecided answer is given
-  without the tries that were left;
+  made a matrix, which is not interrupted, and then the program is run, and ended where they are over; once there is an undecided
+  answer, it is given without the steps that were left;
 * `program`: the program's path, where it is not to be looked for.
 
 All raise `ProgramMissing` before they look at the matrix, `BadEntry` and `BadInput` for what is no matrix of theirs or out of a range,
@@ -19,12 +20,15 @@ All raise `ProgramMissing` before they look at the matrix, `BadEntry` and `BadIn
 
 from __future__ import annotations
 
-from dataclasses import dataclass, replace
+from collections.abc import Mapping
+from dataclasses import dataclass, field, replace
 
 from .answers import Answer
 from .calls import Call
+from .errors import TimeLimitReached
 from .given import whole
 from .matrix import Matrix
+from .narrowing import GRAPHS, Narrowing
 from .options import budget_words
 from .program import StrPath
 from .reading import Question
@@ -50,7 +54,7 @@ def is_totally_unimodular(
     certificate: bool = False,
     lines: int | None = None,
     workers: int | None = None,
-    pivots: int = 0,
+    pivots: int = 20,
     tries: int = 0,
     seed: int = 0,
     time_limit: float | None = None,
@@ -61,15 +65,14 @@ def is_totally_unimodular(
     A no has a `violator`, and an undecided answer the part that is `open`. With `certificate` there is the `tree` too.
 
     `lines` is the budget of the search, 0 to 24 lines (14); `workers` the threads that share it, 1 to 64 (1); `pivots` how many pivots
-    may be made on the way to a part that is left open, 0 to 100 (0); `tries` in how many other orders an undecided matrix is asked again,
+    may be made on the way to a part that is left open, 0 to 100 (20); `tries` in how many other orders an undecided matrix is asked again,
     0 to 1000 (0), which `seed`, any whole number (0), draws. `time_limit` is in seconds, 0 to 2,000,000, for the whole call. `program` is
     the program's path.
 
     Source: Ghouila-Houri 1962; Hoffman and Kruskal 1956; Seymour 1980.
     """
-    words = ("tu", *budget_words(lines, pivots, workers))
-    question = Question("totally unimodular", words, {"-D": "tree"})
-    return _tried(question, matrix, certificate, _Ways(tries, seed, time_limit, program))
+    search = _Search("totally unimodular", "tu", lines, workers, pivots, tries, seed, {"-D": "tree"})
+    return search.answer(matrix, certificate, Call.begin(program, time_limit))
 
 
 def is_regular(
@@ -78,7 +81,7 @@ def is_regular(
     certificate: bool = False,
     lines: int | None = None,
     workers: int | None = None,
-    pivots: int = 0,
+    pivots: int = 20,
     tries: int = 0,
     seed: int = 0,
     time_limit: float | None = None,
@@ -90,15 +93,15 @@ def is_regular(
     matrix. With `certificate` there are the `signed` matrix, its `tree`, and for a no the `chain`.
 
     `lines` is the budget of the search, 0 to 24 lines (14); `workers` the threads that share it, 1 to 64 (1); `pivots` how many pivots
-    may be made on the way to a part that is left open, 0 to 100 (0); `tries` in how many other orders an undecided matrix is asked again,
+    may be made on the way to a part that is left open, 0 to 100 (20); `tries` in how many other orders an undecided matrix is asked again,
     0 to 1000 (0), which `seed`, any whole number (0), draws. `time_limit` is in seconds, 0 to 2,000,000, for the whole call. `program` is
     the program's path.
 
     Source: Camion 1965; Seymour 1980; Truemper, *Matroid Decomposition*.
     """
-    words = ("regular", *budget_words(lines, pivots, workers))
-    question = Question("regular", words, {"-D": "tree", "-M": "signed", "-C": "chain"})
-    return _tried(question, matrix, certificate, _Ways(tries, seed, time_limit, program), is_binary=True)
+    files = {"-D": "tree", "-M": "signed", "-C": "chain"}
+    search = _Search("regular", "regular", lines, workers, pivots, tries, seed, files, is_binary=True)
+    return search.answer(matrix, certificate, Call.begin(program, time_limit))
 
 
 def is_graphic(
@@ -181,7 +184,7 @@ def is_balanced(
     *,
     lines: int | None = None,
     workers: int | None = None,
-    pivots: int = 0,
+    pivots: int = 20,
     tries: int = 0,
     seed: int = 0,
     time_limit: float | None = None,
@@ -193,14 +196,14 @@ def is_balanced(
     has the `tree` of the totally unimodular matrix.
 
     `lines` is the budget of the search, 0 to 24 lines (14); `workers` the threads that share it, 1 to 64 (1); `pivots` how many pivots
-    may be made on the way to a part that is left open, 0 to 100 (0); `tries` in how many other orders an undecided matrix is asked again,
+    may be made on the way to a part that is left open, 0 to 100 (20); `tries` in how many other orders an undecided matrix is asked again,
     0 to 1000 (0), which `seed`, any whole number (0), draws. `time_limit` is in seconds, 0 to 2,000,000, for the whole call. `program` is
     the program's path.
 
     Source: Berge 1970; Truemper, *Matroid Decomposition*.
     """
-    question = Question("balanced", ("balanced", *budget_words(lines, pivots, workers)))
-    return _tried(question, matrix, True, _Ways(tries, seed, time_limit, program))
+    search = _Search("balanced", "balanced", lines, workers, pivots, tries, seed)
+    return search.answer(matrix, True, Call.begin(program, time_limit))
 
 
 def has_no_cycle_fault(
@@ -219,13 +222,51 @@ def has_no_cycle_fault(
 
 
 @dataclass(frozen=True)
-class _Ways:
-    """In how many other orders is asked, and with which limits, as a caller has given them."""
+class _Search:
+    """A question that may stay undecided, with what a caller lets it spend. Raises `BadInput` for a number out of its range."""
 
+    property_name: str
+    tool: str
+    lines: int | None
+    workers: int | None
+    pivots: int
     tries: int
     seed: int
-    time_limit: float | None
-    program: StrPath | None
+    files: Mapping[str, str] = field(default_factory=dict)
+    is_binary: bool = False
+
+    def __post_init__(self) -> None:
+        self.words(self.pivots)
+        whole("tries", self.tries, 0, 1000)
+        whole("seed", self.seed)
+
+    def words(self, pivots: int) -> tuple[str, ...]:
+        """The words of the program with a number of pivots."""
+        return self.tool, *budget_words(self.lines, pivots, self.workers)
+
+    def answer(self, matrix: MatrixLike, certificate: bool, call: Call) -> Answer:
+        """The answer, without evidence that is not asked for."""
+        taken = _taken(matrix, self.is_binary)
+        files = self.files if certificate or self.tries else {}
+        answer = self._decided(Question(self.property_name, self.words(self.pivots), files), taken, call)
+        return answer if certificate else replace(answer, tree=None, signed=None, chain=None)
+
+    def _decided(self, question: Question, matrix: Matrix, call: Call) -> Answer:
+        """The answer of the first step that decides: the program without pivots, a part, the program with pivots, other orders."""
+        narrows = self.property_name in GRAPHS
+        first = replace(question, words=self.words(0)) if narrows else question
+        answer = first.ask(matrix, call.program, call.clock)
+        try:
+            if answer.is_undecided and narrows:
+                found = Narrowing(call.clock, call.program).decided(question, matrix)
+                answer = answer if found is None else found
+            if answer.is_undecided and first.words != question.words:
+                answer = question.ask(matrix, call.program, call.clock)
+        except TimeLimitReached:
+            return answer
+        if answer.is_undecided and self.tries:
+            answer = Tries(self.tries, self.seed, call.clock, call.program).decided(question, matrix, answer)
+        return answer
 
 
 def _asked(
@@ -236,23 +277,9 @@ def _asked(
     *,
     is_binary: bool = False,
 ) -> Answer:
-    """Asks a question once."""
+    """Asks a question that the program always decides."""
     call = Call.begin(program, time_limit)
     return question.ask(_taken(matrix, is_binary), call.program, call.clock)
-
-
-def _tried(
-    question: Question, matrix: MatrixLike, certificate: bool, ways: _Ways, *, is_binary: bool = False
-) -> Answer:
-    """Asks, and again in other orders where the answer is undecided. Evidence that is not asked for is left out."""
-    count, seed = whole("tries", ways.tries, 0, 1000), whole("seed", ways.seed)
-    call = Call.begin(ways.program, ways.time_limit)
-    taken = _taken(matrix, is_binary)
-    asked = question if certificate or count else replace(question, files={})
-    answer = asked.ask(taken, call.program, call.clock)
-    if answer.is_undecided and count:
-        answer = Tries(count, seed, call.clock, call.program).decided(asked, taken, answer)
-    return answer if certificate else replace(answer, tree=None, signed=None, chain=None)
 
 
 def _taken(matrix: MatrixLike, is_binary: bool) -> Matrix:

@@ -14,7 +14,7 @@ from cmr_matrices.excluded import CLASSES, elements_after, minor_class
 from cmr_matrices.minor_search import least_minor, line_tableau, named_minor
 from cmr_matrices.tableaux import Tableau
 from tests import matroid_bases
-from tests.support import FANO, K5, R10, TRIANGLE, needs_program
+from tests.support import FANO, K5, R10, TRIANGLE, asked_once, needs_program
 from tests.test_binary_matroids import example
 from tests.test_random import drawn
 
@@ -223,7 +223,7 @@ class Found(unittest.TestCase):
         square = [
             [int((cell[i], cell[j]) == pair) for cell in cells] for i, j in ((0, 1), (0, 2), (1, 2)) for pair in pairs
         ]
-        self.assertTrue(cmr.is_totally_unimodular(square).is_undecided)
+        self.assertTrue(asked_once("totally unimodular", square).is_undecided)
         minor = excluded_minor(square, "totally unimodular", pivots=0)
         assert minor is not None
         self.assertTrue(minor.verify(square))

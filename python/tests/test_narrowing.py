@@ -25,7 +25,7 @@ def spoiled(draw: random.Random) -> list[list[int]]:
     first, second = network(draw, draw.randint(3, 6), draw.randint(3, 6)), network(draw, draw.randint(3, 6), draw.randint(3, 6))
     turned = [list(column) for column in zip(*second)]
     rows = [row + [0] * len(turned[0]) for row in first] + [[0] * len(first[0]) + row for row in turned]
-    for _ in range(draw.randint(1, 4)):
+    for _ in range(draw.randint(4, 12)):
         line = draw.choice(rows)
         line[draw.randrange(len(line))] = draw.choice((-1, 1))
     return rows
@@ -56,7 +56,7 @@ class Narrowed(unittest.TestCase):
     def test_random_matrices(self) -> None:
         draw = random.Random(7)
         seen = 0
-        for number in range(40):
+        for number in range(24):
             rows = spoiled(draw)
             with self.subTest(number=number, rows=rows):
                 for question, matrix in ((UNIMODULAR, Matrix.of(rows)), (REGULAR, Matrix.of(rows).support())):
@@ -67,7 +67,7 @@ class Narrowed(unittest.TestCase):
                     elif found is not None:
                         self.shows_no(matrix, found)
                         seen += 1
-        self.assertGreater(seen, 20)
+        self.assertGreater(seen, 10)
 
     def test_latin_squares(self) -> None:
         matrix = Matrix.of(latin_square(3), row_names=range(27), column_names=range(27))
@@ -97,7 +97,8 @@ class Narrowed(unittest.TestCase):
             def ask(self, matrix: Matrix, *_: object) -> Answer:
                 answer = cmr.is_regular(FANO, certificate=True)
                 steps = answer.chain.steps[:-1] if answer.chain else ()
-                return Answer("regular", "no", violator=answer.violator, signed=answer.signed, chain=answer.chain and cmr.Chain((3, 4), steps, answer.chain.violator))
+                chain = answer.chain and cmr.Chain((3, 4), steps, answer.chain.violator)
+                return Answer("regular", "no", violator=answer.violator, signed=answer.signed, chain=chain)
 
         with self.assertRaisesRegex(ProgramFault, "the evidence of a part is refused"):
             self.part_of(Other("regular", ("regular",)), Matrix.of(FANO))
