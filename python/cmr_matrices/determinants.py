@@ -1,4 +1,4 @@
-"""Determinants in whole numbers."""
+"""Determinants of integer matrices."""
 
 from __future__ import annotations
 

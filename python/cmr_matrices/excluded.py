@@ -1,16 +1,21 @@
 """Excluded minors as evidence: matroids of the literature that a matrix has as minors, and that no matrix of a class has.
 
-Of binary matroids, those that 0/1 matrices represent over GF(2), the regular ones are those without a minor F7 or F7* (Tutte 1958), and
-the graphic ones those without F7, F7*, M*(K5) and M*(K3,3) (Tutte 1959); the dual ones follow. Of matroids over GF(3) the regular ones are
-those without a minor U2,4, since these are the ones that are binary too (Tutte 1958).
+A 0/1 matrix A represents a binary matroid by [I A] over GF(2). The excluded minors are:
 
-A matrix with entries -1, 0 and 1 is totally unimodular exactly where the matroid that it represents over GF(3) is regular: over GF(3) two
-representations with one basis differ by signs of lines alone (Brylawski and Lucas 1976), and one of a regular matroid is totally
-unimodular. So it has a minor U2,4 where it is not totally unimodular, also where its support is regular and the signs alone are at fault. A
-violator is the source of such a minor: pivots inside it keep its sums and make it smaller, until the determinant of a square of two lines
-is 2 or -2, which is 0 over GF(2) and not over GF(3). It is a network matrix where that matroid is graphic.
+* F7 and F7* for regular binary matroids (Tutte 1958);
+* F7, F7*, M*(K5) and M*(K3,3) for graphic binary matroids (Tutte 1959), and the duals of these for cographic ones;
+* U2,4 for regular matroids over GF(3): a matroid without it is binary, and one that is binary and ternary is regular (Tutte 1958);
+* U2,4, M*(K5) and M*(K3,3) for graphic matroids over GF(3): F7 and F7* have no representation over GF(3);
+* U2,4 and M(K4) for direct sums of series-parallel networks (Dirac 1952; Duffin 1965; Brylawski 1971).
 
-Series-parallel matroids are those without a minor U2,4 or M(K4) (Dirac 1952; Duffin 1965; Brylawski 1971).
+A matrix with entries -1, 0 and 1 is totally unimodular if and only if its matroid over GF(3) is regular. A regular matroid has a totally
+unimodular representation with the same basis, and two representations over GF(3) with one basis differ only by signs of lines (Brylawski
+and Lucas 1976). So a matrix that is not totally unimodular has a minor U2,4, even if its support is regular and only its signs are at
+fault. For the same reason it is a network matrix if and only if that matroid is graphic.
+
+A violator leads to a minor U2,4. A pivot inside a violator keeps the sums of the other lines even and their total sum 2 modulo 4, and there
+are fewer lines. In the end a pivot makes an entry 2 or -2: two rows and two columns with four nonzeros and the determinant 2 or -2, which
+is 0 over GF(2) and is not 0 over GF(3).
 
 Source: Oxley, *Matroid Theory*; Truemper, *Matroid Decomposition*; Schrijver, *Theory of Linear and Integer Programming*, chapters 19
 to 21.
@@ -35,7 +40,7 @@ __all__ = ["CLASSES", "ExcludedMinor", "MinorClass", "elements_after", "minor_cl
 
 @dataclass(frozen=True)
 class MinorClass:
-    """A class of matrices that is one of matroids without certain minors."""
+    """A class of matrices whose matroids have none of certain minors."""
 
     name: str
     """The property, as answers name it."""
@@ -59,7 +64,7 @@ CLASSES = (
 
 
 def minor_class(name: str) -> MinorClass:
-    """The class of a name, which is the property in words or its name in tables. Raises `BadInput` where there is none."""
+    """The class of a name, which is the property in words or its name in tables. Raises `BadInput` if there is none."""
     for one in CLASSES:
         if name in (one.name, one.word):
             return one
@@ -71,8 +76,8 @@ class ExcludedMinor:
     """A minor of the matroid of a matrix by which the matrix is outside of a class.
 
     After the `pivots`, made over the field one after another in the whole matrix, its submatrix on `rows` and `columns`, in this order, is
-    the matrix of the matroid that `name` names; over GF(3) it is so up to signs. A pivot has its row stand for the column's element and
-    its column for the row's. The elements that then stand at other rows are contracted, and those at other columns are deleted.
+    the matrix of the matroid that `name` names; over GF(3) it is so up to signs. A pivot exchanges the elements of its row and its column.
+    The elements that are then at other rows are contracted, and the elements at other columns are deleted.
     """
 
     property_name: str
@@ -116,7 +121,7 @@ class ExcludedMinor:
         return _line_set(line for column, line in enumerate(columns) if column not in set(self.columns))
 
     def displayed(self, matrix: MatrixLike) -> Matrix:
-        """The submatrix that is left after the pivots, with names of elements. Raises `BadInput` where the matrix is another."""
+        """The submatrix that is left after the pivots, with names of elements. Raises `BadInput` if the matrix has another shape."""
         rows, columns = elements_after(self.shape, self.pivots)
         return Matrix.of(
             left_after(self._entries(matrix), self.field, self.pivots, self.rows, self.columns),
@@ -132,7 +137,7 @@ class ExcludedMinor:
         return self.fault(matrix) is None
 
     def fault(self, matrix: MatrixLike) -> str | None:
-        """What is wrong with it as a minor of the matroid of a matrix, in a few words, or None where nothing is."""
+        """What is wrong with it as a minor of the matroid of a matrix, in a few words, or None if nothing is wrong."""
         try:
             entries = self._entries(matrix)
             kind = minor_class(self.property_name)
@@ -149,7 +154,7 @@ class ExcludedMinor:
         return None
 
     def transposed(self) -> ExcludedMinor:
-        """The dual minor, of the transposed matrix, by which that is outside of the dual class."""
+        """The dual minor, by which the transposed matrix is outside of the dual class."""
         return replace(
             self,
             property_name=_DUAL_CLASSES.get(self.property_name, self.property_name),
@@ -162,7 +167,7 @@ class ExcludedMinor:
         )
 
     def to_text(self) -> str:
-        """The text of the minor, with lines counted from 1: docs/TOOLS.md says what stands where."""
+        """The text of the minor, with lines counted from 1: docs/TOOLS.md has its parts."""
         places = (f"{row + 1} {column + 1}" for row, column in self.pivots)
         return "\n".join(
             [
@@ -178,7 +183,7 @@ class ExcludedMinor:
 
     @classmethod
     def from_text(cls, text: str, names: Names | None = None) -> ExcludedMinor:
-        """The minor that a text has. Raises `BadInput` where it is none."""
+        """The minor that a text has. Raises `BadInput` if it has none."""
         words = Words(text)
         try:
             _expect(words, "cmr-minor", "1")
@@ -218,7 +223,7 @@ class ExcludedMinor:
 
 
 def elements_after(shape: tuple[int, int], pivots: Iterable[tuple[int, int]]) -> tuple[list[Line], list[Line]]:
-    """The elements for which the rows and the columns of a matrix stand after pivots. Before, each line stands for itself."""
+    """The elements of the rows and the columns of a matrix after pivots. Before the pivots each line is its own element."""
     rows = [Line("row", row) for row in range(shape[0])]
     columns = [Line("column", column) for column in range(shape[1])]
     for row, column in pivots:

@@ -61,7 +61,7 @@ def named(name: str, field: Field = 2) -> Matrix:
     `V8` the matroid of the Möbius ladder on eight nodes, and `Z4` the binary spike of rank 4 with its tip.
 
     With `field=3` the matrix represents the matroid over GF(3), and has entries -1, 0 and 1. `U2,4`, `P8`, `R9` and `T8` are not binary,
-    so they have a matrix over GF(3) alone.
+    so they have a matrix over GF(3) only.
 
     Raises `BadInput` if it is no name, if the matroid has no matrix over the field, or if the matrix would have more than 1,000 rows or
     columns.

@@ -93,7 +93,7 @@ class _Reduction:
         return self._can_go(operations)
 
     def _can_go(self, operations: Sequence[tuple[Line, Operation]]) -> bool:
-        """Does operations where the matroid stays outside of the class. One that is known to lead into it is left out."""
+        """Does operations if the matroid then stays outside of the class. Operations that are known to lead into it are not tried."""
         chosen = [one for one in operations if one not in self._needed and one[0] in self._tableau.places]
         if not chosen:
             return False
@@ -173,8 +173,8 @@ def _pivots_between(
 def four_points(tableau: Tableau[Line]) -> None:
     """Leaves of a tableau over GF(3) that is a violator a minor U2,4, by pivots.
 
-    A pivot keeps the sums of a violator even, and their sum modulo 4, on the other rows and columns (over the whole numbers). So there is
-    a pivot which makes an entry 2 or -2: then its row, the row of that entry and the two columns are the minor.
+    A pivot over the integers keeps the sums of the other rows and columns even, and their total sum modulo 4. So some pivot makes an entry
+    2 or -2: then its row, the row of that entry and the two columns are the minor.
     """
     while True:
         row, column = _first_nonzero(tableau)

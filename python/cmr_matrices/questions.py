@@ -3,13 +3,13 @@
 All take whatever `Matrix.of` takes, and these keywords:
 
 * `certificate`: whether evidence is computed that costs more than the answer;
-* `lines`: the budget of the search through row sets, 0 to 24, and 14 where it is left out;
+* `lines`: the budget of the search through row sets, 0 to 24 (default 14);
 * `workers`: how many threads share the searches, 1 to 64; it changes no answer;
-* `pivots`: how many pivots may be made on the way to a part that nothing else decides, 0 to 100, and 20 where it is left out:
-  docs/DEFINITIONS.md has the rule;
+* `pivots`: how many pivots may be made on the path to a part that nothing else decides, 0 to 100 (default 20): docs/DEFINITIONS.md has the
+  rule;
 * `tries`: where the matrix is undecided, in how many other orders of the lines it is asked again, 0 to 1000, with orders that
   `seed`, any whole number, draws, and with as many pivots in each;
-* `time_limit`: the seconds that the whole call may take, 0 to 2,000,000, or None, as where it is left out, for no limit: what is given is
+* `time_limit`: the seconds that the whole call may take, 0 to 2,000,000, or None for no limit (the default): what is given is
   made a matrix, which is not interrupted, and then the program is run, and ended where they are over; once there is an undecided
   answer, it is given without the steps that were left;
 * `program`: the program's path, where it is not to be looked for.

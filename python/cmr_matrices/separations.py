@@ -16,7 +16,7 @@ class Separation:
     """Two sides of the lines of a node, between which few lines make all entries.
 
     It separates the matroid of the node's submatrix. Lines are those of the whole matrix. Below a `pivoted` node they are lines of the
-    pivot, where a row and a column stand for each other's elements; `Tree.submatrices` has the submatrix with the names of elements.
+    pivot, in which a row and a column have exchanged their elements; `Tree.submatrices` has the submatrix with the names of elements.
     """
 
     node: Node = field(repr=False)

@@ -1,7 +1,7 @@
 """Standard matrices over GF(2) and GF(3) while lines go and elements change their sides, with rows as sets of bits.
 
-The rows of a standard matrix `A` stand for a basis of the matroid that `[I A]` represents, and its columns for all other elements. A
-pivot changes the basis: its row and its column then stand for each other's elements. A row that goes is contracted, and a column deleted.
+The rows of a standard matrix `A` are a basis of the matroid that `[I A]` represents, and its columns are all other elements. A pivot
+changes the basis: its row and its column exchange their elements. Removing a row contracts its element, and removing a column deletes it.
 """
 
 from __future__ import annotations
@@ -23,7 +23,7 @@ Field = Literal[2, 3]
 Operation = Literal["delete", "contract"]
 
 Element = TypeVar("Element", bound=Hashable)
-"""What stands for an element: a line of the matrix, or a name."""
+"""An element: a line of the matrix, or a name."""
 
 Row = tuple[int, int]
 """The places of the ones and of the entries -1 of a row, as bits. Over GF(2) there are no entries -1."""

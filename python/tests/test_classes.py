@@ -11,11 +11,12 @@ import unittest
 from dataclasses import replace
 from pathlib import Path
 
-from cmr_matrices import ExcludedMinor, Matrix, find_program
+from cmr_matrices import ExcludedMinor, Matrix, check, find_program
 from cmr_matrices.classifying.classes import CLASS_NAMES, CLASSES, INCLUSIONS, contradictions, settle
 from cmr_matrices.classifying.streams import Item
 from cmr_matrices.classifying.work import CONTRADICTION, Settings, classify
 from cmr_matrices.excluded import CLASSES as MINOR_CLASSES
+from tests.open_matrices import latin_square
 from tests.support import FANO, R10, TRIANGLE, needs_program
 from tests.test_random import drawn
 
@@ -88,6 +89,36 @@ class Classified(unittest.TestCase):
         for infers in (False, True):
             row = classify(item(rows), replace(self.settings, lines=0, infers=infers))
             self.assertEqual((row.verdicts["regular"], row.verdicts["graphic"], row.fault), ("undecided", "no", None))
+
+    def test_what_is_asked_again(self) -> None:
+        """An undecided matrix is decided by a part of it, with evidence on the whole matrix; without pivots and tries it is left."""
+        rows = latin_square(3)
+        settings = replace(self.settings, classes=tuple(kind for kind in CLASSES if kind.has_budget), evidence=True)
+        self.assertEqual(set(classify(item(rows), settings).verdicts.values()), {"undecided"})
+        row = classify(item(rows), replace(settings, tries=5))
+        self.assertEqual((set(row.verdicts.values()), row.fault), ({"no"}, None))
+        for name, text in row.evidence.items():
+            held = Matrix.from_text(row.evidence["regular/signed"].decode())
+            matrix = rows if name.split("/")[0] != "regular" or name.endswith("chain") else held
+            if not name.endswith("signed"):
+                self.assertIn(check(matrix, text.decode()).says, ("no", "not regular"))
+        self.assertLessEqual({"tu/tree", "tu/violator", "regular/chain", "balanced/violator"}, set(row.evidence))
+
+    def test_supports(self) -> None:
+        """Regularity is asked of the support of a matrix with signs, and the inclusions hold of it."""
+        settings = replace(self.settings, supports=True, evidence=True, minors=True)
+        row = classify(item([[1, -1], [1, 1]]), settings)
+        self.assertEqual([row.verdicts[name] for name in ("tu", "regular", "graphic")], ["no", "yes", "-"])
+        signed = [[-entry if at == 0 else entry for at, entry in enumerate(line)] for line in FANO]
+        row = classify(item(signed), settings)
+        self.assertEqual((row.verdicts["regular"], row.fault), ("no", None))
+        self.assertEqual(check(FANO, row.evidence["regular/chain"].decode()).says, "not regular")
+        self.assertTrue(ExcludedMinor.from_text(row.evidence["regular/minor"].decode()).verify(FANO))
+        draw = random.Random(6)
+        for number in range(40):
+            row = classify(item(drawn(draw), number), replace(self.settings, supports=True))
+            self.assertIsNone(row.fault)
+            self.assertNotEqual(row.verdicts["regular"], "-")
 
     def test_contradictions(self) -> None:
         """A program that says no to one tool alone: the row has the fault, with and without signs."""

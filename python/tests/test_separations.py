@@ -48,7 +48,7 @@ class Separations(unittest.TestCase):
         self.assertEqual(kinds, {"onesum", "twosum", "delta", "y", "mixed", "concentrated"})
 
     def test_parts_of_a_onesum(self) -> None:
-        """Two parts are separated once, and each of three from the two others. A part may be a line alone."""
+        """Two parts are separated once, and each of three from the two others. A part may be a single line."""
         for text, count in [("cmr-tree 2\n2 2\nonesum 2 2 1 2 1 2\n2\nnetwork 1 1 1 1\n0 1 0 1\nnetwork 1 1 2 2\n0 1 0 1\n", 1)]:
             tree = Tree.from_text(text)
             self.assertEqual(len(tree.separations()), count)

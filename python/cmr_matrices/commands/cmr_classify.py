@@ -1,7 +1,7 @@
 """Writes a table of the classes of many matrices: a row for each, with a verdict for each class.
 
 INPUT is a file or `-`, which hold texts of matrices one after another, or a model (.mps, .lp, .mod), or a folder of such files. The
-verdicts are `yes`, `no`, `undecided`, and `-` where a class is one of 0/1 matrices and the matrix has an entry -1.
+verdicts are `yes`, `no`, `undecided`, and `-` if a class is one of 0/1 matrices and the matrix has an entry -1.
 
 Status: 0 where all matrices have their verdicts, 1 where an input is refused, 3 where some rows have a fault, 8 where verdicts
 contradict each other, which would be a defect of cmr.
@@ -91,7 +91,9 @@ def arguments() -> argparse.Namespace:
     add("--evidence", metavar="DIR", help="keep evidence in DIR/CLASS/FILE/NUMBER.KIND")
     add("--minors", action="store_true", help="keep excluded minors too, for each no of a class that has some")
     add("--lines", metavar="L", type=number(0, 24), help="the budget of the searches (14)")
-    add("--pivots", metavar="K", type=number(0, 100), default=0, help="go on behind so many pivots (0)")
+    add("--pivots", metavar="K", type=number(0, 100), default=20, help="make up to K pivots of an open part (20)")
+    add("--tries", metavar="N", type=number(0, 1000), default=0, help="ask again in N other orders of the lines (0)")
+    add("--support", action="store_true", help="ask regular of the support of a matrix with an entry -1")
     add("--time-limit", metavar="S", type=number(1, 10**8), help="leave a class undecided after so many seconds")
     add(
         "--infer",
@@ -182,6 +184,8 @@ class _Run:
             chosen.infer,
             chosen.pivots,
             chosen.minors,
+            chosen.tries,
+            chosen.support,
         )
         if chosen.dask:
             return Cluster(chosen.dask, settings, chosen.worker_program)
