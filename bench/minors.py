@@ -18,7 +18,7 @@ sys.path.insert(0, str(Path(__file__).resolve().parents[1] / "python"))
 
 from networks import KINDS, mixed, with_entry  # noqa: E402
 
-from cmr_matrices import CmrError, Matrix, excluded_minor, minors, reading  # noqa: E402
+from cmr_matrices import CmrError, Matrix, excluded_minor, narrowing, reading  # noqa: E402
 from cmr_matrices.excluded import minor_class  # noqa: E402
 
 
@@ -26,14 +26,14 @@ class Counted:
     """The runs of the program, which are counted."""
 
     def __init__(self):
-        self.count, self._run = 0, minors.run
+        self.count, self._run = 0, narrowing.run
 
     def __enter__(self):
-        minors.run = reading.run = self
+        narrowing.run = reading.run = self
         return self
 
     def __exit__(self, *_):
-        minors.run = reading.run = self._run
+        narrowing.run = reading.run = self._run
 
     def __call__(self, *words, **settings):
         self.count += 1

@@ -1,4 +1,4 @@
-"""The screens of the README, of docs/FROM_A_MODEL.md, of docs/ONE_MODEL.md and of docstrings are run."""
+"""The screens of the README, of three pages of docs/ and of docstrings are run."""
 
 from __future__ import annotations
 
@@ -27,6 +27,10 @@ class Screens(unittest.TestCase):
             title = screen.splitlines()[0]
             with self.subTest(screen=title):
                 self.runs(doctest.DocTestParser().get_doctest(screen, {}, title, "README.md", 0))
+
+    def test_matroids(self) -> None:
+        text = (TOP / "docs" / "MATROIDS.md").read_text(encoding="utf-8")
+        self.runs(doctest.DocTestParser().get_doctest(text, {}, "MATROIDS.md", "MATROIDS.md", 0))
 
     @needs_module("swiglpk")
     @needs_command("glpsol")
