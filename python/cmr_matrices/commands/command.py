@@ -5,6 +5,7 @@ Texts are UTF-8, and a name in another encoding passes with its bytes as they ar
 
 from __future__ import annotations
 
+import argparse
 import os
 import shutil
 import sys
@@ -13,10 +14,20 @@ from pathlib import Path
 from typing import TypeVar
 
 from ..errors import BadInput
+from ..version import __version__
 
-__all__ = ["end", "read_as", "read_text", "write_text"]
+__all__ = ["command_parser", "end", "read_as", "read_text", "write_text"]
 
 _Value = TypeVar("_Value")
+
+
+def command_parser(description: str | None) -> argparse.ArgumentParser:
+    """The parser of a command that its description explains, with `--help` and `--version`."""
+    parser = argparse.ArgumentParser(
+        description=description, formatter_class=argparse.RawDescriptionHelpFormatter
+    )
+    parser.add_argument("--version", action="version", version=f"%(prog)s {__version__}")
+    return parser
 
 
 def end(work: Callable[[], None]) -> int:

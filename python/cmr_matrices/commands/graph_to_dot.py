@@ -13,12 +13,12 @@ import argparse
 from ..graphs import Graph
 from ..lines import Names
 from ..network_picture import DRAWN
-from .command import end, read_as, write_text
+from .command import command_parser, end, read_as, write_text
 
 
 def arguments() -> argparse.Namespace:
     """What the words of the command line say."""
-    parser = argparse.ArgumentParser(description=__doc__, formatter_class=argparse.RawDescriptionHelpFormatter)
+    parser = command_parser(__doc__)
     parser.add_argument(
         "graph", metavar="GRAPH", nargs="?", default="-", help="the graph text; standard input where it is left out"
     )
