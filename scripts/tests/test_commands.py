@@ -13,7 +13,7 @@ from tests.terminal import Terminal
 
 needs_setuptools = unittest.skipUnless(
     shutil.which(PYTHON)
-    and subprocess.run([PYTHON, "-c", "import pip, setuptools"], capture_output=True, check=False).returncode == 0,
+    and subprocess.run([PYTHON, "-c", "import setuptools, pip"], capture_output=True, check=False).returncode == 0,
     "pip and setuptools are not there",
 )
 
