@@ -62,6 +62,40 @@ class Completions(ScriptTest):
 
 
 @needs_python
+class Unproved(ScriptTest):
+    """A clone in which `./try-cmr` has compiled a program, here one that says yes, and no other is there."""
+
+    def setUp(self):
+        super().setUp()
+        for part in ("scripts", "python/cmr_matrices"):
+            shutil.copytree(TOP / part, self.folder / part, ignore=shutil.ignore_patterns("__pycache__", "tests"))
+        program = self.folder / "out" / "unproved" / "cmr"
+        program.parent.mkdir(parents=True)
+        program.write_text("#!/bin/sh\ncat > /dev/null\ncase $1 in tu) echo totally unimodular: yes ;; *) echo $1: yes ;; esac\n")
+        program.chmod(0o755)
+        self.write("m.txt", "2 2\n1 0\n0 1\n")
+
+    def runs(self, *words):
+        command = [PYTHON, *words]
+        env = {"PATH": "/usr/bin:/bin", "PYTHONPATH": str(self.folder / "python")}
+        run = subprocess.run(command, cwd=self.folder, env=env, capture_output=True, text=True, check=False)
+        self.assertEqual(run.returncode, 0, run.stderr)
+        return run
+
+    def test_commands_warn_once_in_one_line(self):
+        for command in (["cmr-minor", "graphic", "m.txt"], ["cmr-classify", "--classes", "tu,graphic,network", "m.txt", "m.txt"]):
+            with self.subTest(command=command):
+                said = self.runs(f"scripts/{command[0]}", *command[1:]).stderr
+                self.assertEqual(said.count("nothing is proved"), 1, said)
+                self.assertNotIn("warnings.warn", said)
+
+    def test_the_package_warns_once(self):
+        code = "import cmr_matrices as cmr; print(*(cmr.is_network([[1]]).verdict for _ in range(3)))"
+        run = self.runs("-c", code)
+        self.assertEqual((run.stdout, run.stderr.count("UnprovedProgram: nothing is proved of this run")), ("yes yes yes\n", 1))
+
+
+@needs_python
 class Version(ScriptTest):
     def test_every_place_has_the_same(self):
         changes = (TOP / "CHANGELOG.md").read_text(encoding="utf-8")
