@@ -66,8 +66,9 @@ def sign(
     for row in chosen:
         if not 0 <= row < taken.shape[0]:
             raise BadInput(f"there is no row {row} in a matrix of size {taken.shape[0]}x{taken.shape[1]}")
-    inputs = {"matrix": taken.to_text(), "rows": Submatrix(taken.shape, tuple(chosen), ()).to_text()}
-    ran = run(["sign", "-i", "sparse", "matrix", "rows"], inputs=inputs, program=call.program, time_limit=call.clock)
+    form, text = taken.for_program()
+    inputs = {"matrix": text, "rows": Submatrix(taken.shape, tuple(chosen), ()).to_text()}
+    ran = run(["sign", "-i", form, "matrix", "rows"], inputs=inputs, program=call.program, time_limit=call.clock)
     answer = read_answer(ran, taken, "signed")
     return replace(answer, signing=Signing.from_lines(ran.lines[1:], taken.names)) if ran.status == YES else answer
 
@@ -103,8 +104,9 @@ def _check(taken: Matrix, evidence: Evidence, call: Call) -> Checked:
     text = evidence if isinstance(evidence, str) else evidence.to_text()
     if text.split(maxsplit=1)[:1] == ["cmr-chain"]:
         taken.must_be_binary()
-    inputs = {"matrix": taken.to_text(), "evidence": text}
-    ran = run(["check", "-i", "sparse", "matrix", "evidence"], inputs=inputs, program=call.program, time_limit=call.clock)
+    form, matrix = taken.for_program()
+    inputs = {"matrix": matrix, "evidence": text}
+    ran = run(["check", "-i", form, "matrix", "evidence"], inputs=inputs, program=call.program, time_limit=call.clock)
     if ran.status == REFUSED:
         return _refusal(ran.said("refused"))
     says = cast(Literal["yes", "no", "undecided", "not regular"], ran.said("accepted"))
@@ -126,8 +128,9 @@ def parts(
     taken = Matrix.of(matrix)
     if not isinstance(tree, (str, Tree)):
         raise BadInput(f"tree is a Tree or the text of one, and here it is {shown(tree)}")
-    inputs = {"matrix": taken.to_text(), "tree": tree if isinstance(tree, str) else tree.to_text()}
-    words = ["parts", "-i", "sparse", "matrix", "tree", "-A", "first", "-B", "second"]
+    form, text = taken.for_program()
+    inputs = {"matrix": text, "tree": tree if isinstance(tree, str) else tree.to_text()}
+    words = ["parts", "-i", form, "matrix", "tree", "-A", "first", "-B", "second"]
     ran = run(words, inputs=inputs, outputs=("first", "second"), program=call.program, time_limit=call.clock)
     if ran.status == REFUSED:
         raise Refused(ran.said("refused"))
