@@ -61,6 +61,7 @@ from .sources import MatrixLike
 from .submatrices import Submatrix
 from .tools import check, compose, generate, matrix_of, parts, sign
 from .trees import Tree
+from .version import __version__
 
 __all__ = [
     "Answer",
@@ -106,6 +107,7 @@ __all__ = [
     "Tree",
     "Undecided",
     "UnprovedProgram",
+    "__version__",
     "check",
     "compose",
     "excluded_minor",

@@ -88,19 +88,15 @@ class Graph:
         *,
         directed: bool | None = None,
         limit: int = DRAWN,
-        tree: bool | None = None,
+        tree: bool = True,
     ) -> str:
         """The graph in DOT, with a layout that fits to its number of edges.
 
-        All nodes and edges are drawn, those of the tree in full and those of walks dashed, but for one case: a directed graph whose
-        lines have names, as those of a model have, and in which no walk takes more than two arcs. It is the network of a flow model:
-        the arcs are drawn as nodes and the walks as edges between them. With `tree=True` all is drawn in this case too, and with
-        `tree=False` arcs are nodes in every graph with such walks. With more edges than `limit` the families of lines are drawn, with
-        their counts.
+        All nodes and edges are drawn: the edges of the tree in full, and the edges of walks dashed. With `tree=False`, a graph in which no
+        walk takes more than two arcs is drawn as the network of a flow model: the arcs are nodes, and the walks are edges between them.
+        This leaves out the nodes of the tree. With more edges than `limit` the families of lines are drawn, with their counts.
         """
         directed = self.directed if directed is None else directed
-        if tree is None:
-            tree = not directed or (names or self.names) is None
         return picture(self, names or self._names, directed=directed, limit=limit, tree=tree)
 
     def __repr__(self) -> str:

@@ -10,14 +10,14 @@ from dataclasses import dataclass, field, replace
 from operator import index
 from typing import TYPE_CHECKING, Any, ClassVar, cast
 
-from .dense import dense_text_of, nonzeros_of, text_of, units_of
+from .dense import Cells
 from .determinants import determinant
 from .errors import BadEntry, BadInput, shown
 from .given import listed, text_given, whole
 from .libraries import library
 from .lines import Names
 from .pages import matrix_table
-from .sources import MatrixLike, entries_of
+from .sources import Entries, MatrixLike, entries_of
 from .words import LIMIT
 
 __all__ = ["Matrix"]
@@ -36,19 +36,16 @@ class Matrix:
     shape: tuple[int, int]
     nonzeros: tuple[tuple[int, int, int], ...] = field(repr=False)
     names: Names | None = field(default=None, compare=False, repr=False)
-    _units: ClassVar[Any] = None
-    # A matrix of an array keeps one of its own, under this name, and lists its nonzeros where they are asked for.
+    _cells: ClassVar[Cells | None] = None
+    # A matrix of rows or of an array has its entries here, and lists its nonzeros when they are first asked for.
 
     if not TYPE_CHECKING:
 
         def __getattr__(self, name: str) -> Any:
-            if name != "nonzeros" or self._units is None:
+            if name != "nonzeros" or self._cells is None:
                 raise AttributeError(f"a Matrix has no attribute {name}")
-            self.__dict__[name] = nonzeros_of(self._units)
+            self.__dict__[name] = self._cells.nonzeros()
             return self.__dict__[name]
-
-    def __getstate__(self) -> dict[str, Any]:
-        return {"shape": self.shape, "nonzeros": self.nonzeros, "names": self.names}
 
     def __post_init__(self) -> None:
         rows, columns = self.shape
@@ -92,25 +89,16 @@ class Matrix:
         if columns is None and found.column_names is not None:
             columns = tuple(found.column_names)
         try:
-            matrix = (
-                cls.from_triples(found.entries, found.shape)
-                if found.array is None
-                else cls._of_array(found.array, found.shape)
-            )
+            cells = _cells_of(found)
+            matrix = cls.from_triples(found.entries, found.shape) if cells is None else cls._of_cells(cells, None)
         except BadEntry as fault:
             raise fault.named(rows, columns) from None
         return matrix._named(rows, columns)
 
     @classmethod
-    def _of_array(cls, array: Any, shape: tuple[int, int]) -> Matrix:
-        """The matrix of a plain array of numpy."""
-        _must_be_small(*shape)
-        return cls._of_units(units_of(array), None)
-
-    @classmethod
-    def _of_units(cls, units: Any, names: Names | None) -> Matrix:
+    def _of_cells(cls, cells: Cells, names: Names | None) -> Matrix:
         made = cls.__new__(cls)
-        made.__dict__.update(shape=(int(units.shape[0]), int(units.shape[1])), names=names, _units=units)
+        made.__dict__.update(shape=cells.shape, names=names, _cells=cells)
         return made
 
     @classmethod
@@ -140,8 +128,8 @@ class Matrix:
     @property
     def T(self) -> Matrix:  # noqa: N802 # pylint: disable=invalid-name
         """The transposed matrix, with its names."""
-        if self._units is not None:
-            return Matrix._of_units(self._units.T.copy(), self.names and self.names.transposed())
+        if self._cells is not None:
+            return Matrix._of_cells(self._cells.transposed, self.names and self.names.transposed())
         rows, columns = self.shape
         nonzeros = tuple(sorted((column, row, value) for row, column, value in self.nonzeros))
         return Matrix((columns, rows), nonzeros, self.names and self.names.transposed())
@@ -151,8 +139,8 @@ class Matrix:
         rows, columns = self.shape
         if not (0 <= row < rows and 0 <= column < columns):
             raise IndexError(f"there is no place {row}, {column} in a matrix of size {rows}x{columns}")
-        if self._units is not None:
-            return int(self._units[row, column])
+        if self._cells is not None:
+            return self._cells[row, column]
         at = bisect_left(self.nonzeros, (row, column))
         found = self.nonzeros[at] if at < len(self.nonzeros) else (rows, 0, 0)
         return found[2] if found[:2] == (row, column) else 0
@@ -217,13 +205,13 @@ class Matrix:
 
     def sum(self) -> int:
         """The sum of all entries."""
-        if self._units is not None:
-            return int(self._units.sum(dtype=int))
+        if self._cells is not None:
+            return self._cells.sum()
         return sum(value for _, _, value in self.nonzeros)
 
     def must_be_binary(self) -> None:
         """Raises `BadEntry` at the first entry -1."""
-        if self._units is not None and not (self._units < 0).any():
+        if self._cells is not None and not self._cells.has_negative():
             return
         for row, column, value in self.nonzeros:
             if value < 0:
@@ -232,6 +220,8 @@ class Matrix:
 
     def to_lists(self) -> list[list[int]]:
         """The rows as lists of numbers."""
+        if self._cells is not None:
+            return self._cells.to_lists()
         rows, columns = self.shape
         lists = [[0] * columns for _ in range(rows)]
         for row, column, value in self.nonzeros:
@@ -241,8 +231,8 @@ class Matrix:
     def to_numpy(self) -> Any:
         """A numpy array of the same shape, of type int8."""
         numpy = library("numpy", "to_numpy")
-        if self._units is not None:
-            return self._units.copy()
+        if self._cells is not None:
+            return numpy.frombuffer(self._cells.data, dtype=numpy.int8).reshape(self.shape).copy()
         triples = numpy.array(self.nonzeros, dtype=numpy.int64).reshape(-1, 3)
         array = numpy.zeros(self.shape, dtype=numpy.int8)
         array[triples[:, 0], triples[:, 1]] = triples[:, 2]
@@ -261,15 +251,15 @@ class Matrix:
 
     def to_text(self) -> str:
         """The canonical sparse text, with lines counted from 1."""
-        if self._units is not None:
-            return text_of(self._units)
+        if self._cells is not None:
+            return self._cells.text()
         rows, columns = self.shape
         triples = [f"{row + 1} {column + 1} {value}\n" for row, column, value in self.nonzeros]
         return "".join([f"{rows} {columns} {len(triples)}\n", *triples])
 
     def for_program(self) -> tuple[str, str]:
-        """A text for the program, with its format: the sparse one, or of an array with many nonzeros a dense one, which is shorter."""
-        dense = None if self._units is None else dense_text_of(self._units)
+        """A text for the program, with its format: a sparse text, or a dense text of rows or an array with many nonzeros."""
+        dense = None if self._cells is None else self._cells.dense_text()
         return ("sparse", self.to_text()) if dense is None else ("dense", dense)
 
     @classmethod
@@ -310,10 +300,18 @@ class Matrix:
         rows = plain.rows if row_names is None else tuple(str(name) for name in row_names)
         columns = plain.columns if column_names is None else tuple(str(name) for name in column_names)
         names = Names(rows, columns)
-        if self._units is None:
+        if self._cells is None:
             return replace(self, names=names)
         names.must_fit(*self.shape)
-        return Matrix._of_units(self._units, names)
+        return Matrix._of_cells(self._cells, names)
+
+
+def _cells_of(found: Entries) -> Cells | None:
+    """The entries as bytes, if they come from rows of Python's numbers or from a plain array."""
+    if found.array is None and found.rows is None:
+        return None
+    _must_be_small(*found.shape)
+    return Cells.of_array(found.array) if found.rows is None else Cells.of_rows(found.rows, found.shape[1])
 
 
 def _pair(name: str, pair: Any) -> tuple[int, int]:

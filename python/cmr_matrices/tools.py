@@ -6,11 +6,12 @@ questions raise.
 
 from __future__ import annotations
 
-from collections.abc import Iterable
+from collections.abc import Iterable, Iterator
 from dataclasses import replace
 from operator import index
 from typing import Literal, cast, get_args
 
+from .answer_checks import checked_graph, checked_minimal, checked_reductions, checked_signing, is_cycle
 from .answers import Answer, Checked, Parts
 from .calls import Call
 from .chains import Chain
@@ -18,19 +19,28 @@ from .clock import TimeLimit
 from .errors import BadCommandLine, BadInput, Refused, shown
 from .given import listed, one_of, whole
 from .graphs import Edge, Graph
+from .lines import LineSet
 from .matrix import Matrix
 from .printed import line_sets
 from .program import REFUSED, YES, StrPath, run
-from .reading import printed_part, read_answer
+from .reading import Question, printed_part, read_answer
 from .signings import Signing
 from .sources import MatrixLike
 from .submatrices import Submatrix
 from .trees import Tree
 
-__all__ = ["Evidence", "SumKind", "check", "compose", "generate", "is_cycle", "matrix_of", "parts", "sign"]
+__all__ = ["Evidence", "SumKind", "check", "compose", "generate", "matrix_of", "parts", "sign"]
 
 SumKind = Literal["one", "two", "delta", "y", "mixed", "concentrated"]
 Evidence = Tree | Chain | Submatrix | str
+_WITH_MINIMAL = {
+    "graphic": ("graphic",),
+    "cographic": ("graphic", "-t"),
+    "network": ("network",),
+    "conetwork": ("network", "-t"),
+    "series-parallel": ("series-parallel",),
+    "binary series-parallel": ("series-parallel", "-b"),
+}
 
 
 def sign(
@@ -56,8 +66,9 @@ def sign(
     for row in chosen:
         if not 0 <= row < taken.shape[0]:
             raise BadInput(f"there is no row {row} in a matrix of size {taken.shape[0]}x{taken.shape[1]}")
-    inputs = {"matrix": taken.to_text(), "rows": Submatrix(taken.shape, tuple(chosen), ()).to_text()}
-    ran = run(["sign", "-i", "sparse", "matrix", "rows"], inputs=inputs, program=call.program, time_limit=call.clock)
+    form, text = taken.for_program()
+    inputs = {"matrix": text, "rows": Submatrix(taken.shape, tuple(chosen), ()).to_text()}
+    ran = run(["sign", "-i", form, "matrix", "rows"], inputs=inputs, program=call.program, time_limit=call.clock)
     answer = read_answer(ran, taken, "signed")
     return replace(answer, signing=Signing.from_lines(ran.lines[1:], taken.names)) if ran.status == YES else answer
 
@@ -67,13 +78,18 @@ def check(
 ) -> Checked:
     """Checks evidence on a matrix apart from what made it: a tree, a chain, a violator, or the text of one of these.
 
-    Of an answer its evidence is checked: the chain of a no on regularity, the tree of a yes on it, on the signed matrix, else the tree,
-    the graph, or the violator. A graph is accepted where its matrix, that of `matrix_of`, is this one, and the violator of a no on balance
-    where it has two nonzeros in each line too.
+    Of an answer all evidence is checked, and has to say what the answer does:
+
+    * the chain of a no on regularity, and the tree of a yes on it, on the signed matrix;
+    * the tree of other answers, or the violator, which for a no on balance also has two nonzeros in each line;
+    * the graph, whose matrix, that of `matrix_of`, has to be this one;
+    * the signing, whose column sums have to be -1, 0 or 1;
+    * the reductions, step by step, with what they leave;
+    * the minimal submatrix, which has to lack the property, and to have it without any one of its lines.
 
     `time_limit` is in seconds, 0 to 2,000,000, for the whole call, and `program` the program's path.
 
-    Raises `BadInput` where an answer has none of these, and `BadText` where a text is no evidence, with the byte at fault.
+    Raises `BadInput` if an answer has none of these, and `BadText` where a text is no evidence, with the byte at fault.
     """
     call = Call.begin(program, time_limit)
     if isinstance(evidence, Answer):
@@ -88,8 +104,9 @@ def _check(taken: Matrix, evidence: Evidence, call: Call) -> Checked:
     text = evidence if isinstance(evidence, str) else evidence.to_text()
     if text.split(maxsplit=1)[:1] == ["cmr-chain"]:
         taken.must_be_binary()
-    inputs = {"matrix": taken.to_text(), "evidence": text}
-    ran = run(["check", "-i", "sparse", "matrix", "evidence"], inputs=inputs, program=call.program, time_limit=call.clock)
+    form, matrix = taken.for_program()
+    inputs = {"matrix": matrix, "evidence": text}
+    ran = run(["check", "-i", form, "matrix", "evidence"], inputs=inputs, program=call.program, time_limit=call.clock)
     if ran.status == REFUSED:
         return _refusal(ran.said("refused"))
     says = cast(Literal["yes", "no", "undecided", "not regular"], ran.said("accepted"))
@@ -111,8 +128,9 @@ def parts(
     taken = Matrix.of(matrix)
     if not isinstance(tree, (str, Tree)):
         raise BadInput(f"tree is a Tree or the text of one, and here it is {shown(tree)}")
-    inputs = {"matrix": taken.to_text(), "tree": tree if isinstance(tree, str) else tree.to_text()}
-    words = ["parts", "-i", "sparse", "matrix", "tree", "-A", "first", "-B", "second"]
+    form, text = taken.for_program()
+    inputs = {"matrix": text, "tree": tree if isinstance(tree, str) else tree.to_text()}
+    words = ["parts", "-i", form, "matrix", "tree", "-A", "first", "-B", "second"]
     ran = run(words, inputs=inputs, outputs=("first", "second"), program=call.program, time_limit=call.clock)
     if ran.status == REFUSED:
         raise Refused(ran.said("refused"))
@@ -196,37 +214,57 @@ def _matrix_of(taken: Graph, call: Call) -> Matrix:
 
 
 def _check_answer(matrix: Matrix, answer: Answer, call: Call) -> Checked:
+    """Checks all evidence of an answer. It is accepted if each piece says what the answer does."""
+    expected = "not regular" if (answer.property_name, answer.verdict) == ("regular", "no") else answer.verdict
+    found = list(_checked_pieces(matrix, answer, call))
+    if not found:
+        raise BadInput(
+            f"the answer `{answer.property_name}: {answer.verdict}` has no evidence to check; "
+            "`certificate=True` asks for it, where its question has some"
+        )
+    for checked in found:
+        if checked.accepted and checked.says != expected:
+            return Checked(accepted=False, rule=f"the evidence says {checked.says}, and the answer {answer.verdict}")
+    return next((checked for checked in found if not checked.accepted), found[0])
+
+
+def _checked_pieces(matrix: Matrix, answer: Answer, call: Call) -> Iterator[Checked]:
     if answer.chain is not None:
-        return _check(matrix, answer.chain, call)
-    if answer.signed is not None and answer.tree is not None:
+        yield _check(matrix, answer.chain, call)
+    elif answer.signed is not None and answer.tree is not None:
         matrix.must_be_binary()
         if [place[:2] for place in answer.signed.nonzeros] != [place[:2] for place in matrix.nonzeros]:
-            return Checked(accepted=False, rule="the signed matrix has other nonzeros")
-        return _check(answer.signed, answer.tree, call)
-    if answer.tree is not None:
-        return _check(matrix, answer.tree, call)
-    if answer.graph is not None:
-        if answer.graph.shape != matrix.shape or _matrix_of(answer.graph, call) != matrix:
-            return Checked(accepted=False, rule="the graph is that of another matrix")
-        return Checked(accepted=True, says="yes")
-    if answer.violator is not None and answer.property_name != "regular":
+            yield Checked(accepted=False, rule="the signed matrix has other nonzeros")
+        else:
+            yield _check(answer.signed, answer.tree, call)
+    elif answer.tree is not None:
+        yield _check(matrix, answer.tree, call)
+    elif answer.violator is not None and answer.property_name != "regular":
         if answer.property_name in ("balanced", "without cycle fault") and not is_cycle(matrix, answer.violator):
-            return Checked(accepted=False, rule="the violator has not two nonzeros in each line")
-        return _check(matrix, answer.violator, call)
-    raise BadInput(
-        f"the answer `{answer.property_name}: {answer.verdict}` has no tree, chain, graph or violator to check; "
-        "`certificate=True` asks for one, where its question has one"
-    )
+            yield Checked(accepted=False, rule="the violator has not two nonzeros in each line")
+        else:
+            yield _check(matrix, answer.violator, call)
+    yield from _checked_here(matrix, answer, call)
 
 
-def is_cycle(matrix: Matrix, fault: Submatrix) -> bool:
-    """Whether a violator has two nonzeros in each line, as a fault of balance and one of Camion's test have."""
-    part = fault.submatrix(matrix)
-    counts = [[0] * size for size in part.shape]
-    for row, column, _ in part.nonzeros:
-        counts[0][row] += 1
-        counts[1][column] += 1
-    return set(counts[0] + counts[1]) == {2}
+def _checked_here(matrix: Matrix, answer: Answer, call: Call) -> Iterator[Checked]:
+    """Checks the evidence that the package checks itself."""
+    if answer.graph is not None:
+        graph = answer.graph
+        yield checked_graph(matrix, answer, lambda: _matrix_of(graph, call))
+    if answer.signing is not None:
+        yield checked_signing(matrix, answer.signing)
+    binary = answer.property_name == "binary series-parallel"
+    if binary:
+        matrix.must_be_binary()
+    if answer.reductions is not None:
+        rest = LineSet((), ()) if answer.rest is None else answer.rest.lines
+        yield checked_reductions(matrix, answer.reductions, rest, binary=binary)
+    if answer.minimal is not None and answer.property_name in _WITH_MINIMAL:
+        question = Question(answer.property_name, _WITH_MINIMAL[answer.property_name])
+        yield checked_minimal(
+            matrix, answer.minimal, lambda part: question.ask(part, call.program, call.clock).verdict == "yes"
+        )
 
 
 def _turned(graph: Graph) -> Graph:

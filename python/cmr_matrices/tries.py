@@ -12,6 +12,7 @@ from __future__ import annotations
 from collections.abc import Callable, Iterator
 from dataclasses import dataclass, replace
 
+from .answer_checks import is_cycle
 from .answers import Answer
 from .chains import Chain, ChainStep
 from .clock import Clock
@@ -24,7 +25,7 @@ from .nodes import Node
 from .program import REFUSED, StrPath
 from .reading import Question
 from .submatrices import Submatrix
-from .tools import Evidence, check, is_cycle
+from .tools import Evidence, check
 from .trees import Tree
 
 __all__ = ["Tries"]

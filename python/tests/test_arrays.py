@@ -1,4 +1,4 @@
-"""Arrays of numpy: they become the same matrices as lists of their entries, in a tenth of a second."""
+"""Arrays, lists of rows and sparse matrices: they become the same matrices as triples of their entries, in a tenth of a second."""
 
 from __future__ import annotations
 
@@ -7,6 +7,8 @@ import pickle
 import random
 import time
 import unittest
+from decimal import Decimal
+from fractions import Fraction
 from typing import Any
 
 from cmr_matrices import BadEntry, BadInput, Matrix, Names, is_totally_unimodular
@@ -16,6 +18,13 @@ from tests.support import needs_module, needs_program
 def drawn(rows: int, columns: int, seed: int) -> list[list[int]]:
     draw = random.Random(seed)
     return [[draw.choice((-1, 0, 0, 1)) for _ in range(columns)] for _ in range(rows)]
+
+
+def seconds_of(source: Any) -> float:
+    """The processor time from an object to the text for the program."""
+    before = time.process_time()
+    Matrix.of(source).for_program()
+    return time.process_time() - before
 
 
 @needs_module("numpy")
@@ -32,6 +41,9 @@ class Arrays(unittest.TestCase):
             )
             for kind in ("int8", "int64", "float64", "float32"):
                 found.append((Matrix.of(numpy.array(lists, dtype=kind).reshape(rows, columns)), plain))
+            if rows and columns:
+                for as_rows in (lists, [[float(it) for it in row] for row in lists], list(numpy.array(lists))):
+                    found.append((Matrix.of(as_rows), plain))
             turned = numpy.array(lists, dtype="int32").reshape(rows, columns)
             found.append((Matrix.of(numpy.asfortranarray(turned)), plain))
             found.append((Matrix.of(turned.T), plain.T))
@@ -54,6 +66,46 @@ class Arrays(unittest.TestCase):
                 self.assertEqual(of_array.nonzeros, plain.nonzeros)
                 self.assertTrue(all(type(it) is int for triple in of_array.nonzeros for it in triple))
                 self.assertTrue(all(type(it) is int for it in of_array.shape))
+
+    def test_entries_with_an_equality_of_their_own(self) -> None:
+        """An entry is 0, 1 or -1 by its own equality, also if its hash is another."""
+
+        class Residue:
+            """A number modulo 3."""
+
+            def __init__(self, number: int) -> None:
+                self.number = number % 3
+
+            def __eq__(self, other: object) -> bool:
+                return isinstance(other, int) and (other - self.number) % 3 == 0
+
+            def __hash__(self) -> int:
+                return hash(self.number)
+
+        rows = [[Residue(2), Residue(1)], [Residue(0), 1]]
+        self.assertEqual(Matrix.of(rows).to_lists(), [[-1, 1], [0, 1]])
+        self.assertEqual(Matrix.of([[Fraction(1), Decimal(-1), True]]).to_lists(), [[1, -1, 1]])
+
+    @needs_module("scipy")
+    def test_sparse_matrices(self) -> None:
+        import numpy
+        from scipy import sparse
+
+        lists = drawn(7, 9, 3)
+        plain = Matrix.of(lists)
+        for form in ("csr", "csc", "coo", "lil", "dok", "bsr", "dia"):
+            for kind in ("int8", "int64", "float64"):
+                self.assertEqual(Matrix.of(sparse.coo_matrix(numpy.array(lists, dtype=kind)).asformat(form)), plain)
+        places = ([0, 0, 1], [0, 0, 1])
+        self.assertEqual(Matrix.of(sparse.coo_matrix(([1, -1, 1], places))).to_lists(), [[0, 0], [0, 1]])
+        bytes_that_wrap = sparse.coo_matrix((numpy.array([127, 127, 1], dtype="int8"), places))
+        with self.assertRaises(BadEntry) as refused:
+            Matrix.of(bytes_that_wrap)
+        self.assertEqual(refused.exception.entry, 254)
+        self.assertEqual(Matrix.of(sparse.coo_matrix((3, 0))).shape, (3, 0))
+        with self.assertRaises(BadInput) as large:
+            Matrix.of(sparse.coo_matrix(([1], ([0], [0])), shape=(10**6, 10**6)))
+        self.assertEqual(str(large.exception), "there are 1000000 rows, and a matrix may have at most 1000")
 
     def test_copies(self) -> None:
         for of_array, plain in self.both():
@@ -115,16 +167,20 @@ class Arrays(unittest.TestCase):
 
         draw = numpy.random.default_rng(1)
         array = draw.integers(-1, 2, size=(1000, 1000))
-        spent = []
-        for _ in range(3):
-            before = time.process_time()
-            Matrix.of(array).for_program()
-            spent.append(time.process_time() - before)
-        # 0.02 seconds where nothing else runs; a step for each entry took 3.
-        self.assertLess(min(spent), 0.3)
+        # 0.02 to 0.1 seconds if nothing else runs; a step for each entry took 3.
+        self.assertLess(min(seconds_of(array) for _ in range(3)), 0.3)
+        self.assertLess(min(seconds_of(array.tolist()) for _ in range(3)), 0.5)
         before = time.process_time()
         Matrix.of(array).to_text()
         self.assertLess(time.process_time() - before, 1)
+
+    @needs_module("scipy")
+    def test_nor_does_a_large_sparse_one(self) -> None:
+        import numpy
+        from scipy import sparse
+
+        array = numpy.random.default_rng(1).integers(-1, 2, size=(1000, 1000))
+        self.assertLess(min(seconds_of(sparse.csr_matrix(array)) for _ in range(3)), 0.3)
 
     @needs_program
     def test_questions(self) -> None:

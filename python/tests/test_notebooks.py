@@ -43,22 +43,28 @@ class Pictures(unittest.TestCase):
             self.assertEqual(edges_of(graph.to_dot(names)), ends)
             self.assertEqual(edges_of(graph.to_dot(tree=False)), ["r2 -- r1", "r3 -- r1", "r3 -- r2"])
 
-    def test_the_middle_of_a_flow_model_alone_is_left_out(self) -> None:
+    def test_the_middle_is_left_out_if_the_caller_says_so(self) -> None:
+        """A signed matroid with names and a flow model can have one graph, so neither directions nor names choose."""
         graph = Graph.from_text(K4)
-        self.assertEqual(len(edges_of(graph.to_dot())), 6)
-        for dot in (graph.to_dot(NAMES), Graph.from_text(K4, names=NAMES).to_dot(), graph.to_dot(tree=False)):
-            self.assertEqual(len(edges_of(dot)), 3)
-        self.assertEqual(len(edges_of(graph.to_dot(NAMES, tree=True))), 6)
-        self.assertEqual(len(edges_of(graph.to_dot(NAMES, directed=False))), 6)
+        for dot in (graph.to_dot(), graph.to_dot(NAMES), Graph.from_text(K4, names=NAMES).to_dot()):
+            self.assertEqual(len(edges_of(dot)), 6)
+        self.assertEqual(len(edges_of(graph.to_dot(tree=False))), 3)
+        self.assertEqual(len(edges_of(graph.to_dot(NAMES, tree=False))), 3)
 
     @needs_program
     def test_graphs_of_matroids(self) -> None:
         for name, nodes, edges in (("W4", 5, 8), ("K4", 4, 6), ("K5", 5, 10), ("K3,3", 6, 9)):
-            for answer in (is_graphic(named(name), certificate=True), is_cographic(named(name).T, certificate=True)):
+            signed = is_regular(named(name), certificate=True).signed
+            assert signed is not None and signed.names is not None
+            for answer in (
+                is_graphic(named(name), certificate=True),
+                is_cographic(named(name).T, certificate=True),
+                is_network(signed, certificate=True),
+            ):
                 assert answer.graph is not None
                 drawn = edges_of(answer.graph.to_dot())
                 self.assertEqual(len(drawn), edges, name)
-                self.assertEqual(len({end for edge in drawn for end in edge.split(" -- ")}), nodes, name)
+                self.assertEqual(len({end for edge in drawn for end in edge.replace("->", "--").split(" -- ")}), nodes, name)
 
     @needs_command("dot")
     def test_a_picture_is_an_element_alone(self) -> None:

@@ -5,6 +5,7 @@ from __future__ import annotations
 import pickle
 import unittest
 from collections.abc import Callable
+from dataclasses import replace
 from math import inf, nan
 from typing import Any
 from unittest import mock
@@ -19,6 +20,7 @@ from cmr_matrices import (
     LibraryMissing,
     Matrix,
     ProgramMissing,
+    Reductions,
     Submatrix,
     TimeLimitReached,
     check,
@@ -150,6 +152,13 @@ class Answers(unittest.TestCase):
             ([[1, 1]], is_network([[1, 1]], certificate=True), "yes"),
             (TRIANGLE, sign(TRIANGLE), "no"),
             (TRIANGLE, cmr.is_balanced(TRIANGLE), "no"),
+            (FANO, is_graphic(FANO, certificate=True), "no"),
+            (R10, cmr.is_conetwork(R10, certificate=True), "no"),
+            (R10, is_series_parallel(R10, certificate=True), "no"),
+            ([[1, 1], [1, 0]], is_series_parallel([[1, 1], [1, 0]], certificate=True), "yes"),
+            (TRIANGLE, is_series_parallel(TRIANGLE, binary=True, certificate=True), "no"),
+            ([[1, 1], [1, -1]], sign([[1, 1], [1, -1]], rows=[0]), "yes"),
+            ([[1, 1], [0, 1]], sign([[1, 1], [0, 1]]), "yes"),
         ]:
             with self.subTest(answer=answer):
                 checked = check(matrix or [], answer)
@@ -164,11 +173,63 @@ class Answers(unittest.TestCase):
         rows = [[1, 1, 1, 1], [1, 1, 1, -1]]
         self.assertFalse(check(rows, Answer("balanced", "no", violator=violator)))
 
+    def refuses(self, matrix: Any, answer: Answer, rule: str) -> None:
+        checked = check(matrix, answer)
+        self.assertEqual((checked.accepted, checked.rule), (False, rule))
+
+    def test_evidence_for_another_verdict_is_refused(self) -> None:
+        no = is_totally_unimodular(TRIANGLE, certificate=True)
+        self.refuses(TRIANGLE, replace(no, verdict="yes"), "the evidence says no, and the answer yes")
+        yes = is_graphic(TRIANGLE, certificate=True)
+        self.refuses(TRIANGLE, replace(yes, verdict="no"), "the evidence says yes, and the answer no")
+        # The odd cycle is graphic and no network matrix, and not cographic by the same graph.
+        self.refuses(TRIANGLE, replace(yes, property_name="network"), "the graph has no directions")
+        self.refuses(TRIANGLE, replace(yes, property_name="cographic"), "the graph is that of another matrix")
+
+    def test_signings_that_are_refused(self) -> None:
+        answer = sign([[1, 1], [0, 1]])
+        assert answer.signing is not None
+        for signs, rule in [
+            (((0, 1), (1, 1)), "a column sum is not -1, 0 or 1"),
+            (((0, 1), (2, 1)), "the signs are not signs of rows of the matrix"),
+            (((0, 1), (0, -1)), "the signs are not signs of rows of the matrix"),
+            (((0, 2),), "a sign is not 1 or -1"),
+        ]:
+            self.refuses([[1, 1], [0, 1]], replace(answer, signing=replace(answer.signing, signs=signs)), rule)
+
+    def test_reductions_that_are_refused(self) -> None:
+        rows = [[1, 1], [-1, -1]]
+        answer = is_series_parallel(rows, certificate=True)
+        for text, rule in [
+            ("", "the reductions leave other lines"),
+            ("r1 zero\n", "step 1 of the reductions is no reduction"),
+            ("r1 copy r1\n", "step 1 of the reductions is no reduction"),
+            ("r1 copy r2\n", "step 1 of the reductions is no reduction"),
+            ("r1 negative r2\nr1 zero\n", "step 2 of the reductions is no reduction"),
+            ("r1 negative r2\nr2 unit c1\n", "step 2 of the reductions is no reduction"),
+        ]:
+            self.refuses(rows, replace(answer, reductions=Reductions.from_text(text)), rule)
+        left = Submatrix((2, 2), (1,), (0, 1))
+        one = replace(answer, verdict="no", rest=left, reductions=Reductions.from_text("r1 negative r2\n"))
+        self.refuses(rows, one, "a line that the reductions leave is reducible")
+        binary = replace(answer, property_name="binary series-parallel")
+        self.refuses([[1, 1], [1, 1]], binary, "step 1 of the reductions is no reduction")
+
+    def test_minimal_submatrices_that_are_refused(self) -> None:
+        answer = is_graphic(FANO, certificate=True)
+        assert answer.minimal is not None
+        graphic = Submatrix((3, 4), (0, 1), (0, 1))
+        self.refuses(FANO, replace(answer, minimal=graphic), "the minimal submatrix has the property")
+        wide = [[*row, 1] for row in FANO]
+        rule = "the minimal submatrix lacks the property without column 3 too"
+        self.refuses(wide, replace(answer, minimal=Submatrix((3, 5), (0, 1, 2), (0, 1, 2, 3, 4))), rule)
+        self.refuses(wide, answer, "the minimal submatrix belongs to a matrix of another size")
+
     def test_an_answer_without_evidence(self) -> None:
-        for answer in (is_totally_unimodular([[1]]), is_regular(FANO), is_series_parallel(R10), sign([[1]])):
+        for answer in (is_totally_unimodular([[1]]), is_regular(FANO), is_series_parallel(R10)):
             with self.subTest(answer=answer), self.assertRaises(BadInput) as refused:
                 check(FANO, answer)
-            self.assertIn("`certificate=True` asks for one, where its question has one", str(refused.exception))
+            self.assertIn("`certificate=True` asks for it, where its question has some", str(refused.exception))
 
     def test_an_answer_is_no_truth_value(self) -> None:
         answer = is_totally_unimodular([[1]])

@@ -64,6 +64,18 @@ class TakenBack(unittest.TestCase):
                 self.assertEqual(cmr.check(order.reordered(), there).says, tree.verdict)
                 self.assertEqual(order.tree(there), tree)
 
+    def test_concentrated_sums(self) -> None:
+        """R12 has a concentrated sum at its root, whose connectors are in increasing order in every order of the lines."""
+        matrix = Matrix.of(cmr.is_regular(cmr.named("R12"), certificate=True).signed)
+        kinds, says = set(), []
+        for seed in range(24):
+            order = any_order(matrix, seed)
+            tree = cmr.is_totally_unimodular(order.reordered(), certificate=True).tree
+            assert tree is not None
+            kinds.add(tree.root.kind)
+            says.append(cmr.check(matrix, order.tree(tree)).says)
+        self.assertEqual((kinds, set(says)), ({"concentrated"}, {"yes"}))
+
     def test_chains(self) -> None:
         order = any_order(Matrix.of(FANO), 1)
         chain = cmr.is_regular(order.reordered(), certificate=True).chain

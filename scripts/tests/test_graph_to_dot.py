@@ -54,11 +54,11 @@ class GraphPictures(ScriptTest):
         """No path of K4 in a star takes more than two arcs, and still its hub belongs to the graph."""
         text = "0 1 r1\n0 2 r2\n0 3 r3\n1 2 c1\n1 3 c2\n2 3 c3\n"
         names = self.write("names", "".join(f"{word}{number} {word}-{number}\n" for word in "rc" for number in (1, 2, 3)))
-        for words in ([], ["--undirected"], ["--undirected", "--names", names], ["--tree", "--names", names]):
+        for words in ([], ["--undirected"], ["--undirected", "--names", names], ["--names", names], ["--tree"]):
             with self.subTest(words=words):
                 edges = self.edges(text, *words)
                 self.assertEqual([edge.split()[0:3:2] for edge in edges], [line.split()[:2] for line in text.splitlines()])
-        self.assertEqual(len(self.edges(text, "--names", names)), 3)
+        self.assertEqual(len(self.edges(text, "--rows-as-nodes", "--names", names)), 3)
         self.assertEqual(len(self.edges(text, "--undirected", "--rows-as-nodes")), 3)
 
     def test_a_tree_is_drawn_where_a_path_takes_three_arcs(self):
@@ -77,7 +77,7 @@ class GraphPictures(ScriptTest):
         for columns in (["flow[a,b]", "flow[b,c]"], ["flow[b,a]", "flow[c,b]"]):
             names = self.write("names", "".join(f"r{i} node[{it}]\n" for i, it in enumerate("abc", 1)))
             names = self.write("names", self.read("names") + "".join(f"c{i} {it}\n" for i, it in enumerate(columns, 1)))
-            lines = self.output("graph_to_dot", "--names", names, text="0 1 r1\n2 1 r2\n3 1 r3\n0 2 c1\n2 3 c2\n")
+            lines = self.output("graph_to_dot", "--rows-as-nodes", "--names", names, text="0 1 r1\n2 1 r2\n3 1 r3\n0 2 c1\n2 3 c2\n")
             forwards = columns[0] == "flow[a,b]"
             self.assertIn(f"{'r1 -> r2' if forwards else 'r2 -> r1'} [label=\"{columns[0]}\"]", lines)
             self.assertIn(f"{'r2 -> r3' if forwards else 'r3 -> r2'} [label=\"{columns[1]}\"]", lines)
@@ -106,7 +106,7 @@ class GraphPictures(ScriptTest):
 
     def test_families_beyond_the_limit(self):
         text, names = flow(30, 100)
-        lines = self.output("graph_to_dot", "--limit", "99", "--names", self.write("names", names), text=text)
+        lines = self.output("graph_to_dot", "--rows-as-nodes", "--limit", "99", "--names", self.write("names", names), text=text)
         self.assertIn('label="30 of node[..]"', lines)
         self.assertIn('label="100 of flow[..]"', lines)
         path = "".join(f"{arc - 1} {arc} r{arc}\n" for arc in range(1, 1001)) + "0 1000 c1\n"
@@ -153,7 +153,7 @@ class GraphPictures(ScriptTest):
         for nodes, arcs, widest, highest in [(30, 100, 1400, 1000), (300, 1000, 3000, 3000)]:
             text, names = flow(nodes, arcs)
             before = os.times().children_user
-            dot = self.output("graph_to_dot", "--names", self.write("names", names), text=text)
+            dot = self.output("graph_to_dot", "--rows-as-nodes", "--names", self.write("names", names), text=text)
             run = subprocess.run(["dot", "-Tsvg"], input=dot, capture_output=True, text=True, timeout=600)
             self.assertLess(os.times().children_user - before, 10)
             self.assertEqual((run.returncode, run.stderr), (0, ""))

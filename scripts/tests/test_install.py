@@ -27,8 +27,12 @@ FILES = [
     *(f"lib/cmr/python/{it.relative_to(TOP / 'python')}" for it in (TOP / "python" / "cmr_matrices").rglob("*.py")),
     "lib/cmr/python/cmr_matrices/py.typed",
     "share/bash-completion/completions/cmr",
+    "share/bash-completion/completions/cmr-commands",
+    *(f"share/bash-completion/completions/{it}" for it in SCRIPTS),
     "share/man/man1/cmr.1",
+    *(f"share/man/man1/{it}.1" for it in SCRIPTS),
     "share/zsh/site-functions/_cmr",
+    "share/zsh/site-functions/_cmr-commands",
 ]
 
 
@@ -179,8 +183,11 @@ class InstallTest(unittest.TestCase):
         self.install()
         target = self.prefix / "share" / "man" / "man1" / "cmr.1"
         target.write_text("other", encoding="utf-8")
-        line = f"install: {target} was changed since it was put there, so nothing is taken away"
+        again = "move it to another folder, and repeat the command"
+        line = f"install: {target} was changed since it was installed, so nothing is removed: {again}"
         self.assertEqual(self.refused("--uninstall"), line)
+        line = f"install: {target} was changed since it was installed, so nothing is installed: {again}"
+        self.assertEqual(self.refused(), line)
         self.assertEqual(self.files(), sorted(FILES))
         target.unlink()
         self.install("--uninstall")

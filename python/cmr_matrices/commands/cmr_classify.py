@@ -29,7 +29,7 @@ from ..classifying.tables import Done, Table, files_of, open_table, read_table
 from ..classifying.work import CONTRADICTION, Row, Settings
 from ..errors import BadInput, ProgramMissing
 from ..program import find_program
-from .command import end, write_text
+from .command import command_parser, end, write_text
 
 FAULTS, CONTRADICTIONS, INTERRUPTED = 3, 8, 130
 
@@ -62,7 +62,7 @@ def classes(text: str) -> tuple[MatrixClass, ...]:
 
 def arguments() -> argparse.Namespace:
     """What the words of the command line say."""
-    parser = argparse.ArgumentParser(description=__doc__, formatter_class=argparse.RawDescriptionHelpFormatter)
+    parser = command_parser(__doc__)
     add = parser.add_argument
     add("inputs", metavar="INPUT", nargs="+", help="a file, a folder, or - for standard input")
     add(

@@ -25,7 +25,7 @@ from ..matrix import Matrix
 from ..minors import excluded_minor
 from ..program import NO, REFUSED, UNDECIDED, YES
 from ..represented import Matroid
-from .command import read_text, write_text
+from .command import command_parser, read_text, write_text
 
 __all__ = ["main"]
 
@@ -40,7 +40,7 @@ class _Unusable(Exception):
 
 def arguments() -> argparse.Namespace:
     """What the words of the command line say."""
-    parser = argparse.ArgumentParser(description=__doc__, formatter_class=argparse.RawDescriptionHelpFormatter)
+    parser = command_parser(__doc__)
     add = parser.add_argument
     add("of", metavar="CLASS", choices=[*(kind.word for kind in CLASSES), "check"], help="the class, or check")
     add("files", metavar="FILE", nargs="*", help="MATRIX, and with check MATRIX and MINOR; - is standard input")

@@ -20,7 +20,7 @@ from typing import Any
 from ..errors import BadInput, CmrError, ProgramMissing
 from ..program import NO, UNDECIDED, YES
 from ..reporting.report import QUESTIONS, ModelReport, model_report
-from .command import end, write_text
+from .command import command_parser, end, write_text
 
 __all__ = ["main"]
 
@@ -39,7 +39,7 @@ def number(least: int, greatest: int) -> Callable[[str], int]:
 
 def arguments() -> argparse.Namespace:
     """What the words of the command line say."""
-    parser = argparse.ArgumentParser(description=__doc__, formatter_class=argparse.RawDescriptionHelpFormatter)
+    parser = command_parser(__doc__)
     add = parser.add_argument
     add("model", metavar="MODEL", help="the model: free or fixed MPS, GNU MathProg, or the LP format of CPLEX")
     add("--html", metavar="REPORT", help="a file that gets the report as one page of HTML, which needs nothing else")

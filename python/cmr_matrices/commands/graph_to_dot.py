@@ -1,9 +1,9 @@
 """Writes a graph of `cmr graphic -G` or `cmr network -G` as a picture in DOT, for example for `dot -Tsvg`.
 
-All nodes and edges are drawn: those of the tree in full, and those that join the ends of paths dashed. With --names and without
---undirected, a graph in which no column has more than two nonzeros is taken for the network of a flow model: its rows are the nodes
-and its columns the edges. Each has the number or the name of the row or column for which it stands. The layout fits to the number
-of edges: that of dot up to 40, of neato up to 150 (in trees 250), and beyond that of sfdp, where names of edges are left out.
+All nodes and edges are drawn: the edges of the tree in full, and the edges that join the ends of paths dashed. --rows-as-nodes draws
+the network of a flow model, in which no column has more than two nonzeros: its rows are the nodes and its columns the edges. This leaves
+out the nodes of the tree. Each node or edge has the number or the name of its row or column. The layout depends on the number of edges:
+that of dot up to 40, of neato up to 150 (in trees 250), and beyond that of sfdp, without names of edges.
 """
 
 from __future__ import annotations
@@ -13,12 +13,12 @@ import argparse
 from ..graphs import Graph
 from ..lines import Names
 from ..network_picture import DRAWN
-from .command import end, read_as, write_text
+from .command import command_parser, end, read_as, write_text
 
 
 def arguments() -> argparse.Namespace:
     """What the words of the command line say."""
-    parser = argparse.ArgumentParser(description=__doc__, formatter_class=argparse.RawDescriptionHelpFormatter)
+    parser = command_parser(__doc__)
     parser.add_argument(
         "graph", metavar="GRAPH", nargs="?", default="-", help="the graph text; standard input where it is left out"
     )
@@ -27,11 +27,11 @@ def arguments() -> argparse.Namespace:
     )
     parser.add_argument("--undirected", action="store_true", help="draw no arrows, as it fits a graph of `cmr graphic`")
     drawn = parser.add_mutually_exclusive_group()
-    drawn.add_argument("--tree", action="store_true", help="draw the tree and its paths in any case")
+    drawn.add_argument("--tree", action="store_true", help="draw the tree and its paths, as without an option")
     drawn.add_argument(
         "--rows-as-nodes",
         action="store_true",
-        help="draw rows as nodes and columns as edges in any case where no column has more than two nonzeros",
+        help="draw rows as nodes and columns as edges, if no column has more than two nonzeros",
     )
     parser.add_argument(
         "--limit",
@@ -47,8 +47,7 @@ def _work(chosen: argparse.Namespace) -> None:
     graph = read_as(chosen.graph, Graph.from_text)
     names = read_as(chosen.names, Names.from_text) if chosen.names else Names.numbered(*graph.shape, first=1)
     names.must_fit(*graph.shape)
-    is_model = bool(chosen.names) and not chosen.undirected
-    tree = chosen.tree or not (chosen.rows_as_nodes or is_model)
+    tree = not chosen.rows_as_nodes
     write_text("-", graph.to_dot(names, directed=not chosen.undirected, limit=chosen.limit, tree=tree))
 
 

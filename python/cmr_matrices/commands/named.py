@@ -13,12 +13,12 @@ import argparse
 
 from ..lines import Names
 from ..matroids import named
-from .command import end, write_text
+from .command import command_parser, end, write_text
 
 
 def arguments() -> argparse.Namespace:
     """What the words of the command line say."""
-    parser = argparse.ArgumentParser(description=__doc__, formatter_class=argparse.RawDescriptionHelpFormatter)
+    parser = command_parser(__doc__)
     parser.add_argument("name", metavar="NAME", help="for example R10, 'F7*', K5 or 'K3,3*'")
     parser.add_argument("--ternary", action="store_true", help="write a matrix over GF(3)")
     parser.add_argument(
