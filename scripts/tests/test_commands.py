@@ -45,7 +45,7 @@ class Completions(ScriptTest):
         return run.stdout.split()
 
     def test_bash(self):
-        self.assertEqual(self.offered("cmr-named", "-"), ["-h", "--help", "--version", "--names"])
+        self.assertEqual(self.offered("cmr-named", "-"), ["-h", "--help", "--version", "--ternary", "--names"])
         self.assertEqual(self.offered("/usr/bin/cmr-from-model", "--format", ""), ["mps", "mathprog", "lp"])
         self.assertEqual(self.offered("cmr-minor", "co"), ["cographic", "conetwork"])
         self.assertEqual(self.offered("cmr-minor", "tu", ""), [])
