@@ -3,6 +3,7 @@
 All take whatever `Matrix.of` takes, and these keywords:
 
 * `certificate`: whether evidence is computed that costs more than the answer;
+* `parts`: whether a part of the matrix may decide a no before pivots are made (default true): `cmr_matrices.narrowing` says how;
 * `lines`: the budget of the search through row sets, 0 to 24 (default 14);
 * `workers`: how many threads share the searches, 1 to 64; it changes no answer;
 * `pivots`: how many pivots may be made on the path to a part that nothing else decides, 0 to 100 (default 20): docs/DEFINITIONS.md has the
@@ -28,7 +29,7 @@ from .calls import Call
 from .errors import TimeLimitReached
 from .given import whole
 from .matrix import Matrix
-from .narrowing import GRAPHS, Narrowing
+from .narrowing import Narrowing
 from .options import budget_words
 from .program import StrPath
 from .reading import Question
@@ -52,6 +53,7 @@ def is_totally_unimodular(
     matrix: MatrixLike,
     *,
     certificate: bool = False,
+    parts: bool = True,
     lines: int | None = None,
     workers: int | None = None,
     pivots: int = 20,
@@ -62,7 +64,8 @@ def is_totally_unimodular(
 ) -> Answer:
     """Whether every square submatrix has the determinant -1, 0 or 1.
 
-    A no has a `violator`, and an undecided answer the part that is `open`. With `certificate` there is the `tree` too.
+    A no has a `violator`, and an undecided answer the part that is `open`. With `certificate` there is the `tree` too. Without `parts` the
+    answer and its tree are those of one run of the program with as many pivots, if there are no `tries`.
 
     `lines` is the budget of the search, 0 to 24 lines (14); `workers` the threads that share it, 1 to 64 (1); `pivots` how many pivots
     may be made on the way to a part that is left open, 0 to 100 (20); `tries` in how many other orders an undecided matrix is asked again,
@@ -71,7 +74,7 @@ def is_totally_unimodular(
 
     Source: Ghouila-Houri 1962; Hoffman and Kruskal 1956; Seymour 1980.
     """
-    search = _Search("totally unimodular", "tu", lines, workers, pivots, tries, seed, {"-D": "tree"})
+    search = _Search("totally unimodular", "tu", lines, workers, pivots, tries, seed, {"-D": "tree"}, parts=parts)
     return search.answer(matrix, certificate, Call.begin(program, time_limit))
 
 
@@ -79,6 +82,7 @@ def is_regular(
     matrix: MatrixLike,
     *,
     certificate: bool = False,
+    parts: bool = True,
     lines: int | None = None,
     workers: int | None = None,
     pivots: int = 20,
@@ -100,7 +104,7 @@ def is_regular(
     Source: Camion 1965; Seymour 1980; Truemper, *Matroid Decomposition*.
     """
     files = {"-D": "tree", "-M": "signed", "-C": "chain"}
-    search = _Search("regular", "regular", lines, workers, pivots, tries, seed, files, is_binary=True)
+    search = _Search("regular", "regular", lines, workers, pivots, tries, seed, files, is_binary=True, parts=parts)
     return search.answer(matrix, certificate, Call.begin(program, time_limit))
 
 
@@ -234,6 +238,7 @@ class _Search:
     seed: int
     files: Mapping[str, str] = field(default_factory=dict)
     is_binary: bool = False
+    parts: bool = False
 
     def __post_init__(self) -> None:
         self.words(self.pivots)
@@ -253,11 +258,10 @@ class _Search:
 
     def _decided(self, question: Question, matrix: Matrix, call: Call) -> Answer:
         """The answer of the first step that decides: the program without pivots, a part, the program with pivots, other orders."""
-        narrows = self.property_name in GRAPHS
-        first = replace(question, words=self.words(0)) if narrows else question
+        first = replace(question, words=self.words(0)) if self.parts else question
         answer = first.ask(matrix, call.program, call.clock)
         try:
-            if answer.is_undecided and narrows:
+            if answer.is_undecided and self.parts:
                 found = Narrowing(call.clock, call.program).decided(question, matrix)
                 answer = answer if found is None else found
             if answer.is_undecided and first.words != question.words:

@@ -75,6 +75,7 @@ class Narrowed(unittest.TestCase):
             self.assertTrue(asked_once(name, matrix).is_undecided)
             answer = ask(matrix, pivots=0, certificate=True)
             self.shows_no(matrix, answer)
+            self.assertTrue(ask(matrix, parts=False, pivots=0).is_undecided)
             plain = ask(matrix, pivots=0)
             self.assertEqual((plain.violator, plain.tree, plain.signed, plain.chain), (answer.violator, None, None, None))
 

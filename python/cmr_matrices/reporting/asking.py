@@ -136,6 +136,7 @@ class Asker:
         answer = is_totally_unimodular(
             matrix,
             certificate=True,
+            parts=False,
             lines=self.lines,
             pivots=self.pivots,
             time_limit=left,
