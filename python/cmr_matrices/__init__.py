@@ -22,6 +22,7 @@ from .errors import (
     CannotWrite,
     CmrError,
     Family,
+    LibraryMissing,
     OutOfMemory,
     ProgramFault,
     ProgramMissing,
@@ -29,11 +30,14 @@ from .errors import (
     TextPlace,
     TimeLimitReached,
     Undecided,
+    UnprovedProgram,
 )
+from .excluded import ExcludedMinor
 from .graphs import Edge, Graph
 from .lines import Line, LineSet, Names
 from .matrix import Matrix
 from .matroids import named
+from .minors import excluded_minor
 from .modellers import from_linopy, from_model, from_model_scaled, from_pulp, from_pyomo, from_scipy, reduced_parts
 from .nodes import Node
 from .program import find_program
@@ -49,11 +53,15 @@ from .questions import (
     is_totally_unimodular,
 )
 from .reductions import Reduction, Reductions
+from .represented import Matroid
+from .reporting.report import FamilyLine, ModelReport, model_report
+from .separations import Separation
 from .signings import Signing, SigningStep
 from .sources import MatrixLike
 from .submatrices import Submatrix
 from .tools import check, compose, generate, matrix_of, parts, sign
 from .trees import Tree
+from .version import __version__
 
 __all__ = [
     "Answer",
@@ -69,12 +77,17 @@ __all__ = [
     "Checked",
     "CmrError",
     "Edge",
+    "ExcludedMinor",
     "Family",
+    "FamilyLine",
     "Graph",
     "Line",
+    "LibraryMissing",
     "LineSet",
     "Matrix",
     "MatrixLike",
+    "Matroid",
+    "ModelReport",
     "Names",
     "Node",
     "OutOfMemory",
@@ -85,6 +98,7 @@ __all__ = [
     "Reductions",
     "Refused",
     "Scaling",
+    "Separation",
     "Signing",
     "SigningStep",
     "Submatrix",
@@ -92,8 +106,11 @@ __all__ = [
     "TimeLimitReached",
     "Tree",
     "Undecided",
+    "UnprovedProgram",
+    "__version__",
     "check",
     "compose",
+    "excluded_minor",
     "find_program",
     "from_linopy",
     "from_model",
@@ -114,6 +131,7 @@ __all__ = [
     "is_series_parallel",
     "is_totally_unimodular",
     "matrix_of",
+    "model_report",
     "named",
     "parts",
     "reduced_parts",

@@ -2,13 +2,15 @@
 
 from __future__ import annotations
 
-from dataclasses import dataclass, field
-from typing import Literal
+from dataclasses import dataclass, field, fields
+from html import escape
+from typing import Any, Literal
 
 from .chains import Chain
 from .errors import Undecided
 from .graphs import Graph
 from .matrix import Matrix
+from .pages import paragraph
 from .reductions import Reductions
 from .signings import Signing
 from .submatrices import Submatrix
@@ -22,6 +24,8 @@ Verdict = Literal["yes", "no", "undecided"]
 @dataclass(frozen=True)
 class Answer:
     """What the program says of a matrix: true for a yes, false for a no. The truth value of an undecided answer raises `Undecided`.
+
+    An answer is no truth value itself: `answer == True` raises `TypeError`, where `bool(answer)` or `answer.verdict == "yes"` is meant.
 
     Evidence that does not belong to the question or to the verdict, or was not asked for, is None. Which evidence a function
     gives stands in its own documentation.
@@ -61,8 +65,8 @@ class Answer:
     def __bool__(self) -> bool:
         if self.is_undecided:
             raise Undecided(
-                f"{self.property_name}: undecided, the open part is larger than the budget; "
-                "`pivots=20` goes on behind pivots of it, and `lines` up to 24 is a larger budget"
+                f"{self.property_name}: undecided, the open part is larger than the budget; `pivots=100` makes more pivots of it, "
+                "`lines` up to 24 is a larger budget, and `tries=20` asks again in other orders of the lines"
             )
         return self.verdict == "yes"
 
@@ -74,9 +78,19 @@ class Answer:
         ]
         return "\n".join([*lines, *([] if self.tree is None else [str(self.tree)])])
 
-    def _repr_svg_(self) -> str | None:
+    def __eq__(self, other: object) -> bool:
+        return _are_equal(self, other)
+
+    def _repr_html_(self) -> str:
+        named = (("violator", self.violator), ("open", self.open), ("rest", self.rest), ("minimal", self.minimal))
+        parts = [f"<p><b>{escape(self.property_name)}: {self.verdict}</b></p>\n"]
+        for what, part in named:
+            if part is not None:
+                parts += paragraph(f"{what}, {part.lines.size} of {part.shape[0]}x{part.shape[1]}"), part._repr_html_()
         drawn = self.tree or self.graph
-        return None if drawn is None else drawn._repr_svg_()
+        if drawn is not None:
+            parts.append(drawn._repr_svg_() or drawn._repr_html_() or "")
+        return "".join(parts)
 
 
 @dataclass(frozen=True)
@@ -93,10 +107,13 @@ class Checked:
     step: int | None = None
     """The first step of a chain that breaks a rule, counted from 0. The violator counts as the step after the last."""
     rule: str | None = None
-    """The rule of docs/FORMATS.md that the node breaks."""
+    """The rule of docs/FORMATS.md that the node breaks; of an answer also what its graph, signs or violator lack."""
 
     def __bool__(self) -> bool:
         return self.accepted
+
+    def __eq__(self, other: object) -> bool:
+        return _are_equal(self, other)
 
 
 @dataclass(frozen=True)
@@ -108,3 +125,14 @@ class Parts:
     second: Matrix
     rows: tuple[int, ...] = field(repr=False)
     columns: tuple[int, ...] = field(repr=False)
+
+
+def _are_equal(value: Any, other: object) -> bool:
+    """Whether two answers are equal. Raises `TypeError` for a truth value or a text, which no answer is equal to."""
+    if isinstance(other, (bool, str)) or type(other).__name__ in ("bool_", "bool"):
+        name = type(value).__name__
+        said = "accepted" if name == "Checked" else "verdict"
+        raise TypeError(f"no {name} is equal to {other!r}: `bool(value)` is its truth value, and `value.{said}` what it says")
+    if type(other) is not type(value):
+        return False
+    return all(getattr(value, it.name) == getattr(other, it.name) for it in fields(value))

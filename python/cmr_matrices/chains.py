@@ -38,6 +38,23 @@ class Chain:
         head = f"cmr-chain 1\n{self.shape[0]} {self.shape[1]} {len(steps)}\n"
         return f"{head}{''.join(steps)}violator {self.violator.words}\n"
 
+    @property
+    def needed(self) -> LineSet:
+        """The lines of the steps on which the signs in the violator depend, and those of the violator.
+
+        The submatrix on these lines is not regular either, which the chain of these steps shows.
+        """
+        forced = {(step.row, step.column): step.lines for step in self.steps}
+        rows, columns = set(self.violator.rows), set(self.violator.columns)
+        pending = [(row, column) for row in rows for column in columns]
+        while pending:
+            lines = forced.pop(pending.pop(), None)
+            if lines is not None:
+                rows.update(lines.rows)
+                columns.update(lines.columns)
+                pending += ((row, column) for row in lines.rows for column in lines.columns)
+        return LineSet(tuple(sorted(rows)), tuple(sorted(columns)))
+
     @classmethod
     def from_text(cls, text: str, names: Names | None = None) -> Chain:
         """The chain that a text has. Raises `BadInput` where it is none."""

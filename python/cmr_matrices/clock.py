@@ -3,18 +3,27 @@
 from __future__ import annotations
 
 import time
+from typing import Any
 
-from .errors import TimeLimitReached
+from .errors import BadInput, TimeLimitReached
 
-__all__ = ["Clock"]
+__all__ = ["Clock", "TimeLimit"]
+
+# Systems wait for so many seconds at once, and for not many more.
+_LONGEST = 2_000_000
 
 
 class Clock:
-    """The seconds that are left of a limit."""
+    """The seconds that are left of a limit, counted from when the clock is made."""
 
     def __init__(self, limit: float | None) -> None:
-        self.limit = limit
-        self._end = None if limit is None else time.monotonic() + limit
+        self.limit = None if limit is None else _seconds(limit)
+        self._end = None if self.limit is None else time.monotonic() + self.limit
+
+    @classmethod
+    def of(cls, limit: TimeLimit) -> Clock:
+        """The clock of a limit that begins now, or the one that is given. Raises `BadInput` where it is no number in its range."""
+        return limit if isinstance(limit, Clock) else cls(limit)
 
     def left(self) -> float | None:
         """How many are left, or None where there is no limit. Raises `TimeLimitReached` where none is."""
@@ -24,3 +33,19 @@ class Clock:
         if seconds <= 0:
             raise TimeLimitReached(self.limit)
         return seconds
+
+
+TimeLimit = float | Clock | None
+"""A limit in seconds, or a clock that is going already."""
+
+
+def _seconds(limit: Any) -> float:
+    try:
+        seconds = None if isinstance(limit, (str, bytes, bool)) else float(limit)
+    except (TypeError, ValueError):
+        seconds = None
+    if seconds is None or not 0 <= seconds <= _LONGEST:
+        raise BadInput(
+            f"time_limit is a number of seconds from 0 to {_LONGEST}, or None for no limit, and here it is {limit!r}"
+        )
+    return seconds

@@ -15,7 +15,15 @@ from .matrix import Matrix
 from .models import Coefficient, Model
 from .words import LIMIT
 
-__all__ = ["Choice", "Constraints", "Scaling", "constraints_of_model", "matrix_of_constraints", "matrix_of_model"]
+__all__ = [
+    "Choice",
+    "Constraints",
+    "Scaling",
+    "constraints_of_model",
+    "matrix_of_constraints",
+    "matrix_of_model",
+    "rows_divided",
+]
 
 Entries = dict[tuple[int, int], Fraction]
 
@@ -98,13 +106,13 @@ def constraints_of_model(model: Model, choice: Choice = Choice()) -> Constraints
     taken = _only_rows(model, [row for row, name in enumerate(model.rows) if choice.takes(name)], choice.is_all)
     if not taken.rows:
         raise BadInput("there is no row whose name fits")
-    entries, row_scalings = _rows_divided(taken) if choice.scale else (_entries(taken), [])
+    entries, row_scalings = rows_divided(taken) if choice.scale else (_entries(taken), [])
     if choice.unit_rows:
         bad = {row for (row, _), entry in entries.items() if abs(entry) != 1}
         taken = _only_rows(taken, [row for row in range(len(taken.rows)) if row not in bad], False)
         if not taken.rows:
             raise BadInput("there is no row with coefficients -1, 0 and 1 alone")
-        entries, row_scalings = _rows_divided(taken) if choice.scale else (_entries(taken), [])
+        entries, row_scalings = rows_divided(taken) if choice.scale else (_entries(taken), [])
     column_scalings: list[Scaling] = []
     if choice.scale:
         entries, column_scalings = _columns_divided(taken, entries)
@@ -134,7 +142,7 @@ def _entries(model: Model) -> Entries:
     return {(at.row, at.column): Fraction(f"{at.value:.15g}") for at in model.coefficients if at.value}
 
 
-def _rows_divided(model: Model) -> tuple[Entries, list[Scaling]]:
+def rows_divided(model: Model) -> tuple[Entries, list[Scaling]]:
     """Divides each row by the common factor of its entries, and tells the rows that it changes."""
     entries = _entries(model)
     factors = _factors((row, entry) for (row, _), entry in entries.items())

@@ -29,9 +29,13 @@ def document(kind: str, name: str, statements: Iterable[str]) -> str:
 
 
 def svg(dot: str) -> str | None:
-    """The picture of a graph as SVG, or None where Graphviz is not there."""
+    """The picture of a graph as an `svg` element, or None where Graphviz is not there.
+
+    What dot writes before the element, an XML declaration and a document type, is no part of a page that shows it.
+    """
     program = shutil.which("dot")
     if program is None:
         return None
     ran = subprocess.run([program, "-Tsvg"], input=dot, capture_output=True, text=True, encoding="utf-8", check=False)
-    return ran.stdout if ran.returncode == 0 else None
+    start = ran.stdout.find("<svg")
+    return ran.stdout[start:] if ran.returncode == 0 and start >= 0 else None

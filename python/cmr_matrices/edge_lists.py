@@ -5,7 +5,8 @@ from __future__ import annotations
 from collections.abc import Hashable, Iterable, Sequence
 from typing import Any
 
-from .errors import BadInput
+from .errors import BadInput, shown
+from .given import listed
 from .graphs import Edge, Graph
 from .lines import Line, Names
 from .words import LIMIT
@@ -24,8 +25,9 @@ def graph_of_edges(edges: Iterable[Sequence[Any]], *, directed: bool = True) -> 
     above: list[int] = []
     tree: list[tuple[int, int, str]] = []
     others: list[tuple[int, int, str]] = []
-    for edge in edges:
-        tail, head, name = (*edge, f"{edge[0]}-{edge[1]}")[:3] if len(edge) in (2, 3) else _no_edge(edge)
+    for edge in listed("edges", edges, "edges, each a pair of nodes, or of two nodes and a name"):
+        is_edge = isinstance(edge, Sequence) and len(edge) in (2, 3)
+        tail, head, name = (*edge, f"{edge[0]}-{edge[1]}")[:3] if is_edge else _no_edge(edge)
         ends = []
         for node in (tail, head):
             if numbers.setdefault(node, len(numbers)) == len(above):
@@ -48,6 +50,8 @@ def graph_of_edges(edges: Iterable[Sequence[Any]], *, directed: bool = True) -> 
 
 def graph_of_networkx(graph: Any) -> Graph:
     """The graph of networkx, directed or not. An edge has the name that its data has as `name` or `label`, or else one of its ends."""
+    if not callable(getattr(graph, "is_directed", None)) or not hasattr(graph, "edges"):
+        raise BadInput(f"a graph of networkx is taken, and here it is {shown(graph)}")
     edges = []
     for tail, head, data in graph.edges(data=True):
         name = data.get("name", data.get("label"))
@@ -67,7 +71,7 @@ def edges_of_text(text: str) -> list[tuple[str, ...]]:
     return edges
 
 
-def _no_edge(edge: Sequence[Any]) -> Sequence[Any]:
+def _no_edge(edge: Any) -> Sequence[Any]:
     raise BadInput(f"{edge!r} is no edge, which has two ends and may have a name")
 
 

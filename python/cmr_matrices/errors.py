@@ -19,6 +19,7 @@ __all__ = [
     "CannotWrite",
     "CmrError",
     "Family",
+    "LibraryMissing",
     "OutOfMemory",
     "ProgramFault",
     "ProgramMissing",
@@ -26,7 +27,14 @@ __all__ = [
     "TextPlace",
     "TimeLimitReached",
     "Undecided",
+    "UnprovedProgram",
 ]
+
+
+def shown(value: object) -> str:
+    """A value that is refused, in one short line."""
+    text = repr(value).partition("\n")[0]
+    return text if len(text) <= 60 else f"{text[:60]}.. of type {type(value).__name__}"
 
 
 class CmrError(Exception):
@@ -38,17 +46,56 @@ class BadInput(CmrError, ValueError):
 
 
 class BadEntry(BadInput):
-    """An entry that the matrix may not have, with its place counted from 0."""
+    """An entry that the matrix may not have, with its place counted from 0, and the names of its lines where they have some."""
 
-    def __init__(self, row: int, column: int, entry: object, allowed: str = "-1, 0 and 1") -> None:
-        super().__init__(row, column, entry, allowed)
+    def __init__(
+        self,
+        row: int,
+        column: int,
+        entry: object,
+        allowed: str = "-1, 0 and 1",
+        row_name: str | None = None,
+        column_name: str | None = None,
+    ) -> None:
+        super().__init__(row, column, entry, allowed, row_name, column_name)
         self.row = row
         self.column = column
         self.entry = entry
         self.allowed = allowed
+        self.row_name = row_name
+        self.column_name = column_name
+
+    def named(self, rows: Sequence[object] | None, columns: Sequence[object] | None) -> BadEntry:
+        """The same with the names of all lines, of which those of the rows, or of the columns, may be missing."""
+        names = [
+            self.row_name if rows is None or self.row >= len(rows) else str(rows[self.row]),
+            self.column_name if columns is None or self.column >= len(columns) else str(columns[self.column]),
+        ]
+        return BadEntry(self.row, self.column, self.entry, self.allowed, *names)
 
     def __str__(self) -> str:
-        return f"row {self.row}, column {self.column}: the entry {self.entry!r} is none of {self.allowed}"
+        place = f"row {self.row}, column {self.column}"
+        if (self.row_name, self.column_name) != (None, None):
+            names = (
+                str(number) if name is None else name
+                for number, name in ((self.row, self.row_name), (self.column, self.column_name))
+            )
+            place = "row {}, column {} ({})".format(*names, place)
+        return f"{place}: the entry {self.entry!r} is none of {self.allowed}"
+
+
+class LibraryMissing(BadInput, ImportError):
+    """A library that a call needs is not there: its name for pip, and the package of Debian that has it, if there is one."""
+
+    def __init__(self, use: str, package: str, debian: str | None) -> None:
+        super().__init__(use, package, debian)
+        self.use = use
+        self.package = package
+        self.debian = debian
+
+    def __str__(self) -> str:
+        also = f", or Debian's {self.debian}" if self.debian else ""
+        return f"{self.use} needs {self.package}: `pip install {self.package}`{also}"
 
 
 @dataclass(frozen=True)
@@ -109,7 +156,14 @@ class ProgramMissing(CmrError, FileNotFoundError):
 
     def __str__(self) -> str:
         looked = "; ".join(self.places)
-        return f"the program cmr is not there (looked at: {looked}). In a clone of the repository `./cmr` proves and builds it"
+        return (
+            f"the program cmr is not there (looked at: {looked}). In a clone of the repository `./cmr` proves and builds it, "
+            "and `./try-cmr` compiles it without proofs in a minute"
+        )
+
+
+class UnprovedProgram(UserWarning):
+    """The program that is run was compiled without proofs, so nothing is proved of its answers."""
 
 
 class ProgramFault(CmrError):

@@ -12,8 +12,11 @@ from typing import Any
 
 from .dot import svg
 from .errors import BadInput
+from .given import text_given
+from .libraries import library
 from .lines import Kind, Line, Names
 from .network_picture import DRAWN, picture
+from .pages import SHOWN, no_picture, paragraph
 
 __all__ = ["Edge", "Graph"]
 
@@ -69,7 +72,7 @@ class Graph:
         Each edge has its `Line` as key and as attribute `line`, the line's name as `name`, and whether it is an arc of the
         tree as `in_tree`.
         """
-        import networkx  # pylint: disable=import-outside-toplevel
+        networkx = library("networkx", "to_networkx")
 
         graph = networkx.MultiDiGraph() if self.directed else networkx.MultiGraph()
         graph.add_nodes_from(range(len(self.arcs) + 1))
@@ -85,19 +88,31 @@ class Graph:
         *,
         directed: bool | None = None,
         limit: int = DRAWN,
-        tree: bool = False,
+        tree: bool = True,
     ) -> str:
         """The graph in DOT, with a layout that fits to its number of edges.
 
-        Where no walk takes more than two arcs, as in the network of a flow model, the arcs are drawn as nodes and the walks as
-        edges between them. Else, and always with `tree`, the edges of the tree are drawn in full and those of walks dashed. With
-        more edges than `limit` the families of lines are drawn, with their counts.
+        All nodes and edges are drawn: the edges of the tree in full, and the edges of walks dashed. With `tree=False`, a graph in which no
+        walk takes more than two arcs is drawn as the network of a flow model: the arcs are nodes, and the walks are edges between them.
+        This leaves out the nodes of the tree. With more edges than `limit` the families of lines are drawn, with their counts.
         """
         directed = self.directed if directed is None else directed
         return picture(self, names or self._names, directed=directed, limit=limit, tree=tree)
 
+    def __repr__(self) -> str:
+        if len(self.edges) > SHOWN:
+            kind = "directed" if self.directed else "undirected"
+            return f"Graph({kind}, {len(self.arcs) + 1} nodes, {len(self.arcs)} arcs, {len(self.walks)} walks)"
+        return f"Graph(arcs={self.arcs}, walks={self.walks}, directed={self.directed})"
+
     def _repr_svg_(self) -> str | None:
         return svg(self.to_dot()) if len(self.edges) <= _DRAWN else None
+
+    def _repr_html_(self) -> str | None:
+        if len(self.edges) > _DRAWN:
+            why = f"more than {_DRAWN} edges are not drawn here; to_dot() writes them for Graphviz"
+            return paragraph(f"{self!r}: {why}")
+        return no_picture("the graph")
 
     def to_text(self) -> str:
         """The graph text, with lines counted from 1."""
@@ -107,7 +122,7 @@ class Graph:
     def from_text(cls, text: str, *, directed: bool = True, names: Names | None = None) -> Graph:
         """The graph that a text has. Raises `BadInput` where it is none."""
         edges = []
-        for place, line in enumerate(text.splitlines(), 1):
+        for place, line in enumerate(text_given("no graph", text).splitlines(), 1):
             found = _EDGE.fullmatch(line)
             if not found:
                 raise BadInput(f"no graph, line {place} is not `TAIL HEAD rI` or `TAIL HEAD cJ`")

@@ -57,7 +57,10 @@ class LineOrder:
         return Chain(self.matrix.shape, tuple(steps), self.lines(chain.violator), self.matrix.names)
 
     def tree(self, tree: Tree) -> Tree:
-        """The tree that a tree of the reordered matrix is. Each rule of a node holds in every order of the lines."""
+        """The tree that a tree of the reordered matrix is.
+
+        Each rule of a node holds in every order of the lines, except that the connectors of a concentrated sum are in increasing order.
+        """
         return Tree(self.matrix.shape, tree.root.rebuilt(self._node), self.matrix.names)
 
     def _node(self, node: Node, children: tuple[Node, ...]) -> Node:
@@ -68,10 +71,18 @@ class LineOrder:
             fault=node.fault and self.lines(node.fault),
             graph=node.graph and self._graph(node.graph),
             removed=tuple(map(self.line, node.removed)),
-            connectors=tuple(map(self.line, node.connectors)),
+            connectors=self._connectors(node),
             side=node.side and self.lines(node.side),
             place=tuple(map(self.line, node.place)),
         )
+
+    def _connectors(self, node: Node) -> tuple[Line, ...]:
+        """The connectors (i, p, q) and (k, j, o). In a concentrated sum p and q may change places, and so may k and o."""
+        turned = tuple(map(self.line, node.connectors))
+        if node.kind != "concentrated":
+            return turned
+        i, p, q, k, j, o = turned
+        return (i, *sorted((p, q)), min(k, o), j, max(k, o))
 
     def _graph(self, graph: Graph) -> Graph:
         return replace(graph, arcs=self._edges(graph.arcs), walks=self._edges(graph.walks))

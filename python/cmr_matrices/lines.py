@@ -7,6 +7,7 @@ from dataclasses import dataclass
 from typing import Literal
 
 from .errors import BadInput
+from .given import text_given
 
 __all__ = ["Kind", "Line", "LineSet", "Names"]
 
@@ -120,6 +121,12 @@ class Names:
         """The names of a submatrix."""
         return Names(tuple(self.rows[row] for row in rows), tuple(self.columns[column] for column in columns))
 
+    def exchanged(self, row: int, column: int) -> Names:
+        """The names after a pivot, which exchanges those of a row and a column."""
+        rows, columns = list(self.rows), list(self.columns)
+        rows[row], columns[column] = columns[column], rows[row]
+        return Names(tuple(rows), tuple(columns))
+
     def transposed(self) -> Names:
         """The names of the transposed matrix."""
         return Names(self.columns, self.rows)
@@ -135,7 +142,7 @@ class Names:
         """The names that a text has. A name is all that stands behind the first space of its line."""
         rows: list[str] = []
         columns: list[str] = []
-        for place, line in enumerate(text.splitlines(), 1):
+        for place, line in enumerate(text_given("no names", text).splitlines(), 1):
             word, _, name = line.partition(" ")
             if name and not columns and word == f"r{len(rows) + 1}":
                 rows.append(name)

@@ -8,11 +8,16 @@ from collections.abc import Iterable, Sequence
 from contextlib import suppress
 from dataclasses import dataclass, field, replace
 from operator import index
-from typing import Any, cast
+from typing import TYPE_CHECKING, Any, ClassVar, cast
 
-from .errors import BadEntry, BadInput
+from .dense import Cells
+from .determinants import determinant
+from .errors import BadEntry, BadInput, shown
+from .given import listed, text_given, whole
+from .libraries import library
 from .lines import Names
-from .sources import MatrixLike, entries_of
+from .pages import matrix_table
+from .sources import Entries, MatrixLike, entries_of
 from .words import LIMIT
 
 __all__ = ["Matrix"]
@@ -31,12 +36,20 @@ class Matrix:
     shape: tuple[int, int]
     nonzeros: tuple[tuple[int, int, int], ...] = field(repr=False)
     names: Names | None = field(default=None, compare=False, repr=False)
+    _cells: ClassVar[Cells | None] = None
+    # A matrix of rows or of an array has its entries here, and lists its nonzeros when they are first asked for.
+
+    if not TYPE_CHECKING:
+
+        def __getattr__(self, name: str) -> Any:
+            if name != "nonzeros" or self._cells is None:
+                raise AttributeError(f"a Matrix has no attribute {name}")
+            self.__dict__[name] = self._cells.nonzeros()
+            return self.__dict__[name]
 
     def __post_init__(self) -> None:
         rows, columns = self.shape
-        for count, kind in ((rows, "rows"), (columns, "columns")):
-            if not 0 <= count <= LIMIT:
-                raise BadInput(f"there are {count} {kind}, and a matrix may have at most {LIMIT}")
+        _must_be_small(rows, columns)
         last = -1
         for row, column, value in self.nonzeros:
             place = row * columns + column
@@ -66,14 +79,27 @@ class Matrix:
 
         Raises `BadEntry` at the first other entry, and `BadInput` where the shape is none.
         """
+        rows = None if row_names is None else _names("row_names", row_names)
+        columns = None if column_names is None else _names("column_names", column_names)
         if isinstance(source, Matrix):
-            matrix = source
-        else:
-            found = entries_of(source)
-            matrix = cls.from_triples(found.entries, found.shape)
-            row_names = found.row_names if row_names is None else row_names
-            column_names = found.column_names if column_names is None else column_names
-        return matrix._named(row_names, column_names)
+            return source._named(rows, columns)
+        found = entries_of(source)
+        if rows is None and found.row_names is not None:
+            rows = tuple(found.row_names)
+        if columns is None and found.column_names is not None:
+            columns = tuple(found.column_names)
+        try:
+            cells = _cells_of(found)
+            matrix = cls.from_triples(found.entries, found.shape) if cells is None else cls._of_cells(cells, None)
+        except BadEntry as fault:
+            raise fault.named(rows, columns) from None
+        return matrix._named(rows, columns)
+
+    @classmethod
+    def _of_cells(cls, cells: Cells, names: Names | None) -> Matrix:
+        made = cls.__new__(cls)
+        made.__dict__.update(shape=cells.shape, names=names, _cells=cells)
+        return made
 
     @classmethod
     def from_triples(cls, triples: Iterable[Sequence[Any]], shape: tuple[int, int]) -> Matrix:
@@ -81,10 +107,14 @@ class Matrix:
 
         Raises `BadInput` where a place is named twice or is outside of the shape, and `BadEntry` for a value other than -1, 0, 1.
         """
-        rows, columns = shape
+        rows, columns = _pair("shape", shape)
         entries: dict[tuple[int, int], int] = {}
-        for given_row, given_column, value in triples:
-            row, column = index(given_row), index(given_column)
+        for triple in triples if isinstance(triples, Iterable) else listed("triples", triples, "triples"):
+            try:
+                given_row, given_column, value = triple
+                row, column = index(given_row), index(given_column)
+            except (TypeError, ValueError):
+                raise BadInput(f"{shown(triple)} is no triple of a row, a column and a value") from None
             if not (0 <= row < rows and 0 <= column < columns):
                 raise BadInput(
                     f"row {row}, column {column}: there is no such place in a matrix of size {rows}x{columns}"
@@ -98,15 +128,19 @@ class Matrix:
     @property
     def T(self) -> Matrix:  # noqa: N802 # pylint: disable=invalid-name
         """The transposed matrix, with its names."""
+        if self._cells is not None:
+            return Matrix._of_cells(self._cells.transposed, self.names and self.names.transposed())
         rows, columns = self.shape
         nonzeros = tuple(sorted((column, row, value) for row, column, value in self.nonzeros))
         return Matrix((columns, rows), nonzeros, self.names and self.names.transposed())
 
     def __getitem__(self, place: tuple[int, int]) -> int:
-        row, column = place
+        row, column = _pair("a place", place)
         rows, columns = self.shape
         if not (0 <= row < rows and 0 <= column < columns):
             raise IndexError(f"there is no place {row}, {column} in a matrix of size {rows}x{columns}")
+        if self._cells is not None:
+            return self._cells[row, column]
         at = bisect_left(self.nonzeros, (row, column))
         found = self.nonzeros[at] if at < len(self.nonzeros) else (rows, 0, 0)
         return found[2] if found[:2] == (row, column) else 0
@@ -116,7 +150,10 @@ class Matrix:
 
         Raises `BadInput` where a line is given twice, or is none of the matrix.
         """
-        rows, columns = tuple(rows), tuple(columns)
+        rows, columns = (
+            tuple(whole(f"a {kind}", line) for line in listed(f"{kind}s", lines, f"numbers of {kind}s"))
+            for kind, lines in (("row", rows), ("column", columns))
+        )
         row_places = _places(rows, self.shape[0], "row")
         column_places = _places(columns, self.shape[1], "column")
         nonzeros = sorted(
@@ -130,7 +167,9 @@ class Matrix:
         """The pivot at a nonzero a: a step of the simplex method in the tableau of `A x + y = b`, which the same pivot undoes.
 
         Beside row and column an entry becomes A[i][j] - a A[i][column] A[row][j]; the row is multiplied by a and the column by -a, and
-        a stays. Raises `BadEntry` where the entry is 0, or where one of the pivot is none of -1, 0 and 1.
+        a stays. The row and the column exchange their names, since each then stands for the variable, or the element of the matroid, of
+        the other. Raises `BadEntry` where the entry is 0, or where one of the pivot is none of -1, 0 and 1: `Matroid.pivot` pivots over
+        GF(2) and GF(3), where every entry stays in the field.
         """
         pivot = self[row, column]
         if pivot == 0:
@@ -145,20 +184,44 @@ class Matrix:
         for across, beside in in_row:
             entries[row, across] = pivot * beside
         made = Matrix.from_triples(((at, across, value) for (at, across), value in entries.items()), self.shape)
-        return replace(made, names=self.names)
+        return replace(made, names=self.names and self.names.exchanged(row, column))
+
+    def determinant(self) -> int:
+        """The determinant of a square matrix, by elimination in whole numbers. Raises `BadInput` if the matrix is not square.
+
+        A violator that contains no smaller violator is square, and its determinant is 2 or -2. So each violator contains a square
+        submatrix with such a determinant.
+
+        Source: Gomory, in Camion 1965; Schrijver, *Theory of Linear and Integer Programming*, theorem 19.3.
+        """
+        rows, columns = self.shape
+        if rows != columns:
+            raise BadInput(f"a square matrix has a determinant, and here the size is {rows}x{columns}")
+        return determinant(self.to_lists())
+
+    def support(self) -> Matrix:
+        """The 0/1 matrix with a one at each nonzero."""
+        return Matrix(self.shape, tuple((row, column, 1) for row, column, _ in self.nonzeros), self.names)
 
     def sum(self) -> int:
         """The sum of all entries."""
+        if self._cells is not None:
+            return self._cells.sum()
         return sum(value for _, _, value in self.nonzeros)
 
     def must_be_binary(self) -> None:
         """Raises `BadEntry` at the first entry -1."""
+        if self._cells is not None and not self._cells.has_negative():
+            return
         for row, column, value in self.nonzeros:
             if value < 0:
-                raise BadEntry(row, column, value, "0 and 1")
+                fault = BadEntry(row, column, value, "0 and 1")
+                raise fault if self.names is None else fault.named(self.names.rows, self.names.columns)
 
     def to_lists(self) -> list[list[int]]:
         """The rows as lists of numbers."""
+        if self._cells is not None:
+            return self._cells.to_lists()
         rows, columns = self.shape
         lists = [[0] * columns for _ in range(rows)]
         for row, column, value in self.nonzeros:
@@ -167,8 +230,9 @@ class Matrix:
 
     def to_numpy(self) -> Any:
         """A numpy array of the same shape, of type int8."""
-        import numpy  # pylint: disable=import-outside-toplevel
-
+        numpy = library("numpy", "to_numpy")
+        if self._cells is not None:
+            return numpy.frombuffer(self._cells.data, dtype=numpy.int8).reshape(self.shape).copy()
         triples = numpy.array(self.nonzeros, dtype=numpy.int64).reshape(-1, 3)
         array = numpy.zeros(self.shape, dtype=numpy.int8)
         array[triples[:, 0], triples[:, 1]] = triples[:, 2]
@@ -182,20 +246,26 @@ class Matrix:
 
     def to_scipy(self) -> Any:
         """A sparse array of scipy in the format csr, of type int8."""
-        from scipy import sparse  # pylint: disable=import-outside-toplevel
-
+        sparse = library("scipy.sparse", "to_scipy")
         return sparse.csr_array(self.to_numpy())
 
     def to_text(self) -> str:
         """The canonical sparse text, with lines counted from 1."""
+        if self._cells is not None:
+            return self._cells.text()
         rows, columns = self.shape
         triples = [f"{row + 1} {column + 1} {value}\n" for row, column, value in self.nonzeros]
         return "".join([f"{rows} {columns} {len(triples)}\n", *triples])
 
+    def for_program(self) -> tuple[str, str]:
+        """A text for the program, with its format: a sparse text, or a dense text of rows or an array with many nonzeros."""
+        dense = None if self._cells is None else self._cells.dense_text()
+        return ("sparse", self.to_text()) if dense is None else ("dense", dense)
+
     @classmethod
     def from_text(cls, text: str, *, sparse: bool = False) -> Matrix:
         """The matrix that a dense or a sparse text stands for. Raises `BadInput` or `BadEntry` where it is none."""
-        if not _NUMBERS.fullmatch(text):
+        if not _NUMBERS.fullmatch(text_given("no matrix", text)):
             raise BadInput("no matrix: the text has other words than numbers")
         try:
             numbers = [int(word) for word in text.split()]
@@ -220,13 +290,48 @@ class Matrix:
     def __str__(self) -> str:
         return "\n".join(" ".join(f"{value:2d}" for value in row) for row in self.to_lists())
 
-    def _named(self, row_names: Iterable[object] | None, column_names: Iterable[object] | None) -> Matrix:
+    def _repr_html_(self) -> str:
+        return matrix_table(self)
+
+    def _named(self, row_names: Sequence[object] | None, column_names: Sequence[object] | None) -> Matrix:
         if row_names is None and column_names is None:
             return self
         plain = self.names or Names.numbered(*self.shape)
         rows = plain.rows if row_names is None else tuple(str(name) for name in row_names)
         columns = plain.columns if column_names is None else tuple(str(name) for name in column_names)
-        return replace(self, names=Names(rows, columns))
+        names = Names(rows, columns)
+        if self._cells is None:
+            return replace(self, names=names)
+        names.must_fit(*self.shape)
+        return Matrix._of_cells(self._cells, names)
+
+
+def _cells_of(found: Entries) -> Cells | None:
+    """The entries as bytes, if they come from rows of Python's numbers or from a plain array."""
+    if found.array is None and found.rows is None:
+        return None
+    _must_be_small(*found.shape)
+    return Cells.of_array(found.array) if found.rows is None else Cells.of_rows(found.rows, found.shape[1])
+
+
+def _pair(name: str, pair: Any) -> tuple[int, int]:
+    try:
+        first, second = pair
+        return index(first), index(second)
+    except (TypeError, ValueError):
+        raise BadInput(f"{name} is a pair of whole numbers, of rows and of columns, and here it is {shown(pair)}") from None
+
+
+def _names(name: str, names: Any) -> tuple[object, ...]:
+    if not isinstance(names, Iterable):
+        raise BadInput(f"{name} is a list of names, and here it is {shown(names)}")
+    return tuple(names)
+
+
+def _must_be_small(rows: int, columns: int) -> None:
+    for count, kind in ((rows, "rows"), (columns, "columns")):
+        if not 0 <= count <= LIMIT:
+            raise BadInput(f"there are {count} {kind}, and a matrix may have at most {LIMIT}")
 
 
 def _places(lines: tuple[int, ...], count: int, kind: str) -> dict[int, int]:

@@ -1,73 +1,144 @@
-"""Binary matroids of the literature, by the 0/1 matrix that stands beside the identity in a representation.
+"""Matroids of the literature, by the matrix that stands beside the identity in a representation over GF(2) or GF(3).
 
-The matrix has a row for each element of a basis and a column for each other element, with ones at the basis elements that add up to it. The
-dual matroid is represented by the transposed matrix.
+The matrix has a row for each element of a basis and a column for each other element. Over GF(2) a column has ones at the basis elements
+that add up to its element. The dual matroid is represented by the transposed matrix.
 
-Source: Seymour for R10 and R12, Oxley for the others.
+Source: Seymour for R10 and R12; Oxley, *Matroid Theory*, appendix, for the others.
 """
 
 from __future__ import annotations
 
 import re
-from collections.abc import Sequence
+from collections.abc import Callable, Sequence
 from itertools import combinations
 
 from .edge_lists import graph_of_edges
-from .errors import BadInput
+from .errors import BadInput, shown
+from .forced_signs import forced_signs
 from .lines import Names
 from .matrix import Matrix
+from .tableaux import Field
 from .walks import arcs_of_walks
 from .words import LIMIT
 
-__all__ = ["NAMED", "named"]
+__all__ = ["NAMED", "TERNARY", "field_of_named", "named"]
 
-NAMED = "R10, R12, F7, K5 (any K and number), K3,3 (any two numbers), W4 (any wheel), and each with * for its dual"
+TERNARY = "U2,4, P8, R9, T8"
+"""The matroids that `named` knows over GF(3) and that are not binary, for a person."""
+
+NAMED = (
+    "R10, R12, F7 or PG(2,2), AG(3,2), S8, Z4 (any binary spike with a tip), K5 (any K and number), K3,3 (any two numbers), "
+    f"W4 (any wheel), V8, Petersen, over GF(3) {TERNARY}, and each with * for its dual"
+)
 """What `named` knows, for a person."""
 
-_TABLES = {
+_BINARY_TABLES = {
     "R10": ("11001", "11100", "01110", "00111", "10011"),
     "R12": ("111000", "110100", "100010", "010001", "001011", "000111"),
     "F7": ("1101", "1011", "0111"),
+    "AG(3,2)": ("0111", "1011", "1101", "1110"),
+    "S8": ("0111", "1011", "1101", "1111"),
 }
+_TERNARY_TABLES = {
+    "U2,4": ("11", "1-"),
+    "P8": ("011-", "1011", "1101", "-110"),
+    "R9": ("110011", "1011--", "011-1-"),
+    "T8": ("0111", "1011", "1101", "1110"),
+}
+_ENTRIES = {"0": 0, "1": 1, "-": -1}
+_REGULAR_TABLES = ("R10", "R12")
+_OTHER_NAMES = {"FANO": "F7", "PG(2,2)": "F7", "U24": "U2,4", "WAGNER": "V8"}
 _OF_GRAPH = re.compile(r"M(?P<dual>\*?)\((?P<graph>.+)\)")
-_NAME = re.compile(r"(?P<kind>[KW])_?(?P<first>[0-9]{1,4})(?:,(?P<second>[0-9]{1,4}))?")
+_NAME = re.compile(r"(?P<kind>[KWZ])(?P<first>[0-9]{1,4})(?:,(?P<second>[0-9]{1,4}))?")
+
+Edges = Sequence[tuple[object, object]]
 
 
-def named(name: str) -> Matrix:
-    """The matrix of a matroid by its name, such as `R10`, `F7*`, `K5`, `K3,3*` or `W4`, and with names of its elements.
+def named(name: str, field: Field = 2) -> Matrix:
+    """The matrix of a matroid by its name, such as `R10`, `F7*`, `K5`, `K3,3*`, `W4` or `AG(3,2)`, with names of its elements.
 
-    `K5` and `K3,3` are the matroids of complete graphs, also as `M(K5)` and `M*(K5)`, and `W4` that of the wheel with four spokes. Raises `BadInput` where it is no
-    name, or the matrix would have more than 1,000 rows or columns.
+    `K5` and `K3,3` are the matroids of complete graphs, also as `M(K5)` and `M*(K5)`, `W4` is the matroid of the wheel with four spokes,
+    `V8` the matroid of the Möbius ladder on eight nodes, and `Z4` the binary spike of rank 4 with its tip.
+
+    With `field=3` the matrix represents the matroid over GF(3), and has entries -1, 0 and 1. `U2,4`, `P8`, `R9` and `T8` are not binary,
+    so they have a matrix over GF(3) only.
+
+    Raises `BadInput` if it is no name, if the matroid has no matrix over the field, or if the matrix would have more than 1,000 rows or
+    columns.
     """
-    plain = name.replace(" ", "").replace("{", "").replace("}", "").upper().replace("FANO", "F7")
+    plain, is_dual = _plain(name)
+    matrix = _over(plain, name, field)
+    return matrix.T if is_dual else matrix
+
+
+def field_of_named(name: str) -> Field:
+    """The field over which the matroid of a name is meant if none is said: GF(3) if it is not binary."""
+    return 3 if _plain(name)[0] in _TERNARY_TABLES else 2
+
+
+def _plain(name: str) -> tuple[str, bool]:
+    """A name as the tables have it, and whether the dual matroid is meant."""
+    if not isinstance(name, str):
+        raise BadInput(f"a matroid is known by its name, such as {NAMED}, and here it is {shown(name)}")
+    plain = re.sub(r"[ _{}]", "", name).upper()
     if of_graph := _OF_GRAPH.fullmatch(plain):
         plain = of_graph["graph"] + of_graph["dual"]
-    matrix = _of_plain(plain.rstrip("*"), name)
-    return matrix.T if plain.count("*") % 2 else matrix
+    bare = plain.rstrip("*")
+    return _OTHER_NAMES.get(bare, bare), (len(plain) - len(bare)) % 2 == 1
 
 
-def _of_plain(plain: str, name: str) -> Matrix:
-    if plain in _TABLES:
-        matrix = Matrix.of([[int(entry) for entry in row] for row in _TABLES[plain]])
-        elements = [str(number) for number in range(1, sum(matrix.shape) + 1)]
-        return Matrix.of(matrix, row_names=elements[: matrix.shape[0]], column_names=elements[matrix.shape[0] :])
+def _over(plain: str, name: str, field: Field) -> Matrix:
+    """The matrix over a field, of which the binary one of a regular matroid gets signs over GF(3)."""
+    if field not in (2, 3):
+        raise BadInput(f"the field has 2 or 3 elements, and here it is {shown(field)}")
+    if plain in _TERNARY_TABLES:
+        if field == 2:
+            raise BadInput(f"{name} is not binary, so no 0/1 matrix represents it over GF(2); it has a matrix over GF(3)")
+        return _of_table(_TERNARY_TABLES[plain])
+    matrix, is_regular = _binary(plain, name)
+    if field == 2:
+        return matrix
+    if not is_regular:
+        raise BadInput(f"{name} is binary and not regular, so no matrix represents it over GF(3)")
+    return forced_signs(matrix)[1]
+
+
+def _binary(plain: str, name: str) -> tuple[Matrix, bool]:
+    """The 0/1 matrix of a binary matroid, and whether the matroid is regular."""
+    if plain in _BINARY_TABLES:
+        return _of_table(_BINARY_TABLES[plain]), plain in _REGULAR_TABLES
+    if plain in _GRAPHS:
+        return _of_edges(_GRAPHS[plain]()), True
     found = _NAME.fullmatch(plain)
     if not found:
         raise BadInput(f"{name} is no name that is known here: {NAMED}")
     first, second = int(found["first"]), int(found["second"] or 0)
-    if found["kind"] == "W":
-        if found["second"] or first < 3:
+    if found["kind"] == "Z":
+        return _spike(name, first, has_second=bool(found["second"])), False
+    return _of_edges(_named_edges(name, found["kind"], first, second if found["second"] else None)), True
+
+
+def _spike(name: str, rank: int, *, has_second: bool) -> Matrix:
+    """The binary spike of a rank with its tip `t`: each two legs `x1 y1`, .. are a circuit, and `t` is on the line of each leg."""
+    if has_second or not 3 <= rank < LIMIT:
+        raise BadInput(f"{name} is no binary spike that is known here: its rank is from 3 to {LIMIT - 1}")
+    legs = range(1, rank + 1)
+    rows = [[*(int(row != column) for column in legs), 1] for row in legs]
+    return Matrix.of(rows, row_names=[f"x{leg}" for leg in legs], column_names=[*(f"y{leg}" for leg in legs), "t"])
+
+
+def _named_edges(name: str, kind: str, first: int, second: int | None) -> Edges:
+    """The edges of a wheel, a complete graph or a complete bipartite graph."""
+    if kind == "W":
+        if second is not None or first < 3:
             raise BadInput(f"{name} is no wheel, which has three spokes or more")
-        return _of_edges(_wheel(first))
-    if first < 1 or (found["second"] and second < 1):
+        return _wheel(first)
+    if first < 1 or second == 0:
         raise BadInput(f"{name} is no complete graph, which has a node or more")
-    edges = first + second - 1 + (first - 1) * (second - 1) if second else first * (first - 1) // 2
+    edges = first * (first - 1) // 2 if second is None else first * second
     if edges > 2 * LIMIT:
         raise BadInput(f"{name} has {edges} edges, and a matrix may have at most {LIMIT} rows and {LIMIT} columns")
-    return _of_edges(_bipartite(first, second) if second else list(combinations(range(1, first + 1), 2)))
-
-
-Edges = Sequence[tuple[object, object]]
+    return list(combinations(range(1, first + 1), 2)) if second is None else _bipartite(first, second)
 
 
 def _wheel(spokes: int) -> Edges:
@@ -79,6 +150,28 @@ def _bipartite(first: int, second: int) -> Edges:
     """The edges at the first nodes of the two sides come first, and are the tree."""
     pairs = [(f"a{one}", f"b{two}") for one in range(1, first + 1) for two in range(1, second + 1)]
     return sorted(pairs, key=lambda pair: pair[0] != "a1" and pair[1] != "b1")
+
+
+def _ladder() -> Edges:
+    """The Möbius ladder on eight nodes: a cycle with an edge between each two opposite nodes."""
+    return [(node, node % 8 + 1) for node in range(1, 9)] + [(node, node + 4) for node in range(1, 5)]
+
+
+def _petersen() -> Edges:
+    """A cycle of outer nodes 1 to 5, spokes to inner nodes 6 to 10, and a star of these."""
+    outer = range(1, 6)
+    spokes = [(node, node + 5) for node in outer]
+    return [*((node, node % 5 + 1) for node in outer), *spokes, *((6 + at, 6 + (at + 2) % 5) for at in range(5))]
+
+
+_GRAPHS: dict[str, Callable[[], Edges]] = {"V8": _ladder, "PETERSEN": _petersen}
+
+
+def _of_table(rows: Sequence[str]) -> Matrix:
+    """The matrix of a table, with the elements 1, 2, .. in the order of the rows and then of the columns."""
+    matrix = Matrix.of([[_ENTRIES[entry] for entry in row] for row in rows])
+    elements = [str(number) for number in range(1, sum(matrix.shape) + 1)]
+    return Matrix.of(matrix, row_names=elements[: matrix.shape[0]], column_names=elements[matrix.shape[0] :])
 
 
 def _of_edges(edges: Edges) -> Matrix:

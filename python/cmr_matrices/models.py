@@ -17,6 +17,7 @@ from pathlib import Path
 from typing import Any
 
 from .errors import BadInput
+from .libraries import library
 from .model_texts import format_of, plain_text
 
 __all__ = ["Coefficient", "Model", "read_model"]
@@ -37,13 +38,16 @@ class Coefficient:
 class Model:
     """The constraints of a linear model: free rows, such as the objective, are none of them.
 
-    `sides` has the right-hand sides of each row, two for a range, where they are known.
+    `sides` has the right-hand sides of each row, two for a range, `bounds` the finite bounds of each column, and `whole` tells which
+    columns are variables in whole numbers, where these are known.
     """
 
     rows: tuple[str, ...]
     columns: tuple[str, ...]
     coefficients: tuple[Coefficient, ...]
     sides: tuple[tuple[float, ...], ...] = ()
+    bounds: tuple[tuple[float, ...], ...] = ()
+    whole: tuple[bool, ...] = ()
 
 
 def read_model(name: str, form: str | None, data: str | None = None) -> Model:
@@ -118,6 +122,8 @@ def _constraints(glpk: Any, problem: Any) -> Model:
         tuple(glpk.glp_get_col_name(problem, column) for column in columns),
         tuple(coefficients),
         tuple(_sides(glpk, problem, row) for row in kept),
+        tuple(_bounds(glpk, problem, column) for column in columns),
+        tuple(glpk.glp_get_col_kind(problem, column) != glpk.GLP_CV for column in columns),
     )
 
 
@@ -128,16 +134,19 @@ def _sides(glpk: Any, problem: Any, row: int) -> tuple[float, ...]:
     return tuple(lower + upper)
 
 
+def _bounds(glpk: Any, problem: Any, column: int) -> tuple[float, ...]:
+    kind = glpk.glp_get_col_type(problem, column)
+    lower = [glpk.glp_get_col_lb(problem, column)] if kind in (glpk.GLP_LO, glpk.GLP_DB, glpk.GLP_FX) else []
+    upper = [glpk.glp_get_col_ub(problem, column)] if kind in (glpk.GLP_UP, glpk.GLP_DB) else []
+    return tuple(lower + upper)
+
+
 def _numbers(count: int) -> range:
     return range(1, count + 1)
 
 
 def _glpk() -> Any:
-    try:
-        import swiglpk  # pylint: disable=import-outside-toplevel
-    except ImportError as fault:
-        raise BadInput("reading a model needs Debian's python3-swiglpk") from fault
-    return swiglpk
+    return library("swiglpk", "reading a model")
 
 
 def _read(name: str) -> bytes:

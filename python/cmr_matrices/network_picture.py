@@ -1,7 +1,8 @@
 """Pictures of graphs that show that a matrix is graphic or a network matrix.
 
-Where each walk takes at most two arcs, the matrix is that of a network whose nodes are the rows, as flow models have it: then the
-rows are drawn as nodes and the columns as edges between them. Else the tree is drawn, and the walks as dashed edges.
+The tree is drawn, and the walks as dashed edges. Where each walk takes at most two arcs, the matrix may be that of a flow model, a network
+whose nodes are the rows: where the caller says so, the rows are drawn as nodes and the columns as edges between them. This leaves out the
+nodes of the tree and its arcs, so it is no picture of a graph that shows that a matroid is graphic.
 """
 
 from __future__ import annotations
@@ -67,7 +68,8 @@ class _Drawn:
 def picture(graph: Graph, names: Names, *, directed: bool, limit: int = DRAWN, tree: bool = False) -> str:
     """The graph in DOT. With more edges than the limit the families of its lines are drawn, with their counts.
 
-    `tree` draws the tree in any case. The layout is chosen by the number of edges, and any program of Graphviz then uses it.
+    `tree` draws the tree in any case, and else the rows are nodes where no walk takes more than two arcs. The layout is chosen by the
+    number of edges, and any program of Graphviz then uses it.
     """
     taken = None if tree else arcs_of_walks(graph, 2)
     count = len(graph.edges) if taken is None else len(graph.walks)

@@ -2,11 +2,9 @@
 
 from __future__ import annotations
 
-from operator import index
+from .given import whole
 
-from .errors import BadInput
-
-__all__ = ["budget_words", "whole"]
+__all__ = ["budget_words"]
 
 
 def budget_words(lines: int | None, pivots: int, workers: int | None) -> list[str]:
@@ -16,17 +14,6 @@ def budget_words(lines: int | None, pivots: int, workers: int | None) -> list[st
         *_words("--pivots", whole("pivots", pivots, 0, 100) or None),
         *_words("-w", None if workers is None else whole("workers", workers, 1, 64)),
     ]
-
-
-def whole(name: str, value: int, least: int, greatest: int) -> int:
-    """A number of a keyword. Raises `BadInput` where it is no whole number in its range."""
-    try:
-        number = index(value)
-    except TypeError:
-        raise BadInput(f"{name} is a whole number, and here it is {value!r}") from None
-    if not least <= number <= greatest:
-        raise BadInput(f"{name} is a number from {least} to {greatest}, and here it is {number}")
-    return number
 
 
 def _words(option: str, value: int | None) -> list[str]:

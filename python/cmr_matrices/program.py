@@ -7,13 +7,16 @@ import re
 import shutil
 import subprocess
 import tempfile
+import warnings
 from collections.abc import Mapping, Sequence
 from contextlib import ExitStack
 from dataclasses import dataclass
 from pathlib import Path
 
+from .clock import Clock, TimeLimit
 from .errors import (
     BadCommandLine,
+    BadInput,
     BadText,
     CannotRead,
     CannotWrite,
@@ -23,14 +26,17 @@ from .errors import (
     ProgramMissing,
     TextPlace,
     TimeLimitReached,
+    UnprovedProgram,
 )
 from .explained.texts import guess
 
-__all__ = ["NO", "REFUSED", "UNDECIDED", "YES", "Ran", "StrPath", "fault_of", "find_program", "run"]
+__all__ = ["NO", "REFUSED", "UNDECIDED", "YES", "Ran", "StrPath", "fault_of", "find_program", "run", "unproved"]
 
 StrPath = str | os.PathLike[str]
 
 YES, NO, UNDECIDED, REFUSED = 0, 1, 6, 7
+# The status by which a shell says that a file is no program.
+_NOT_RUN = 126
 
 _CLONE = Path(__file__).resolve().parents[2]
 # Where the package is installed below a prefix, as scripts/install does it.
@@ -64,10 +70,26 @@ class Ran:
 def find_program(program: StrPath | None = None) -> Path:
     """The program: what is given, or else what `CMR_PROGRAM` names, is on the `PATH`, is built in this clone, or is installed beside.
 
+    Last comes what `./try-cmr` has compiled in this clone without proofs, with the warning `UnprovedProgram`.
+
     Raises `ProgramMissing` with the places that were looked at. A place that is named is the only one.
     """
+    path = _found(program)
+    if path == unproved():
+        warnings.warn("nothing is proved of this run: ./try-cmr compiled the program, and ./cmr proves it", UnprovedProgram)
+    return path
+
+
+def unproved() -> Path:
+    """Where `./try-cmr` keeps the program that it has compiled without proofs, in this clone."""
+    return _CLONE / "out" / "unproved" / "cmr"
+
+
+def _found(program: StrPath | None) -> Path:
     named = program if program is not None else os.environ.get("CMR_PROGRAM")
     if named is not None:
+        if not isinstance(named, (str, os.PathLike)):
+            raise BadInput(f"program is the path of the program, and here it is {named!r}")
         path = Path(named).absolute()
         if not os.access(path, os.X_OK) or path.is_dir():
             raise ProgramMissing([f"{'the argument' if program is not None else 'CMR_PROGRAM'} {named}"])
@@ -76,11 +98,11 @@ def find_program(program: StrPath | None = None) -> Path:
     if found is not None:
         return Path(found).absolute()
     built = _CLONE / "crates" / "cmr" / "out" / "cmr"
-    for path in (built, _BESIDE):
-        if os.access(path, os.X_OK):
+    for path in (built, _BESIDE, unproved()):
+        if os.access(path, os.X_OK) and not path.is_dir():
             return path
     is_clone = (_CLONE / "crates.txt").exists()
-    clone = f"the clone, {built}" if is_clone else "the clone, but the package stands in none"
+    clone = f"the clone, {built} and {unproved()}" if is_clone else "the clone, but the package stands in none"
     raise ProgramMissing(["CMR_PROGRAM, which is not set", "PATH", clone])
 
 
@@ -91,7 +113,7 @@ def run(
     inputs: Mapping[str, str] | None = None,
     outputs: Sequence[str] = (),
     program: StrPath | None = None,
-    time_limit: float | None = None,
+    time_limit: TimeLimit = None,
 ) -> Ran:
     """A run of the program on standard input and on files, in a folder that is gone once it ends.
 
@@ -100,25 +122,40 @@ def run(
 
     Raises `ProgramMissing`, `TimeLimitReached` or, where the program does not answer, the `ProgramFault` of its status.
     """
+    clock = Clock.of(time_limit)
     command = [str(find_program(program)), *words]
     with ExitStack() as stack:
         has_files = bool(inputs or outputs)
         folder = stack.enter_context(tempfile.TemporaryDirectory(prefix="cmr-")) if has_files else None
         for name, content in (inputs or {}).items():
             _write(Path(folder or "", name), content)
-        try:
-            ran = subprocess.run(
-                command, input=_encoded(text), capture_output=True, cwd=folder, timeout=time_limit, check=False
-            )
-        except subprocess.TimeoutExpired as fault:
-            raise TimeLimitReached(fault.timeout) from None
-        except FileNotFoundError:
-            raise ProgramMissing([command[0]]) from None
+        ran = _ended(command, _encoded(text), folder, clock)
         if ran.returncode not in (YES, NO, UNDECIDED, REFUSED):
             line = ran.stderr.decode("utf-8", "surrogateescape").rstrip("\n")
             raise fault_of(ran.returncode, line, {"-": text} | dict(inputs or {}))
         files = {name: path.read_text("ascii") for name in outputs if (path := Path(folder or "", name)).exists()}
     return Ran(ran.returncode, tuple(ran.stdout.decode("ascii").splitlines()), files)
+
+
+def _ended(command: list[str], data: bytes, folder: str | None, clock: Clock) -> subprocess.CompletedProcess[bytes]:
+    """A run to its end. What ends the call ends the program, and waits for its end, so that the system keeps nothing of it."""
+    pipe = subprocess.PIPE
+    left = clock.left()
+    try:
+        with subprocess.Popen(command, stdin=pipe, stdout=pipe, stderr=pipe, cwd=folder) as process:
+            try:
+                printed, said = process.communicate(data, timeout=left)
+            except BaseException:
+                process.kill()
+                process.wait()
+                raise
+    except subprocess.TimeoutExpired:
+        raise TimeLimitReached(clock.limit or 0) from None
+    except FileNotFoundError:
+        raise ProgramMissing([command[0]]) from None
+    except OSError as fault:
+        raise ProgramFault(_NOT_RUN, f"{command[0]} cannot be run: {fault.strerror}") from fault
+    return subprocess.CompletedProcess(command, process.returncode, printed, said)
 
 
 def _write(path: Path, content: str) -> None:

@@ -3,27 +3,34 @@
 All take whatever `Matrix.of` takes, and these keywords:
 
 * `certificate`: whether evidence is computed that costs more than the answer;
-* `lines`: the budget of the search through row sets, 0 to 24, and 14 where it is left out;
+* `parts`: whether a part of the matrix may decide a no before pivots are made (default true): `cmr_matrices.narrowing` says how;
+* `lines`: the budget of the search through row sets, 0 to 24 (default 14);
 * `workers`: how many threads share the searches, 1 to 64; it changes no answer;
-* `pivots`: how many pivots may be made on the way to a part that nothing else decides, 0 to 100: docs/DEFINITIONS.md has the rule;
+* `pivots`: how many pivots may be made on the path to a part that nothing else decides, 0 to 100 (default 20): docs/DEFINITIONS.md has the
+  rule;
 * `tries`: where the matrix is undecided, in how many other orders of the lines it is asked again, 0 to 1000, with orders that
-  `seed` draws, and with as many pivots in each;
-* `time_limit`: seconds after which the program is ended, and the call, tries and all; an undecided answer is given without the tries
-  that were left;
+  `seed`, any whole number, draws, and with as many pivots in each;
+* `time_limit`: the seconds that the whole call may take, 0 to 2,000,000, or None for no limit (the default): what is given is
+  made a matrix, which is not interrupted, and then the program is run, and ended where they are over; once there is an undecided
+  answer, it is given without the steps that were left;
 * `program`: the program's path, where it is not to be looked for.
 
-All raise `BadEntry` and `BadInput` for what is no matrix of theirs or out of a range, `ProgramMissing`, `TimeLimitReached`, and
-`OutOfMemory`.
+All raise `ProgramMissing` before they look at the matrix, `BadEntry` and `BadInput` for what is no matrix of theirs or out of a range,
+`TimeLimitReached`, and `OutOfMemory`.
 """
 
 from __future__ import annotations
 
-from dataclasses import replace
+from collections.abc import Mapping
+from dataclasses import dataclass, field, replace
 
 from .answers import Answer
-from .clock import Clock
+from .calls import Call
+from .errors import TimeLimitReached
+from .given import whole
 from .matrix import Matrix
-from .options import budget_words, whole
+from .narrowing import Narrowing
+from .options import budget_words
 from .program import StrPath
 from .reading import Question
 from .sources import MatrixLike
@@ -46,9 +53,10 @@ def is_totally_unimodular(
     matrix: MatrixLike,
     *,
     certificate: bool = False,
+    parts: bool = True,
     lines: int | None = None,
     workers: int | None = None,
-    pivots: int = 0,
+    pivots: int = 20,
     tries: int = 0,
     seed: int = 0,
     time_limit: float | None = None,
@@ -56,22 +64,28 @@ def is_totally_unimodular(
 ) -> Answer:
     """Whether every square submatrix has the determinant -1, 0 or 1.
 
-    A no has a `violator`, and an undecided answer the part that is `open`. With `certificate` there is the `tree` too.
+    A no has a `violator`, and an undecided answer the part that is `open`. With `certificate` there is the `tree` too. Without `parts` the
+    answer and its tree are those of one run of the program with as many pivots, if there are no `tries`.
+
+    `lines` is the budget of the search, 0 to 24 lines (14); `workers` the threads that share it, 1 to 64 (1); `pivots` how many pivots
+    may be made on the way to a part that is left open, 0 to 100 (20); `tries` in how many other orders an undecided matrix is asked again,
+    0 to 1000 (0), which `seed`, any whole number (0), draws. `time_limit` is in seconds, 0 to 2,000,000, for the whole call. `program` is
+    the program's path.
 
     Source: Ghouila-Houri 1962; Hoffman and Kruskal 1956; Seymour 1980.
     """
-    words = ("tu", *budget_words(lines, pivots, workers))
-    question = Question("totally unimodular", words, {"-D": "tree"})
-    return _tried(question, Matrix.of(matrix), certificate, tries, seed, time_limit, program)
+    search = _Search("totally unimodular", "tu", lines, workers, pivots, tries, seed, {"-D": "tree"}, parts=parts)
+    return search.answer(matrix, certificate, Call.begin(program, time_limit))
 
 
 def is_regular(
     matrix: MatrixLike,
     *,
     certificate: bool = False,
+    parts: bool = True,
     lines: int | None = None,
     workers: int | None = None,
-    pivots: int = 0,
+    pivots: int = 20,
     tries: int = 0,
     seed: int = 0,
     time_limit: float | None = None,
@@ -82,11 +96,16 @@ def is_regular(
     So is whether the binary matroid that it represents, beside the identity, is regular. A no has a `violator` of the signed
     matrix. With `certificate` there are the `signed` matrix, its `tree`, and for a no the `chain`.
 
+    `lines` is the budget of the search, 0 to 24 lines (14); `workers` the threads that share it, 1 to 64 (1); `pivots` how many pivots
+    may be made on the way to a part that is left open, 0 to 100 (20); `tries` in how many other orders an undecided matrix is asked again,
+    0 to 1000 (0), which `seed`, any whole number (0), draws. `time_limit` is in seconds, 0 to 2,000,000, for the whole call. `program` is
+    the program's path.
+
     Source: Camion 1965; Seymour 1980; Truemper, *Matroid Decomposition*.
     """
-    words = ("regular", *budget_words(lines, pivots, workers))
-    question = Question("regular", words, {"-D": "tree", "-M": "signed", "-C": "chain"})
-    return _tried(question, _binary(matrix), certificate, tries, seed, time_limit, program)
+    files = {"-D": "tree", "-M": "signed", "-C": "chain"}
+    search = _Search("regular", "regular", lines, workers, pivots, tries, seed, files, is_binary=True, parts=parts)
+    return search.answer(matrix, certificate, Call.begin(program, time_limit))
 
 
 def is_graphic(
@@ -96,18 +115,23 @@ def is_graphic(
 
     With `certificate` a yes has the `graph`, which has no directions, and a no a `minimal` submatrix.
 
+    `time_limit` is in seconds, 0 to 2,000,000, for the whole call, and `program` the program's path.
+
     Source: Tutte 1960; Schrijver, *Theory of Linear and Integer Programming*, chapter 20.
     """
     question = Question("graphic", ("graphic",), _graph_files(certificate))
-    return question.ask(_binary(matrix), program, time_limit)
+    return _asked(question, matrix, time_limit, program, is_binary=True)
 
 
 def is_cographic(
     matrix: MatrixLike, *, certificate: bool = False, time_limit: float | None = None, program: StrPath | None = None
 ) -> Answer:
-    """Whether the transpose of a 0/1 matrix is graphic. The arcs of the `graph` stand for the columns, else as `is_graphic`."""
+    """Whether the transpose of a 0/1 matrix is graphic. The arcs of the `graph` stand for the columns, else as `is_graphic`.
+
+    `time_limit` is in seconds, 0 to 2,000,000, for the whole call, and `program` the program's path.
+    """
     question = Question("cographic", ("graphic", "-t"), _graph_files(certificate))
-    return question.ask(_binary(matrix), program, time_limit)
+    return _asked(question, matrix, time_limit, program, is_binary=True)
 
 
 def is_network(
@@ -117,18 +141,23 @@ def is_network(
 
     With `certificate` a yes has the `graph`, which is directed, and a no a `minimal` submatrix.
 
+    `time_limit` is in seconds, 0 to 2,000,000, for the whole call, and `program` the program's path.
+
     Source: Tutte 1965; Schrijver, *Theory of Linear and Integer Programming*, chapters 19 and 20.
     """
     question = Question("network", ("network",), _graph_files(certificate))
-    return question.ask(Matrix.of(matrix), program, time_limit)
+    return _asked(question, matrix, time_limit, program)
 
 
 def is_conetwork(
     matrix: MatrixLike, *, certificate: bool = False, time_limit: float | None = None, program: StrPath | None = None
 ) -> Answer:
-    """Whether the transposed matrix is a network matrix. The arcs of the `graph` stand for the columns, else as `is_network`."""
+    """Whether the transposed matrix is a network matrix. The arcs of the `graph` stand for the columns, else as `is_network`.
+
+    `time_limit` is in seconds, 0 to 2,000,000, for the whole call, and `program` the program's path.
+    """
     question = Question("conetwork", ("network", "-t"), _graph_files(certificate))
-    return question.ask(Matrix.of(matrix), program, time_limit)
+    return _asked(question, matrix, time_limit, program)
 
 
 def is_series_parallel(
@@ -144,12 +173,14 @@ def is_series_parallel(
     With `binary` the matrix is 0/1, and negatives do not count. A no has the `rest`. With `certificate` there are the
     `reductions`, and for a no a `minimal` submatrix.
 
+    `time_limit` is in seconds, 0 to 2,000,000, for the whole call, and `program` the program's path.
+
     Source: series-parallel matrices of the CMR library.
     """
-    taken = _binary(matrix) if binary else Matrix.of(matrix)
     name = "binary series-parallel" if binary else "series-parallel"
     files = {"-N": "minimal", "-S": "reductions"} if certificate else {}
-    return Question(name, ("series-parallel", *(["-b"] if binary else [])), files).ask(taken, program, time_limit)
+    question = Question(name, ("series-parallel", *(["-b"] if binary else [])), files)
+    return _asked(question, matrix, time_limit, program, is_binary=binary)
 
 
 def is_balanced(
@@ -157,7 +188,7 @@ def is_balanced(
     *,
     lines: int | None = None,
     workers: int | None = None,
-    pivots: int = 0,
+    pivots: int = 20,
     tries: int = 0,
     seed: int = 0,
     time_limit: float | None = None,
@@ -168,10 +199,15 @@ def is_balanced(
     A no has such a submatrix as its `violator`, and an undecided answer has all lines as `open`. A yes that other orders have found
     has the `tree` of the totally unimodular matrix.
 
+    `lines` is the budget of the search, 0 to 24 lines (14); `workers` the threads that share it, 1 to 64 (1); `pivots` how many pivots
+    may be made on the way to a part that is left open, 0 to 100 (20); `tries` in how many other orders an undecided matrix is asked again,
+    0 to 1000 (0), which `seed`, any whole number (0), draws. `time_limit` is in seconds, 0 to 2,000,000, for the whole call. `program` is
+    the program's path.
+
     Source: Berge 1970; Truemper, *Matroid Decomposition*.
     """
-    question = Question("balanced", ("balanced", *budget_words(lines, pivots, workers)))
-    return _tried(question, Matrix.of(matrix), True, tries, seed, time_limit, program)
+    search = _Search("balanced", "balanced", lines, workers, pivots, tries, seed)
+    return search.answer(matrix, True, Call.begin(program, time_limit))
 
 
 def has_no_cycle_fault(
@@ -181,34 +217,79 @@ def has_no_cycle_fault(
 
     A no has the cycle fault as its `violator`. Which fault is found depends on the order of the lines.
 
+    `time_limit` is in seconds, 0 to 2,000,000, for the whole call, and `program` the program's path.
+
     Source: Camion 1965; docs/DEFINITIONS.md.
     """
     question = Question("without cycle fault", ("camion",), said="camion")
-    return question.ask(Matrix.of(matrix), program, time_limit)
+    return _asked(question, matrix, time_limit, program)
 
 
-def _tried(
+@dataclass(frozen=True)
+class _Search:
+    """A question that may stay undecided, with what a caller lets it spend. Raises `BadInput` for a number out of its range."""
+
+    property_name: str
+    tool: str
+    lines: int | None
+    workers: int | None
+    pivots: int
+    tries: int
+    seed: int
+    files: Mapping[str, str] = field(default_factory=dict)
+    is_binary: bool = False
+    parts: bool = False
+
+    def __post_init__(self) -> None:
+        self.words(self.pivots)
+        whole("tries", self.tries, 0, 1000)
+        whole("seed", self.seed)
+
+    def words(self, pivots: int) -> tuple[str, ...]:
+        """The words of the program with a number of pivots."""
+        return self.tool, *budget_words(self.lines, pivots, self.workers)
+
+    def answer(self, matrix: MatrixLike, certificate: bool, call: Call) -> Answer:
+        """The answer, without evidence that is not asked for."""
+        taken = _taken(matrix, self.is_binary)
+        files = self.files if certificate or self.tries else {}
+        answer = self._decided(Question(self.property_name, self.words(self.pivots), files), taken, call)
+        return answer if certificate else replace(answer, tree=None, signed=None, chain=None)
+
+    def _decided(self, question: Question, matrix: Matrix, call: Call) -> Answer:
+        """The answer of the first step that decides: the program without pivots, a part, the program with pivots, other orders."""
+        first = replace(question, words=self.words(0)) if self.parts else question
+        answer = first.ask(matrix, call.program, call.clock)
+        try:
+            if answer.is_undecided and self.parts:
+                found = Narrowing(call.clock, call.program).decided(question, matrix)
+                answer = answer if found is None else found
+            if answer.is_undecided and first.words != question.words:
+                answer = question.ask(matrix, call.program, call.clock)
+        except TimeLimitReached:
+            return answer
+        if answer.is_undecided and self.tries:
+            answer = Tries(self.tries, self.seed, call.clock, call.program).decided(question, matrix, answer)
+        return answer
+
+
+def _asked(
     question: Question,
-    matrix: Matrix,
-    certificate: bool,
-    tries: int,
-    seed: int,
+    matrix: MatrixLike,
     time_limit: float | None,
     program: StrPath | None,
+    *,
+    is_binary: bool = False,
 ) -> Answer:
-    """Asks, and again in other orders where the answer is undecided. Evidence that is not asked for is left out."""
-    count = whole("tries", tries, 0, 1000)
-    asked = question if certificate or count else replace(question, files={})
-    clock = Clock(time_limit)
-    answer = asked.ask(matrix, program, time_limit)
-    if answer.is_undecided and count:
-        answer = Tries(count, seed, clock, program).decided(asked, matrix, answer)
-    return answer if certificate else replace(answer, tree=None, signed=None, chain=None)
+    """Asks a question that the program always decides."""
+    call = Call.begin(program, time_limit)
+    return question.ask(_taken(matrix, is_binary), call.program, call.clock)
 
 
-def _binary(matrix: MatrixLike) -> Matrix:
+def _taken(matrix: MatrixLike, is_binary: bool) -> Matrix:
     taken = Matrix.of(matrix)
-    taken.must_be_binary()
+    if is_binary:
+        taken.must_be_binary()
     return taken
 
 

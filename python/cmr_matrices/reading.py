@@ -7,10 +7,12 @@ from dataclasses import dataclass, field
 
 from .answers import Answer, Verdict
 from .chains import Chain
+from .clock import TimeLimit
 from .errors import ProgramFault
 from .graphs import Graph
 from .lines import LineSet
 from .matrix import Matrix
+from .pages import SHOWN
 from .printed import line_sets
 from .program import NO, YES, Ran, StrPath, run
 from .reductions import Reductions
@@ -30,11 +32,12 @@ class Question:
     said: str = ""
     """The program's own word for the property, where that is another."""
 
-    def ask(self, matrix: Matrix, program: StrPath | None, time_limit: float | None) -> Answer:
+    def ask(self, matrix: Matrix, program: StrPath | None, time_limit: TimeLimit) -> Answer:
         """What the program says of a matrix."""
+        form, text = matrix.for_program()
         ran = run(
-            [*self.words, "-i", "sparse", *(word for option in self.files.items() for word in option)],
-            text=matrix.to_text(),
+            [*self.words, "-i", form, *(word for option in self.files.items() for word in option)],
+            text=text,
             outputs=tuple(self.files.values()),
             program=program,
             time_limit=time_limit,
@@ -56,10 +59,12 @@ def read_answer(ran: Ran, matrix: Matrix, property_name: str, *, word: str = "",
     names = matrix.names
     texts = ran.files
     signed = Matrix.from_text(texts["signed"]) if "signed" in texts else None
+    # A violator of regularity is one of the signed matrix.
+    violated = signed if property_name == "regular" else matrix
     return Answer(
         property_name=property_name,
         verdict=verdict,
-        violator=printed_part(found, matrix, "violator") or printed_part(found, matrix, "fault"),
+        violator=printed_part(found, matrix, "violator", violated) or printed_part(found, matrix, "fault", violated),
         open=printed_part(found, matrix, "open"),
         minimal=printed_part(found, matrix, "minimal"),
         rest=printed_part(found, matrix, "rest"),
@@ -71,7 +76,20 @@ def read_answer(ran: Ran, matrix: Matrix, property_name: str, *, word: str = "",
     )
 
 
-def printed_part(found: Mapping[str, LineSet], matrix: Matrix, word: str) -> Submatrix | None:
-    """The submatrix that stands behind a word in what was printed, or None where there is none."""
+def printed_part(
+    found: Mapping[str, LineSet], matrix: Matrix, word: str, entries: Matrix | None = None
+) -> Submatrix | None:
+    """The submatrix that stands behind a word in what was printed, or None where there is none.
+
+    It is to be shown with the entries of a matrix, where one is given and it is small.
+    """
     lines = found.get(word)
-    return None if lines is None else Submatrix(matrix.shape, lines.rows, lines.columns, matrix.names)
+    if lines is None:
+        return None
+    is_shown = entries is not None and max(len(lines.rows), len(lines.columns)) <= SHOWN
+    shown = _entries(entries, lines) if entries is not None and is_shown else None
+    return Submatrix(matrix.shape, lines.rows, lines.columns, matrix.names, shown)
+
+
+def _entries(matrix: Matrix, lines: LineSet) -> tuple[tuple[int, ...], ...]:
+    return tuple(tuple(matrix[row, column] for column in lines.columns) for row in lines.rows)

@@ -8,6 +8,7 @@ from dataclasses import dataclass, field
 from typing import Literal, cast
 
 from .errors import BadInput
+from .given import text_given
 from .lines import Line, Names
 
 __all__ = ["REDUCTION", "Reason", "Reduction", "Reductions", "reduction_of"]
@@ -61,7 +62,7 @@ class Reductions:
     def from_text(cls, text: str, names: Names | None = None) -> Reductions:
         """The reductions that a list has. Raises `BadInput` where it is none."""
         steps = []
-        for place, line in enumerate(text.splitlines(), 1):
+        for place, line in enumerate(text_given("no list of reductions", text).splitlines(), 1):
             found = REDUCTION.fullmatch(line)
             if not found or (found["other"] is None) != (found["reason"] == "zero"):
                 raise BadInput(f"no list of reductions: line {place} is no reduction")

@@ -6,6 +6,7 @@ from collections.abc import Iterable
 from dataclasses import dataclass, field
 
 from .errors import BadInput
+from .given import text_given
 from .lines import Names
 from .matrix import Matrix
 from .sources import MatrixLike
@@ -54,7 +55,7 @@ class Signing:
     @classmethod
     def from_text(cls, text: str, names: Names | None = None) -> Signing:
         """The signing that printed lines have. Raises `BadInput` at a line that is none of them."""
-        return cls.from_lines(text.splitlines(), names)
+        return cls.from_lines(text_given("no signing", text).splitlines(), names)
 
     @classmethod
     def from_lines(cls, lines: Iterable[str], names: Names | None = None) -> Signing:

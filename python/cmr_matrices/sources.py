@@ -6,10 +6,12 @@ No library is needed for it: an object is known by its methods, and none is load
 from __future__ import annotations
 
 from collections.abc import Iterable, Iterator, Mapping, Sequence
-from dataclasses import dataclass
+from dataclasses import dataclass, replace
 from typing import Any, Protocol
 
+from .dense import is_plain
 from .errors import BadInput
+from .words import LIMIT
 
 __all__ = ["Entries", "MatrixLike", "SageLike", "ScipyLike", "ArrayLike", "entries_of"]
 
@@ -49,12 +51,17 @@ MatrixLike = ArrayLike | ScipyLike | SageLike | Sequence[Any]
 
 @dataclass(frozen=True)
 class Entries:
-    """Entries at places (row, column, value) counted from 0, no place twice, all others 0."""
+    """Entries at places (row, column, value) counted from 0, no place twice, all others 0.
+
+    `array` is the array of numbers of numpy, and `rows` the list of rows, from which they come, if there is one.
+    """
 
     shape: tuple[int, int]
     entries: Iterable[tuple[int, int, Any]]
     row_names: Iterable[object] | None = None
     column_names: Iterable[object] | None = None
+    array: Any = None
+    rows: Sequence[Sequence[Any]] | None = None
 
 
 def entries_of(source: Any) -> Entries:
@@ -64,8 +71,7 @@ def entries_of(source: Any) -> Entries:
     if callable(getattr(source, "nrows", None)) and callable(getattr(source, "ncols", None)):
         return _of_sage(source)
     if hasattr(source, "to_numpy") and hasattr(source, "index") and hasattr(source, "columns"):
-        found = _of_array(source.to_numpy())
-        return Entries(found.shape, found.entries, source.index, source.columns)
+        return replace(_of_array(source.to_numpy()), row_names=source.index, column_names=source.columns)
     if hasattr(source, "__array__"):
         return _of_array(source)
     if isinstance(source, Sequence) and not isinstance(source, (str, bytes)):
@@ -77,11 +83,28 @@ def _of_scipy(source: Any) -> Entries:
     """Values at one place are added, as scipy does where it makes an array of them."""
     shape = _shape(source.shape)
     coordinates = source.tocoo()
+    array = _array_of_coordinates(coordinates, shape)
+    if array is not None:
+        return Entries(shape, _nonzeros_of_array(array), array=array)
     values: dict[tuple[int, int], Any] = {}
     for row, column, value in zip(coordinates.row.tolist(), coordinates.col.tolist(), coordinates.data.tolist()):
         place = row, column
         values[place] = values[place] + value if place in values else value
     return Entries(shape, ((row, column, value) for (row, column), value in values.items()))
+
+
+def _array_of_coordinates(coordinates: Any, shape: tuple[int, int]) -> Any:
+    """The array of coordinates that name no place twice, if it is small and one of numbers. Otherwise it gives None."""
+    import numpy  # pylint: disable=import-outside-toplevel
+
+    if coordinates.data.dtype.kind not in "biuf" or max(shape) > LIMIT:
+        return None
+    places = coordinates.row.astype(numpy.int64) * shape[1] + coordinates.col
+    if len(places) > 0 and numpy.bincount(places).max() > 1:
+        return None
+    array = numpy.zeros(shape, dtype=coordinates.data.dtype)
+    array[coordinates.row, coordinates.col] = coordinates.data
+    return array
 
 
 def _of_sage(source: Any) -> Entries:
@@ -97,9 +120,12 @@ def _of_array(source: Any) -> Entries:
     import numpy  # pylint: disable=import-outside-toplevel
 
     array = numpy.asarray(source)
-    shape = _shape(array.shape)
+    return Entries(_shape(array.shape), _nonzeros_of_array(array), array=array if is_plain(array) else None)
+
+
+def _nonzeros_of_array(array: Any) -> Iterator[tuple[int, int, Any]]:
     rows, columns = (array != 0).nonzero()
-    return Entries(shape, zip(rows.tolist(), columns.tolist(), array[rows, columns].tolist()))
+    yield from zip(rows.tolist(), columns.tolist(), array[rows, columns].tolist())
 
 
 def _of_rows(source: Sequence[Any]) -> Entries:
@@ -110,7 +136,7 @@ def _of_rows(source: Sequence[Any]) -> Entries:
         if columns not in (-1, len(row)):
             raise BadInput(f"no matrix: row {number} has {len(row)} entries, and row 0 has {columns}")
         columns = len(row)
-    return Entries((len(source), max(columns, 0)), _nonzeros(source))
+    return Entries((len(source), max(columns, 0)), _nonzeros(source), rows=source)
 
 
 def _nonzeros(rows: Sequence[Sequence[Any]]) -> Iterator[tuple[int, int, Any]]:

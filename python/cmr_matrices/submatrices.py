@@ -7,6 +7,7 @@ from dataclasses import dataclass, field
 from .errors import BadInput
 from .lines import LineSet, Names
 from .matrix import Matrix
+from .pages import SHOWN, line_list, matrix_table
 from .sources import MatrixLike
 from .words import Words
 
@@ -21,6 +22,8 @@ class Submatrix:
     rows: tuple[int, ...]
     columns: tuple[int, ...]
     names: Names | None = field(default=None, compare=False, repr=False)
+    entries: tuple[tuple[int, ...], ...] | None = field(default=None, compare=False, repr=False)
+    """The entries of its rows, where it is the violator of an answer and is small."""
 
     @property
     def lines(self) -> LineSet:
@@ -63,6 +66,17 @@ class Submatrix:
         except BadInput as fault:
             raise BadInput(f"no submatrix: {fault}") from fault
         return cls(shape, lines.rows, lines.columns, names)
+
+    def __repr__(self) -> str:
+        if len(self.lines) <= SHOWN:
+            return f"Submatrix(shape={self.shape}, rows={self.rows}, columns={self.columns})"
+        return f"Submatrix(shape={self.shape}, {len(self.rows)} rows, {len(self.columns)} columns)"
+
+    def _repr_html_(self) -> str:
+        if self.entries is None:
+            return line_list([("rows", self.row_names), ("columns", self.column_names)])
+        names = Names(self.row_names, self.column_names)
+        return matrix_table(Matrix.of(self.entries, row_names=names.rows, column_names=names.columns))
 
     def __str__(self) -> str:
         return f"rows {' '.join(self.row_names)} columns {' '.join(self.column_names)}"

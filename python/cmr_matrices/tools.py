@@ -1,23 +1,29 @@
 """What else the program does with matrices: sign rows, take sums apart and put them together, check evidence, make matrices.
 
-All take `time_limit` in seconds and `program`, and raise what the questions raise.
+All take `time_limit`, the seconds that the whole call may take, 0 to 2,000,000, and `program`, the program's path. They raise what the
+questions raise.
 """
 
 from __future__ import annotations
 
-from collections.abc import Iterable
+from collections.abc import Iterable, Iterator
 from dataclasses import replace
 from operator import index
-from typing import Literal, cast
+from typing import Literal, cast, get_args
 
+from .answer_checks import checked_graph, checked_minimal, checked_reductions, checked_signing, is_cycle
 from .answers import Answer, Checked, Parts
+from .calls import Call
 from .chains import Chain
-from .errors import BadInput, Refused
+from .clock import TimeLimit
+from .errors import BadCommandLine, BadInput, Refused, shown
+from .given import listed, one_of, whole
 from .graphs import Edge, Graph
+from .lines import LineSet
 from .matrix import Matrix
 from .printed import line_sets
 from .program import REFUSED, YES, StrPath, run
-from .reading import printed_part, read_answer
+from .reading import Question, printed_part, read_answer
 from .signings import Signing
 from .sources import MatrixLike
 from .submatrices import Submatrix
@@ -27,6 +33,14 @@ __all__ = ["Evidence", "SumKind", "check", "compose", "generate", "matrix_of", "
 
 SumKind = Literal["one", "two", "delta", "y", "mixed", "concentrated"]
 Evidence = Tree | Chain | Submatrix | str
+_WITH_MINIMAL = {
+    "graphic": ("graphic",),
+    "cographic": ("graphic", "-t"),
+    "network": ("network",),
+    "conetwork": ("network", "-t"),
+    "series-parallel": ("series-parallel",),
+    "binary series-parallel": ("series-parallel", "-b"),
+}
 
 
 def sign(
@@ -38,35 +52,61 @@ def sign(
 ) -> Answer:
     """Signs some rows, or all, so that every column sum is -1, 0 or 1.
 
-    A yes has the `signing`. A no has a `violator` with rows among these, so the matrix is not totally unimodular; the rows
-    themselves may still have a signing.
+    `rows` are numbers counted from 0. A yes has the `signing`. A no has a `violator` with rows among these, so the matrix is not totally
+    unimodular; the rows themselves may still have a signing.
+
+    `time_limit` is in seconds, 0 to 2,000,000, for the whole call, and `program` the program's path.
 
     Source: Ghouila-Houri 1962; Camion 1965; docs/DEFINITIONS.md.
     """
+    call = Call.begin(program, time_limit)
     taken = Matrix.of(matrix)
-    chosen = sorted(set(range(taken.shape[0]) if rows is None else rows))
+    given = range(taken.shape[0]) if rows is None else listed("rows", rows, "numbers of rows, counted from 0")
+    chosen = sorted({whole("a row", row) for row in given})
     for row in chosen:
         if not 0 <= row < taken.shape[0]:
             raise BadInput(f"there is no row {row} in a matrix of size {taken.shape[0]}x{taken.shape[1]}")
-    inputs = {"matrix": taken.to_text(), "rows": Submatrix(taken.shape, tuple(chosen), ()).to_text()}
-    ran = run(["sign", "-i", "sparse", "matrix", "rows"], inputs=inputs, program=program, time_limit=time_limit)
+    form, text = taken.for_program()
+    inputs = {"matrix": text, "rows": Submatrix(taken.shape, tuple(chosen), ()).to_text()}
+    ran = run(["sign", "-i", form, "matrix", "rows"], inputs=inputs, program=call.program, time_limit=call.clock)
     answer = read_answer(ran, taken, "signed")
     return replace(answer, signing=Signing.from_lines(ran.lines[1:], taken.names)) if ran.status == YES else answer
 
 
 def check(
-    matrix: MatrixLike, evidence: Evidence, *, time_limit: float | None = None, program: StrPath | None = None
+    matrix: MatrixLike, evidence: Evidence | Answer, *, time_limit: TimeLimit = None, program: StrPath | None = None
 ) -> Checked:
     """Checks evidence on a matrix apart from what made it: a tree, a chain, a violator, or the text of one of these.
 
-    Raises `BadText` where a text is none of them, with the byte at fault.
+    Of an answer all evidence is checked, and has to say what the answer does:
+
+    * the chain of a no on regularity, and the tree of a yes on it, on the signed matrix;
+    * the tree of other answers, or the violator, which for a no on balance also has two nonzeros in each line;
+    * the graph, whose matrix, that of `matrix_of`, has to be this one;
+    * the signing, whose column sums have to be -1, 0 or 1;
+    * the reductions, step by step, with what they leave;
+    * the minimal submatrix, which has to lack the property, and to have it without any one of its lines.
+
+    `time_limit` is in seconds, 0 to 2,000,000, for the whole call, and `program` the program's path.
+
+    Raises `BadInput` if an answer has none of these, and `BadText` where a text is no evidence, with the byte at fault.
     """
-    taken = Matrix.of(matrix)
+    call = Call.begin(program, time_limit)
+    if isinstance(evidence, Answer):
+        return _check_answer(Matrix.of(matrix), evidence, call)
+    return _check(Matrix.of(matrix), evidence, call)
+
+
+def _check(taken: Matrix, evidence: Evidence, call: Call) -> Checked:
+    if not isinstance(evidence, (str, Tree, Chain, Submatrix)):
+        kinds = "a Tree, a Chain, a violator (a Submatrix), an Answer that has one, or the text of one"
+        raise BadInput(f"evidence is {kinds}, and here it is {shown(evidence)}")
     text = evidence if isinstance(evidence, str) else evidence.to_text()
     if text.split(maxsplit=1)[:1] == ["cmr-chain"]:
         taken.must_be_binary()
-    inputs = {"matrix": taken.to_text(), "evidence": text}
-    ran = run(["check", "-i", "sparse", "matrix", "evidence"], inputs=inputs, program=program, time_limit=time_limit)
+    form, matrix = taken.for_program()
+    inputs = {"matrix": matrix, "evidence": text}
+    ran = run(["check", "-i", form, "matrix", "evidence"], inputs=inputs, program=call.program, time_limit=call.clock)
     if ran.status == REFUSED:
         return _refusal(ran.said("refused"))
     says = cast(Literal["yes", "no", "undecided", "not regular"], ran.said("accepted"))
@@ -80,12 +120,18 @@ def parts(
 ) -> Parts:
     """The two matrices of which a matrix is the sum that the root of its tree says. `compose` is the way back.
 
+    `time_limit` is in seconds, 0 to 2,000,000, for the whole call, and `program` the program's path.
+
     Raises `Refused` where the root is no two-sum and no three-sum, or the tree breaks a rule.
     """
+    call = Call.begin(program, time_limit)
     taken = Matrix.of(matrix)
-    inputs = {"matrix": taken.to_text(), "tree": tree if isinstance(tree, str) else tree.to_text()}
-    words = ["parts", "-i", "sparse", "matrix", "tree", "-A", "first", "-B", "second"]
-    ran = run(words, inputs=inputs, outputs=("first", "second"), program=program, time_limit=time_limit)
+    if not isinstance(tree, (str, Tree)):
+        raise BadInput(f"tree is a Tree or the text of one, and here it is {shown(tree)}")
+    form, text = taken.for_program()
+    inputs = {"matrix": text, "tree": tree if isinstance(tree, str) else tree.to_text()}
+    words = ["parts", "-i", form, "matrix", "tree", "-A", "first", "-B", "second"]
+    ran = run(words, inputs=inputs, outputs=("first", "second"), program=call.program, time_limit=call.clock)
     if ran.status == REFUSED:
         raise Refused(ran.said("refused"))
     said = ran.said("parts")
@@ -105,11 +151,15 @@ def compose(
 ) -> Matrix:
     """The sum of two matrices: a one-sum, a two-sum, or a three-sum in one of its four forms.
 
-    Raises `Refused` where there is none, with the cause of docs/FORMATS.md.
+    `time_limit` is in seconds, 0 to 2,000,000, for the whole call, and `program` the program's path.
+
+    `kind` is one, two, delta, y, mixed or concentrated. Raises `Refused` where there is no such sum, with the cause of docs/FORMATS.md.
     """
+    call = Call.begin(program, time_limit)
+    one_of("kind", kind, get_args(SumKind))
     inputs = {"first": Matrix.of(first).to_text(), "second": Matrix.of(second).to_text()}
     words = ["compose", "-i", "sparse", kind, "first", "second", "-M", "sum"]
-    ran = run(words, inputs=inputs, outputs=("sum",), program=program, time_limit=time_limit)
+    ran = run(words, inputs=inputs, outputs=("sum",), program=call.program, time_limit=call.clock)
     if ran.status == REFUSED:
         raise Refused(ran.said("refused"))
     return Matrix.from_text(ran.file("sum"))
@@ -125,26 +175,96 @@ def generate(
 ) -> Matrix:
     """A matrix that is the same on every machine: a random network matrix, or the two-sum of `size` matrices of R10.
 
+    `time_limit` is in seconds, 0 to 2,000,000, for the whole call, and `program` the program's path.
+
     `size` is 1 to 1000, with `twosum` at most 249, and `number` 0 to 2147483647 chooses among them. docs/DEFINITIONS.md has the
     definition. Raises `BadCommandLine` where one is out of its range.
     """
+    call = Call.begin(program, time_limit)
+    one_of("kind", kind, ("network", "twosum"))
+    for name, value, most in (("size", size, 249 if kind == "twosum" else 1000), ("number", number, 2**31 - 1)):
+        least = 0 if name == "number" else 1
+        if not least <= whole(name, value) <= most:
+            raise BadCommandLine(2, f"{name} is a number from {least} to {most}, and here it is {value}")
     words = ["generate", kind, str(index(size)), str(index(number)), "--lines", "0", "-M", "matrix"]
-    return Matrix.from_text(run(words, outputs=("matrix",), program=program, time_limit=time_limit).file("matrix"))
+    return Matrix.from_text(run(words, outputs=("matrix",), program=call.program, time_limit=call.clock).file("matrix"))
 
 
 def matrix_of(graph: Graph | str, *, time_limit: float | None = None, program: StrPath | None = None) -> Matrix:
     """The one matrix for which a graph shows the property: that of its paths, with directions where it is directed.
 
+    `time_limit` is in seconds, 0 to 2,000,000, for the whole call, and `program` the program's path.
+
     Raises `BadText` where a text, which counts as directed, is no graph with its rows first.
     """
-    taken = Graph.from_text(graph) if isinstance(graph, str) else graph
+    call = Call.begin(program, time_limit)
+    if not isinstance(graph, (str, Graph)):
+        raise BadInput(f"graph is a Graph or the text of one, and here it is {shown(graph)}")
+    return _matrix_of(Graph.from_text(graph) if isinstance(graph, str) else graph, call)
+
+
+def _matrix_of(taken: Graph, call: Call) -> Matrix:
     is_turned = taken.arc_kind == "column"
     text = _turned(taken).to_text() if is_turned else taken.to_text()
     tool = "network" if taken.directed else "graphic"
-    ran = run([tool, "-c"], text=text, program=program, time_limit=time_limit)
+    ran = run([tool, "-c"], text=text, program=call.program, time_limit=call.clock)
     matrix = Matrix.from_text("\n".join(ran.lines))
     matrix = matrix.T if is_turned else matrix
     return Matrix(matrix.shape, matrix.nonzeros, taken.names)
+
+
+def _check_answer(matrix: Matrix, answer: Answer, call: Call) -> Checked:
+    """Checks all evidence of an answer. It is accepted if each piece says what the answer does."""
+    expected = "not regular" if (answer.property_name, answer.verdict) == ("regular", "no") else answer.verdict
+    found = list(_checked_pieces(matrix, answer, call))
+    if not found:
+        raise BadInput(
+            f"the answer `{answer.property_name}: {answer.verdict}` has no evidence to check; "
+            "`certificate=True` asks for it, where its question has some"
+        )
+    for checked in found:
+        if checked.accepted and checked.says != expected:
+            return Checked(accepted=False, rule=f"the evidence says {checked.says}, and the answer {answer.verdict}")
+    return next((checked for checked in found if not checked.accepted), found[0])
+
+
+def _checked_pieces(matrix: Matrix, answer: Answer, call: Call) -> Iterator[Checked]:
+    if answer.chain is not None:
+        yield _check(matrix, answer.chain, call)
+    elif answer.signed is not None and answer.tree is not None:
+        matrix.must_be_binary()
+        if [place[:2] for place in answer.signed.nonzeros] != [place[:2] for place in matrix.nonzeros]:
+            yield Checked(accepted=False, rule="the signed matrix has other nonzeros")
+        else:
+            yield _check(answer.signed, answer.tree, call)
+    elif answer.tree is not None:
+        yield _check(matrix, answer.tree, call)
+    elif answer.violator is not None and answer.property_name != "regular":
+        if answer.property_name in ("balanced", "without cycle fault") and not is_cycle(matrix, answer.violator):
+            yield Checked(accepted=False, rule="the violator has not two nonzeros in each line")
+        else:
+            yield _check(matrix, answer.violator, call)
+    yield from _checked_here(matrix, answer, call)
+
+
+def _checked_here(matrix: Matrix, answer: Answer, call: Call) -> Iterator[Checked]:
+    """Checks the evidence that the package checks itself."""
+    if answer.graph is not None:
+        graph = answer.graph
+        yield checked_graph(matrix, answer, lambda: _matrix_of(graph, call))
+    if answer.signing is not None:
+        yield checked_signing(matrix, answer.signing)
+    binary = answer.property_name == "binary series-parallel"
+    if binary:
+        matrix.must_be_binary()
+    if answer.reductions is not None:
+        rest = LineSet((), ()) if answer.rest is None else answer.rest.lines
+        yield checked_reductions(matrix, answer.reductions, rest, binary=binary)
+    if answer.minimal is not None and answer.property_name in _WITH_MINIMAL:
+        question = Question(answer.property_name, _WITH_MINIMAL[answer.property_name])
+        yield checked_minimal(
+            matrix, answer.minimal, lambda part: question.ask(part, call.program, call.clock).verdict == "yes"
+        )
 
 
 def _turned(graph: Graph) -> Graph:

@@ -16,7 +16,7 @@ from .dot import document, statement
 from .lines import LineSet, Names
 from .nodes import CONNECTORS, LEAVES, Node, NodeKind
 
-__all__ = ["Style", "tree_picture"]
+__all__ = ["Box", "Style", "label_of", "look_of", "tree_boxes", "tree_picture"]
 
 ALIKE = 3
 WIDE = 12
@@ -45,9 +45,7 @@ class Style:
 
 def tree_picture(root_node: Node, style: Style, limit: int) -> str:
     """The tree in DOT, with about as many boxes as the limit says."""
-    root = _boxes(root_node, gather=False, limit=None)
-    if sum(1 for _ in _all_boxes(root)) > limit:
-        root = _boxes(root_node, gather=True, limit=limit)
+    root = tree_boxes(root_node, limit)
     numbers = {id(box): f"n{number}" for number, box in enumerate(_all_boxes(root))}
     defaults = [
         statement("graph", {"rankdir": "TB", "nodesep": "0.25", "ranksep": "0.35"}),
@@ -61,6 +59,12 @@ def tree_picture(root_node: Node, style: Style, limit: int) -> str:
         for child in box.children
     ]
     return document("digraph", "tree", defaults + nodes + edges)
+
+
+def tree_boxes(root_node: Node, limit: int) -> Box:
+    """The boxes of a tree, about as many as the limit says."""
+    root = _boxes(root_node, gather=False, limit=None)
+    return root if sum(1 for _ in _all_boxes(root)) <= limit else _boxes(root_node, gather=True, limit=limit)
 
 
 def _boxes(root: Node, gather: bool, limit: int | None) -> Box:
@@ -118,13 +122,17 @@ def _all_boxes(root: Box) -> Iterator[Box]:
 
 
 def _attributes(box: Box, style: Style) -> dict[str, str]:
-    nodes = list(_below(box.nodes)) if box.whole else box.nodes
-    attributes = {"label": "\n".join(_label(box, nodes, style)), "fillcolor": COLOURS[_look(nodes)]}
-    return attributes | ({"peripheries": "2"} if len(nodes) > 1 else {})
+    attributes = {"label": "\n".join(label_of(box, style)), "fillcolor": COLOURS[look_of(box)]}
+    return attributes | ({"peripheries": "2"} if len(_nodes(box)) > 1 else {})
 
 
-def _look(nodes: Iterable[Node]) -> str:
-    kinds = {node.kind for node in nodes}
+def _nodes(box: Box) -> list[Node]:
+    return list(_below(box.nodes)) if box.whole else box.nodes
+
+
+def look_of(box: Box) -> str:
+    """What a box looks like, one of `COLOURS`."""
+    kinds = {node.kind for node in _nodes(box)}
     if kinds & NO:
         return "no"
     if "undecided" in kinds:
@@ -132,7 +140,9 @@ def _look(nodes: Iterable[Node]) -> str:
     return "yes" if kinds <= LEAVES else "inner"
 
 
-def _label(box: Box, nodes: Sequence[Node], style: Style) -> list[str]:
+def label_of(box: Box, style: Style) -> list[str]:
+    """The lines of what is said in a box."""
+    nodes = _nodes(box)
     if len(nodes) == 1:
         return _node_label(nodes[0], style)
     counts = [f"{count} {kind}" for kind, count in Counter(node.kind for node in nodes).most_common()]

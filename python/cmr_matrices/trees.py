@@ -11,9 +11,12 @@ from dataclasses import dataclass, field
 from typing import Any, Literal
 
 from .dot import svg
+from .libraries import library
 from .lines import LineSet, Names
 from .matrix import Matrix
 from .nodes import LEAVES, Node
+from .pages import no_picture
+from .separations import Separation, separations_of
 from .sources import MatrixLike
 from .submatrices import Submatrix
 from .tree_picture import Style, tree_picture
@@ -53,6 +56,13 @@ class Tree:
                 part = part.pivoted(node.rows.index(row.number), node.columns.index(column.number))
             pending.extend((child, part, node.lines) for child in reversed(node.children))
 
+    def separations(self) -> tuple[Separation, ...]:
+        """The 1-, 2- and 3-separations at its sums, in preorder, each with its sides and the rank between them.
+
+        A leaf may have more separations, which no tool seeks: a network matrix is not separated.
+        """
+        return tuple(separations_of(self.root))
+
     @property
     def verdict(self) -> Literal["yes", "no", "undecided"]:
         """What the tree says: no where a node has a fault, else undecided where one is left open, else yes."""
@@ -67,7 +77,7 @@ class Tree:
 
     def to_networkx(self) -> Any:
         """A `DiGraph` of networkx from parents to children: the nodes in preorder are 0, 1, .., with their `Node` as `node`."""
-        import networkx  # pylint: disable=import-outside-toplevel
+        networkx = library("networkx", "to_networkx")
 
         graph = networkx.DiGraph()
         parents: list[int] = []
@@ -85,6 +95,9 @@ class Tree:
 
     def _repr_svg_(self) -> str | None:
         return svg(self.to_dot())
+
+    def _repr_html_(self) -> str | None:
+        return no_picture("the tree")
 
     def to_text(self) -> str:
         """The canonical tree text, with lines counted from 1."""

@@ -12,6 +12,7 @@ from __future__ import annotations
 from collections.abc import Callable, Iterator
 from dataclasses import dataclass, replace
 
+from .answer_checks import is_cycle
 from .answers import Answer
 from .chains import Chain, ChainStep
 from .clock import Clock
@@ -103,7 +104,8 @@ class Tries:
             fault = self._fault(order)
             if fault is not None:
                 self._must_say(matrix, fault, "no")
-                _must_be_cycle(matrix, fault)
+                if not is_cycle(matrix, fault):
+                    raise ProgramFault(REFUSED, "the fault of another order is refused: it is no cycle")
                 yield replace(undecided, verdict="no", violator=fault, open=None)
             yield None
         unimodular = Question("totally unimodular", ("tu", *question.words[1:]), {"-D": "tree"})
@@ -161,11 +163,11 @@ class Tries:
 
     def _ask(self, question: Question, matrix: Matrix) -> Answer:
         """What the program says within the time that is left."""
-        return question.ask(matrix, self.program, self.clock.left())
+        return question.ask(matrix, self.program, self.clock)
 
     def _must_say(self, matrix: Matrix, evidence: Evidence, says: str) -> None:
         """Tests by `check` what evidence from another order says."""
-        checked = check(matrix, evidence, program=self.program, time_limit=self.clock.left())
+        checked = check(matrix, evidence, program=self.program, time_limit=self.clock)
         if checked.says != says:
             raise ProgramFault(REFUSED, f"the evidence of another order is refused: {checked.rule or checked.says}")
 
@@ -179,13 +181,3 @@ class _WithFault:
 
     def __call__(self, node: Node, children: tuple[Node, ...]) -> Node:
         return Node("violator", node.lines, fault=self.fault) if node is self.part else replace(node, children=children)
-
-
-def _must_be_cycle(matrix: Matrix, fault: Submatrix) -> None:
-    """Tests that a violator has two nonzeros in each line, as a fault of balance has."""
-    part = fault.submatrix(matrix)
-    counts = [
-        sum(1 for place in part.nonzeros if place[kind] == line) for kind in (0, 1) for line in range(part.shape[kind])
-    ]
-    if set(counts) != {2}:
-        raise ProgramFault(REFUSED, "the fault of another order is refused: it is no cycle")

@@ -6,6 +6,7 @@ import re
 from itertools import islice
 
 from .errors import BadInput
+from .given import text_given
 from .lines import Line, LineSet
 
 __all__ = ["LIMIT", "Words"]
@@ -23,8 +24,8 @@ class Words:
     """Reads the words of a text. Every fault is a `BadInput` that names the character, counted from 0."""
 
     def __init__(self, text: str) -> None:
-        self._text = text
-        self._words: list[str] = _WORD.findall(text)
+        self._text = text_given("the words", text)
+        self._words: list[str] = _WORD.findall(self._text)
         self._next = 0
 
     def word(self) -> str:

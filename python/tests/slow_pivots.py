@@ -7,9 +7,9 @@ from __future__ import annotations
 
 from dataclasses import dataclass, replace
 
-import cmr_matrices as cmr
 from cmr_matrices import BadEntry, Line, LineSet, Matrix, Node, Tree
 from cmr_matrices.line_orders import LineOrder
+from tests.support import asked_once
 
 __all__ = ["Draws", "slow_tree", "violator_before"]
 
@@ -55,7 +55,7 @@ class _Search:
     def tree(self, matrix: Matrix, left: int, draws: Draws, made: int = 0) -> Tree:
         """The tree of a matrix in which so many pivots may still be made."""
         self.deepest = max(self.deepest, made)
-        tree = cmr.is_totally_unimodular(matrix, lines=self.lines, certificate=True).tree
+        tree = asked_once("totally unimodular", matrix, lines=self.lines).tree
         assert tree is not None
         undecided = [node for _, node in tree.walk() if node.kind == "undecided"]
         found = {node: self._found(matrix, node, left, draws, made) for node in undecided}

@@ -8,11 +8,17 @@ import shutil
 import sys
 import time
 import unittest
+import warnings
 from collections.abc import Callable
 from pathlib import Path
 from typing import Any, TypeVar
 
-from cmr_matrices import ProgramMissing, find_program
+from cmr_matrices import Answer, Matrix, ProgramMissing, UnprovedProgram, find_program
+from cmr_matrices.clock import Clock
+from cmr_matrices.options import budget_words
+from cmr_matrices.reading import Question
+from cmr_matrices.sources import MatrixLike
+from cmr_matrices.tries import Tries
 
 TOP = Path(__file__).resolve().parents[2]
 EXAMPLES = TOP / "examples"
@@ -32,8 +38,10 @@ _Test = TypeVar("_Test", bound=Callable[..., Any])
 
 def _is_built() -> bool:
     try:
-        find_program()
-    except ProgramMissing:
+        with warnings.catch_warnings():
+            warnings.simplefilter("error", UnprovedProgram)
+            find_program()
+    except (ProgramMissing, UnprovedProgram):
         return False
     return True
 
@@ -71,6 +79,26 @@ def is_gone(process: int) -> bool:
     except ProcessLookupError:
         return True
     return False
+
+
+def question(property_name: str, lines: int | None, pivots: int) -> Question:
+    """A question with its tree, and of regularity with the signed matrix and the chain."""
+    tool = {"totally unimodular": "tu"}.get(property_name, property_name)
+    files = {} if tool == "balanced" else {"-D": "tree"}
+    files |= {"-M": "signed", "-C": "chain"} if tool == "regular" else {}
+    return Question(property_name, (tool, *budget_words(lines, pivots, None)), files)
+
+
+def asked_once(property_name: str, matrix: MatrixLike, *, lines: int | None = None, pivots: int = 0) -> Answer:
+    """What one run of the program says, without parts and other orders."""
+    return question(property_name, lines, pivots).ask(Matrix.of(matrix), None, None)
+
+
+def tried(property_name: str, matrix: Matrix, count: int, *, lines: int | None = None, pivots: int = 0) -> Answer:
+    """The answer of other orders of the lines, if the program leaves the matrix undecided."""
+    asked = question(property_name, lines, pivots)
+    answer = asked.ask(matrix, None, None)
+    return Tries(count, 0, Clock(None), None).decided(asked, matrix, answer) if answer.is_undecided else answer
 
 
 needs_program = _needs("the program cmr", _is_built())

@@ -1,4 +1,4 @@
-"""A run of the program for a verdict: its statuses, what it prints, its end, and what is left of it. Shell scripts stand for the program."""
+"""A run of the program for a verdict: its statuses, what it prints, its end, and what is left of it. Shell scripts stand for it."""
 
 from __future__ import annotations
 

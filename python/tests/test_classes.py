@@ -11,11 +11,13 @@ import unittest
 from dataclasses import replace
 from pathlib import Path
 
-from cmr_matrices import Matrix, find_program
+from cmr_matrices import ExcludedMinor, Matrix, check, find_program
 from cmr_matrices.classifying.classes import CLASS_NAMES, CLASSES, INCLUSIONS, contradictions, settle
 from cmr_matrices.classifying.streams import Item
 from cmr_matrices.classifying.work import CONTRADICTION, Settings, classify
-from tests.support import R10, TRIANGLE, needs_program
+from cmr_matrices.excluded import CLASSES as MINOR_CLASSES
+from tests.open_matrices import latin_square
+from tests.support import FANO, R10, TRIANGLE, needs_program
 from tests.test_random import drawn
 
 
@@ -69,11 +71,54 @@ class Classified(unittest.TestCase):
         self.assertLessEqual({"tu/tree", "tu/violator", "graphic/graph", "network/minimal"}, set(row.evidence))
         self.assertNotIn("regular/chain", row.evidence)
 
+    def test_minors(self) -> None:
+        settings = replace(self.settings, evidence=True, minors=True)
+        row = classify(item(FANO), settings)
+        minors = {name: text for name, text in row.evidence.items() if name.endswith("/minor")}
+        for kind in MINOR_CLASSES:
+            minor = ExcludedMinor.from_text(minors.pop(f"{kind.word}/minor").decode())
+            self.assertEqual((minor.property_name, minor.fault(FANO)), (kind.name, None))
+        self.assertEqual(minors, {})
+        row = classify(item(TRIANGLE), settings)
+        names = {name.removesuffix("/minor") for name in row.evidence if name.endswith("/minor")}
+        outside = {name for name, verdict in row.verdicts.items() if verdict == "no"}
+        self.assertEqual(names, outside - {"balanced", "camion"})
+
     def test_undecided(self) -> None:
         rows = [[1, 1, 0, 1], [1, 0, 1, 0], [1, 0, 1, 1], [0, 0, 1, 1]]
         for infers in (False, True):
             row = classify(item(rows), replace(self.settings, lines=0, infers=infers))
             self.assertEqual((row.verdicts["regular"], row.verdicts["graphic"], row.fault), ("undecided", "no", None))
+
+    def test_what_is_asked_again(self) -> None:
+        """An undecided matrix is decided by a part of it, with evidence on the whole matrix; without pivots and tries it is left."""
+        rows = latin_square(3)
+        settings = replace(self.settings, classes=tuple(kind for kind in CLASSES if kind.has_budget), evidence=True)
+        self.assertEqual(set(classify(item(rows), settings).verdicts.values()), {"undecided"})
+        row = classify(item(rows), replace(settings, tries=5))
+        self.assertEqual((set(row.verdicts.values()), row.fault), ({"no"}, None))
+        for name, text in row.evidence.items():
+            held = Matrix.from_text(row.evidence["regular/signed"].decode())
+            matrix = rows if name.split("/")[0] != "regular" or name.endswith("chain") else held
+            if not name.endswith("signed"):
+                self.assertIn(check(matrix, text.decode()).says, ("no", "not regular"))
+        self.assertLessEqual({"tu/tree", "tu/violator", "regular/chain", "balanced/violator"}, set(row.evidence))
+
+    def test_supports(self) -> None:
+        """Regularity is asked of the support of a matrix with signs, and the inclusions hold of it."""
+        settings = replace(self.settings, supports=True, evidence=True, minors=True)
+        row = classify(item([[1, -1], [1, 1]]), settings)
+        self.assertEqual([row.verdicts[name] for name in ("tu", "regular", "graphic")], ["no", "yes", "-"])
+        signed = [[-entry if at == 0 else entry for at, entry in enumerate(line)] for line in FANO]
+        row = classify(item(signed), settings)
+        self.assertEqual((row.verdicts["regular"], row.fault), ("no", None))
+        self.assertEqual(check(FANO, row.evidence["regular/chain"].decode()).says, "not regular")
+        self.assertTrue(ExcludedMinor.from_text(row.evidence["regular/minor"].decode()).verify(FANO))
+        draw = random.Random(6)
+        for number in range(40):
+            row = classify(item(drawn(draw), number), replace(self.settings, supports=True))
+            self.assertIsNone(row.fault)
+            self.assertNotEqual(row.verdicts["regular"], "-")
 
     def test_contradictions(self) -> None:
         """A program that says no to one tool alone: the row has the fault, with and without signs."""

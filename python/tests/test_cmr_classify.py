@@ -177,6 +177,7 @@ class Tables(CommandTest):
             ["--resume"],
             ["--lines", "25"],
             ["--pivots", "101"],
+            ["--tries", "1001"],
         ):
             self.runs("-", *words, status=2)
 

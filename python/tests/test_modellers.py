@@ -32,6 +32,15 @@ class Scipy(unittest.TestCase):
                 cmr.from_scipy(*arguments)
             self.assertEqual(str(refused.exception), line)
 
+    def test_rows_that_are_chosen(self) -> None:
+        upper, equal = [[1, 0, 2], [1, 1, 0]], [[0, 1, -1]]
+        self.assertEqual(cmr.from_scipy(upper, equal, rows="eq").names, Names(("eq0",), ("x1", "x2")))
+        self.assertEqual(cmr.from_scipy(upper, equal, without="^ub0$").names, Names(("ub1", "eq0"), ("x0", "x1", "x2")))
+        self.assertEqual(cmr.from_scipy(upper, equal, unit_rows=True).to_lists(), [[1, 1, 0], [0, 1, -1]])
+        with self.assertRaises(BadInput) as refused:
+            cmr.from_scipy(upper, rows="none")
+        self.assertEqual(str(refused.exception), "there is no row whose name fits")
+
     @needs_module("scipy")
     def test_sparse_matrices(self) -> None:
         from scipy import sparse
@@ -86,6 +95,8 @@ class Pulp(unittest.TestCase):
         matrix = cmr.from_pulp(problem)
         self.assertEqual(matrix.names, Names(("from_1", "at_2", "to_1"), ("flow_(1,_1)", "flow_(1,_2)", "flow_(2,_2)")))
         self.assertEqual(matrix.to_lists(), [[1, 1, 0], [0, -1, 1], [1, 0, 0]])
+        self.assertEqual(cmr.from_pulp(problem, rows="^from_").to_lists(), [[1, 1]])
+        self.assertEqual(cmr.from_pulp(problem, without="at").shape, (2, 2))
 
     def test_a_coefficient_that_is_refused(self) -> None:
         import pulp
@@ -95,6 +106,8 @@ class Pulp(unittest.TestCase):
         with self.assertRaises(BadInput) as refused:
             cmr.from_pulp(problem)
         self.assertEqual(str(refused.exception), "row only, column x: the coefficient 2 is none of -1, 0 and 1")
+        problem += pulp.LpVariable("y") >= 1, "unit"
+        self.assertEqual(cmr.from_pulp(problem, unit_rows=True).names, Names(("unit",), ("y",)))
 
 
 @needs_module("pyomo")
@@ -111,6 +124,7 @@ class Pyomo(unittest.TestCase):
         matrix = cmr.from_pyomo(model)
         self.assertEqual(matrix.to_lists(), [[1, -1], [0, 1]])
         self.assertEqual(matrix.names, Names(("first", "second"), ("x[1]", "x[2]")))
+        self.assertEqual(cmr.from_pyomo(model, rows="second").to_lists(), [[1]])
 
 
 class Linopy(unittest.TestCase):
@@ -127,6 +141,8 @@ class Linopy(unittest.TestCase):
         matrices = SimpleNamespace(A=[[1, 0], [1, -1]], clabels=[0, 3], vlabels=[1, 2])
         matrix = cmr.from_linopy(SimpleNamespace(matrices=matrices))
         self.assertEqual(matrix.names, Names(("con0", "con3"), ("var1", "var2")))
+        matrix = cmr.from_linopy(SimpleNamespace(matrices=matrices), without="con3")
+        self.assertEqual((matrix.to_lists(), matrix.names), ([[1]], Names(("con0",), ("var1",))))
 
 
 if __name__ == "__main__":

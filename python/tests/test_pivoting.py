@@ -13,7 +13,7 @@ from cmr_matrices import Answer, BadInput, Line, LineSet, Matrix, Tree
 from tests import independent
 from tests.open_matrices import RING, latin_square, models, shared_flows, two_goods
 from tests.slow_pivots import Draws, slow_tree, violator_before
-from tests.support import FANO, needs_program
+from tests.support import FANO, asked_once, needs_program
 from tests.test_random import drawn, network
 
 Rows = list[list[int]]
@@ -83,8 +83,8 @@ class Models(AnswerTest):
         for connections in (6, 12, 30):
             with self.subTest(connections=connections):
                 rows = two_goods(connections)
-                self.assertTrue(cmr.is_totally_unimodular(rows, lines=0).is_undecided)
-                answer = cmr.is_totally_unimodular(rows, lines=0, pivots=20, certificate=True)
+                self.assertTrue(asked_once("totally unimodular", rows, lines=0).is_undecided)
+                answer = asked_once("totally unimodular", rows, lines=0, pivots=20)
                 self.shows_yes(rows, answer)
                 assert answer.tree is not None
                 self.assertIn("pivoted", {node.kind for _, node in answer.tree.walk()})
@@ -92,16 +92,16 @@ class Models(AnswerTest):
 
     def test_two_goods_are_balanced(self) -> None:
         rows = two_goods(6)
-        self.assertTrue(cmr.is_balanced(rows, lines=0).is_undecided)
-        self.assertTrue(cmr.is_balanced(rows, lines=0, pivots=20))
-        self.assertIn("`pivots=20`", str(undecided(cmr.is_balanced(rows, lines=0))))
+        self.assertTrue(asked_once("balanced", rows, lines=0).is_undecided)
+        self.assertTrue(asked_once("balanced", rows, lines=0, pivots=20))
+        self.assertIn("`pivots=100`", str(undecided(asked_once("balanced", rows, lines=0))))
 
     def test_latin_squares(self) -> None:
         for order in (3, 4):
             with self.subTest(order=order):
                 matrix = Matrix.of(latin_square(order))
-                self.assertTrue(cmr.is_totally_unimodular(matrix, lines=0).is_undecided)
-                answer = cmr.is_totally_unimodular(matrix, lines=0, pivots=20, certificate=True)
+                self.assertTrue(asked_once("totally unimodular", matrix, lines=0).is_undecided)
+                answer = asked_once("totally unimodular", matrix, lines=0, pivots=20)
                 self.shows_no(matrix, answer)
                 assert answer.tree is not None
                 self.assertEqual(cmr.check(matrix, answer.tree).says, "no")
@@ -109,9 +109,8 @@ class Models(AnswerTest):
 
     def test_two_commodities(self) -> None:
         matrix = Matrix.of(shared_flows(2, 4, RING), row_names=range(16))
-        self.assertTrue(cmr.is_totally_unimodular(matrix, lines=0).is_undecided)
-        answer = cmr.is_totally_unimodular(matrix, lines=0, pivots=20)
-        self.assertIsNone(answer.tree)
+        self.assertTrue(asked_once("totally unimodular", matrix, lines=0).is_undecided)
+        answer = asked_once("totally unimodular", matrix, lines=0, pivots=20)
         self.shows_no(matrix, answer)
 
     def test_models(self) -> None:
@@ -121,7 +120,7 @@ class Models(AnswerTest):
             if len(matrix.nonzeros) > MOST_NONZEROS:
                 continue
             with self.subTest(model=name):
-                answer = cmr.is_totally_unimodular(matrix, pivots=20, certificate=True)
+                answer = asked_once("totally unimodular", matrix, pivots=20)
                 self.assertEqual(answer.verdict, says)
                 if says == "yes":
                     self.shows_yes(rows, answer)
@@ -133,14 +132,14 @@ class Models(AnswerTest):
     def test_regularity(self) -> None:
         """A no has a chain, whose violator is one of the signs of its steps."""
         matrix = Matrix.of(latin_square(3))
-        answer = cmr.is_regular(matrix, lines=0, pivots=20, certificate=True)
+        answer = asked_once("regular", matrix, lines=0, pivots=20)
         assert answer.chain is not None and answer.signed is not None and answer.tree is not None
         self.assertTrue(independent.chain_holds(matrix.to_lists(), answer.chain))
         self.shows_no(answer.signed, answer)
         self.assertEqual(cmr.check(matrix, answer.chain).says, "not regular")
         self.is_the_slow_tree(answer.signed, answer.tree, 20, 0)
         support = [[abs(entry) for entry in row] for row in two_goods(6)]
-        answer = cmr.is_regular(support, lines=0, pivots=20, certificate=True)
+        answer = asked_once("regular", support, lines=0, pivots=20)
         assert answer.signed is not None
         self.shows_yes(answer.signed.to_lists(), answer)
 
@@ -148,10 +147,10 @@ class Models(AnswerTest):
         """Too few pivots leave the part open, as if none were made."""
         rows = latin_square(3)
         for pivots in (0, 1, 2):
-            answer = cmr.is_totally_unimodular(rows, lines=0, pivots=pivots, certificate=True)
+            answer = asked_once("totally unimodular", rows, lines=0, pivots=pivots)
             assert answer.tree is not None and answer.open is not None
             self.assertEqual((answer.verdict, str(answer.tree)), ("undecided", "0 undecided 27x27"))
-            self.assertIn("`pivots=20`", str(undecided(answer)))
+            self.assertIn("`pivots=100`", str(undecided(answer)))
 
     def test_numbers_out_of_their_range(self) -> None:
         questions: list[Callable[..., Answer]] = [cmr.is_totally_unimodular, cmr.is_regular, cmr.is_balanced]
@@ -173,7 +172,7 @@ class RandomMatrices(AnswerTest):
         for rows in [kind(draw) for kind in kinds]:
             with self.subTest(rows=rows):
                 matrix = Matrix.of(rows)
-                answer = cmr.is_totally_unimodular(matrix, lines=0, pivots=20, certificate=True)
+                answer = asked_once("totally unimodular", matrix, lines=0, pivots=20)
                 self.assertEqual(answer.verdict, "yes" if independent.is_unimodular(rows) else "no")
                 if answer.verdict == "yes":
                     self.shows_yes(rows, answer)
@@ -190,7 +189,7 @@ class RandomMatrices(AnswerTest):
         for rows, pivots in product([kind(draw) for kind in [with_full_row, pivoted_goods] * 10], (1, 2)):
             with self.subTest(rows=rows, pivots=pivots):
                 matrix = Matrix.of(rows)
-                answer = cmr.is_totally_unimodular(matrix, lines=0, pivots=pivots, certificate=True)
+                answer = asked_once("totally unimodular", matrix, lines=0, pivots=pivots)
                 self.is_the_slow_tree(matrix, answer.tree, pivots, 0)
 
     def test_the_other_properties(self) -> None:
@@ -198,14 +197,14 @@ class RandomMatrices(AnswerTest):
         for rows in [any_signs(draw) for _ in range(25)]:
             support = [[abs(entry) for entry in row] for row in rows]
             with self.subTest(rows=rows):
-                answer = cmr.is_regular(support, lines=0, pivots=20, certificate=True)
+                answer = asked_once("regular", support, lines=0, pivots=20)
                 assert answer.signed is not None
                 if answer.verdict == "yes":
                     self.assertTrue(independent.is_unimodular(answer.signed.to_lists()))
                 elif answer.verdict == "no":
                     assert answer.chain is not None
                     self.assertTrue(independent.chain_holds(support, answer.chain))
-                balanced = cmr.is_balanced(rows, lines=0, pivots=20)
+                balanced = asked_once("balanced", rows, lines=0, pivots=20)
                 if not balanced.is_undecided:
                     self.assertEqual(bool(balanced), independent.is_balanced(rows))
 

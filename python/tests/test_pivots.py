@@ -53,7 +53,9 @@ class Matrices(unittest.TestCase):
         pivot = matrix.pivoted(0, 1)
         self.assertEqual(pivot.to_lists(), [[-1, -1, 0], [1, 0, 1]])
         self.assertEqual(matrix.pivoted(1, 0).to_lists(), [[-1, -1, -1], [1, 0, 1]])
-        self.assertEqual(pivot.names, matrix.names)
+        self.assertEqual(pivot.names, Names(("c1", "b"), ("c0", "a", "c2")))
+        self.assertEqual(pivot.pivoted(0, 1).names, matrix.names)
+        self.assertIsNone(Matrix.of([[1]]).pivoted(0, 0).names)
         with self.assertRaises(BadEntry) as refused:
             matrix.pivoted(0, 2)
         self.assertEqual(

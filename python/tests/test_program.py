@@ -10,8 +10,10 @@ import sys
 import tempfile
 import textwrap
 import unittest
+import warnings
 from collections.abc import Callable
 from pathlib import Path
+from types import FrameType
 from unittest import mock
 
 from cmr_matrices import (
@@ -26,10 +28,12 @@ from cmr_matrices import (
     ProgramMissing,
     TextPlace,
     TimeLimitReached,
+    UnprovedProgram,
     check,
     find_program,
     generate,
     is_balanced,
+    is_network,
     is_totally_unimodular,
 )
 from cmr_matrices.program import run
@@ -88,6 +92,7 @@ class Finding(Folder):
             find_program("/none/cmr")
         self.assertEqual(missing.exception.places, ("the argument /none/cmr",))
         self.assertIn("`./cmr` proves and builds it", str(missing.exception))
+        self.assertIn("`./try-cmr` compiles it without proofs", str(missing.exception))
         self.assertIsInstance(missing.exception, FileNotFoundError)
         os.environ["CMR_PROGRAM"] = str(self.folder)
         with self.assertRaises(ProgramMissing) as missing:
@@ -98,6 +103,27 @@ class Finding(Folder):
         with mock.patch("cmr_matrices.program._CLONE", self.folder), self.assertRaises(ProgramMissing) as missing:
             find_program()
         self.assertEqual(len(missing.exception.places), 3)
+
+    def test_the_unproved_program_comes_last_with_a_warning(self) -> None:
+        os.environ.pop("CMR_PROGRAM", None)
+        os.environ["PATH"] = ""
+        unproved = self.folder / "out" / "unproved" / "cmr"
+        unproved.parent.mkdir(parents=True)
+        self.script("cat > /dev/null; echo 'network: yes'").rename(unproved)
+        with mock.patch("cmr_matrices.program._CLONE", self.folder), mock.patch(
+            "cmr_matrices.program._BESIDE", self.folder / "bin" / "cmr"
+        ):
+            with self.assertWarnsRegex(UnprovedProgram, "nothing is proved of this run: ./try-cmr compiled the program"):
+                self.assertEqual(find_program(), unproved)
+            with warnings.catch_warnings(record=True) as said:
+                warnings.simplefilter("default")
+                for _ in range(3):
+                    self.assertTrue(is_network(FANO))
+            self.assertEqual([it.category for it in said], [UnprovedProgram])
+            built = self.folder / "crates" / "cmr" / "out" / "cmr"
+            built.parent.mkdir(parents=True)
+            self.script("exit 0").rename(built)
+            self.assertEqual(find_program(), built)
 
 
 class Statuses(Folder):
@@ -226,6 +252,31 @@ class Ends(Folder):
         self.assertIn(b"KeyboardInterrupt", said)
         self.is_gone(self.folder / "number")
         self.assertEqual(self.left(), [])
+
+    def test_an_interrupt_leaves_no_entry_in_the_table_of_processes(self) -> None:
+        """A caller such as a notebook goes on after it."""
+
+        def interrupt(_number: int, _frame: FrameType | None) -> None:
+            raise KeyboardInterrupt
+
+        before = signal.signal(signal.SIGALRM, interrupt)
+        self.addCleanup(signal.signal, signal.SIGALRM, before)
+        program = self.sleeping()
+        with self.assertRaises(KeyboardInterrupt):
+            signal.setitimer(signal.ITIMER_REAL, 1)
+            is_totally_unimodular([[1]], certificate=True, program=program)
+        # A process that has ended and was not waited for still has its number.
+        if (self.folder / "number").exists():
+            self.assertTrue(is_gone(int((self.folder / "number").read_text(encoding="ascii"))))
+        self.assertEqual(self.left(), [])
+
+    def test_a_file_that_is_no_program(self) -> None:
+        program = self.folder / "text"
+        program.write_text("no program", encoding="ascii")
+        program.chmod(0o755)
+        with self.assertRaises(ProgramFault) as fault:
+            is_totally_unimodular([[1]], program=program)
+        self.assertIn(f"{program} cannot be run: ", str(fault.exception))
 
     @needs_program
     def test_an_answer(self) -> None:

@@ -6,7 +6,7 @@ import unittest
 
 import cmr_matrices as cmr
 from cmr_matrices import BadEntry, BadInput, Graph, Line, Matrix, Refused, SigningStep, Submatrix, Undecided
-from tests.support import EXAMPLES, FANO, K5, R10, TRIANGLE, needs_module, needs_program
+from tests.support import EXAMPLES, FANO, K5, R10, TRIANGLE, asked_once, needs_module, needs_program
 
 
 def example(name: str) -> Matrix:
@@ -20,7 +20,7 @@ class Answers(unittest.TestCase):
         self.assertFalse(cmr.is_totally_unimodular(TRIANGLE))
 
     def test_an_undecided_answer_is_neither_true_nor_false(self) -> None:
-        answer = cmr.is_balanced(example("committees.txt"), lines=0)
+        answer = cmr.is_balanced(example("committees.txt"), lines=0, pivots=0)
         self.assertTrue(answer.is_undecided)
         assert answer.open is not None
         self.assertEqual(answer.open.rows, tuple(range(answer.open.shape[0])))
@@ -30,7 +30,7 @@ class Answers(unittest.TestCase):
 
     def test_an_undecided_answer_names_the_open_part(self) -> None:
         rows = [[1, 1, 0, 1], [1, 0, 1, 0], [1, 0, 1, 1], [0, 0, 1, 1]]
-        answer = cmr.is_regular(rows, lines=0, certificate=True)
+        answer = asked_once("regular", rows, lines=0)
         assert answer.signed is not None and answer.tree is not None
         self.assertEqual((answer.verdict, answer.tree.verdict), ("undecided", "undecided"))
         self.assertEqual(answer.open, Submatrix((4, 4), (0, 1, 2, 3), (0, 2, 3)))

@@ -1,4 +1,4 @@
-"""The screens of the README, of docs/FROM_A_MODEL.md and of docstrings are run."""
+"""The screens of the README, of three pages of docs/ and of docstrings are run."""
 
 from __future__ import annotations
 
@@ -28,12 +28,17 @@ class Screens(unittest.TestCase):
             with self.subTest(screen=title):
                 self.runs(doctest.DocTestParser().get_doctest(screen, {}, title, "README.md", 0))
 
+    def test_matroids(self) -> None:
+        text = (TOP / "docs" / "MATROIDS.md").read_text(encoding="utf-8")
+        self.runs(doctest.DocTestParser().get_doctest(text, {}, "MATROIDS.md", "MATROIDS.md", 0))
+
     @needs_module("swiglpk")
     @needs_command("glpsol")
     def test_the_way_from_a_model(self) -> None:
-        text = (TOP / "docs" / "FROM_A_MODEL.md").read_text(encoding="utf-8")
-        with chdir(TOP):
-            self.runs(doctest.DocTestParser().get_doctest(text, {}, "FROM_A_MODEL", "FROM_A_MODEL.md", 0))
+        for name in ("FROM_A_MODEL.md", "ONE_MODEL.md"):
+            text = (TOP / "docs" / name).read_text(encoding="utf-8")
+            with chdir(TOP), self.subTest(document=name):
+                self.runs(doctest.DocTestParser().get_doctest(text, {}, name, name, 0))
 
     def test_docstrings(self) -> None:
         names = [module.name for module in pkgutil.walk_packages(cmr_matrices.__path__, "cmr_matrices.")]

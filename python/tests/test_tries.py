@@ -12,7 +12,7 @@ from cmr_matrices.forced_signs import forced_signs
 from cmr_matrices.line_orders import LineOrder, drawn_orders
 from tests import independent
 from tests.open_matrices import latin_square, two_goods
-from tests.support import FANO, R10, needs_program
+from tests.support import FANO, R10, asked_once, needs_program, tried
 from tests.test_random import drawn
 from tests.test_written_texts import trees_by_hand
 
@@ -64,6 +64,18 @@ class TakenBack(unittest.TestCase):
                 self.assertEqual(cmr.check(order.reordered(), there).says, tree.verdict)
                 self.assertEqual(order.tree(there), tree)
 
+    def test_concentrated_sums(self) -> None:
+        """R12 has a concentrated sum at its root, whose connectors are in increasing order in every order of the lines."""
+        matrix = Matrix.of(cmr.is_regular(cmr.named("R12"), certificate=True).signed)
+        kinds, says = set(), []
+        for seed in range(24):
+            order = any_order(matrix, seed)
+            tree = cmr.is_totally_unimodular(order.reordered(), certificate=True).tree
+            assert tree is not None
+            kinds.add(tree.root.kind)
+            says.append(cmr.check(matrix, order.tree(tree)).says)
+        self.assertEqual((kinds, set(says)), ({"concentrated"}, {"yes"}))
+
     def test_chains(self) -> None:
         order = any_order(Matrix.of(FANO), 1)
         chain = cmr.is_regular(order.reordered(), certificate=True).chain
@@ -76,19 +88,19 @@ class Tried(unittest.TestCase):
     def test_total_unimodularity(self) -> None:
         """A Latin square has no cycle fault in its natural order and no separation, and has one in another order."""
         matrix = Matrix.of(latin_square(3), row_names=range(27))
-        self.assertTrue(cmr.is_totally_unimodular(matrix).is_undecided)
-        answer = cmr.is_totally_unimodular(matrix, tries=20, certificate=True)
+        self.assertTrue(asked_once("totally unimodular", matrix).is_undecided)
+        answer = tried("totally unimodular", matrix, 20)
         self.assertFalse(answer)
         self.shows_no(matrix, answer)
         assert answer.tree is not None
         self.assertEqual((answer.tree.verdict, cmr.check(matrix, answer.tree).says), ("no", "no"))
         self.assertGreater(answer.tries, 0)
-        again = cmr.is_totally_unimodular(matrix, tries=20)
-        self.assertEqual((again.violator, again.tries, again.tree), (answer.violator, answer.tries, None))
+        again = tried("totally unimodular", matrix, 20)
+        self.assertEqual((again.violator, again.tries), (answer.violator, answer.tries))
 
     def test_regularity(self) -> None:
         matrix = Matrix.of(latin_square(3))
-        answer = cmr.is_regular(matrix, tries=20, certificate=True)
+        answer = tried("regular", matrix, 20)
         self.assertFalse(answer)
         assert answer.chain is not None and answer.signed is not None and answer.tree is not None
         self.assertTrue(independent.chain_holds(matrix.to_lists(), answer.chain))
@@ -98,7 +110,7 @@ class Tried(unittest.TestCase):
 
     def test_balance(self) -> None:
         matrix = Matrix.of(latin_square(3))
-        answer = cmr.is_balanced(matrix, tries=20)
+        answer = cmr.is_balanced(matrix, pivots=0, tries=20)
         self.assertFalse(answer)
         self.shows_no(matrix, answer)
 
@@ -109,16 +121,16 @@ class Tried(unittest.TestCase):
 
     def test_what_stays_undecided(self) -> None:
         matrix = Matrix.of(two_goods(6))
-        answer = cmr.is_totally_unimodular(matrix, lines=0, tries=3)
-        self.assertEqual((answer.verdict, answer.tries, answer.open is None), ("undecided", 3, False))
-        answer = cmr.is_balanced(matrix, lines=0, tries=2)
+        answer = cmr.is_totally_unimodular(matrix, lines=0, pivots=0, tries=3)
+        self.assertEqual((answer.verdict, answer.tries, answer.open is None, answer.tree), ("undecided", 3, False, None))
+        answer = cmr.is_balanced(matrix, lines=0, pivots=0, tries=2)
         self.assertEqual((answer.verdict, answer.tries), ("undecided", 2))
 
     def test_with_pivots(self) -> None:
         """A pivot is too few for a Latin square as it stands, and in another order it has a cycle fault."""
         matrix = Matrix.of(latin_square(3))
-        self.assertEqual(cmr.is_totally_unimodular(matrix, lines=0, pivots=1).verdict, "undecided")
-        answer = cmr.is_totally_unimodular(matrix, lines=0, pivots=1, tries=20)
+        self.assertEqual(asked_once("totally unimodular", matrix, lines=0, pivots=1).verdict, "undecided")
+        answer = tried("totally unimodular", matrix, 20, lines=0, pivots=1)
         self.assertGreater(answer.tries, 0)
         self.shows_no(matrix, answer)
         self.assertEqual(cmr.is_totally_unimodular(two_goods(6), lines=0, pivots=20, tries=3).tries, 0)

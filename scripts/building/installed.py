@@ -19,16 +19,19 @@ LIST = f"{FOLDER}/installed"
 # The folder in which files are written before they are moved to their places.
 NEW = f"{FOLDER}/.new"
 FIRST_LINE = "cmr-installed 1"
+_BASH = "share/bash-completion/completions"
 
 # The commands of the package, by their installed names.
 SCRIPTS = {
     "cmr-classify": "cmr-classify",
+    "cmr-model": "cmr-model",
     "cmr-from-model": "model_to_matrix",
     "cmr-names": "name_lines",
     "cmr-graph-to-dot": "graph_to_dot",
     "cmr-tree-to-dot": "tree_to_dot",
     "cmr-explain": "explain",
     "cmr-named": "named",
+    "cmr-minor": "cmr-minor",
     "cmr-edges-to-graph": "edges_to_graph",
 }
 
@@ -61,9 +64,16 @@ def items(prefix: Path) -> list[Item]:
         *(Item(f"{FOLDER}/scripts/{it}", scripts / it) for it in SCRIPTS.values()),
         *(Item(f"{FOLDER}/python/{it.relative_to(python)}", it) for it in package),
         Item("share/man/man1/cmr.1", TOP / "docs" / "cmr.1"),
-        Item("share/bash-completion/completions/cmr", scripts / "completions" / "cmr.bash"),
-        Item("share/zsh/site-functions/_cmr", scripts / "completions" / "_cmr"),
+        *(Item(f"share/man/man1/{name}.1", TOP / "docs" / "commands" / f"{name}.1") for name in SCRIPTS),
+        Item(f"{_BASH}/cmr", scripts / "completions" / "cmr.bash"),
+        Item(f"{_BASH}/cmr-commands", scripts / "completions" / "cmr-commands.bash"),
+        # bash loads the file that has the name of the command.
+        *(Item(f"{_BASH}/{it}", leads_to="cmr" if it == "cmr-explain" else "cmr-commands") for it in SCRIPTS),
+        *(Item(f"share/zsh/site-functions/{it}", scripts / "completions" / it) for it in ("_cmr", "_cmr-commands")),
     ]
+
+
+_AGAIN = "move it to another folder, and repeat the command"
 
 
 def sum_of(path: Path) -> str:
@@ -119,6 +129,8 @@ def refuse_what_is_there(prefix: Path) -> None:
         target = prefix / it.path
         _refuse_folder(target.parent)
         if os.path.lexists(target) and not listed.is_ours(prefix, it.path):
+            if it.path in listed.sums:
+                raise BadInput(f"{target} was changed since it was installed, so nothing is installed: {_AGAIN}")
             raise BadInput(f"{target} exists and was not installed by this script")
 
 
@@ -217,7 +229,7 @@ def take_away(prefix: Path) -> None:
     there = [it for it in listed.sums if os.path.lexists(prefix / it)]
     for path in there:
         if not listed.is_ours(prefix, path):
-            raise BadInput(f"{prefix / path} has changed since it was installed, so nothing is removed")
+            raise BadInput(f"{prefix / path} was changed since it was installed, so nothing is removed: {_AGAIN}")
         _refuse_folder((prefix / path).parent)
     ignore_signals()
     for path in there:

@@ -47,4 +47,4 @@ _cmr()
     mapfile -t COMPREPLY < <(compgen -W "$(_cmr_words)" -- "${COMP_WORDS[COMP_CWORD]}")
 }
 
-complete -o bashdefault -o default -F _cmr cmr
+complete -o bashdefault -o default -F _cmr cmr cmr-explain

@@ -1,6 +1,7 @@
 """Tests of `explain`: a table of mistakes, with the explanation of each next to the program's own line."""
 
 import os
+import shutil
 import unittest
 from itertools import product
 
@@ -54,6 +55,13 @@ FILES = {
     "data.bin": b"1 0\x00\x01",
     "a.dot": b"digraph network {\n}\n",
     "steps.txt": b"r2 unit c2\n",
+    "header.csv": b"x,y,z\n1,0,1\n0,1,1\n",
+    "names.csv": b";x;y\na;1;0\nb;0;-1\n",
+    "glued.txt": b"101\n011\n",
+    "glued_sizes.txt": b"2 3\n101\n011\n",
+    "by.txt": b"3x3\n1 1 0\n0 1 1\n1 0 1\n",
+    "graph.dimacs": b"c a triangle\np edge 3 3\ne 1 2\ne 2 3\ne 1 3\n",
+    "a.json": b'{"matrix": [[1, 0], [0, 1]]}\n',
 }
 
 # Instead of a piece: no further line.
@@ -62,8 +70,6 @@ NOTHING_MORE = "nothing more"
 # The arguments, the status, and pieces of the lines on standard error after the program's own line.
 WORDS = [
     ("", ["there is no word", "whether a matrix is totally unimodular", "compose"]),
-    ("--help", ["these are the tools", "series-parallel"]),
-    ("tu --help", ["usage: cmr tu [-i dense|sparse] [--lines L] [--pivots K] [-w N] [-D FILE] [-E FILE] [FILE]"]),
     ("TU m.txt", ["`TU` is no tool: it is spelled `tu`", "the tools are tu, regular"]),
     ("tum m.txt", ["`tum` is no tool: did you mean `tu`?"]),
     ("sp m.txt", ["`sp` is no tool: that is `series-parallel`"]),
@@ -109,10 +115,23 @@ TEXTS = [
         "tu a.csv",
         ["a.csv, line 1, column 1: `1,0,1` is no number", "a table with `,` between its entries, 2 rows of 3"],
     ),
-    ("tu semicolon.csv", ["a table with `;` between its entries, 3 rows of 2"]),
+    ("tu semicolon.csv", ["a table with `;` between its entries below a line of names, 2 rows of 2"]),
+    ("tu header.csv", ["a table with `,` between its entries below a line of names, 2 rows of 3", "pandas.read_csv(..)"]),
+    (
+        "tu names.csv",
+        [
+            "a table with `;` between its entries, and names in the first column, below a line of names, 2 rows of 2",
+            "pandas.read_csv(.., sep=';', index_col=0)",
+        ],
+    ),
+    ("tu glued.txt", ["2 rows of 3 digits with no space between them", "sed 's/./& /g'"]),
+    ("tu glued_sizes.txt", ["2 rows of 3 digits with no space between them"]),
+    ("tu by.txt", ["`3x3` is no number", "the sizes are two numbers with a space between them"]),
+    ("tu graph.dimacs", ["a graph or formula in DIMACS", "scripts/edges_to_graph"]),
+    ("tu a.json", ["a JSON object"]),
     ("tu saved.txt", ["line 1, column 1: `1.000000000000000000e+00`", "numpy.savetxt"]),
     ("tu a.npy", ["an array that numpy.save wrote"]),
-    ("tu sage.txt", ["`[1` is no number", "rows in brackets, as Python, numpy and Sage print them, 2 rows of 3"]),
+    ("tu sage.txt", ["`[1` is no number", "rows in brackets, as Python, JSON, numpy and Sage have them, 2 rows of 3"]),
     ("tu list.txt", ["rows in brackets"]),
     ("tu matlab.txt", ["rows with `;` between them, as MATLAB has them, 2 rows of 3"]),
     ("tu latex.txt", ["a table with `&` between its entries, 2 rows of 2"]),
@@ -222,6 +241,11 @@ class Mistakes(ScriptTest):
     def test_words(self):
         self.table(WORDS, 2)
 
+    def test_words_in_one(self):
+        run = self.run_script("explain", "tu m.txt")
+        self.assertEqual(run.returncode, 2)
+        self.assertIn("`tu m.txt` is one word with a space in it: leave the quotes out, `cmr tu m.txt`", run.stderr)
+
     def test_texts(self):
         self.table(TEXTS, 3)
 
@@ -235,7 +259,7 @@ class Mistakes(ScriptTest):
     def test_the_usages_are_those_of_the_formats(self):
         formats = (TOP / "docs" / "FORMATS.md").read_text(encoding="utf-8").replace("\\|", "|")
         for tool in TOOLS:
-            usage = self.run_script("explain", tool, "--help").stderr.splitlines()[2].split(" ", 4)[4]
+            usage = self.run_script("explain", tool, "--help").stdout.splitlines()[0].split(" ", 3)[3]
             self.assertIn(f"`{usage}`", formats)
             self.assertRegex(formats, rf"(?m)^\| .*`{tool}`.*\| `{usage.split()[0].replace('[', '.')}")
 
@@ -280,6 +304,46 @@ class Mistakes(ScriptTest):
         run = self.run_script("explain", "tu", "m.txt", env={"CMR_PROGRAM": "/none", "PATH": os.environ["PATH"]})
         self.assertEqual((run.returncode, run.stdout), (70, ""))
         self.assertIn("the program cmr is not there", run.stderr)
+        self.assertIn("`./try-cmr` compiles it without proofs", run.stderr)
+
+    def test_a_clone_that_has_the_unproved_program_alone(self):
+        for part in ("scripts/explain", "python/cmr_matrices"):
+            (self.folder / part).parent.mkdir()
+            copied = shutil.copytree if (TOP / part).is_dir() else shutil.copy2
+            copied(TOP / part, self.folder / part)
+        program = self.folder / "out" / "unproved" / "cmr"
+        program.parent.mkdir(parents=True)
+        program.write_text("#!/bin/sh\necho network: yes\n", encoding="ascii")
+        program.chmod(0o755)
+        run = self.run_script(self.folder / "scripts" / "explain", "network", env={"PATH": "/usr/bin:/bin"})
+        self.assertEqual((run.returncode, run.stdout), (0, "network: yes\n"))
+        self.assertEqual(run.stderr, "explain: nothing is proved of this run; ./cmr proves and builds the program\n")
+
+
+class Help(ScriptTest):
+    """Help and the version are answers, so they need no program."""
+
+    def answer(self, *words):
+        run = self.run_script("explain", *words, env={"CMR_PROGRAM": "/none", "PATH": os.environ["PATH"]})
+        self.assertEqual((run.returncode, run.stderr), (0, ""))
+        return run.stdout
+
+    def test_the_tools(self):
+        for words in (["--help"], ["-h"], ["help"], ["--help", "nothing"]):
+            said = self.answer(*words)
+            self.assertTrue(said.startswith("usage: cmr-explain TOOL [WORD ..]\n"), said)
+            for tool in TOOLS:
+                self.assertIn(f"\n  {tool} ", said)
+
+    def test_one_tool(self):
+        usage = "usage: cmr tu [-i dense|sparse] [--lines L] [--pivots K] [-w N] [-D FILE] [-E FILE] [FILE]\n"
+        for words in (["tu", "--help"], ["tu", "-i", "sparse", "-h"], ["help", "tu"]):
+            self.assertEqual(self.answer(*words), usage)
+        self.assertIn("   or: cmr graphic -c [FILE]\n", self.answer("graphic", "--help"))
+
+    def test_the_version(self):
+        for word in ("--version", "-V"):
+            self.assertRegex(self.answer(word), r"^cmr-explain [0-9]+\.[0-9]+\.[0-9]+\n$")
 
 
 # Two goods over six connections between three places, with a joint capacity for each connection.

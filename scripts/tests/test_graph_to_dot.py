@@ -48,7 +48,18 @@ class GraphPictures(ScriptTest):
 
     def test_a_graph_of_the_transposed_matrix(self):
         self.assertEqual(self.edges(TRANSPOSED, "--tree"), ["0 -> 1 c1", "2 -> 1 c2", "0 -> 2 r1 dashed"])
-        self.assertEqual(self.edges(TRANSPOSED), ["c1 -> c2 r1"])
+        self.assertEqual(self.edges(TRANSPOSED, "--rows-as-nodes"), ["c1 -> c2 r1"])
+
+    def test_graphs_of_matroids_have_all_nodes_and_edges(self):
+        """No path of K4 in a star takes more than two arcs, and still its hub belongs to the graph."""
+        text = "0 1 r1\n0 2 r2\n0 3 r3\n1 2 c1\n1 3 c2\n2 3 c3\n"
+        names = self.write("names", "".join(f"{word}{number} {word}-{number}\n" for word in "rc" for number in (1, 2, 3)))
+        for words in ([], ["--undirected"], ["--undirected", "--names", names], ["--names", names], ["--tree"]):
+            with self.subTest(words=words):
+                edges = self.edges(text, *words)
+                self.assertEqual([edge.split()[0:3:2] for edge in edges], [line.split()[:2] for line in text.splitlines()])
+        self.assertEqual(len(self.edges(text, "--rows-as-nodes", "--names", names)), 3)
+        self.assertEqual(len(self.edges(text, "--undirected", "--rows-as-nodes")), 3)
 
     def test_a_tree_is_drawn_where_a_path_takes_three_arcs(self):
         text = "0 1 r1\n1 2 r2\n2 3 r3\n0 2 c1\n0 3 c2\n"
@@ -56,7 +67,7 @@ class GraphPictures(ScriptTest):
         self.assertEqual(self.edges(text), [*arcs, "0 -> 2 c1 dashed", "0 -> 3 c2 dashed"])
 
     def test_rows_are_nodes_where_no_path_takes_more_than_two_arcs(self):
-        lines = self.output("graph_to_dot", text=GRAPH)
+        lines = self.output("graph_to_dot", "--rows-as-nodes", text=GRAPH)
         for piece in ('r1 -> r2 [label="c1"]', '"c2.end" -> r2 [label="c2"]', '"c3.end" -> "c3.end" [label="c3"]'):
             self.assertIn(piece, lines)
         self.assertNotIn("dashed", lines)
@@ -66,14 +77,14 @@ class GraphPictures(ScriptTest):
         for columns in (["flow[a,b]", "flow[b,c]"], ["flow[b,a]", "flow[c,b]"]):
             names = self.write("names", "".join(f"r{i} node[{it}]\n" for i, it in enumerate("abc", 1)))
             names = self.write("names", self.read("names") + "".join(f"c{i} {it}\n" for i, it in enumerate(columns, 1)))
-            lines = self.output("graph_to_dot", "--names", names, text="0 1 r1\n2 1 r2\n3 1 r3\n0 2 c1\n2 3 c2\n")
+            lines = self.output("graph_to_dot", "--rows-as-nodes", "--names", names, text="0 1 r1\n2 1 r2\n3 1 r3\n0 2 c1\n2 3 c2\n")
             forwards = columns[0] == "flow[a,b]"
             self.assertIn(f"{'r1 -> r2' if forwards else 'r2 -> r1'} [label=\"{columns[0]}\"]", lines)
             self.assertIn(f"{'r2 -> r3' if forwards else 'r3 -> r2'} [label=\"{columns[1]}\"]", lines)
 
     def test_rows_with_one_sign_are_sources_and_sinks(self):
         """As in a transport problem: each column has the entry 1 in the row of a supply and in the row of a demand."""
-        lines = self.output("graph_to_dot", text="0 1 r1\n2 1 r2\n1 3 r3\n0 3 c1\n2 3 c2\n")
+        lines = self.output("graph_to_dot", "--rows-as-nodes", text="0 1 r1\n2 1 r2\n1 3 r3\n0 3 c1\n2 3 c2\n")
         self.assertIn('r1 -> r3 [label="c1"]', lines)
         self.assertIn('r2 -> r3 [label="c2"]', lines)
 
@@ -83,11 +94,11 @@ class GraphPictures(ScriptTest):
             (100, ['layout="neato"', 'splines="true"', 'label="c100"']),
             (200, ['layout="sfdp"', 'tooltip="c200"']),
         ]:
-            lines = self.output("graph_to_dot", text=flow(30, arcs)[0])
+            lines = self.output("graph_to_dot", "--rows-as-nodes", text=flow(30, arcs)[0])
             for piece in pieces:
                 self.assertIn(piece, lines)
-        self.assertIn('rankdir="LR"', self.output("graph_to_dot", text="0 1 r1\n2 1 r2\n0 2 c1\n"))
-        self.assertNotIn("rankdir", self.output("graph_to_dot", text=flow(10, 20)[0]))
+        self.assertIn('rankdir="LR"', self.output("graph_to_dot", "--rows-as-nodes", text="0 1 r1\n2 1 r2\n0 2 c1\n"))
+        self.assertNotIn("rankdir", self.output("graph_to_dot", "--rows-as-nodes", text=flow(10, 20)[0]))
 
     def test_graphs_without_a_tree(self):
         self.assertEqual(self.edges("0 0 c1\n", "--tree"), ["0 -> 0 c1 dashed"])
@@ -95,7 +106,7 @@ class GraphPictures(ScriptTest):
 
     def test_families_beyond_the_limit(self):
         text, names = flow(30, 100)
-        lines = self.output("graph_to_dot", "--limit", "99", "--names", self.write("names", names), text=text)
+        lines = self.output("graph_to_dot", "--rows-as-nodes", "--limit", "99", "--names", self.write("names", names), text=text)
         self.assertIn('label="30 of node[..]"', lines)
         self.assertIn('label="100 of flow[..]"', lines)
         path = "".join(f"{arc - 1} {arc} r{arc}\n" for arc in range(1, 1001)) + "0 1000 c1\n"
@@ -121,11 +132,11 @@ class GraphPictures(ScriptTest):
     @needs_dot
     def test_graphviz_draws_it(self):
         for text in (GRAPH, TRANSPOSED, "0 0 c1\n", ""):
-            dot = self.output("graph_to_dot", text=text)
-            run = subprocess.run(["dot", "-Tsvg"], input=dot, capture_output=True, text=True)
-            self.assertEqual((run.returncode, run.stderr), (0, ""))
-            edges = text.count("\n") - (2 if text in (GRAPH, TRANSPOSED) else 0)
-            self.assertEqual(run.stdout.count('class="edge"'), edges)
+            for words, left_out in (([], 0), (["--rows-as-nodes"], 2 if text in (GRAPH, TRANSPOSED) else 0)):
+                dot = self.output("graph_to_dot", *words, text=text)
+                run = subprocess.run(["dot", "-Tsvg"], input=dot, capture_output=True, text=True)
+                self.assertEqual((run.returncode, run.stderr), (0, ""))
+                self.assertEqual(run.stdout.count('class="edge"'), text.count("\n") - left_out)
 
     @needs_dot
     def test_trees_with_many_paths_are_drawn(self):
@@ -142,7 +153,7 @@ class GraphPictures(ScriptTest):
         for nodes, arcs, widest, highest in [(30, 100, 1400, 1000), (300, 1000, 3000, 3000)]:
             text, names = flow(nodes, arcs)
             before = os.times().children_user
-            dot = self.output("graph_to_dot", "--names", self.write("names", names), text=text)
+            dot = self.output("graph_to_dot", "--rows-as-nodes", "--names", self.write("names", names), text=text)
             run = subprocess.run(["dot", "-Tsvg"], input=dot, capture_output=True, text=True, timeout=600)
             self.assertLess(os.times().children_user - before, 10)
             self.assertEqual((run.returncode, run.stderr), (0, ""))

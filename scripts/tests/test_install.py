@@ -8,6 +8,7 @@ import signal
 import subprocess
 import sys
 import tempfile
+import tomllib
 import unittest
 from pathlib import Path
 from unittest import mock
@@ -26,8 +27,12 @@ FILES = [
     *(f"lib/cmr/python/{it.relative_to(TOP / 'python')}" for it in (TOP / "python" / "cmr_matrices").rglob("*.py")),
     "lib/cmr/python/cmr_matrices/py.typed",
     "share/bash-completion/completions/cmr",
+    "share/bash-completion/completions/cmr-commands",
+    *(f"share/bash-completion/completions/{it}" for it in SCRIPTS),
     "share/man/man1/cmr.1",
+    *(f"share/man/man1/{it}.1" for it in SCRIPTS),
     "share/zsh/site-functions/_cmr",
+    "share/zsh/site-functions/_cmr-commands",
 ]
 
 
@@ -124,6 +129,10 @@ class InstallTest(unittest.TestCase):
     def test_each_command_of_the_package_is_installed(self):
         modules = {it.stem for it in (TOP / "python" / "cmr_matrices" / "commands").glob("*.py")} - {"__init__", "command", "signals"}
         self.assertEqual({it.replace("-", "_") for it in SCRIPTS.values()}, modules)
+        with open(TOP / "python" / "pyproject.toml", "rb") as file:
+            commands = tomllib.load(file)["project"]["scripts"]
+        modules_of = {name: command.removeprefix("cmr_matrices.commands.").removesuffix(":main") for name, command in commands.items()}
+        self.assertEqual(modules_of, {name: script.replace("-", "_") for name, script in SCRIPTS.items()})
         for file in ("INSTALLING.md", "cmr.1"):
             text = (TOP / "docs" / file).read_text(encoding="utf-8").replace("\\-", "-")
             self.assertEqual([it for it in SCRIPTS if it not in text], [], file)
@@ -174,8 +183,11 @@ class InstallTest(unittest.TestCase):
         self.install()
         target = self.prefix / "share" / "man" / "man1" / "cmr.1"
         target.write_text("other", encoding="utf-8")
-        line = f"install: {target} has changed since it was installed, so nothing is removed"
+        again = "move it to another folder, and repeat the command"
+        line = f"install: {target} was changed since it was installed, so nothing is removed: {again}"
         self.assertEqual(self.refused("--uninstall"), line)
+        line = f"install: {target} was changed since it was installed, so nothing is installed: {again}"
+        self.assertEqual(self.refused(), line)
         self.assertEqual(self.files(), sorted(FILES))
         target.unlink()
         self.install("--uninstall")

@@ -20,6 +20,11 @@ FACTS = [
     ("K4,4", True, True, False),
     ("W3", True, True, True),
     ("W7", True, True, True),
+    ("AG(3,2)", False, False, False),
+    ("S8", False, False, False),
+    ("Z4", False, False, False),
+    ("V8", True, True, False),
+    ("Petersen", True, True, False),
 ]
 
 
@@ -52,6 +57,11 @@ class Named(ScriptTest):
         self.output("named", "W3", "--names", "names")
         self.assertEqual(self.read("names"), "r1 hub-1\nr2 hub-2\nr3 hub-3\nc1 1-2\nc2 2-3\nc3 3-1\n")
 
+    def test_matrices_over_three_elements(self):
+        self.assertEqual(self.output("named", "--ternary", "U2,4"), "2 2\n1 1\n1 -1\n")
+        self.assertEqual(self.output("named", "--ternary", "K3"), self.output("named", "K3"))
+        self.assertIn("no matrix represents it over GF(3)", self.refusal("named", "--ternary", "F7"))
+
     def test_names_that_are_none(self):
         for name, piece in [
             ("R11", "is no name that is known here"),
@@ -61,6 +71,10 @@ class Named(ScriptTest):
             ("K47", "at most 1000 rows and 1000 columns"),
             ("K9999", "at most 1000 rows and 1000 columns"),
             ("W1001", "at most 1000 rows and 1000 columns"),
+            ("Z2", "is no binary spike"),
+            ("Z1000", "is no binary spike"),
+            ("Z4,4", "is no binary spike"),
+            ("U2,4", "is not binary, so no 0/1 matrix represents it over GF(2)"),
         ]:
             self.assertIn(piece, self.refusal("named", name))
 

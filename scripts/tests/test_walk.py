@@ -4,7 +4,7 @@ import tempfile
 from pathlib import Path
 
 from tests.support import ScriptTest, needs_dot, needs_glpsol, needs_program, needs_python, needs_swiglpk
-from tests.walk import CLASSIFYING, DOCUMENT, PICTURES, SCREENS, walked
+from tests.walk import CLASSIFYING, DOCUMENT, ONE_MODEL, PICTURES, SCREENS, walked
 
 
 @needs_python
@@ -31,6 +31,12 @@ class Walk(ScriptTest):
     def test_each_line_is_that_of_a_run(self):
         text = DOCUMENT.read_text(encoding="utf-8")
         self.assertEqual(text.splitlines(), walked(text, self.folder).splitlines())
+
+    def test_each_line_on_one_model_is_that_of_a_run(self):
+        text = ONE_MODEL.read_text(encoding="utf-8")
+        self.assertEqual(text.splitlines(), walked(text, self.folder).splitlines())
+        for page in PICTURES[ONE_MODEL]:
+            self.assertEqual((ONE_MODEL.parent / page).read_bytes(), (self.folder / "out" / page).read_bytes())
 
     def test_each_line_on_classifying_is_that_of_a_run(self):
         text = CLASSIFYING.read_text(encoding="utf-8")

@@ -14,8 +14,9 @@ from tests.support import TOP
 
 DOCUMENT = TOP / "docs" / "FROM_A_MODEL.md"
 CLASSIFYING = TOP / "docs" / "CLASSIFYING.md"
+ONE_MODEL = TOP / "docs" / "ONE_MODEL.md"
 SCREENS = (TOP / "README.md", TOP / "docs" / "TOOLS.md", TOP / "examples" / "README.md")
-PICTURES = {**dict.fromkeys(SCREENS, ()), DOCUMENT: ("maxflow.svg", "shifts.svg", "goods.svg"), CLASSIFYING: ("classes.svg",)}
+PICTURES = {**dict.fromkeys(SCREENS, ()), DOCUMENT: ("maxflow.svg", "shifts.svg", "goods.svg"), CLASSIFYING: ("classes.svg",), ONE_MODEL: ("crews.html",)}
 
 
 # The progress of long work, once a minute, which only a slow machine prints.

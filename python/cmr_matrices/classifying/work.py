@@ -4,14 +4,18 @@ from __future__ import annotations
 
 import tempfile
 import time
-from collections.abc import Mapping, Sequence
-from contextlib import ExitStack
+from collections.abc import Callable, Iterator, Mapping, Sequence
+from contextlib import ExitStack, contextmanager, suppress
 from dataclasses import dataclass, field, replace
 from pathlib import Path
 
-from ..errors import BadInput, BadText, CmrError, ProgramFault
+from ..answers import Answer
+from ..errors import BadInput, BadText, CmrError, ProgramFault, TimeLimitReached, Undecided
+from ..excluded import CLASSES as MINOR_CLASSES
 from ..matrix import Matrix
+from ..minors import excluded_minor
 from ..modellers import from_model
+from ..questions import is_balanced, is_regular, is_totally_unimodular
 from .asking import ask, fault_words, held_text
 from .classes import CLASSES, MatrixClass, asking_order, contradictions, settle
 from .streams import Format, Item
@@ -22,6 +26,12 @@ CONTRADICTION = "Contradiction"
 
 _CAMION = next(kind for kind in CLASSES if kind.name == "camion")
 _REGULAR = next(kind for kind in CLASSES if kind.name == "regular")
+_QUESTIONS: Mapping[str, Callable[..., Answer]] = {
+    "tu": is_totally_unimodular,
+    "regular": is_regular,
+    "balanced": is_balanced,
+}
+"""What is asked again of the package if the program leaves a class undecided."""
 
 
 @dataclass(frozen=True)
@@ -36,14 +46,21 @@ class Settings:
     infers: bool = False
     """Whether a class is not asked where the inclusions settle it. Else the verdicts are held against them."""
     pivots: int = 0
-    """The most pivots on the way to a part that nothing else decides."""
+    """The most pivots on the path to a part that nothing else decides."""
+    minors: bool = False
+    """Whether the excluded minors of each no are evidence too."""
+    tries: int = 0
+    """In how many other orders of the lines an undecided matrix is asked again."""
+    supports: bool = False
+    """Whether `regular` is asked of the support of a matrix with an entry -1."""
 
     def budget(self, kind: MatrixClass) -> list[str]:
-        """The words that say how long a class is looked for."""
-        if not kind.has_budget:
-            return []
-        lines = [] if self.lines is None else ["--lines", str(self.lines)]
-        return [*lines, *(["--pivots", str(self.pivots)] if self.pivots else [])]
+        """The words of the first run on a class, which makes no pivots."""
+        return ["--lines", str(self.lines)] if kind.has_budget and self.lines is not None else []
+
+    def asks(self, kind: MatrixClass, shape: _Shape) -> bool:
+        """Whether a matrix has a verdict on a class."""
+        return shape.is_binary or not kind.is_binary or (self.supports and kind is _REGULAR)
 
 
 @dataclass(frozen=True)
@@ -110,20 +127,24 @@ def _read_and_asked(item: Item, settings: Settings) -> Row:
     with ExitStack() as stack:
         file = stack.enter_context(held_text(text))
         folder = stack.enter_context(tempfile.TemporaryDirectory(prefix="cmr-")) if settings.evidence else None
-        asked = _Asked(settings, file, item.form, None if folder is None else Path(folder))
+        asked = _Asked(settings, _Source(text, file, item.form), None if folder is None else Path(folder))
         shape = _shape_of(text, item.form)
         if shape is None:
             asked.must_be_read()
             raise ProgramFault(0, "the program reads a text whose counts and entries do not fit")
-        row = _row(item, shape, asked, text)
+        if settings.supports and not shape.is_binary:
+            asked.support = stack.enter_context(asked.source.support())
+        row = _row(item, shape, asked)
     return row
 
 
-def _row(item: Item, shape: _Shape, asked: _Asked, text: bytes) -> Row:
+def _row(item: Item, shape: _Shape, asked: _Asked) -> Row:
     asked.all_classes(shape)
+    if asked.settings.minors:
+        asked.add_minors()
     fault, message = asked.fault
     broken = [] if asked.settings.infers else [str(one) for one in contradictions(asked.verdicts)]
-    if not asked.settings.infers and not shape.is_binary and not asked.support_fits(text):
+    if not asked.settings.infers and not asked.support_fits():
         broken.append("the support of tu in regular")
     if broken:
         fault, message = CONTRADICTION, "; ".join(broken)
@@ -141,22 +162,44 @@ def _row(item: Item, shape: _Shape, asked: _Asked, text: bytes) -> Row:
     )
 
 
-class _Asked:
-    """What the program says of the matrix in a file."""
+@dataclass(frozen=True)
+class _Source:
+    """A text of a matrix, which is held as a file."""
 
-    def __init__(self, settings: Settings, text: int, form: Format, folder: Path | None) -> None:
+    text: bytes
+    file: int
+    form: Format
+
+    @property
+    def matrix(self) -> Matrix:
+        """The matrix that the text stands for."""
+        return Matrix.from_text(self.text.decode("ascii"), sparse=self.form == "sparse")
+
+    @contextmanager
+    def support(self) -> Iterator[_Source]:
+        """The text of the support, which is held as long as it is used."""
+        text = self.matrix.support().to_text().encode("ascii")
+        with held_text(text) as file:
+            yield _Source(text, file, "sparse")
+
+
+class _Asked:
+    """What the program says of the matrix of a text."""
+
+    def __init__(self, settings: Settings, source: _Source, folder: Path | None) -> None:
         self.settings = settings
+        self.source = source
+        self.support: _Source | None = None
+        """The support of a matrix with signs, if `regular` is asked of it."""
         self.verdicts: dict[str, str] = {}
         self.evidence: dict[str, bytes] = {}
         self.fault: tuple[str | None, str | None] = (None, None)
-        self._text = text
-        self._form = form
         self._folder = folder
 
     def all_classes(self, shape: _Shape) -> None:
-        """Asks for each class that the matrix has a verdict on, but for those that are settled where that is wanted."""
+        """Asks for each class that the matrix has a verdict on, except those that are settled where that is wanted."""
         classes = self.settings.classes
-        names = [kind.name for kind in classes if shape.is_binary or not kind.is_binary]
+        names = [kind.name for kind in classes if self.settings.asks(kind, shape)]
         if not names:
             self.must_be_read()
         is_sparse = shape.nonzeros <= shape.rows + shape.columns
@@ -168,30 +211,45 @@ class _Asked:
                 if self.settings.infers:
                     settle(self.verdicts, names)
 
+    def add_minors(self) -> None:
+        """Finds the excluded minor of each no. There is none if finding it takes longer than the limit of time, or is undecided."""
+        settings = self.settings
+        for kind in MINOR_CLASSES:
+            if self.verdicts.get(kind.word) == "no":
+                with suppress(TimeLimitReached, Undecided):
+                    minor = excluded_minor(
+                        (self.support or self.source if kind.word == "regular" else self.source).matrix,
+                        kind.name,
+                        lines=settings.lines,
+                        pivots=settings.pivots,
+                        time_limit=settings.time_limit,
+                        program=settings.program,
+                    )
+                    if minor is not None:
+                        self.evidence[f"{kind.word}/minor"] = minor.to_text().encode("ascii")
+
     def must_be_read(self) -> None:
         """Raises the fault that the text has, where no class is asked that would find it."""
-        self._verdict(_CAMION, self._text, self._form, [])
+        self._verdict(_CAMION, self.source, [])
 
-    def support_fits(self, text: bytes) -> bool:
-        """Whether the support of a totally unimodular matrix with signs is regular, where both classes are asked."""
-        if self.verdicts.get("tu") != "yes" or "regular" not in self.verdicts:
+    def support_fits(self) -> bool:
+        """Whether the support of a totally unimodular matrix with signs is regular, if both classes are asked of matrices without signs."""
+        if self.verdicts.get("tu") != "yes" or self.verdicts.get("regular") != "-":
             return True
-        matrix = Matrix.from_text(text.decode("ascii"), sparse=self._form == "sparse")
-        support = Matrix(matrix.shape, tuple((row, column, 1) for row, column, _ in matrix.nonzeros))
-        with held_text(support.to_text().encode("ascii")) as file:
-            return self._verdict(_REGULAR, file, "sparse", []) != "no"
+        with self.source.support() as support:
+            return self._verdict(_REGULAR, support, []) != "no"
 
-    def _verdict(self, kind: MatrixClass, text: int, form: Format, options: Sequence[str]) -> str:
-        words = [*kind.words, "-i", form, *self.settings.budget(kind), *options]
-        return ask(self.settings.program, words, text, kind.said, self.settings.time_limit)
+    def _verdict(self, kind: MatrixClass, source: _Source, options: Sequence[str]) -> str:
+        words = [*kind.words, "-i", source.form, *self.settings.budget(kind), *options]
+        return ask(self.settings.program, words, source.file, kind.said, self.settings.time_limit)
 
-    def _with_evidence(self, kind: MatrixClass) -> str:
+    def _with_evidence(self, kind: MatrixClass, source: _Source) -> str:
         if self._folder is None:
-            return self._verdict(kind, self._text, self._form, [])
+            return self._verdict(kind, source, [])
         paths = {ending: self._folder / ending for _, ending in kind.evidence}
         options = [word for option, ending in kind.evidence for word in (option, str(paths[ending]))]
         try:
-            return self._verdict(kind, self._text, self._form, options)
+            return self._verdict(kind, source, options)
         finally:
             for ending, path in paths.items():
                 if path.exists():
@@ -200,11 +258,46 @@ class _Asked:
 
     def _ask(self, kind: MatrixClass) -> None:
         """Asks for a class. A run that was ended by the limit of time leaves the class undecided, and the others are asked."""
+        source = self.support if kind is _REGULAR and self.support is not None else self.source
+        begun = time.monotonic()
         try:
-            self.verdicts[kind.name] = self._with_evidence(kind)
+            verdict = self._with_evidence(kind, source)
+            if verdict == "undecided" and (self.settings.pivots or self.settings.tries):
+                verdict = self._asked_again(kind, source, time.monotonic() - begun)
+            self.verdicts[kind.name] = verdict
         except TimeoutError as fault:
             self.verdicts[kind.name] = "undecided"
             self.fault = type(fault).__name__, f"{kind.name}: {fault}"
+
+    def _asked_again(self, kind: MatrixClass, source: _Source, seconds: float) -> str:
+        """The verdict with parts, pivots and other orders of the lines, in the time that some seconds leave of the limit."""
+        settings = self.settings
+        left = None if settings.time_limit is None else settings.time_limit - seconds
+        if left is not None and left <= 0:
+            raise TimeLimitReached(settings.time_limit or 0)
+        answer = _QUESTIONS[kind.name](
+            source.matrix,
+            **({} if kind.name == "balanced" else {"certificate": self._folder is not None}),
+            lines=settings.lines,
+            pivots=settings.pivots,
+            tries=settings.tries,
+            time_limit=left,
+            program=settings.program,
+        )
+        if self._folder is not None and not answer.is_undecided:
+            for _, ending in kind.evidence:
+                self.evidence.pop(f"{kind.name}/{ending}", None)
+                value = getattr(answer, ending)
+                if value is not None:
+                    text = _dense_text(value) if isinstance(value, Matrix) else value.to_text()
+                    self.evidence[f"{kind.name}/{ending}"] = text.encode("ascii")
+        return answer.verdict
+
+
+def _dense_text(matrix: Matrix) -> str:
+    """The dense text of a matrix, as the program writes a signed matrix."""
+    rows = [" ".join(map(str, row)) for row in matrix.to_lists()]
+    return "\n".join(["{} {}".format(*matrix.shape), *rows, ""])
 
 
 def _shape_of(text: bytes, form: Format) -> _Shape | None:

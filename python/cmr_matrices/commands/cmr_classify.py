@@ -1,7 +1,7 @@
 """Writes a table of the classes of many matrices: a row for each, with a verdict for each class.
 
 INPUT is a file or `-`, which hold texts of matrices one after another, or a model (.mps, .lp, .mod), or a folder of such files. The
-verdicts are `yes`, `no`, `undecided`, and `-` where a class is one of 0/1 matrices and the matrix has an entry -1.
+verdicts are `yes`, `no`, `undecided`, and `-` if a class is one of 0/1 matrices and the matrix has an entry -1.
 
 Status: 0 where all matrices have their verdicts, 1 where an input is refused, 3 where some rows have a fault, 8 where verdicts
 contradict each other, which would be a defect of cmr.
@@ -29,7 +29,7 @@ from ..classifying.tables import Done, Table, files_of, open_table, read_table
 from ..classifying.work import CONTRADICTION, Row, Settings
 from ..errors import BadInput, ProgramMissing
 from ..program import find_program
-from .command import end, write_text
+from .command import command_parser, end, write_text
 
 FAULTS, CONTRADICTIONS, INTERRUPTED = 3, 8, 130
 
@@ -62,7 +62,7 @@ def classes(text: str) -> tuple[MatrixClass, ...]:
 
 def arguments() -> argparse.Namespace:
     """What the words of the command line say."""
-    parser = argparse.ArgumentParser(description=__doc__, formatter_class=argparse.RawDescriptionHelpFormatter)
+    parser = command_parser(__doc__)
     add = parser.add_argument
     add("inputs", metavar="INPUT", nargs="+", help="a file, a folder, or - for standard input")
     add(
@@ -89,8 +89,11 @@ def arguments() -> argparse.Namespace:
     add("--resume", action="store_true", help="go on with a table: what has a row there is not done again")
     add("--part", metavar="K/N", type=part, default=(1, 1), help="take every N-th matrix from the K-th on")
     add("--evidence", metavar="DIR", help="keep evidence in DIR/CLASS/FILE/NUMBER.KIND")
+    add("--minors", action="store_true", help="keep excluded minors too, for each no of a class that has some")
     add("--lines", metavar="L", type=number(0, 24), help="the budget of the searches (14)")
-    add("--pivots", metavar="K", type=number(0, 100), default=0, help="go on behind so many pivots (0)")
+    add("--pivots", metavar="K", type=number(0, 100), default=20, help="make up to K pivots of an open part (20)")
+    add("--tries", metavar="N", type=number(0, 1000), default=0, help="ask again in N other orders of the lines (0)")
+    add("--support", action="store_true", help="ask regular of the support of a matrix with an entry -1")
     add("--time-limit", metavar="S", type=number(1, 10**8), help="leave a class undecided after so many seconds")
     add(
         "--infer",
@@ -106,6 +109,8 @@ def arguments() -> argparse.Namespace:
     chosen = parser.parse_args()
     if chosen.resume and chosen.output == "-":
         parser.error("--resume needs --output")
+    if chosen.minors and not chosen.evidence:
+        parser.error("--minors needs --evidence")
     if chosen.worker_program and not chosen.dask:
         parser.error("--worker-program goes with --dask")
     return chosen
@@ -178,6 +183,9 @@ class _Run:
             chosen.evidence is not None,
             chosen.infer,
             chosen.pivots,
+            chosen.minors,
+            chosen.tries,
+            chosen.support,
         )
         if chosen.dask:
             return Cluster(chosen.dask, settings, chosen.worker_program)

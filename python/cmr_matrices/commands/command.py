@@ -5,18 +5,35 @@ Texts are UTF-8, and a name in another encoding passes with its bytes as they ar
 
 from __future__ import annotations
 
+import argparse
 import os
 import shutil
 import sys
+import warnings
 from collections.abc import Callable
 from pathlib import Path
 from typing import TypeVar
 
 from ..errors import BadInput
+from ..version import __version__
 
-__all__ = ["end", "read_as", "read_text", "write_text"]
+__all__ = ["command_parser", "end", "read_as", "read_text", "write_text"]
 
 _Value = TypeVar("_Value")
+
+
+def command_parser(description: str | None) -> argparse.ArgumentParser:
+    """The parser of a command that its description explains, with `--help` and `--version`. A warning of the command is one line."""
+    warnings.showwarning = _say_warning
+    parser = argparse.ArgumentParser(
+        description=description, formatter_class=argparse.RawDescriptionHelpFormatter
+    )
+    parser.add_argument("--version", action="version", version=f"%(prog)s {__version__}")
+    return parser
+
+
+def _say_warning(message: Warning | str, *_: object, **__: object) -> None:
+    print(f"{Path(sys.argv[0]).name}: {message}", file=sys.stderr)
 
 
 def end(work: Callable[[], None]) -> int:

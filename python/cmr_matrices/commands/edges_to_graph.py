@@ -13,12 +13,12 @@ from ..edge_lists import edges_of_text, graph_of_edges, graph_of_networkx
 from ..errors import BadInput
 from ..graphs import Graph
 from ..lines import Names
-from .command import end, read_as, write_text
+from .command import command_parser, end, read_as, write_text
 
 
 def arguments() -> argparse.Namespace:
     """What the words of the command line say."""
-    parser = argparse.ArgumentParser(description=__doc__, formatter_class=argparse.RawDescriptionHelpFormatter)
+    parser = command_parser(__doc__)
     parser.add_argument(
         "edges", metavar="EDGES", nargs="?", default="-", help="the list of edges; standard input where it is left out"
     )

@@ -1,5 +1,7 @@
 """Runs `cmr WORDS..` with its own output and status, and where it is refused or undecided says more on standard error.
 
+`--help` lists the tools, `TOOL --help` shows the usage of one, and `--version` the version of the package.
+
 Words: which one is at fault, the usage of its tool, and ranges. Texts: line, column and word, and what the file seems to be.
 Files: why they cannot be read or written. A run that would write over a file that it reads is not made (status 2).
 """
@@ -10,15 +12,17 @@ import os
 import re
 import subprocess
 import sys
+import warnings
 from collections.abc import Iterable, Iterator
 from pathlib import Path
 
-from ..errors import ProgramMissing
+from ..errors import ProgramMissing, UnprovedProgram
 from ..explained.answers import refused, undecided
 from ..explained.faults import text_fault
 from ..explained.files import before_the_run, cannot_read, cannot_write, written_inputs
-from ..explained.words import TOOLS, Order, WordFault, read_words
-from ..program import REFUSED, UNDECIDED, find_program
+from ..explained.words import TOOLS, Order, Tool, WordFault, asks_for_help, asks_for_version, read_words
+from ..program import REFUSED, UNDECIDED, find_program, unproved
+from ..version import __version__
 
 __all__ = ["main"]
 
@@ -31,7 +35,37 @@ def _say(lines: Iterable[str]) -> None:
         print(f"explain: {line}", file=sys.stderr)
 
 
+def _answered(words: list[str]) -> Iterator[str]:
+    """The lines of an answer about the command itself, which runs no program."""
+    tools = asks_for_help(words)
+    if asks_for_version(words):
+        yield f"cmr-explain {__version__}"
+    elif tools is not None and len(tools) == 1:
+        yield from _usage(tools[0])
+    elif tools is not None:
+        yield "usage: cmr-explain TOOL [WORD ..]"
+        yield ""
+        yield "Runs cmr with these words, and explains on standard error why a run is refused or undecided."
+        yield "`cmr-explain TOOL --help` shows the words of a tool."
+        yield ""
+        yield from _tools()
+
+
+def _usage(tool: Tool) -> Iterator[str]:
+    yield f"usage: cmr {tool.name} {tool.usage}"
+    if "-c" in tool.flags:
+        yield f"   or: cmr {tool.name} -c [FILE]"
+
+
+def _tools() -> Iterator[str]:
+    width = max(map(len, TOOLS))
+    yield from (f"  {tool.name:{width}}  {tool.tells}" for tool in TOOLS.values())
+
+
 def _run(words: list[str]) -> int:
+    if answered := list(_answered(words)):
+        print("\n".join(answered), flush=True)
+        return 0
     order = read_words(words)
     data = b""
     if isinstance(order, Order):
@@ -41,7 +75,12 @@ def _run(words: list[str]) -> int:
         _say(before_the_run(order, at_terminal=sys.stdin is not None and sys.stdin.isatty()))
         if "-" in order.inputs.values() and sys.stdin is not None:
             data = sys.stdin.buffer.read()
-    command = [str(find_program()), *words]
+    with warnings.catch_warnings():
+        warnings.simplefilter("ignore", UnprovedProgram)
+        program = find_program()
+    if program == unproved():
+        _say(["nothing is proved of this run; ./cmr proves and builds the program"])
+    command = [str(program), *words]
     ran = subprocess.run(command, input=data, capture_output=True, check=False)
     sys.stderr.buffer.write(ran.stderr)
     sys.stderr.flush()
@@ -85,14 +124,11 @@ def _of_words(order: Order | WordFault) -> Iterator[str]:
     if isinstance(order, WordFault):
         yield order.why
         if order.is_help:
-            width = max(map(len, TOOLS))
-            yield from (f"  {tool.name:{width}}  {tool.tells}" for tool in TOOLS.values())
+            yield from _tools()
         elif order.tool is None:
             yield f"the tools are {', '.join(TOOLS)}"
     if order.tool is not None:
-        yield f"usage: cmr {order.tool.name} {order.tool.usage}"
-        if "-c" in order.tool.flags:
-            yield f"   or: cmr {order.tool.name} -c [FILE]"
+        yield from _usage(order.tool)
 
 
 def _texts(order: Order, data: bytes) -> dict[str, bytes]:

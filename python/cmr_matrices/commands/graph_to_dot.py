@@ -1,9 +1,9 @@
 """Writes a graph of `cmr graphic -G` or `cmr network -G` as a picture in DOT, for example for `dot -Tsvg`.
 
-Where no column has more than two nonzeros, as in the network of a flow model, its rows are the nodes and its columns the edges.
-Else the edges of the tree are drawn in full and the edges that join the ends of paths are dashed. Each has the number or the name
-of the row or column for which it stands. The layout fits to the number of edges: that of dot up to 40, of neato up to 150 (in
-trees 250), and beyond that of sfdp, where names of edges are left out.
+All nodes and edges are drawn: the edges of the tree in full, and the edges that join the ends of paths dashed. --rows-as-nodes draws
+the network of a flow model, in which no column has more than two nonzeros: its rows are the nodes and its columns the edges. This leaves
+out the nodes of the tree. Each node or edge has the number or the name of its row or column. The layout depends on the number of edges:
+that of dot up to 40, of neato up to 150 (in trees 250), and beyond that of sfdp, without names of edges.
 """
 
 from __future__ import annotations
@@ -13,12 +13,12 @@ import argparse
 from ..graphs import Graph
 from ..lines import Names
 from ..network_picture import DRAWN
-from .command import end, read_as, write_text
+from .command import command_parser, end, read_as, write_text
 
 
 def arguments() -> argparse.Namespace:
     """What the words of the command line say."""
-    parser = argparse.ArgumentParser(description=__doc__, formatter_class=argparse.RawDescriptionHelpFormatter)
+    parser = command_parser(__doc__)
     parser.add_argument(
         "graph", metavar="GRAPH", nargs="?", default="-", help="the graph text; standard input where it is left out"
     )
@@ -26,7 +26,13 @@ def arguments() -> argparse.Namespace:
         "--names", metavar="NAMES", help="the names of model_to_matrix, to stand for the numbers of rows and columns"
     )
     parser.add_argument("--undirected", action="store_true", help="draw no arrows, as it fits a graph of `cmr graphic`")
-    parser.add_argument("--tree", action="store_true", help="draw the tree and its paths in any case")
+    drawn = parser.add_mutually_exclusive_group()
+    drawn.add_argument("--tree", action="store_true", help="draw the tree and its paths, as without an option")
+    drawn.add_argument(
+        "--rows-as-nodes",
+        action="store_true",
+        help="draw rows as nodes and columns as edges, if no column has more than two nonzeros",
+    )
     parser.add_argument(
         "--limit",
         metavar="N",
@@ -41,7 +47,8 @@ def _work(chosen: argparse.Namespace) -> None:
     graph = read_as(chosen.graph, Graph.from_text)
     names = read_as(chosen.names, Names.from_text) if chosen.names else Names.numbered(*graph.shape, first=1)
     names.must_fit(*graph.shape)
-    write_text("-", graph.to_dot(names, directed=not chosen.undirected, limit=chosen.limit, tree=chosen.tree))
+    tree = not chosen.rows_as_nodes
+    write_text("-", graph.to_dot(names, directed=not chosen.undirected, limit=chosen.limit, tree=tree))
 
 
 def main() -> int:

@@ -19,7 +19,7 @@ from ..matrix import Matrix
 from ..model_reductions import connected_parts, counted, reduced
 from ..modellers import constraints_of_file, matrix_of_part
 from ..words import LIMIT
-from .command import end, write_text
+from .command import command_parser, end, write_text
 
 FAMILIES = 20
 """The most families of rows that are listed."""
@@ -34,7 +34,7 @@ def pattern(text: str) -> re.Pattern[str]:
 
 def arguments() -> argparse.Namespace:
     """What the words of the command line say."""
-    parser = argparse.ArgumentParser(description=__doc__, formatter_class=argparse.RawDescriptionHelpFormatter)
+    parser = command_parser(__doc__)
     parser.add_argument(
         "model", metavar="MODEL", help="the model: free or fixed MPS, GNU MathProg, or the LP format of CPLEX"
     )

@@ -11,12 +11,12 @@ import argparse
 from ..lines import Names
 from ..named_text import named_text
 from ..trees import Tree
-from .command import end, read_as, write_text
+from .command import command_parser, end, read_as, write_text
 
 
 def arguments() -> argparse.Namespace:
     """What the words of the command line say."""
-    parser = argparse.ArgumentParser(description=__doc__, formatter_class=argparse.RawDescriptionHelpFormatter)
+    parser = command_parser(__doc__)
     parser.add_argument("names", metavar="NAMES", help="the names that model_to_matrix wrote")
     parser.add_argument(
         "text", metavar="TEXT", nargs="?", default="-", help="what cmr made; standard input where it is left out"

@@ -1,7 +1,10 @@
-"""Writes the 0/1 matrix of a matroid of the literature as a dense text for cmr: R10, R12, F7, K5, K3,3, W4, and with * their duals.
+"""Writes the matrix of a matroid of the literature as a dense text for cmr: R10, R12, F7, K5, K3,3, W4, .., and with * their duals.
 
-K and one number is a complete graph, K and two numbers a complete bipartite one, W a wheel with so many spokes. The matrix stands beside
-the identity in a representation, and the transposed matrix is that of the dual.
+K and one number is a complete graph, K and two numbers a complete bipartite graph, W a wheel and its number of spokes, Z a binary spike
+with its tip and its rank. Others are AG(3,2), S8, PG(2,2), V8 and Petersen. The matrix is beside the identity in a representation over
+GF(2), and the transposed matrix represents the dual.
+
+With --ternary the representation is over GF(3), with entries -1, 0 and 1. U2,4, P8, R9 and T8 are not binary, and have no other.
 """
 
 from __future__ import annotations
@@ -10,13 +13,14 @@ import argparse
 
 from ..lines import Names
 from ..matroids import named
-from .command import end, write_text
+from .command import command_parser, end, write_text
 
 
 def arguments() -> argparse.Namespace:
     """What the words of the command line say."""
-    parser = argparse.ArgumentParser(description=__doc__, formatter_class=argparse.RawDescriptionHelpFormatter)
+    parser = command_parser(__doc__)
     parser.add_argument("name", metavar="NAME", help="for example R10, 'F7*', K5 or 'K3,3*'")
+    parser.add_argument("--ternary", action="store_true", help="write a matrix over GF(3)")
     parser.add_argument(
         "--names",
         metavar="NAMES",
@@ -26,7 +30,7 @@ def arguments() -> argparse.Namespace:
 
 
 def _work(chosen: argparse.Namespace) -> None:
-    matrix = named(chosen.name)
+    matrix = named(chosen.name, 3 if chosen.ternary else 2)
     rows = [" ".join(map(str, row)) for row in matrix.to_lists()]
     if chosen.names:
         write_text(chosen.names, (matrix.names or Names.numbered(*matrix.shape)).to_text())

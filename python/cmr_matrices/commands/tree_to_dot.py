@@ -10,12 +10,12 @@ import argparse
 
 from ..lines import Names
 from ..trees import Tree
-from .command import end, read_as, write_text
+from .command import command_parser, end, read_as, write_text
 
 
 def arguments() -> argparse.Namespace:
     """What the words of the command line say."""
-    parser = argparse.ArgumentParser(description=__doc__, formatter_class=argparse.RawDescriptionHelpFormatter)
+    parser = command_parser(__doc__)
     parser.add_argument(
         "tree", metavar="TREE", nargs="?", default="-", help="the tree text; standard input where it is left out"
     )

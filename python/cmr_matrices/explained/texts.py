@@ -32,6 +32,13 @@ _BY_FRONT = [
         "",
     ),
     ("xml", r"<", "XML or HTML", ""),
+    (
+        "dimacs",
+        r"(c .*\n|c\n)*p\s+(edge|col|cnf|sp|max|min|asn)\b",
+        "a graph or formula in DIMACS",
+        "scripts/edges_to_graph reads edges, each as two nodes: `sed -n 's/^[ea] //p' FILE`",
+    ),
+    ("json", r"\s*\{", "a JSON object", f"{_PACKAGE}: `Matrix.of(rows).to_text()`"),
     ("dot", r"\s*(strict\s+)?(di)?graph\b", "a picture in DOT", "that is for Graphviz"),
     (
         "lp",
@@ -90,6 +97,8 @@ def has_size(data: bytes, kind: str) -> bool:
 
 
 def _of_numbers(text: str) -> Guess:
+    if named := _below_names(text):
+        return named
     if _NOTE.match(text):
         inner = _of_numbers(
             "".join(f"{line}\n" for line in text.splitlines() if line.strip() and not _NOTE.match(line)) or "?"
@@ -108,7 +117,7 @@ def _of_numbers(text: str) -> Guess:
     if re.match(r"\s*(\w+\()?[\[({]", text):
         return Guess(
             "brackets",
-            f"rows in brackets, as Python, numpy and Sage print them{_sized(text, '[^0-9+.eE-]+')}",
+            f"rows in brackets, as Python, JSON, numpy and Sage have them{_sized(text, '[^0-9+.eE-]+')}",
             "only white space may stand between numbers, " + _HEAD,
         )
     if "\N{MINUS SIGN}" in text or "\N{EN DASH}" in text:
@@ -120,6 +129,10 @@ def _of_numbers(text: str) -> Guess:
             f"a table with `{found[1]}` between its entries{sized}",
             "only white space may stand between numbers, " + _HEAD,
         )
+    if re.match(r"\s*[0-9]+ *[xX*] *[0-9]+\s", text):
+        return Guess("sizes", "a matrix with a sign between its sizes", "the sizes are two numbers with a space between them")
+    if glued := _glued(text):
+        return glued
     words = text.split()
     if all(_WHOLE.fullmatch(word) for word in words):
         return _whole(text, words)
@@ -183,6 +196,42 @@ def _is_submatrix(numbers: list[int]) -> bool:
 
 
 _FITS = {"dense": _is_dense, "sparse": _is_sparse, "submatrix": _is_submatrix}
+
+
+def _below_names(text: str) -> Guess | None:
+    """A table of numbers whose first line, and maybe first column, has names."""
+    head, _, below = text.lstrip("\n").partition("\n")
+    for between in ",;\t| ":
+        columns = [word.strip(' "') for word in head.split(between)]
+        lines = [[word.strip(' "') for word in line.split(between)] for line in below.splitlines() if line.strip()]
+        if len(columns) < 2 or not lines or any(len(line) != len(columns) for line in lines):
+            continue
+        first = 0 if all(_DECIMAL.fullmatch(line[0]) for line in lines) else 1
+        are_numbers = all(_DECIMAL.fullmatch(word) for line in lines for word in line[first:])
+        if are_numbers and all(re.match(r"[^\W\d]", word) for word in columns[first:]):
+            shown = {"\t": "tabs", " ": "spaces"}.get(between, f"`{between}`")
+            size = f"{len(lines)} rows of {len(columns) - first}"
+            options = ("" if between == "," else f", sep={between!r}") + (", index_col=0" if first else "")
+            beside = ", and names in the first column," if first else ""
+            return Guess(
+                "csv",
+                f"a table with {shown} between its entries{beside} below a line of names, {size}",
+                f"a text for cmr has no names; {_PACKAGE}: `Matrix.of(pandas.read_csv(..{options})).to_text()`",
+            )
+    return None
+
+
+def _glued(text: str) -> Guess | None:
+    """Rows of digits 0 and 1 with nothing between them, maybe below the sizes."""
+    head, *rows = text.split("\n")
+    has_sizes = re.fullmatch(r"\s*[0-9]+ +[0-9]+\s*", head) is not None
+    rows = [row.strip() for row in (rows if has_sizes else [head, *rows]) if row.strip()]
+    are_digits = all(re.fullmatch(r"[01]+", row) and len(row) == len(rows[0]) for row in rows)
+    if not are_digits or len(rows) < (1 if has_sizes else 2) or len(rows[0]) < 2:
+        return None
+    aid = "`sed '2,$ s/./& /g'`" if has_sizes else "`sed 's/./& /g'`"
+    what = f"{len(rows)} rows of {len(rows[0])} digits with no space between them"
+    return Guess("glued", what, f"{aid} writes spaces between the digits{'' if has_sizes else ', ' + _HEAD}")
 
 
 def _sized(text: str, between: str = r"\s+") -> str:

@@ -7,7 +7,7 @@ from collections.abc import Mapping
 from dataclasses import dataclass, field
 from difflib import get_close_matches
 
-__all__ = ["OUTPUTS", "TOOLS", "Order", "Tool", "WordFault", "read_words"]
+__all__ = ["OUTPUTS", "TOOLS", "Order", "Tool", "WordFault", "asks_for_help", "asks_for_version", "read_words"]
 
 _USAGES = {
     "tu": "[-i dense|sparse] [--lines L] [--pivots K] [-w N] [-D FILE] [-E FILE] [FILE]",
@@ -67,7 +67,8 @@ _OTHER_NAMES = {
 }
 _FORMATS = ("dense", "sparse")
 _SUMS = ("one", "two", "delta", "y", "mixed", "concentrated")
-_HELP = ("-h", "--help", "help", "-V", "--version", "-?")
+_HELP = ("-h", "--help", "-?")
+_VERSION = ("-V", "--version")
 _RANGES = {"--lines": (0, 24), "--pivots": (0, 100), "-w": (1, 64)}
 _NUMBER = re.compile(r"\+?[0-9]+")
 _USAGE_PART = re.compile(r"\[[^]]*\]|--?[A-Za-z]+ [A-Z]+|[A-Z]+")
@@ -158,8 +159,6 @@ def read_words(words: list[str]) -> Order | WordFault:
     if not words:
         return WordFault("there is no word: the first one names the tool", is_help=True)
     first = words[0]
-    if first in _HELP:
-        return WordFault(f"`{first}`: these are the tools, and `TOOL --help` shows the words of each", is_help=True)
     if first not in TOOLS:
         return WordFault(_unknown_tool(first))
     order = Order(TOOLS[first])
@@ -169,7 +168,24 @@ def read_words(words: list[str]) -> Order | WordFault:
     return WordFault(why, order.tool) if why else order
 
 
+def asks_for_help(words: list[str]) -> tuple[Tool, ...] | None:
+    """The tools whose usage somebody asks for: all of them, or one. None if the words ask for no help."""
+    if words[:1] == ["help"] or words[:1] and words[0] in _HELP:
+        return (TOOLS[words[1]],) if words[1:2] and words[1] in TOOLS else tuple(TOOLS.values())
+    if words[:1] and words[0] in TOOLS and any(word in _HELP for word in words[1:]):
+        return (TOOLS[words[0]],)
+    return None
+
+
+def asks_for_version(words: list[str]) -> bool:
+    """Whether somebody asks for the version."""
+    return bool(words) and words[0] in _VERSION
+
+
 def _unknown_tool(word: str) -> str:
+    glued = word.split()
+    if len(glued) > 1 and glued[0] in TOOLS:
+        return f"`{word}` is one word with a space in it: leave the quotes out, `cmr {' '.join(glued)}`"
     plain = word.lower().replace("_", "-")
     if plain in TOOLS:
         return f"`{word}` is no tool: it is spelled `{plain}`"
@@ -248,8 +264,6 @@ _DASH = "`-` is standard input as the last word alone, and nothing can be writte
 
 def _unknown_option(tool: Tool, option: str, word: str = "") -> str:
     place = f" (in `{word}`)" if word and word != option else ""
-    if option in _HELP:
-        return f"`{option}`: this is its usage, and docs/FORMATS.md says more"
     known = tool.values + tool.flags
     other_case = option.swapcase()
     said = f"`{option}`{place} is no option of {tool.name}"

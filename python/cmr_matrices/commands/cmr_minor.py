@@ -1,0 +1,185 @@
+"""Names an excluded minor of a matrix that is outside of a class, or checks one that was written.
+
+    cmr-minor CLASS [MATRIX]       asks cmr, and prints a minor where the answer is no; MATRIX may be standard input
+    cmr-minor check MATRIX MINOR   checks what -M wrote on a matrix, by plain arithmetic, without cmr
+
+CLASS is one of tu, regular, graphic, cographic, network, conetwork, series-parallel and binary-series-parallel.
+
+Status: 0 for a yes, 1 for a no and for a minor that holds, 2 where the words are refused, 3 where a text is, 4 where a file cannot be
+read or written, 5 where memory is refused, 6 for an undecided answer, 7 where check refuses a minor, 70 where there is no program.
+"""
+
+from __future__ import annotations
+
+import argparse
+import os
+import sys
+from collections.abc import Callable, Iterator
+from dataclasses import replace
+from typing import TypeVar
+
+from ..errors import BadInput, CannotRead, CannotWrite, OutOfMemory, ProgramMissing, TimeLimitReached, Undecided
+from ..excluded import CLASSES, ExcludedMinor, minor_class
+from ..lines import Line, LineSet, Names
+from ..matrix import Matrix
+from ..minors import excluded_minor
+from ..program import NO, REFUSED, UNDECIDED, YES
+from ..represented import Matroid
+from .command import command_parser, read_text, write_text
+
+__all__ = ["main"]
+
+BAD_TEXT, BAD_FILE, NO_MEMORY, NO_PROGRAM = 3, 4, 5, 70
+
+_Value = TypeVar("_Value")
+
+
+class _Unusable(Exception):
+    """A file that cannot be read or written, with the line that says so."""
+
+
+def arguments() -> argparse.Namespace:
+    """What the words of the command line say."""
+    parser = command_parser(__doc__)
+    add = parser.add_argument
+    add("of", metavar="CLASS", choices=[*(kind.word for kind in CLASSES), "check"], help="the class, or check")
+    add("files", metavar="FILE", nargs="*", help="MATRIX, and with check MATRIX and MINOR; - is standard input")
+    add("-i", dest="format", choices=("dense", "sparse"), default="dense", help="the format of MATRIX (dense)")
+    add("-M", metavar="MINOR", dest="minor", help="the file that gets the minor, to be checked")
+    add("--names", metavar="NAMES", help="print the names of this file, as model_to_matrix and named write it")
+    add("--sage", action="store_true", help="print a last line with the minor, which Sage reads")
+    add("--lines", metavar="L", type=_number(0, 24), help="the budget of the searches (14)")
+    add("--pivots", metavar="K", type=_number(0, 100), default=20, help="go on behind so many pivots (20)")
+    add("--time-limit", metavar="S", type=_number(1, 10**8), help="end the runs of cmr after so many seconds")
+    add("--program", metavar="PATH", help="the program cmr, where it is not to be looked for")
+    chosen = parser.parse_intermixed_args()
+    if len(chosen.files) > 1 + (chosen.of == "check") or (chosen.of == "check" and len(chosen.files) < 2):
+        parser.error("check takes MATRIX and MINOR" if chosen.of == "check" else "there is one MATRIX at most")
+    if chosen.of == "check" and chosen.minor:
+        parser.error("-M does not go with check, which writes nothing")
+    return chosen
+
+
+def _number(least: int, greatest: int) -> Callable[[str], int]:
+    def taken(text: str) -> int:
+        if not text.isascii() or not text.isdigit() or len(text) > 9 or not least <= int(text) <= greatest:
+            raise argparse.ArgumentTypeError(f"{text} is no number from {least} to {greatest}")
+        return int(text)
+
+    return taken
+
+
+def _asked(chosen: argparse.Namespace) -> int:
+    """Asks whether a matrix is in a class, and prints the minor of a no."""
+    kind = minor_class(chosen.of)
+    matrix = _matrix(chosen, chosen.files[0] if chosen.files else "-")
+    try:
+        minor = excluded_minor(
+            matrix,
+            kind.name,
+            lines=chosen.lines,
+            pivots=chosen.pivots,
+            time_limit=chosen.time_limit,
+            program=chosen.program,
+        )
+    except (Undecided, TimeLimitReached) as fault:
+        _say(str(fault))
+        _print([f"{kind.name}: undecided"])
+        return UNDECIDED
+    if minor is None:
+        _print([f"{kind.name}: yes"])
+        return YES
+    if chosen.minor:
+        text = minor.to_text()
+        _usable(lambda: write_text(chosen.minor, text))
+    _print([f"{kind.name}: no", *_lines(minor, matrix, chosen.sage)])
+    return NO
+
+
+def _checked(chosen: argparse.Namespace) -> int:
+    """Checks a minor on a matrix."""
+    matrix = _matrix(chosen, chosen.files[0])
+    minor = replace(_read(chosen.files[1], ExcludedMinor.from_text), names=matrix.names)
+    fault = minor.fault(matrix)
+    if fault is not None:
+        _print([f"refused: {fault}"])
+        return REFUSED
+    _print([f"accepted: not {minor.property_name}", *_lines(minor, matrix, chosen.sage)])
+    return NO
+
+
+def _matrix(chosen: argparse.Namespace, name: str) -> Matrix:
+    matrix = _read(name, lambda text: Matrix.from_text(text, sparse=chosen.format == "sparse"))
+    if not chosen.names:
+        return matrix
+    names = _read(chosen.names, Names.from_text)
+    return Matrix.of(matrix, row_names=names.rows, column_names=names.columns)
+
+
+def _lines(minor: ExcludedMinor, matrix: Matrix, with_sage: bool) -> Iterator[str]:
+    """The printed lines, with the names of the matrix or with numbers counted from 1."""
+    names = minor.names
+    name: Callable[[Line], str] = (lambda line: line.word) if names is None else names.line
+    yield f"minor {minor.name}"
+    for row, column in minor.pivots:
+        yield f"pivot {name(Line('row', row))} {name(Line('column', column))}"
+    yield " ".join(["elements", *(f"{name(line)}={element}" for line, element in minor.elements.items())])
+    for what, lines in (("deleted", minor.deleted), ("contracted", minor.contracted)):
+        yield f"{what} {_numbers(lines) if names is None else names.line_set(lines)}"
+    if with_sage:
+        shown = minor.displayed(matrix)
+        labels, rank = [name(line) for line in minor.elements], shown.shape[0]
+        yield Matroid.of(shown, minor.field, row_names=labels[:rank], column_names=labels[rank:]).to_sage()
+
+
+def _numbers(lines: LineSet) -> str:
+    rows, columns = ([str(number + 1) for number in numbers] for numbers in (lines.rows, lines.columns))
+    return " ".join(["rows", *rows, "columns", *columns])
+
+
+def _read(name: str, reader: Callable[[str], _Value]) -> _Value:
+    text = _usable(lambda: read_text(name))
+    try:
+        return reader(text)
+    except BadInput as fault:
+        raise BadInput(f"{name}: {fault}") from fault
+
+
+def _usable(work: Callable[[], _Value]) -> _Value:
+    """The value of a work on a file. What is refused there is the file, and no text."""
+    try:
+        return work()
+    except BadInput as fault:
+        raise _Unusable(str(fault)) from fault
+
+
+def _print(lines: list[str]) -> None:
+    try:
+        write_text("-", "".join(f"{line}\n" for line in lines))
+        sys.stdout.flush()
+    except (BadInput, OSError) as fault:
+        os.dup2(os.open(os.devnull, os.O_WRONLY), sys.stdout.fileno())
+        raise _Unusable("cannot write -") from fault
+
+
+def _say(line: str) -> None:
+    print(f"cmr-minor: {line}", file=sys.stderr)
+
+
+def main() -> int:
+    """Runs the command, and gives its status."""
+    chosen = arguments()
+    try:
+        return _checked(chosen) if chosen.of == "check" else _asked(chosen)
+    except ProgramMissing as fault:
+        status, line = NO_PROGRAM, str(fault)
+    except (_Unusable, CannotRead, CannotWrite) as fault:
+        status, line = BAD_FILE, str(fault)
+    except OutOfMemory as fault:
+        status, line = NO_MEMORY, str(fault)
+    except BadInput as fault:
+        status, line = BAD_TEXT, str(fault)
+    except KeyboardInterrupt:
+        return 130
+    _say(line)
+    return status

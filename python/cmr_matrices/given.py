@@ -1,0 +1,43 @@
+"""What callers give: texts, numbers, words and lists. What is none of these is refused in a sentence that says what is taken."""
+
+from __future__ import annotations
+
+from collections.abc import Iterable, Sequence
+from operator import index
+from typing import Any
+
+from .errors import BadInput, shown
+
+__all__ = ["listed", "one_of", "text_given", "whole"]
+
+
+def whole(name: str, value: Any, least: int | None = None, greatest: int | None = None) -> int:
+    """A whole number. Raises `BadInput` where it is none, or is out of its range, where it has one."""
+    try:
+        number = index(value)
+    except TypeError:
+        raise BadInput(f"{name} is a whole number, and here it is {shown(value)}") from None
+    if least is not None and greatest is not None and not least <= number <= greatest:
+        raise BadInput(f"{name} is a number from {least} to {greatest}, and here it is {number}")
+    return number
+
+
+def one_of(name: str, value: Any, words: Sequence[str]) -> str:
+    """A word. Raises `BadInput` where it is none of some."""
+    if not isinstance(value, str) or value not in words:
+        raise BadInput(f"{name} is one of {', '.join(words)}, and here it is {shown(value)}")
+    return value
+
+
+def listed(name: str, values: Any, what: str) -> list[Any]:
+    """A list, or what can be made one, but no text. Raises `BadInput` where it is none."""
+    if isinstance(values, (str, bytes)) or not isinstance(values, Iterable):
+        raise BadInput(f"{name} is a list of {what}, and here it is {shown(values)}")
+    return list(values)
+
+
+def text_given(name: str, value: Any) -> str:
+    """A text. Raises `BadInput` where it is none."""
+    if not isinstance(value, str):
+        raise BadInput(f"{name}: a text is read, and here it is {shown(value)}")
+    return value

@@ -1,0 +1,21 @@
+"""Libraries that the package uses where its caller does, and what installs them."""
+
+from __future__ import annotations
+
+from importlib import import_module
+from typing import Any
+
+from .errors import LibraryMissing
+
+__all__ = ["library"]
+
+_DEBIAN = {"numpy", "scipy", "networkx", "pandas", "pulp", "swiglpk"}
+
+
+def library(name: str, use: str) -> Any:
+    """A module, for a use in words. Raises `LibraryMissing` with the packages that have it where it is not there."""
+    try:
+        return import_module(name)
+    except ImportError as fault:
+        package = name.partition(".")[0]
+        raise LibraryMissing(use, package, f"python3-{package}" if package in _DEBIAN else None) from fault

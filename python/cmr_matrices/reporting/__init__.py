@@ -1,0 +1,1 @@
+"""The report of a model: whether its linear program gives whole numbers, which constraints spoil it, and which to relax."""

@@ -1,0 +1,88 @@
+"""A violator from which no line can be left out, with its determinant."""
+
+from __future__ import annotations
+
+from collections.abc import Sequence
+from dataclasses import dataclass, field
+
+from ..errors import TimeLimitReached
+from .asking import Asker, Cells
+
+__all__ = ["Minimal", "determinant", "minimal_violator"]
+
+_QUESTIONS = 150
+
+
+@dataclass(frozen=True)
+class Minimal:
+    """Lines of a model that are not totally unimodular, with their entries.
+
+    It is minimal where, as soon as any one of its lines is left out, what stays is totally unimodular. It is square then, and its
+    determinant is 2 or -2.
+    """
+
+    cells: Cells
+    row_names: tuple[str, ...]
+    column_names: tuple[str, ...]
+    entries: tuple[tuple[int, ...], ...] = field(repr=False)
+    is_minimal: bool
+    determinant: int | None
+
+
+def minimal_violator(asker: Asker, violator: Cells, part: float) -> Minimal:
+    """What is left of a violator when one line after another is left out, as long as a violator stays."""
+    asker.begin("the smallest violator", _QUESTIONS, part)
+    found, is_minimal = violator, True
+    for kind in ("row", "column"):
+        for line in found.rows if kind == "row" else found.columns:
+            if line not in (found.rows if kind == "row" else found.columns):
+                continue
+            if asker.is_spent:
+                is_minimal = False
+                break
+            smaller, is_open = _without(asker, found, kind, line)
+            found = smaller or found
+            is_minimal = is_minimal and not is_open
+        if is_minimal and len(found.rows) == len(found.columns):
+            # A smaller violator would have all these rows, and as many columns.
+            break
+    matrix = asker.matrix_of(found)
+    entries = tuple(tuple(row) for row in matrix.to_lists())
+    is_square = len(found.rows) == len(found.columns)
+    names = matrix.names
+    assert names is not None
+    return Minimal(found, names.rows, names.columns, entries, is_minimal, determinant(entries) if is_square else None)
+
+
+def _without(asker: Asker, found: Cells, kind: str, line: int) -> tuple[Cells | None, bool]:
+    """A violator without a line, if there is one, and whether that is open."""
+    rows = tuple(row for row in found.rows if kind != "row" or row != line)
+    columns = tuple(column for column in found.columns if kind != "column" or column != line)
+    matrix = asker.matrix_of(Cells(rows, columns))
+    try:
+        answer = asker.ask_matrix(matrix)
+    except TimeLimitReached:
+        return None, True
+    part = answer.violator
+    if part is None:
+        return None, answer.is_undecided
+    return Cells(tuple(rows[at] for at in part.rows), tuple(columns[at] for at in part.columns)), False
+
+
+def determinant(rows: Sequence[Sequence[int]]) -> int:
+    """The determinant of whole numbers, by the elimination of Bareiss, which divides without rest."""
+    left = [list(row) for row in rows]
+    sign, before = 1, 1
+    for place in range(len(left)):
+        pivot = next((row for row in range(place, len(left)) if left[row][place]), None)
+        if pivot is None:
+            return 0
+        if pivot != place:
+            left[place], left[pivot] = left[pivot], left[place]
+            sign = -sign
+        for row in range(place + 1, len(left)):
+            for column in range(place + 1, len(left)):
+                cross = left[row][column] * left[place][place] - left[row][place] * left[place][column]
+                left[row][column] = cross // before
+        before = left[place][place]
+    return sign * before

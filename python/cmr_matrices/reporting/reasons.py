@@ -1,0 +1,117 @@
+"""Why a matrix is totally unimodular, in a sentence that a modeller knows."""
+
+from __future__ import annotations
+
+from collections import Counter
+
+from ..clock import Clock
+from ..errors import ProgramFault
+from ..lines import Line
+from ..matrix import Matrix
+from ..program import REFUSED, StrPath
+from ..questions import is_conetwork, is_network
+from ..trees import Tree
+from ..walks import arcs_of_walks
+
+__all__ = ["Reason", "reason_of"]
+
+_LEAVES = {
+    "network": ("network matrix", "network matrices"),
+    "conetwork": ("transposed network matrix", "transposed network matrices"),
+    "r10": ("matrix R10", "matrices R10"),
+    "enumerated": ("small matrix that was searched whole", "small matrices that were searched whole"),
+}
+_SUMS = {"twosum": "two-sum", "delta": "three-sum", "y": "three-sum", "mixed": "three-sum", "concentrated": "three-sum"}
+
+
+class Reason:
+    """A word for the class, and the sentence. `command` is the word of the program that shows it, where there is one."""
+
+    def __init__(self, word: str, sentence: str, words: tuple[str, ...] = ()) -> None:
+        self.word = word
+        self.sentence = sentence
+        self.words = words
+
+
+def reason_of(matrix: Matrix, tree: Tree, program: StrPath | None, clock: Clock) -> Reason:
+    """Why the matrix of a tree that says yes is totally unimodular. A graph is tested by what its paths take."""
+    if _is_shown(matrix, is_turned=False, program=program, clock=clock):
+        return Reason("network", _of_network(matrix), ("network",))
+    if _is_shown(matrix, is_turned=True, program=program, clock=clock):
+        return Reason("conetwork", _of_conetwork(matrix), ("network", "-t"))
+    return Reason("sums", _of_sums(tree))
+
+
+def _is_shown(matrix: Matrix, *, is_turned: bool, program: StrPath | None, clock: Clock) -> bool:
+    asked = is_conetwork if is_turned else is_network
+    answer = asked(matrix, certificate=True, program=program, time_limit=clock.left())
+    if answer.verdict != "yes":
+        return False
+    assert answer.graph is not None
+    taken = arcs_of_walks(answer.graph) or {}
+    found = {_place(walk, arc): sign for walk, arcs in taken.items() for arc, sign in arcs}
+    if found != {(row, column): entry for row, column, entry in matrix.nonzeros}:
+        raise ProgramFault(REFUSED, "the graph of the program is not that of the matrix")
+    return True
+
+
+def _place(walk: Line, arc: Line) -> tuple[int, int]:
+    return (arc.number, walk.number) if arc.kind == "row" else (walk.number, arc.number)
+
+
+def _of_network(matrix: Matrix) -> str:
+    said = "It is a network matrix, so the network simplex method solves the linear program"
+    if not matrix.nonzeros:
+        return f"{said}: there are no coefficients."
+    counts = Counter(column for _, column, _ in matrix.nonzeros)
+    if max(counts.values()) <= 2:
+        return f"{said}: each variable is in at most two rows, as in a flow, a transport or an assignment."
+    if _are_intervals(matrix):
+        return f"{said}: in the order of the model the rows of each variable are next to one another (intervals)."
+    return f"{said}: each variable is a path in a tree whose arcs are the rows."
+
+
+def _of_conetwork(matrix: Matrix) -> str:
+    said = "Its transpose is a network matrix, so the network simplex method solves the dual linear program"
+    counts = Counter(row for row, _, _ in matrix.nonzeros)
+    if max(counts.values(), default=0) <= 2:
+        return f"{said}: each row has at most two variables, as differences have."
+    if _are_intervals(matrix.T):
+        return f"{said}: in the order of the model the variables of each row are next to one another (intervals)."
+    return f"{said}: each row is a path in a tree whose arcs are the variables."
+
+
+def _are_intervals(matrix: Matrix) -> bool:
+    """Whether the nonzeros of each column are of one sign and next to one another."""
+    found: dict[int, list[tuple[int, int]]] = {}
+    for row, column, entry in matrix.nonzeros:
+        found.setdefault(column, []).append((row, entry))
+    return all(
+        len({entry for _, entry in column}) == 1 and column[-1][0] - column[0][0] == len(column) - 1
+        for column in found.values()
+    )
+
+
+def _of_sums(tree: Tree) -> str:
+    kinds = Counter(node.kind for _, node in tree.walk())
+    nodes = [node for _, node in tree.walk() if node.kind not in ("reduced", "empty")]
+    if len(nodes) == 1 and nodes[0].kind == "enumerated":
+        size = nodes[0].lines.size
+        return f"A part of {size} is left by the reductions, and each set of its shorter side was tried (Ghouila-Houri 1962)."
+    leaves = [_counted(kinds[kind], *words) for kind, words in _LEAVES.items() if kinds[kind]]  # type: ignore[index]
+    sums: Counter[str] = Counter()
+    for kind, word in _SUMS.items():
+        sums[word] += kinds[kind]  # type: ignore[index]
+    joined = [_counted(count, word, f"{word}s") for word, count in sums.items() if count]
+    pivots = _counted(kinds["pivoted"], "pivot", "pivots")
+    behind = f", behind {pivots}" if kinds["pivoted"] else ""
+    by = f" by {' and '.join(joined)}" if joined else ""
+    return f"It is put together of {_listed(leaves)}{by}{behind} (Seymour's decomposition)."
+
+
+def _counted(count: int, one: str, several: str) -> str:
+    return f"one {one}" if count == 1 else f"{count} {several}"
+
+
+def _listed(words: list[str]) -> str:
+    return " and ".join([", ".join(words[:-1]), words[-1]] if len(words) > 1 else words)

@@ -1,0 +1,140 @@
+"""The rows of a model as those of a matrix: each divided by its common factor, those with other entries than -1, 0 and 1 apart."""
+
+from __future__ import annotations
+
+from collections.abc import Iterable, Mapping, Sequence
+from dataclasses import dataclass, field
+from fractions import Fraction
+
+from ..constraints import Constraints, Scaling, rows_divided
+from ..errors import BadInput
+from ..families import families_of
+from ..lines import Names
+from ..models import Model
+
+__all__ = ["ModelRows", "NotWhole", "RowFamily", "said_rows"]
+
+
+@dataclass(frozen=True)
+class RowFamily:
+    """Rows of one family: those whose entries are -1, 0 and 1, and the others, which are refused."""
+
+    name: str
+    rows: tuple[int, ...]
+    refused: tuple[int, ...] = ()
+
+
+@dataclass(frozen=True)
+class NotWhole:
+    """A right-hand side of a row, or a bound of a column, that is no whole number. A side is that of the divided row."""
+
+    kind: str
+    name: str
+    value: float
+
+    def __str__(self) -> str:
+        what = "right-hand side" if self.kind == "row" else "bound"
+        return f"{what} {self.value:.12g} of {self.name}"
+
+
+@dataclass(frozen=True)
+class ModelRows:
+    """A model whose rows are divided by their common factors. Rows and columns are counted from 0, as in the model."""
+
+    model: Model
+    entries: Mapping[int, tuple[tuple[int, Fraction], ...]] = field(repr=False)
+    """Of each row the columns with their entries."""
+    divided: Mapping[int, Scaling] = field(repr=False)
+    """The rows that were divided."""
+    refused: frozenset[int] = field(repr=False)
+    """The rows with an entry other than -1, 0 and 1."""
+
+    @classmethod
+    def of(cls, model: Model) -> ModelRows:
+        """The divided rows. Raises `BadInput` where there are none, or where two lines have one name."""
+        if not model.rows:
+            raise BadInput("there are no rows")
+        for kind, names in (("rows", model.rows), ("columns", model.columns)):
+            if len(set(names)) < len(names):
+                raise BadInput(f"two {kind} have the same name")
+        entries, scalings = rows_divided(model)
+        by_row: dict[int, list[tuple[int, Fraction]]] = {row: [] for row in range(len(model.rows))}
+        for (row, column), entry in entries.items():
+            by_row[row].append((column, entry))
+        places = {name: row for row, name in enumerate(model.rows)}
+        return cls(
+            model,
+            {row: tuple(found) for row, found in by_row.items()},
+            {places[scaling.name]: scaling for scaling in scalings},
+            frozenset(row for row, found in by_row.items() if any(abs(entry) != 1 for _, entry in found)),
+        )
+
+    @property
+    def unit_rows(self) -> tuple[int, ...]:
+        """The rows whose entries are -1, 0 and 1."""
+        return tuple(row for row in self.entries if row not in self.refused)
+
+    @property
+    def families(self) -> tuple[RowFamily, ...]:
+        """The families of all rows, in the order of their first ones."""
+        return tuple(
+            RowFamily(
+                name,
+                tuple(row for row in rows if row not in self.refused),
+                tuple(row for row in rows if row in self.refused),
+            )
+            for name, rows in families_of(self.model.rows).items()
+        )
+
+    def columns_of(self, rows: Iterable[int]) -> tuple[int, ...]:
+        """The columns that are in some rows, and all of them where all rows are taken."""
+        taken = set(rows)
+        if len(taken) == len(self.model.rows):
+            return tuple(range(len(self.model.columns)))
+        return tuple(sorted({column for row in taken for column, _ in self.entries[row]}))
+
+    def constraints(self, rows: Sequence[int]) -> Constraints:
+        """Some of the rows with entries -1, 0 and 1, in the order of the model, and the columns that are in them."""
+        columns = self.columns_of(rows)
+        places = {column: place for place, column in enumerate(columns)}
+        names = Names(
+            tuple(self.model.rows[row] for row in rows), tuple(self.model.columns[column] for column in columns)
+        )
+        entries = {
+            (at, places[column]): int(entry) for at, row in enumerate(rows) for column, entry in self.entries[row]
+        }
+        return Constraints(names, entries)
+
+    def not_whole(self, rows: Iterable[int]) -> tuple[NotWhole, ...]:
+        """The right-hand sides of some rows, and the bounds of their columns, that are no whole numbers."""
+        taken = tuple(rows)
+        found = []
+        for row in taken if self.model.sides else ():
+            factor = self.divided[row].factor if row in self.divided else 1
+            sides = (Fraction(f"{side:.15g}") / factor for side in self.model.sides[row])
+            found += [NotWhole("row", self.model.rows[row], float(side)) for side in sides if side.denominator != 1]
+        for column in self.columns_of(taken) if self.model.bounds else ():
+            bounds = (Fraction(f"{bound:.15g}") for bound in self.model.bounds[column])
+            name = self.model.columns[column]
+            found += [NotWhole("column", name, float(bound)) for bound in bounds if bound.denominator != 1]
+        return tuple(found)
+
+
+def said_rows(family: str, names: Sequence[str]) -> str:
+    """A family in few words: `skill(0..3)` where one number runs, and else `flow[..]`. One row is said by its name."""
+    if len(names) == 1:
+        return names[0]
+    head, tail = _common(names), _common([name[::-1] for name in names])[::-1]
+    middles = [name[len(head) : len(name) - len(tail)] for name in names]
+    if all(middle.isdecimal() for middle in middles) and head[-1:] and not head[-1:].isdecimal():
+        numbers = sorted(map(int, middles))
+        if numbers == list(range(numbers[0], numbers[0] + len(numbers))):
+            return f"{head}{numbers[0]}..{numbers[-1]}{tail}"
+    return family
+
+
+def _common(names: Sequence[str]) -> str:
+    """What all names begin with, without digits at its end."""
+    first, last = min(names), max(names)
+    length = next((at for at, (one, other) in enumerate(zip(first, last)) if one != other), min(len(first), len(last)))
+    return first[:length].rstrip("0123456789")

@@ -1,0 +1,287 @@
+"""Reports of models: `model_report`, compared with plain slow checks, and the pages that they make."""
+
+from __future__ import annotations
+
+import json
+import random
+import re
+import subprocess
+import tempfile
+import unittest
+from collections.abc import Sequence
+from html import unescape
+from itertools import combinations
+from pathlib import Path
+
+from cmr_matrices import BadInput, ModelReport, model_report
+from cmr_matrices.constraints import Choice
+from cmr_matrices.modellers import constraints_of_file
+from cmr_matrices.reporting.minimal import determinant
+from cmr_matrices.reporting.repeating import row_pattern
+from cmr_matrices.reporting.rows import said_rows
+from tests.independent import is_unimodular, is_violator
+from tests.support import EXAMPLES, needs_command, needs_module, needs_program
+
+HARD = "<b>&\"'"
+"""What would be read as HTML, and may be in a name."""
+
+
+def lp_text(rows: dict[str, list[int]], sides: Sequence[float] = ()) -> str:
+    """A model in the LP format with these coefficients by the names of its rows."""
+    lines = ["Minimize", " cost: " + " + ".join(f"x{at}" for at in range(len(next(iter(rows.values()))))), "Subject To"]
+    for number, (name, entries) in enumerate(rows.items()):
+        terms = " ".join(f"{entry:+d} x{at}" for at, entry in enumerate(entries) if entry)
+        lines.append(f" {name}: {terms} <= {sides[number] if sides else 4}")
+    return "\n".join([*lines, "General", " " + " ".join(f"x{at}" for at in range(len(entries))), "End", ""])
+
+
+class ReportTest(unittest.TestCase):
+    def setUp(self) -> None:
+        folder = tempfile.TemporaryDirectory()
+        self.addCleanup(folder.cleanup)
+        self.folder = Path(folder.name)
+
+    def write(self, name: str, text: str) -> Path:
+        path = self.folder / name
+        path.write_text(text, encoding="utf-8")
+        return path
+
+    def holds(self, report: ModelReport) -> None:
+        """What a report of a small model says holds by definition."""
+        entries = {row: dict(found) for row, found in report.rows.entries.items()}
+        columns = range(report.shape[1])
+
+        def part(rows: Sequence[int], across: Sequence[int] = columns) -> list[list[int]]:
+            return [[int(entries[row].get(column, 0)) for column in across] for row in rows]
+
+        if report.whole.rows and report.whole.verdict != "undecided":
+            self.assertEqual(is_unimodular(part(report.whole.rows)), report.whole.verdict == "yes")
+        if report.rest is not None and report.rest.rows:
+            self.assertTrue(is_unimodular(part(report.rest.rows)))
+            kept = set(range(report.shape[0])) - set(report.relaxed)
+            self.assertEqual(set(report.rest.rows), kept)
+        for family in report.families:
+            if family.violator is not None:
+                self.assertTrue(is_violator(part(family.violator.rows, family.violator.columns)))
+        if report.minimal is not None:
+            found = report.minimal
+            rows, across = found.cells.rows, found.cells.columns
+            self.assertEqual([list(row) for row in found.entries], part(rows, across))
+            self.assertFalse(is_unimodular(part(rows, across)))
+            self.assertTrue(found.is_minimal)
+            self.assertIn(found.determinant, (2, -2))
+            for line in rows:
+                self.assertTrue(is_unimodular(part([row for row in rows if row != line], across)))
+            for line in across:
+                self.assertTrue(is_unimodular(part(rows, [column for column in across if column != line])))
+
+
+@needs_program
+@needs_module("swiglpk")
+@needs_command("glpsol")
+class Reports(ReportTest):
+    def test_the_crews(self) -> None:
+        report = model_report(EXAMPLES / "crews.mod")
+        self.holds(report)
+        self.assertEqual(report.verdict, "no")
+        assert report.kept is not None
+        self.assertTrue(report.kept.is_largest)
+        self.assertEqual((report.relax, report.relaxed), (("skill[0..3]", "total", "pay"), tuple(range(8, 14))))
+
+    def test_a_yes_and_its_reasons(self) -> None:
+        words = {"assignment.mps": "network", "maxflow.mod": "network", "shifts.lp": "sums", "wards.mod": "network"}
+        for name, word in words.items():
+            with self.subTest(name=name):
+                report = model_report(EXAMPLES / name)
+                assert report.reason is not None
+                self.assertEqual((report.verdict, report.reason.word, report.relax), ("yes", word, ()))
+                self.assertEqual(report.not_whole, ())
+        rows = {f"r{at}": [int(at <= column < at + 3) for column in range(6)] for at in range(4)}
+        turned = self.write("turned.lp", lp_text(rows))
+        report = model_report(turned)
+        assert report.reason is not None
+        self.assertIn("intervals", report.reason.sentence)
+
+    def test_sides_that_are_not_whole(self) -> None:
+        path = self.write("sides.lp", lp_text({"a": [2, 2, 0], "b": [0, 1, 1]}, [3, 2.5]))
+        report = model_report(path)
+        self.assertEqual(report.verdict, "yes")
+        self.assertEqual([str(it) for it in report.not_whole], ["right-hand side 1.5 of a", "right-hand side 2.5 of b"])
+        self.assertIn("No whole numbers: right-hand side 1.5 of a and right-hand side 2.5 of b.", report.to_text())
+        bounds = self.write("bounds.lp", "Minimize\n x + y\nSubject To\n c: x + y <= 3\nBounds\n x <= 1.5\nEnd\n")
+        self.assertEqual([str(it) for it in model_report(bounds).not_whole], ["bound 1.5 of x"])
+
+    def test_all_rows_have_other_coefficients(self) -> None:
+        report = model_report(self.write("large.lp", lp_text({"a": [2, 3, 0], "b": [0, 1, 5]})))
+        self.assertEqual((report.verdict, report.relax, report.minimal), ("no", ("a", "b"), None))
+        self.assertIn("totally unimodular: no\n", report.to_text())
+        self.assertIn("</html>", report.to_html())
+
+    def test_a_largest_set_of_families_of_random_models(self) -> None:
+        chance = random.Random(7)
+        spoiled = 0
+        for number in range(25):
+            names = [
+                f"{family}({at})" for family in "abcd"[: chance.randint(2, 4)] for at in range(chance.randint(1, 3))
+            ]
+            entries = {name: [chance.choice((0, 0, 1, 1, -1)) for _ in range(5)] for name in names}
+            entries = {name: row if any(row) else [1, 0, 0, 0, 0] for name, row in entries.items()}
+            with self.subTest(number=number):
+                report = model_report(self.write(f"m{number}.lp", lp_text(entries)))
+                self.holds(report)
+                if report.verdict == "yes":
+                    self.assertEqual(report.relaxed, ())
+                    continue
+                spoiled += 1
+                assert report.kept is not None
+                self.assertTrue(report.kept.is_largest)
+                kept = report.kept.answer.rows if report.kept.answer else ()
+                self.assertEqual(len(kept), self.most_rows(entries))
+        self.assertGreater(spoiled, 10)
+
+    def most_rows(self, entries: dict[str, list[int]]) -> int:
+        """How many rows whole families can keep, by all sets of them."""
+        families = sorted({name[0] for name in entries})
+        sets = [chosen for size in range(len(families) + 1) for chosen in combinations(families, size)]
+        kept = ([row for name, row in entries.items() if name[0] in chosen] for chosen in sets)
+        return max(len(rows) for rows in kept if not rows or is_unimodular(rows))
+
+    def test_many_families_are_searched_greedily(self) -> None:
+        letters = "abcdefghijklmnop"
+        chance = random.Random(3)
+        entries = {letter: [chance.choice((0, 1)) for _ in range(6)] for letter in letters}
+        entries = {name: row if any(row) else [1, 0, 0, 0, 0, 0] for name, row in entries.items()}
+        report = model_report(self.write("many.lp", lp_text(entries)))
+        self.holds(report)
+        assert report.kept is not None
+        self.assertFalse(report.kept.is_largest)
+        self.assertNotIn(None, report.kept.refused.values())
+        self.assertIn("This was found greedily: no other family can be added", report.to_text())
+
+    def test_a_limit_ends_the_search(self) -> None:
+        report = model_report(EXAMPLES / "goods.mod", questions=1)
+        self.assertEqual(report.verdict, "no")
+        assert report.within is not None
+        self.assertTrue(report.within.is_cut)
+        self.assertIn("Row by row the search was ended by its limit before one of load[..]", report.to_text())
+        hasty = model_report(EXAMPLES / "goods.mod", time_limit=0.000001)
+        self.assertEqual((hasty.verdict, hasty.whole.why_open, hasty.asked), ("undecided", "the time is over", 0))
+
+    def test_left_open(self) -> None:
+        report = model_report(EXAMPLES / "goods.mod", pivots=0, questions=1)
+        self.assertEqual(report.verdict, "undecided")
+        self.assertIn("a part of 16x16 is neither recognised nor separated", report.to_text())
+        self.assertIn("</html>", report.to_html())
+
+    def test_some_rows_decide_what_is_left_open(self) -> None:
+        report = model_report(EXAMPLES / "goods.mod", pivots=0)
+        self.assertEqual((report.whole.verdict, report.verdict), ("undecided", "no"))
+        assert report.minimal is not None
+        self.assertIn(report.minimal.determinant, (2, -2))
+        self.assertNotIn(None, [family.violator for family in report.families if family.relaxed])
+
+    def test_refused(self) -> None:
+        with self.assertRaisesRegex(BadInput, "there are no rows"):
+            model_report(self.write("none.mps", "NAME\nROWS\n N cost\nCOLUMNS\n x cost 1\nRHS\nENDATA\n"))
+        with self.assertRaisesRegex(BadInput, "questions is a number from 1"):
+            model_report(EXAMPLES / "crews.mod", questions=0)
+
+    def test_the_matrix_is_that_of_model_to_matrix(self) -> None:
+        for name in ("crews.mod", "knapsack.mps", "shifts.lp", "goods.mod"):
+            report = model_report(EXAMPLES / name)
+            choice = Choice(unit_rows=bool(report.rows.refused), scale=bool(report.rows.divided))
+            found = constraints_of_file(EXAMPLES / name, None, choice, None)
+            own = report.rows.constraints(report.whole.rows)
+            self.assertEqual((own.names, dict(own.entries)), (found.names, dict(found.entries)))
+
+
+@needs_program
+@needs_module("swiglpk")
+@needs_command("glpsol")
+class Pages(ReportTest):
+    def model(self) -> Path:
+        """A model in free MPS with names that HTML would read."""
+        rows = [f"r{HARD}[{at}]" for at in range(3)]
+        lines = ["NAME", "ROWS", " N cost", *(f" L {row}" for row in rows), "COLUMNS"]
+        for at in range(3):
+            for row in (at, (at + 1) % 3):
+                lines.append(f" x{HARD}{at} {rows[row]} 1")
+        lines += ["RHS", *(f" RHS {row} 1" for row in rows), "ENDATA", ""]
+        return self.write("<i>hard&.mps", "\n".join(lines))
+
+    def test_names_are_escaped(self) -> None:
+        page = model_report(self.model()).to_html()
+        self.assertNotIn('<b>&"', page)
+        self.assertNotIn("<i>hard", page)
+        self.assertIn(f"r{HARD}[0]", unescape(page))
+
+    def test_a_page_needs_nothing_else(self) -> None:
+        for name in ("crews.mod", "shifts.lp", "wards.mod"):
+            page = model_report(EXAMPLES / name).to_html()
+            self.assertEqual(re.findall(r"<(?:script|link|img|iframe|object|base)\b|\bsrc=|\bhref=|@import", page), [])
+            self.assertEqual(
+                set(re.findall(r"url\([^)]*\)|https?:[^\s\"<]*", page)), {"url(#hatch)"} if "hatch)" in page else set()
+            )
+            self.assertIn("default-src 'none'", page)
+
+    @needs_command("chromium")
+    def test_a_browser_shows_it(self) -> None:
+        for name, path in (("hard", self.model()), ("wards", EXAMPLES / "wards.mod"), ("crew", EXAMPLES / "crews.mod")):
+            page = self.write(f"{name}.html", model_report(path).to_html())
+            words = [
+                "chromium",
+                "--headless",
+                "--no-sandbox",
+                "--disable-gpu",
+                f"--user-data-dir={self.folder / 'profile'}",
+            ]
+            picture = self.folder / f"{name}.png"
+            with self.subTest(name=name):
+                ran = subprocess.run([*words, "--dump-dom", page.as_uri()], capture_output=True, text=True, check=True)
+                self.assertEqual(ran.stdout.count("<h1>"), 1)
+                self.assertIn("<h2>How to repeat it</h2>", ran.stdout)
+                self.assertNotIn('<b>&amp;"', ran.stdout.replace("<b>network</b>", ""))
+                size = ["--window-size=1400,1000", f"--screenshot={picture}"]
+                subprocess.run([*words, *size, page.as_uri()], capture_output=True, check=True)
+                self.assertGreater(picture.stat().st_size, 20_000)
+
+
+class Words(unittest.TestCase):
+    def test_families_in_few_words(self) -> None:
+        self.assertEqual(said_rows("skill(..)", ["skill(0)", "skill(2)", "skill(1)"]), "skill(0..2)")
+        self.assertEqual(said_rows("cap_#", ["cap_8", "cap_9", "cap_10"]), "cap_8..10")
+        self.assertEqual(said_rows("cap_#", ["cap_1", "cap_3"]), "cap_#")
+        self.assertEqual(said_rows("flow[..]", ["flow[a,1]", "flow[b,1]"]), "flow[..]")
+        self.assertEqual(said_rows("total", ["total"]), "total")
+
+    def test_patterns_of_rows(self) -> None:
+        names = ["skill(0)", "skill(1)", "total", "totals", "cap_1_2", "a.b", "axb"]
+        for wanted in (["skill(0)", "skill(1)"], ["total"], ["cap_1_2", "total"], ["skill(1)"], ["a.b"], names):
+            pattern = row_pattern(wanted, names)
+            self.assertEqual(
+                [name for name in names if re.search(pattern, name)], [name for name in names if name in wanted]
+            )
+
+    def test_determinants(self) -> None:
+        self.assertEqual(determinant([[1, 1, 0], [0, 1, 1], [1, 0, 1]]), 2)
+        self.assertEqual(determinant([[0, 1], [1, 0]]), -1)
+        self.assertEqual(determinant([[1, 1], [1, 1]]), 0)
+        self.assertEqual(determinant([[0, 2, 1], [1, 0, 3], [4, 1, 0]]), 25)
+        self.assertEqual(determinant([]), 1)
+
+
+@needs_program
+@needs_module("swiglpk")
+@needs_command("glpsol")
+class Objects(ReportTest):
+    def test_an_object_of_json(self) -> None:
+        found = json.loads(model_report(EXAMPLES / "crews.mod").to_json())
+        self.assertEqual(found["totally_unimodular"], "no")
+        self.assertEqual(found["relax"]["rows"], [*(f"skill[{at}]" for at in range(4)), "total", "pay"])
+        self.assertEqual(found["coefficients"], {"refused": ["pay"], "divided": {}})
+        self.assertEqual(found["violator"]["determinant"], 2)
+        self.assertEqual({it["family"]: it["state"] for it in found["families"]}["period[..]"], "kept")
+
+
+if __name__ == "__main__":
+    unittest.main()
