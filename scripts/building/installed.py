@@ -64,7 +64,7 @@ def items(prefix: Path) -> list[Item]:
         *(Item(f"{FOLDER}/scripts/{it}", scripts / it) for it in SCRIPTS.values()),
         *(Item(f"{FOLDER}/python/{it.relative_to(python)}", it) for it in package),
         Item("share/man/man1/cmr.1", TOP / "docs" / "cmr.1"),
-        *(Item(f"share/man/man1/{name}.1", TOP / "docs" / "commands" / f"{name}.1") for name in SCRIPTS),
+        *(Item(f"share/man/man1/{it.name}", it) for it in sorted((TOP / "docs" / "commands").glob("*.1"))),
         Item(f"{_BASH}/cmr", scripts / "completions" / "cmr.bash"),
         Item(f"{_BASH}/cmr-commands", scripts / "completions" / "cmr-commands.bash"),
         # bash loads the file that has the name of the command.
