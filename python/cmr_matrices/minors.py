@@ -36,7 +36,11 @@ def excluded_minor(
     `series-parallel` (U2,4, M(K4)) and `binary series-parallel` (M(K4)). Regular, graphic, cographic and binary series-parallel matrices
     are 0/1, and represent a binary matroid; the others represent one over GF(3).
 
-    Raises `Undecided` where the program does not decide whether the matrix is in the class.
+    `lines` is the budget of each search, 0 to 24 lines (14); `workers` the threads that share it, 1 to 64 (1); `pivots` the number of
+    pivots that may be made on the path to an open part, 0 to 100 (20). `time_limit` is in seconds, 0 to 2,000,000, for the whole call.
+    `program` is the program's path.
+
+    Raises `Undecided` if the program does not decide whether the matrix is in the class.
 
     Source: Tutte 1958 and 1959; Oxley, *Matroid Theory*; `cmr_matrices.excluded` says why.
     """

@@ -143,8 +143,14 @@ def model_report(
     """The report of a model in a file, of the formats of `from_model`.
 
     Is its constraint matrix totally unimodular, and why? If not, which families of rows spoil it, and which to relax so that what is
-    left is? `time_limit` are the seconds for all questions, on the whole matrix, for a smallest violator, on the families, and on the rows of
-    one of them. The last two put at most so many `questions` each, and `tell` is told of them.
+    left is?
+
+    `form` is the format, if the suffix of the file does not give it, and `data` the data of a model of MathProg. `lines` is the budget of
+    each search, 0 to 24 lines (14); `pivots` the number of pivots that may be made on the path to an open part, 0 to 100 (20).
+    `questions` is the greatest number of questions on the families, and again on the rows of one family, 1 to 100,000 (300).
+    `time_limit` is in seconds, 0 to 2,000,000, for all questions: on the whole matrix, for a smallest violator, on the families, and on
+    the rows of one family. `program` is the program's path. `tell` is called before each question with the name of the step, the
+    question's number in it, counted from 1, and the greatest number.
     """
     name = os.fspath(path)
     whole_number("questions", questions, 1, 100_000)
