@@ -17,7 +17,7 @@ __all__ = ["report_json", "report_text"]
 _MOST = 20
 """The most families that are listed, and the most lines of a tree and of a violator."""
 
-_STATES = {"kept": "keep", "relaxed": "relax", "partly": "in part"}
+_STATES = {"kept": "keep", "relaxed": "relax", "partly": "in part", "open": "open"}
 
 
 def report_text(report: ModelReport) -> str:
@@ -30,10 +30,11 @@ def _lines(report: ModelReport) -> Iterator[str]:
     yield from sentences.of_verdict(report)
     if report.verdict == "yes":
         yield sentences.of_sides(report)
+    yield from _titled("Limits", sentences.of_limits(report))
     yield from _titled("Coefficients", sentences.of_coefficients(report))
     if report.minimal is not None:
         yield ""
-        yield f"The smallest violator that was found: {sentences.of_violator(report)}."
+        yield f"The smallest violator that was found has {sentences.of_violator(report)}."
         yield from _table(report)
     if report.verdict != "yes":
         yield ""
@@ -84,18 +85,18 @@ def _families(report: ModelReport) -> Iterator[str]:
 
 
 def _tree(report: ModelReport) -> Iterator[str]:
-    asked = report.rest or report.whole
+    asked = report.rest if report.rest is not None else report.whole
     lines = [line for piece in asked.pieces if piece.tree is not None for line in piece.tree.outline().splitlines()]
     if lines:
         yield ""
-        yield f"The decomposition of {'what is left' if report.relaxed else 'the matrix'}:"
+        yield f"The decomposition of {'the remaining rows' if report.relaxed else 'the matrix'}:"
         yield from (f"  {line if len(line) <= 200 else line[:200] + ' ..'}" for line in lines[:_MOST])
         if len(lines) > _MOST:
             yield f"  and {len(lines) - _MOST} other nodes"
 
 
 def report_json(report: ModelReport) -> str:
-    """One object, whose keys stay as they are."""
+    """One object, whose keys do not depend on the model."""
     return json.dumps(_object(report), indent=1, ensure_ascii=False) + "\n"
 
 
@@ -103,6 +104,8 @@ def _object(report: ModelReport) -> dict[str, Any]:
     model, found = report.rows.model, report.minimal
     return {
         "model": report.model,
+        "file": report.file,
+        "in_memory": report.is_in_memory,
         "totally_unimodular": report.verdict,
         "rows": len(model.rows),
         "columns": len(model.columns),
@@ -137,9 +140,12 @@ def _object(report: ModelReport) -> dict[str, Any]:
         "relax": {
             "said": report.relax,
             "rows": [model.rows[row] for row in report.relaxed],
-            "largest": bool(report.kept and report.kept.is_largest),
-            "solves_as_a_linear_program": report.rest is not None,
+            "largest": report.kept is not None and report.kept.is_largest,
+            "rest_is_totally_unimodular": report.rest is not None,
+            "solves_as_a_linear_program": report.rest is not None and not report.not_whole and not model.left_out,
         },
+        "left_out": model.left_out,
+        "ended": dict(report.ended),
         "open": None if report.verdict != "undecided" else {"why": report.whole.why_open} | _open(report),
         "reduced": {
             "rows": report.reduced.rows,
@@ -148,7 +154,7 @@ def _object(report: ModelReport) -> dict[str, Any]:
             "left": report.reduced.left,
             "parts": report.reduced.parts,
         },
-        "tree": _outline(report.rest or report.whole),
+        "tree": _outline(report.rest if report.rest is not None else report.whole),
         "asked": report.asked,
         "checked": report.checked,
         "commands": [{"what": it.what, "commands": it.commands, "says": it.says} for it in repeated(report)],
