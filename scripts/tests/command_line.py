@@ -27,13 +27,13 @@ SUMS = re.findall(r"`(\w+)`", re.search(r"SUM is (.*?)\.", SECTION, re.S)[1])
 
 
 def _range(option):
-    """The least and the greatest number behind an option, and the one where it is left out."""
-    found = re.search(rf"`{option}` is [^.]*?(\d+)\s+to\s+(\d+), and (\d+) where it is left out", SECTION)
-    assert found, f"docs/FORMATS.md has no range of {option} in the words: is .., 0 to 9, and 1 where it is left out"
+    """The least and the greatest number behind an option, and its default."""
+    found = re.search(rf"`{option}` is [^.]*?(\d+)\s+to\s+(\d+)\s+\(default\s+(\d+)\)", SECTION)
+    assert found, f"docs/FORMATS.md has no range of {option} in the words: is .., 0 to 9 (default 1)"
     return tuple(map(int, found.groups()))
 
 
-# For each option with a number, which has a single letter in the table: the least, the greatest, and the one where it is left out.
+# For each option with a number, which has a single letter in the table: the least, the greatest, and the default.
 NUMBERS = {
     option: _range(option)
     for options in OPTIONS.values()
@@ -42,7 +42,7 @@ NUMBERS = {
 }
 
 # The ranges of the numbers, in the words of the text.
-RANGES = {option: (f"{least} to {most}", f"{usual} where it is left out") for option, (least, most, usual) in NUMBERS.items()}
+RANGES = {option: (f"{least} to {most}", f"default {usual}") for option, (least, most, usual) in NUMBERS.items()}
 RANGES |= {"SIZE": ("1 to 1000", "at most 249"), "NUMBER": ("0 to 2147483647",)}
 
 STATUSES = sorted({int(it) for it in re.findall(r"\| (\d) \|$|^\| (\d) \|", FORMATS, re.M) for it in it if it})

@@ -27,6 +27,7 @@ impl Block {
 fn nothing() {}
 """
 SHARED = 20
+PRIVATE = 27
 WITHIN = f"""\
      1 of at most  230 lines of README.md
     19 of at most  800 lines of a file of code
@@ -35,6 +36,7 @@ WITHIN = f"""\
      2 of at most   40 lines of a body
      0 of at most {SHARED:4} names of definitions in two crates
      0 of at most    0 modules of definitions with one name in two crates
+     0 of at most {PRIVATE:4} edits of private functions
 """
 
 
@@ -69,6 +71,20 @@ class SizesTest(ScriptTest):
     def test_counts_that_are_kept(self):
         run = self.run_script("sizes", self.folder)
         self.assertEqual((run.returncode, run.stdout, run.stderr), (0, WITHIN, ""))
+
+    def test_edits_of_private_functions(self):
+        """An edit asks what a crate promises where it changes an exported function, an exported method or a trait's method."""
+        self.put("crates/low/src/lib.rt", "mod block;\n\npub use block::Sum;\n")
+        methods = "    pub fn all(&self) {\n        step(1);\n    }\n\n    fn one(&self) {\n        step(2);\n    }\n"
+        shown = "impl Show for Part {\n    fn show(&self) {\n        step(3);\n    }\n}\n"
+        self.put("crates/low/src/block.rt", f"{KEPT}\nimpl Sum {{\n{methods}}}\n\n{shown}")
+        for number in (1, 3):
+            self.put(f"crates/low/must-fail/public_{number}.edit", f"file: src/block.rt\nold: step({number});\nnew: step(0);\n")
+        self.assertEqual(self.run_script("sizes", self.folder).returncode, 0)
+        names = [f"crates/low/must-fail/private_{number:02}.edit" for number in range(PRIVATE + 1)]
+        for name in names:
+            self.put(name, "file: src/block.rt\nold: step(2);\nnew: step(0);\n")
+        self.lists(f"{PRIVATE + 1:6} of at most {PRIVATE:4} edits of private functions", *(f"    {name}" for name in names))
 
     def test_what_was_built_is_no_source(self):
         self.put("crates/low/out/src/block.rt", function("long", [], 60))
