@@ -96,7 +96,8 @@ class Scipy(unittest.TestCase):
                 self.assertEqual(str(fault.exception), line)
 
     def test_what_is_no_model(self) -> None:
-        for value in (5, None, [], [1], object):
+        values: list[Any] = [5, None, [], [1], object]
+        for value in values:
             with self.subTest(value=value), self.assertRaisesRegex(BadInput, "a model is the path of its file, a pulp.LpProblem"):
                 model_of(value)
 

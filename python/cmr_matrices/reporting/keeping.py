@@ -3,7 +3,7 @@
 from __future__ import annotations
 
 from collections.abc import Iterable, Iterator, Sequence
-from dataclasses import dataclass, field
+from dataclasses import dataclass, field, replace
 from itertools import combinations
 
 from .asking import Asked, Asker, Cells
@@ -40,6 +40,8 @@ class Kept:
     answer: Asked | None
     refused: dict[int, Cells | None] = field(default_factory=dict)
     is_largest: bool = False
+    is_greedy: bool = False
+    """Whether blocks were added one after another. Otherwise all sets with more rows were tried or have a violator."""
     is_cut: bool = False
     """Whether a limit ended the search, or the search of all sets before it."""
     violators: tuple[tuple[frozenset[int], Cells], ...] = ()
@@ -100,8 +102,8 @@ class _Work:
             answer = self._ask(chosen)
             if answer.verdict == "yes":
                 is_largest = all(self._rows(left) <= self._rows(chosen) for left in self._open)
-                return self._kept(chosen, answer, is_largest=is_largest, is_cut=False)
-        return self._kept(frozenset(), None, is_largest=not self._open, is_cut=False)
+                return self._kept(chosen, answer, is_largest=is_largest)
+        return self._kept(frozenset(), None, is_largest=not self._open)
 
     def _by_size(self) -> Iterator[frozenset[int]]:
         """All sets except the empty one, by falling numbers of rows, then by falling numbers of blocks, then in the order of blocks."""
@@ -134,7 +136,7 @@ class _Work:
             tried = self._ask(chosen | {place})
             if tried.verdict == "yes":
                 chosen, answer = chosen | {place}, tried
-        return self._kept(chosen, answer, is_largest=False, is_cut=is_cut or was_cut)
+        return replace(self._kept(chosen, answer, is_largest=False), is_greedy=True, is_cut=is_cut or was_cut)
 
     def _added(self, chosen: frozenset[int], some: frozenset[int]) -> tuple[frozenset[int], Asked | None, bool]:
         """What is left of some blocks beside the chosen ones if one of them is left out for each violator, and whether a limit ended it."""
@@ -155,14 +157,14 @@ class _Work:
             some -= {min(own, key=lambda place: (self._size(place), -self._weight(place), -place))}
         return chosen, None, False
 
-    def _kept(self, chosen: frozenset[int], answer: Asked | None, *, is_largest: bool, is_cut: bool) -> Kept:
+    def _kept(self, chosen: frozenset[int], answer: Asked | None, *, is_largest: bool) -> Kept:
         assert answer is None or answer.verdict == "yes"
         refused: dict[int, Cells | None] = {}
         for place in range(len(self._blocks)):
             if place not in chosen:
                 among = chosen | {place}
                 refused[place] = next((cells for blocks, cells in self._violators if blocks <= among), None)
-        return Kept(tuple(sorted(chosen)), answer, refused, is_largest, is_cut, tuple(self._violators))
+        return Kept(tuple(sorted(chosen)), answer, refused, is_largest, violators=tuple(self._violators))
 
     def _ask(self, chosen: frozenset[int]) -> Asked:
         answer = self._asker.ask([*self._base, *(row for place in chosen for row in self._blocks[place])])

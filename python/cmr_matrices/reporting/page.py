@@ -91,6 +91,13 @@ pre { background: #f1f4f7; border: 1px solid var(--line); border-radius: 8px; pa
 code, pre { font-family: ui-monospace, "DejaVu Sans Mono", Menlo, monospace; }
 details summary { cursor: pointer; color: var(--soft); }
 footer { color: var(--soft); font-size: 13px; }
+@media (max-width: 720px) {
+  main { padding: 16px 12px 40px; } section { padding: 14px 16px; }
+  table.families thead { display: none; }
+  table.families tr { display: block; padding: 8px 0; border-bottom: 1px solid var(--line); }
+  table.families td { display: inline-block; border: 0; padding: 2px 12px 2px 0; } table.families td.why { display: block; }
+  td.name { min-width: 0; } td.rows::after { content: " rows"; } td.relaxed:not(:empty)::after { content: " relaxed"; }
+}
 @media print { body { background: #fff; } main { max-width: none; } section { break-inside: avoid; } }
 """
 
@@ -232,9 +239,10 @@ def _family(report: ModelReport, number: int, family: FamilyLine) -> str:
         names = [report.rows.model.rows[row] for row in family.relaxed]
         why = f"{why}; relaxed: {sentences.listed(names, 12)}"
     chip = f'<span class="chip" style="background:{COLOURS[number % len(COLOURS)]}"></span>'
-    more = f'<td class="number">{len(family.relaxed) or ""}</td><td>{escape(why)}</td>' if report.relaxed else ""
+    count = len(family.relaxed) or ""
+    more = f'<td class="number relaxed">{count}</td><td class="why">{escape(why)}</td>' if report.relaxed else ""
     return (
-        f'<tr><td class="name">{chip}{escape(family.said)}</td><td class="number">{family.rows}</td>'
+        f'<tr><td class="name">{chip}{escape(family.said)}</td><td class="number rows">{family.rows}</td>'
         f'<td class="state"><span class="pill {look}">{words}</span></td>{more}</tr>'
     )
 

@@ -114,7 +114,8 @@ class ModelReport:
             return family.said
         if len(family.relaxed) > _FEW:
             return f"{len(family.relaxed)} of the {family.rows} rows of {family.said}"
-        return ", ".join(self.rows.model.rows[row] for row in family.relaxed)
+        *others, last = (self.rows.model.rows[row] for row in family.relaxed)
+        return f"{', '.join(others)} and {last}" if others else last
 
     @property
     def not_whole(self) -> tuple[NotWhole, ...]:

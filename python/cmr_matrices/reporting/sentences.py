@@ -168,6 +168,8 @@ def _how(report: ModelReport) -> str:
         return "No other choice of families keeps more rows: each choice of more rows has a violator."
     if kept.is_cut:
         return "A limit ended the search, so another choice may keep more rows."
+    if not kept.is_greedy:
+        return "Some choice of families with more rows is left open."
     is_sure = all(violator is not None for violator in kept.refused.values())
     added = "no other family can be added" if is_sure else "no other family was found that can be added"
     return f"The search was greedy: {added}, but another choice may keep more rows."
