@@ -96,7 +96,7 @@ footer { color: var(--soft); font-size: 13px; }
   table.families thead { display: none; }
   table.families tr { display: block; padding: 8px 0; border-bottom: 1px solid var(--line); }
   table.families td { display: inline-block; border: 0; padding: 2px 12px 2px 0; } table.families td.why { display: block; }
-  td.name { min-width: 0; } td.rows::after { content: " rows"; } td.relaxed:not(:empty)::after { content: " relaxed"; }
+  td.name { min-width: 0; } td.rows::before { content: "rows "; } td.relaxed:not(:empty)::before { content: "relaxed "; }
 }
 @media print { body { background: #fff; } main { max-width: none; } section { break-inside: avoid; } }
 """
@@ -229,7 +229,7 @@ def _families(report: ModelReport) -> Iterator[str]:
     yield "</tbody></table>"
     if len(ordered) > _MOST:
         yield f'<p class="soft">and {len(ordered) - _MOST} other families</p>'
-    yield '<p class="soft">Names of one family are the same up to digits and what stands in brackets.</p></section>'
+    yield '<p class="soft">The names of one family are the same up to digits and bracketed text.</p></section>'
 
 
 def _family(report: ModelReport, number: int, family: FamilyLine) -> str:
