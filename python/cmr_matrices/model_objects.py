@@ -60,10 +60,11 @@ def pulp_model(problem: Any) -> Model:
         for variable, value in constraint.items()
     )
     is_semicontinuous = any(getattr(variable, "cat", "") == "SemiContinuous" for variable in variables)
+    rows, columns = tuple(map(str, problem.constraints)), tuple(variable.name for variable in variables)
     return Model(
-        tuple(map(str, problem.constraints)),
-        tuple(variable.name for variable in variables),
-        tuple(_coefficients(found)),
+        rows,
+        columns,
+        _coefficients(found, rows, columns),
         tuple(_side(constraint.sense, -constraint.constant) for constraint in constraints),
         tuple(_ends(variable.lowBound, variable.upBound) for variable in variables),
         tuple(variable.cat == "Integer" for variable in variables),
@@ -97,10 +98,11 @@ def pyomo_model(model: Any, use: str) -> Model:
         sides.append(_ends(*(None if end is None else end - terms.constant for end in ends)))
     objectives = model.component_data_objects(environ.Objective, active=True)
     is_linear = all(represented(objective.expr).is_linear() for objective in objectives)
+    rows, columns = (tuple(str(it.name) for it in lines) for lines in (constraints, variables))
     return Model(
-        tuple(str(constraint.name) for constraint in constraints),
-        tuple(str(variable.name) for variable in variables),
-        tuple(_coefficients(found)),
+        rows,
+        columns,
+        _coefficients(found, rows, columns),
         tuple(sides),
         tuple(_ends(variable.lb, variable.ub) for variable in variables),
         tuple(not variable.is_continuous() for variable in variables),
@@ -115,10 +117,11 @@ def linopy_model(model: Any) -> Model:
         raise BadInput(f"a model of linopy is a linopy.Model, and here it is {shown(model)}")
     senses, sides = list(getattr(kept, "sense", ())), list(getattr(kept, "b", ()))
     bounds = zip(getattr(kept, "lb", ()), getattr(kept, "ub", ()))
+    rows, columns = tuple(f"con{label}" for label in kept.clabels), tuple(f"var{label}" for label in kept.vlabels)
     return Model(
-        tuple(f"con{label}" for label in kept.clabels),
-        tuple(f"var{label}" for label in kept.vlabels),
-        tuple(_coefficients(entries_of(kept.A).entries)),
+        rows,
+        columns,
+        _coefficients(entries_of(kept.A).entries, rows, columns),
         tuple(_side(_SENSES.get(str(sense)[:1], 0), side) for sense, side in zip(senses, sides)),
         tuple(_ends(lower, upper) for lower, upper in bounds),
         tuple(str(kind) in "BI" for kind in getattr(kept, "vtypes", ())),
@@ -167,10 +170,11 @@ def scipy_model(
 def _scipy_model(
     names: Sequence[str], width: int, found: _Found, sides: Sequence[Ends], bounds: Any, integrality: Any
 ) -> Model:
+    columns = tuple(f"x{column}" for column in range(width))
     return Model(
         tuple(names),
-        tuple(f"x{column}" for column in range(width)),
-        tuple(_coefficients(found, names)),
+        columns,
+        _coefficients(found, names, columns),
         tuple(sides),
         tuple(_bounds(bounds, width)),
         tuple(bool(kind) for kind in _numbers("integrality", 0 if integrality is None else integrality, width)),
@@ -233,14 +237,16 @@ def _ends(lower: Any, upper: Any) -> Ends:
     return Ends(-inf if lower is None else float(lower), inf if upper is None else float(upper))
 
 
-def _coefficients(found: _Found, rows: Sequence[str] = ()) -> Iterator[Coefficient]:
+def _coefficients(found: _Found, rows: Sequence[str], columns: Sequence[str]) -> tuple[Coefficient, ...]:
     """The coefficients, of which each has to be a finite number."""
-    for row, column, value in found:
-        try:
-            number = float(value)
-        except (TypeError, ValueError):
-            number = inf
-        if not isfinite(number):
-            name = rows[row] if rows else str(row)
-            raise BadInput(f"row {name}, column {column}: the coefficient {shown(value)} is no number")
-        yield Coefficient(row, column, number)
+    return tuple(Coefficient(row, column, _number(value, rows[row], columns[column])) for row, column, value in found)
+
+
+def _number(value: Any, row: str, column: str) -> float:
+    try:
+        number = float(value)
+    except (TypeError, ValueError):
+        number = inf
+    if not isfinite(number):
+        raise BadInput(f"row {row}, column {column}: the coefficient {shown(value)} is no number")
+    return number

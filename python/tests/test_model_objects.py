@@ -79,7 +79,7 @@ class Scipy(unittest.TestCase):
 
     def test_refusals(self) -> None:
         refused: list[tuple[Any, str]] = [
-            (lambda: scipy_model([[1, nan]], [1]), "row ub0, column 1: the coefficient nan is no number"),
+            (lambda: scipy_model([[1, nan]], [1]), "row ub0, column x1: the coefficient nan is no number"),
             (lambda: scipy_model([[1]], [1, 2]), "b_ub has 2 numbers, and there are 1 lines"),
             (lambda: scipy_model([[1]], [1], [[1]]), "right-hand sides are given for A_ub and for A_eq, or for neither"),
             (lambda: scipy_model([[1, 0]], [1], [[1]], [1]), "A_ub and A_eq have 1 and 2 columns"),
