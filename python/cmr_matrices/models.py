@@ -8,12 +8,14 @@ from __future__ import annotations
 
 import os
 import re
+import resource
+import signal
 import subprocess
 import tempfile
 from collections.abc import Iterator
-from contextlib import contextmanager
+from contextlib import contextmanager, suppress
 from dataclasses import dataclass, replace
-from math import inf, isfinite
+from math import ceil, inf, isfinite
 from pathlib import Path
 from typing import Any
 
@@ -24,6 +26,10 @@ from .model_texts import format_of, left_out, plain_text
 __all__ = ["Coefficient", "Ends", "Model", "read_model"]
 
 TRANSLATIONS = {"lp": "--lp", "mathprog": "--math"}
+
+# About as many nonzeros as the package can look at in a second on a slow machine.
+_NONZEROS_PER_SECOND = 30_000
+_SMALLER = "take a smaller instance or a larger time limit"
 
 
 @dataclass(frozen=True)
@@ -65,10 +71,11 @@ class Model:
     left_out: tuple[str, ...] = ()
 
 
-def read_model(name: str, form: str | None, data: str | None = None) -> Model:
+def read_model(name: str, form: str | None, data: str | None = None, seconds: float | None = None) -> Model:
     """The model of a file in the format `mps`, `lp` or `mathprog`, which may have its data in a second file.
 
-    Where no format is given, the file's suffix tells it, or what the file begins with.
+    If no format is given, the file's suffix decides, or what the file begins with. With a limit in `seconds` it raises `BadInput` if GLPK
+    needs more processor time to generate the model, or if the model has more nonzeros than can be looked at in this time.
     """
     text = _read(name)
     if data:
@@ -84,26 +91,47 @@ def read_model(name: str, form: str | None, data: str | None = None) -> Model:
         source, translated = (os.path.join(folder, part) for part in ("model", "model.mps"))
         Path(source).write_bytes(plain)
         if form != "mps":
-            _translate(source, name, TRANSLATIONS[form], data, translated)
-        return replace(_read_mps(source if form == "mps" else translated, name), left_out=beside)
+            _translate(source, name, TRANSLATIONS[form], data, translated, seconds)
+        most = None if seconds is None else int(_NONZEROS_PER_SECOND * seconds)
+        return replace(_read_mps(source if form == "mps" else translated, name, most), left_out=beside)
 
 
-def _translate(source: str, name: str, option: str, data: str | None, translated: str) -> None:
+def _translate(
+    source: str, name: str, option: str, data: str | None, translated: str, seconds: float | None
+) -> None:
     command = ["glpsol", option, source, "--check", "--wfreemps", translated]
     if data:
         command += ["--data", os.path.abspath(data)]
     try:
-        run = subprocess.run(command, capture_output=True, text=True, errors="replace", check=False)
+        status, printed = _run(command, seconds)
     except FileNotFoundError as fault:
         raise CommandMissing(f"reading {name}", "glpsol", "glpk-utils") from fault
-    if run.returncode != 0 or not os.path.exists(translated):
-        words = _Complaint.of(run.stdout).words
+    if status in (-signal.SIGXCPU, -signal.SIGKILL) and seconds is not None:
+        raise BadInput(f"{name}: GLPK does not generate the model within {seconds:g} seconds; {_SMALLER}")
+    if status != 0 or not os.path.exists(translated):
+        words = _Complaint.of(printed).words
         hint = f" (files of tables are looked for from {os.getcwd()})" if "table" in words else ""
         raise BadInput(f"{name}: no model, {words}{hint}")
 
 
-def _read_mps(path: str, name: str) -> Model:
-    """Reads fixed MPS, and else free MPS. The file may stand for another one, whose name is told."""
+def _run(command: list[str], seconds: float | None) -> tuple[int, str]:
+    """The status of a run and what it printed. The system ends the run after this processor time."""
+    pipe = subprocess.PIPE
+    with subprocess.Popen(command, stdout=pipe, stderr=subprocess.STDOUT, text=True, errors="replace") as process:
+        if seconds is not None:
+            most = max(ceil(seconds), 1)
+            with suppress(ProcessLookupError):
+                resource.prlimit(process.pid, resource.RLIMIT_CPU, (most, most + 1))
+        try:
+            printed, _ = process.communicate()
+        except BaseException:
+            process.kill()
+            raise
+    return process.returncode, printed
+
+
+def _read_mps(path: str, name: str, most: int | None) -> Model:
+    """Reads fixed MPS, and otherwise free MPS. Faults name the file `name`."""
     glpk = _glpk()
     complaints = []
     for kind in (glpk.GLP_MPS_DECK, glpk.GLP_MPS_FILE):
@@ -112,6 +140,9 @@ def _read_mps(path: str, name: str) -> Model:
             with _printed() as printed:
                 refused = glpk.glp_read_mps(problem, kind, None, path) != 0
             if not refused:
+                count = max(glpk.glp_get_num_nz(problem), glpk.glp_get_num_rows(problem))
+                if most is not None and count > most:
+                    raise BadInput(f"{name}: there are {count} nonzeros, too many for the time limit; {_SMALLER}")
                 return _constraints(glpk, problem)
             complaints.append(_Complaint.of(printed[0]))
         finally:

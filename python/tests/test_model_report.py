@@ -193,11 +193,11 @@ class Reports(ReportTest):
         self.assertEqual(report.ended["rows of load[..]"], "questions")
         self.assertIn("The limits on questions ended these steps: ", report.to_text())
         self.assertIn("A limit ended the search row by row before it found a row of load[..]", report.to_text())
-        hasty = model_report(EXAMPLES / "goods.mod", time_limit=0.000001)
+        hasty = model_report(EXAMPLES / "goods.mod", time_limit=0.01)
         self.assertEqual((hasty.verdict, hasty.whole.why_open), ("undecided", "the time is over"))
         self.assertEqual(set(hasty.ended.values()), {"time"})
         for text in (hasty.to_text(), hasty.to_html()):
-            self.assertIn("The time limit of 1e-06 seconds ended these steps: the whole matrix; all sets of families of rows;", text)
+            self.assertIn("The time limit of 0.01 seconds ended these steps: the whole matrix; all sets of families of rows;", text)
             self.assertIn("Their results depend on the speed of the machine.", text)
         self.assertEqual({family.state for family in hasty.families}, {"open"})
         self.assertIsNone(hasty.rest)
@@ -215,11 +215,11 @@ class Reports(ReportTest):
 
     def test_a_part_that_is_too_large(self) -> None:
         """Rows i and i + 1 share a column, in a cycle of odd length with cycles that cross it: nothing is reducible."""
-        rows: dict[str, list[str]] = {f"r[{at}]": [] for at in range(1101)}
+        rows: dict[str, list[str]] = {f"r({at})": [] for at in range(1101)}
         for at in range(1101):
             for step in (1, 2):
                 for row in (at, (at + step) % 1101):
-                    rows[f"r[{row}]"].append(f"c{at}_{step}")
+                    rows[f"r({row})"].append(f"c{at}_{step}")
         lines = [f" {name}: {' + '.join(columns)} <= 1" for name, columns in rows.items()]
         path = self.write("large.lp", "\n".join(["Minimize", " cost: c0_1", "Subject To", *lines, "End", ""]))
         report = model_report(path, questions=3)
@@ -228,6 +228,19 @@ class Reports(ReportTest):
         assert report.minimal is not None
         self.assertEqual(abs(report.minimal.determinant or 0), 2)
         self.assertIn("</html>", report.to_html())
+
+    def test_a_model_that_takes_too_long_to_read(self) -> None:
+        text = "set S := 1..2**19; var x{S}; a{s in S}: x[s] <= 1; b: sum{s in S} x[s] <= 1; end;\n"
+        for seconds, line in ((1, "GLPK does not generate the model within 1 seconds"), (None, "")):
+            path = self.write("huge.mod", text if line else text.replace("2**19", "9"))
+            if line:
+                with self.assertRaisesRegex(BadInput, f"{line}; take a smaller instance or a larger time limit"):
+                    model_report(path, time_limit=seconds)
+            else:
+                self.assertEqual(model_report(path).verdict, "yes")
+        many = self.write("many.lp", lp_text({"a": [1] * 40, "b": [1] * 40}))
+        with self.assertRaisesRegex(BadInput, "there are 80 nonzeros, too many for the time limit; take a smaller instance"):
+            model_report(many, time_limit=0.001)
 
     def test_left_open(self) -> None:
         report = model_report(EXAMPLES / "goods.mod", pivots=0, questions=1)
@@ -317,10 +330,10 @@ class Pages(ReportTest):
     def test_a_large_page_is_small(self) -> None:
         """A model of 1,000 by 1,000 has a page of less than 3 MB."""
         chance = random.Random(5)
-        rows = {f"cap[{at}]": sorted(chance.sample(range(1000), 12)) for at in range(1000)}
+        rows = {f"cap({at})": sorted(chance.sample(range(1000), 12)) for at in range(1000)}
         lines = [f" {name}: {' + '.join(f'x{at}' for at in columns)} <= 1" for name, columns in rows.items()]
         path = self.write("large.lp", "\n".join(["Minimize", " cost: x0", "Subject To", *lines, "End", ""]))
-        report = model_report(path, questions=1, time_limit=0)
+        report = model_report(path, questions=1, time_limit=1)
         self.assertEqual(report.shape, (1000, 1000))
         self.assertLess(len(report.to_html()), 3_000_000)
 

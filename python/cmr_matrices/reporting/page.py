@@ -209,8 +209,8 @@ def _violator(report: ModelReport) -> Iterator[str]:
         yield "</tbody></table></div>"
     if found.determinant in (2, -2):
         yield (
-            f'<p class="soft">By Cramer&#x27;s rule with the determinant {found.determinant}, inequalities in these rows and variables only have '
-            "a vertex with a half for some integral right-hand sides.</p>"
+            f'<p class="soft">By Cramer&#x27;s rule with the determinant {found.determinant}, inequalities in these rows and variables '
+            "only have a vertex with a half for some integral right-hand sides.</p>"
         )
 
 
@@ -300,6 +300,6 @@ def _foot(report: ModelReport) -> Iterator[str]:
     checked = sentences.counted(report.checked, "piece of evidence", "pieces of evidence")
     unproved = "" if report.is_proved else " The program was compiled by <code>./try-cmr</code> without proofs."
     yield (
-        f"<footer><p>The program <code>cmr</code> answered {asked}, and <code>cmr check</code> accepted {checked}.{unproved} The Python package "
-        "computed graphs, reductions and determinants again.</p></footer>"
+        f"<footer><p>The program <code>cmr</code> answered {asked}, and <code>cmr check</code> accepted {checked}.{unproved} The Python "
+        "package computed graphs, reductions and determinants again.</p></footer>"
     )

@@ -180,11 +180,10 @@ def model_report(
     whole_number("questions", questions, 1, 100_000)
     limit = Clock(time_limit).limit
     proved = find_program(program) != unproved()
-    source = _source(model, form, data, tell)
-    try:
-        rows = ModelRows.of(source.model)
-    except BadInput as fault:
-        raise BadInput(f"{source.name}: {fault}") from fault
+    if tell is not None:
+        tell("reading the model", 0, 0)
+    source = _source(model, form, data, limit)
+    rows = source.rows
     asker = Asker(rows, lines=lines, pivots=pivots, seconds=limit, program=program, tell=tell, start=start)
     found = _Work(asker, rows, questions).done()
     return ModelReport(
@@ -198,15 +197,7 @@ def model_report(
         lines=lines,
         form=form,
         data=None if data is None else os.fspath(data),
-        whole=found.whole,
-        reduced=found.reduced,
-        reason=found.reason,
-        minimal=found.minimal,
-        families=found.families,
-        kept=found.kept,
-        inside=found.inside,
-        within=found.within,
-        rest=found.rest,
+        **vars(found),
         asked=asker.asked,
         checked=asker.checked,
         ended=dict(asker.ended),
@@ -224,17 +215,24 @@ class _Source:
     file: str
     is_in_memory: bool
 
+    @property
+    def rows(self) -> ModelRows:
+        """The divided rows of the model. A fault names the model."""
+        try:
+            return ModelRows.of(self.model)
+        except BadInput as fault:
+            raise BadInput(f"{self.name}: {fault}") from fault
 
-def _source(model: Any, form: Format | None, data: StrPath | None, tell: Tell | None) -> _Source:
-    if tell:
-        tell("reading the model", 0, 0)
+
+def _source(model: Any, form: Format | None, data: StrPath | None, seconds: float | None) -> _Source:
     if isinstance(model, (str, os.PathLike)):
         if data is not None and not isinstance(data, (str, os.PathLike)):
             raise BadInput(f"data is the path of the file with the data, and here it is {shown(data)}")
         if form is not None:
             one_of("form", form, get_args(Format))
         path = os.fspath(model)
-        return _Source(read_model(path, form, None if data is None else os.fspath(data)), path, path, False)
+        read = read_model(path, form, None if data is None else os.fspath(data), seconds)
+        return _Source(read, path, path, False)
     if form is not None or data is not None:
         raise BadInput("form and data go with a model in a file, and here it is one in memory")
     said = getattr(model, "name", None)
@@ -245,6 +243,8 @@ def _source(model: Any, form: Format | None, data: StrPath | None, tell: Tell | 
 
 @dataclass(frozen=True)
 class _Found:
+    """What the steps find, under the names of `ModelReport`."""
+
     whole: Asked
     reduced: Reduced
     reason: Reason | None

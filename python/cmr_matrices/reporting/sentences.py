@@ -65,8 +65,8 @@ def of_limits(report: ModelReport) -> list[str]:
     said = []
     if timed:
         said.append(
-            f"The time limit of {report.time_limit or 0:g} seconds ended these steps: {'; '.join(timed)}. Their results depend on the speed "
-            "of the machine. `--time-limit` sets the limit."
+            f"The time limit of {report.time_limit or 0:g} seconds ended these steps: {'; '.join(timed)}. Their results depend on the "
+            "speed of the machine. `--time-limit` sets the limit."
         )
     if counted_out:
         said.append(f"The limits on questions ended these steps: {'; '.join(counted_out)}. `--questions` sets that of each search.")
@@ -89,7 +89,8 @@ def of_sides(report: ModelReport) -> str:
     which = "" if report.verdict == "yes" else " of the remaining rows"
     found = [str(it) for it in report.not_whole]
     if found:
-        return f"Not integral: {listed(found, _SOME)}. The vertices need not be integral unless all right-hand sides and bounds are integers."
+        said = f"Not integral: {listed(found, _SOME)}."
+        return f"{said} The vertices need not be integral unless all right-hand sides and bounds are integers."
     if not report.rows.model.sides:
         return "The right-hand sides are not known. The vertices need not be integral unless they and all bounds are integers."
     return f"All right-hand sides{which} and all bounds are integers."
@@ -146,8 +147,8 @@ def of_relaxation(report: ModelReport) -> list[str]:
     said.append(of_within(report))
     subject = "it" if len(report.relaxed) == 1 else "they"
     said.append(
-        f"In a Lagrangian relaxation {subject} would move to the objective, and in a decomposition to the master problem. The bound is that "
-        "of the linear program, since the remaining rows have integral vertices if their right-hand sides are integers (Geoffrion 1974)."
+        f"In a Lagrangian relaxation {subject} would move to the objective, and in a decomposition to the master problem. The bound is "
+        "that of the linear program, since the remaining rows have integral vertices if their right-hand sides are integers (Geoffrion 1974)."
     )
     return [sentence for sentence in [*said, *of_left_out(report)] if sentence]
 
@@ -216,8 +217,8 @@ def of_reductions(report: ModelReport) -> str:
     left = "nothing is left" if 0 in found.left else f"{found.left[0]} rows and {found.left[1]} columns are left"
     parts = f", in {counted(found.parts, 'connected part')}" if found.parts > 1 else ""
     return (
-        f"{found.rows} of {counted(rows, 'row')} and {found.columns} of {counted(columns, 'column')} are reducible, so they change no verdict "
-        f"({reasons}): {left}{parts}."
+        f"{found.rows} of {counted(rows, 'row')} and {found.columns} of {counted(columns, 'column')} are reducible, so they change no "
+        f"verdict ({reasons}): {left}{parts}."
     )
 
 

@@ -8,8 +8,9 @@ from typing import Any
 
 from . import sentences
 from .asking import Asked, Cells
+from .minimal import Minimal
 from .repeating import repeated
-from .report import ModelReport
+from .report import FamilyLine, ModelReport
 from .rows import NotWhole
 
 __all__ = ["report_json", "report_text"]
@@ -101,7 +102,7 @@ def report_json(report: ModelReport) -> str:
 
 
 def _object(report: ModelReport) -> dict[str, Any]:
-    model, found = report.rows.model, report.minimal
+    model = report.rows.model
     return {
         "model": report.model,
         "file": report.file,
@@ -113,52 +114,60 @@ def _object(report: ModelReport) -> dict[str, Any]:
         "pivots": report.pivots,
         "why": None if report.reason is None else {"class": report.reason.word, "sentence": report.reason.sentence},
         "not_whole": [_not_whole(it) for it in report.not_whole],
+        "left_out": model.left_out,
         "coefficients": {
             "refused": [model.rows[row] for row in sorted(report.rows.refused)],
             "divided": {scaling.name: str(scaling.factor) for scaling in report.rows.divided.values()},
         },
-        "violator": found
-        and {
-            "rows": found.row_names,
-            "columns": found.column_names,
-            "entries": found.entries,
-            "minimal": found.is_minimal,
-            "determinant": found.determinant,
-        },
-        "families": [
-            {
-                "family": family.name,
-                "said": family.said,
-                "rows": family.rows,
-                "state": family.state,
-                "relaxed": [model.rows[row] for row in family.relaxed],
-                "why": sentences.why_relaxed(report, family),
-                "violator": _cells(report, family.violator),
-            }
-            for family in report.families
-        ],
-        "relax": {
-            "said": report.relax,
-            "rows": [model.rows[row] for row in report.relaxed],
-            "largest": report.kept is not None and report.kept.is_largest,
-            "rest_is_totally_unimodular": report.rest is not None,
-            "solves_as_a_linear_program": report.rest is not None and not report.not_whole and not model.left_out,
-        },
-        "left_out": model.left_out,
-        "ended": dict(report.ended),
+        "violator": _minimal(report.minimal),
+        "families": [_family(report, family) for family in report.families],
+        "relax": _relaxation(report),
         "open": None if report.verdict != "undecided" else {"why": report.whole.why_open} | _open(report),
-        "reduced": {
-            "rows": report.reduced.rows,
-            "columns": report.reduced.columns,
-            **report.reduced.counts,
-            "left": report.reduced.left,
-            "parts": report.reduced.parts,
-        },
+        "ended": dict(report.ended),
+        "reduced": _reduced(report),
         "tree": _outline(report.rest if report.rest is not None else report.whole),
         "asked": report.asked,
         "checked": report.checked,
         "commands": [{"what": it.what, "commands": it.commands, "says": it.says} for it in repeated(report)],
     }
+
+
+def _minimal(found: Minimal | None) -> dict[str, Any] | None:
+    return None if found is None else {
+        "rows": found.row_names,
+        "columns": found.column_names,
+        "entries": found.entries,
+        "minimal": found.is_minimal,
+        "determinant": found.determinant,
+    }
+
+
+def _family(report: ModelReport, family: FamilyLine) -> dict[str, Any]:
+    return {
+        "family": family.name,
+        "said": family.said,
+        "rows": family.rows,
+        "state": family.state,
+        "relaxed": [report.rows.model.rows[row] for row in family.relaxed],
+        "why": sentences.why_relaxed(report, family),
+        "violator": _cells(report, family.violator),
+    }
+
+
+def _relaxation(report: ModelReport) -> dict[str, Any]:
+    model = report.rows.model
+    return {
+        "said": report.relax,
+        "rows": [model.rows[row] for row in report.relaxed],
+        "largest": report.kept is not None and report.kept.is_largest,
+        "rest_is_totally_unimodular": report.rest is not None,
+        "solves_as_a_linear_program": report.rest is not None and not report.not_whole and not model.left_out,
+    }
+
+
+def _reduced(report: ModelReport) -> dict[str, Any]:
+    found = report.reduced
+    return {"rows": found.rows, "columns": found.columns, **found.counts, "left": found.left, "parts": found.parts}
 
 
 def _open(report: ModelReport) -> dict[str, Any]:
