@@ -21,6 +21,7 @@ from .errors import (
     CannotRead,
     CannotWrite,
     CmrError,
+    CommandMissing,
     Family,
     LibraryMissing,
     OutOfMemory,
@@ -31,6 +32,7 @@ from .errors import (
     TimeLimitReached,
     Undecided,
     UnprovedProgram,
+    Unreadable,
 )
 from .excluded import ExcludedMinor
 from .graphs import Edge, Graph
@@ -39,6 +41,8 @@ from .matrix import Matrix
 from .matroids import named
 from .minors import excluded_minor
 from .modellers import from_linopy, from_model, from_model_scaled, from_pulp, from_pyomo, from_scipy, reduced_parts
+from .model_objects import scipy_model
+from .models import Model
 from .nodes import Node
 from .program import find_program
 from .questions import (
@@ -76,6 +80,7 @@ __all__ = [
     "ChainStep",
     "Checked",
     "CmrError",
+    "CommandMissing",
     "Edge",
     "ExcludedMinor",
     "Family",
@@ -87,6 +92,7 @@ __all__ = [
     "Matrix",
     "MatrixLike",
     "Matroid",
+    "Model",
     "ModelReport",
     "Names",
     "Node",
@@ -107,6 +113,7 @@ __all__ = [
     "Tree",
     "Undecided",
     "UnprovedProgram",
+    "Unreadable",
     "__version__",
     "check",
     "compose",
@@ -135,5 +142,6 @@ __all__ = [
     "named",
     "parts",
     "reduced_parts",
+    "scipy_model",
     "sign",
 ]

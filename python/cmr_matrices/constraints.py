@@ -139,18 +139,20 @@ def _only_rows(model: Model, rows: list[int], is_all: bool) -> Model:
 
 def _entries(model: Model) -> Entries:
     """The nonzeros as fractions: what stands in a file as 0.1 is a tenth."""
-    return {(at.row, at.column): Fraction(f"{at.value:.15g}") for at in model.coefficients if at.value}
+    values = {value: Fraction(f"{value:.15g}") for value in {at.value for at in model.coefficients}}
+    return {(at.row, at.column): values[at.value] for at in model.coefficients if at.value}
 
 
 def rows_divided(model: Model) -> tuple[Entries, list[Scaling]]:
     """Divides each row by the common factor of its entries, and tells the rows that it changes."""
     entries = _entries(model)
     factors = _factors((row, entry) for (row, _), entry in entries.items())
-    divided = {place: entry / factors[place[0]] for place, entry in entries.items()}
+    changed = {row for row, factor in factors.items() if factor != 1}
+    divided = {place: entry / factors[place[0]] if place[0] in changed else entry for place, entry in entries.items()}
     scalings = []
     for row, factor in sorted(factors.items()):
         if factor != 1:
-            sides = model.sides[row] if model.sides else ()
+            sides = model.sides[row].finite if model.sides else ()
             broken = tuple(side for side in sides if (Fraction(f"{side:.15g}") / factor).denominator != 1)
             scalings.append(Scaling("row", model.rows[row], _plain(factor), broken))
     return divided, scalings
@@ -158,19 +160,25 @@ def rows_divided(model: Model) -> tuple[Entries, list[Scaling]]:
 
 def _columns_divided(model: Model, entries: Entries) -> tuple[Entries, list[Scaling]]:
     factors = _factors((column, entry) for (_, column), entry in entries.items())
-    divided = {place: entry / factors[place[1]] for place, entry in entries.items()}
-    changed = ((column, factor) for column, factor in sorted(factors.items()) if factor != 1)
-    return divided, [Scaling("column", model.columns[column], _plain(factor)) for column, factor in changed]
+    changed = {column: factor for column, factor in sorted(factors.items()) if factor != 1}
+    divided = {place: entry / changed[place[1]] if place[1] in changed else entry for place, entry in entries.items()}
+    return divided, [Scaling("column", model.columns[column], _plain(factor)) for column, factor in changed.items()]
 
 
 def _factors(entries: Iterable[tuple[int, Fraction]]) -> dict[int, Fraction]:
     """The common factor of the entries of each line: the greatest one by which all become whole numbers."""
-    tops: dict[int, int] = {}
-    bottoms: dict[int, int] = {}
+    values: dict[int, set[Fraction]] = {}
     for line, entry in entries:
-        tops[line] = gcd(tops.get(line, 0), entry.numerator)
-        bottoms[line] = lcm(bottoms.get(line, 1), entry.denominator)
-    return {line: Fraction(top, bottoms[line]) for line, top in tops.items()}
+        values.setdefault(line, set()).add(entry)
+    known: dict[frozenset[Fraction], Fraction] = {}
+    return {line: _factor(frozenset(found), known) for line, found in values.items()}
+
+
+def _factor(values: frozenset[Fraction], known: dict[frozenset[Fraction], Fraction]) -> Fraction:
+    if values not in known:
+        top = gcd(*(value.numerator for value in values))
+        known[values] = Fraction(top, lcm(*(value.denominator for value in values)))
+    return known[values]
 
 
 def _plain(factor: Fraction) -> int | Fraction:

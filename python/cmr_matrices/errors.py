@@ -18,6 +18,7 @@ __all__ = [
     "CannotRead",
     "CannotWrite",
     "CmrError",
+    "CommandMissing",
     "Family",
     "LibraryMissing",
     "OutOfMemory",
@@ -28,6 +29,7 @@ __all__ = [
     "TimeLimitReached",
     "Undecided",
     "UnprovedProgram",
+    "Unreadable",
 ]
 
 
@@ -96,6 +98,23 @@ class LibraryMissing(BadInput, ImportError):
     def __str__(self) -> str:
         also = f", or Debian's {self.debian}" if self.debian else ""
         return f"{self.use} needs {self.package}: `pip install {self.package}`{also}"
+
+
+class CommandMissing(BadInput):
+    """A command of the system that a call needs is not there: its name, and the package of Debian that has it. No package of pip has it."""
+
+    def __init__(self, use: str, command: str, debian: str) -> None:
+        super().__init__(use, command, debian)
+        self.use = use
+        self.command = command
+        self.debian = debian
+
+    def __str__(self) -> str:
+        return f"{self.use} needs the command {self.command}: `apt-get install {self.debian}` on Debian; pip has no package of it"
+
+
+class Unreadable(BadInput):
+    """A file of a model cannot be read, or a file of a result cannot be written. The system says why."""
 
 
 @dataclass(frozen=True)

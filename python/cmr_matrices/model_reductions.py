@@ -9,7 +9,7 @@ from __future__ import annotations
 
 import random
 from collections import Counter, deque
-from collections.abc import Iterable, Iterator, Mapping
+from collections.abc import Iterable, Iterator
 
 from .constraints import Constraints
 from .lines import Line
@@ -22,26 +22,36 @@ def reduced(constraints: Constraints) -> tuple[Constraints, Reductions]:
     """What the reductions leave, and their list, in which each step speaks of what the steps before it leave."""
     work = _Work(constraints)
     steps = Reductions(tuple(work.steps()), constraints.names)
-    left = [sorted(line.number for line in work.left if line.kind == kind) for kind in ("row", "column")]
-    return _part(constraints, left[0], left[1]), steps
+    height = work.height
+    rows = [line for line in sorted(work.left) if line < height]
+    columns = [line - height for line in sorted(work.left) if line >= height]
+    return _part(constraints, rows, columns), steps
 
 
 def connected_parts(constraints: Constraints) -> list[Constraints]:
     """The connected parts with at least one nonzero, in the order of their first rows."""
-    nears = _nears(constraints.entries)
-    seen: set[Line] = set()
-    parts = []
-    for start in sorted((line for line in nears if line.kind == "row"), key=lambda line: line.number):
-        if start not in seen:
-            found = [start]
-            seen.add(start)
-            for line in found:
-                fresh = [other for other in nears[line] if other not in seen]
-                seen.update(fresh)
-                found += fresh
-            rows = sorted(line.number for line in found if line.kind == "row")
-            parts.append(_part(constraints, rows, sorted(line.number for line in found if line.kind == "column")))
-    return parts
+    height = constraints.names.shape[0]
+    nears = _nears(constraints)
+    numbers: dict[int, int] = {}
+    lines: list[tuple[list[int], list[int]]] = []
+    for start in range(height):
+        if start in numbers or not nears[start]:
+            continue
+        numbers[start] = len(lines)
+        found = [start]
+        for line in found:
+            fresh = [other for other in nears[line] if other not in numbers]
+            numbers.update(dict.fromkeys(fresh, len(lines)))
+            found += fresh
+        found.sort()
+        lines.append(([it for it in found if it < height], [it - height for it in found if it >= height]))
+    if len(lines) == 1:
+        return [_part(constraints, *lines[0])]
+    entries: list[dict[tuple[int, int], int]] = [{} for _ in lines]
+    for place, entry in constraints.entries.items():
+        entries[numbers[place[0]]][place] = entry
+    parts = (Constraints(constraints.names, own, constraints.scalings) for own in entries)
+    return [_part(part, *own) for part, own in zip(parts, lines)]
 
 
 def _part(constraints: Constraints, rows: list[int], columns: list[int]) -> Constraints:
@@ -55,13 +65,13 @@ def _part(constraints: Constraints, rows: list[int], columns: list[int]) -> Cons
     return Constraints(constraints.names.part(rows, columns), entries, constraints.scalings)
 
 
-def _nears(entries: Mapping[tuple[int, int], int]) -> dict[Line, dict[Line, int]]:
-    """The lines that each line crosses in a nonzero, with the entries."""
-    nears: dict[Line, dict[Line, int]] = {}
-    for (row_number, column_number), entry in entries.items():
-        row, column = Line("row", row_number), Line("column", column_number)
-        nears.setdefault(row, {})[column] = entry
-        nears.setdefault(column, {})[row] = entry
+def _nears(constraints: Constraints) -> list[dict[int, int]]:
+    """The lines that each line crosses in a nonzero, with the entries. Columns have the numbers behind those of the rows."""
+    height, width = constraints.names.shape
+    nears: list[dict[int, int]] = [{} for _ in range(height + width)]
+    for (row, column), entry in constraints.entries.items():
+        nears[row][height + column] = entry
+        nears[height + column][row] = entry
     return nears
 
 
@@ -69,25 +79,23 @@ class _Work:
     """Lines that are left, with a number for each that is the same for copies.
 
     The number of a line is the sum over its entries, each times a random number of the crossing line. So it changes with one
-    subtraction when that line goes. Lines with one number, up to its sign, are compared.
+    subtraction when that line is removed. Lines with one number, up to its sign, are compared. Rows are lines 0 to `height` - 1, and
+    columns follow.
     """
 
     def __init__(self, constraints: Constraints) -> None:
-        rows, columns = constraints.names.shape
-        lines = [Line("row", row) for row in range(rows)] + [Line("column", column) for column in range(columns)]
+        self.height, width = constraints.names.shape
+        count = self.height + width
         chance = random.Random(1)
-        self._chance = {line: chance.getrandbits(120) for line in lines}
-        self._nears = {line: dict[Line, int]() for line in lines} | _nears(constraints.entries)
-        self._sums = {line: self._sum(line) for line in lines}
-        self._first: dict[tuple[str, int], Line] = {}
-        self._queue = deque(lines)
-        self.left = set(lines)
-
-    def _sum(self, line: Line) -> int:
-        return sum(entry * self._chance[other] for other, entry in self._nears[line].items())
+        self._chance = [chance.getrandbits(120) for _ in range(count)]
+        self._nears = _nears(constraints)
+        self._sums = [sum(entry * self._chance[other] for other, entry in near.items()) for near in self._nears]
+        self._first: dict[tuple[bool, int], int] = {}
+        self._queue = deque(range(count))
+        self.left = set(range(count))
 
     def steps(self) -> Iterator[Reduction]:
-        """Takes lines away until none can go."""
+        """Removes lines until none is reducible."""
         waiting = set(self._queue)
         while self._queue:
             line = self._queue.popleft()
@@ -97,41 +105,46 @@ class _Work:
             step = self._step(line)
             if step is not None:
                 yield step
-                for other in self._take(line):
-                    if other not in waiting:
-                        waiting.add(other)
-                        self._queue.append(other)
+                fresh = [other for other in self._take(line) if other not in waiting]
+                waiting.update(fresh)
+                self._queue.extend(fresh)
 
-    def _step(self, line: Line) -> Reduction | None:
+    def _step(self, line: int) -> Reduction | None:
         near = self._nears[line]
         if not near:
-            return Reduction(line, "zero")
+            return Reduction(self._line(line), "zero")
         if len(near) == 1:
-            return Reduction(line, "unit", next(iter(near)))
-        other = self._first.setdefault((line.kind, abs(self._sums[line])), line)
+            return Reduction(self._line(line), "unit", self._line(next(iter(near))))
+        other = self._first.setdefault(self._key(line), line)
         if other == line:
             return None
         if self._nears[other] == near:
-            return Reduction(line, "copy", other)
+            return Reduction(self._line(line), "copy", self._line(other))
         if self._nears[other] == {crossing: -entry for crossing, entry in near.items()}:
-            return Reduction(line, "negative", other)
+            return Reduction(self._line(line), "negative", self._line(other))
         return None
 
-    def _take(self, line: Line) -> Iterable[Line]:
-        """Takes a line away, and gives those that have changed."""
+    def _take(self, line: int) -> list[int]:
+        """Removes a line, and gives those that have changed."""
         self._forget(line)
         self.left.discard(line)
-        changed = self._nears.pop(line)
+        changed, self._nears[line] = self._nears[line], {}
         for other, entry in changed.items():
             self._forget(other)
             del self._nears[other][line]
             self._sums[other] -= entry * self._chance[line]
-        return changed
+        return list(changed)
 
-    def _forget(self, line: Line) -> None:
-        key = line.kind, abs(self._sums[line])
+    def _forget(self, line: int) -> None:
+        key = self._key(line)
         if self._first.get(key) == line:
             del self._first[key]
+
+    def _key(self, line: int) -> tuple[bool, int]:
+        return line < self.height, abs(self._sums[line])
+
+    def _line(self, line: int) -> Line:
+        return Line("row", line) if line < self.height else Line("column", line - self.height)
 
 
 def counted(steps: Iterable[Reduction]) -> str:

@@ -12,15 +12,21 @@ from pathlib import Path
 from .errors import BadInput
 from .explained.texts import guess
 
-__all__ = ["FORMATS", "format_of", "plain_text"]
+__all__ = ["FORMATS", "NONLINEAR_OBJECTIVE", "SEMICONTINUOUS", "format_of", "left_out", "plain_text"]
 
 FORMATS = {".lp": "lp", ".mod": "mathprog", ".mps": "mps"}
 """The formats of models that are read, by the suffixes of their files."""
+
+NONLINEAR_OBJECTIVE, SEMICONTINUOUS = "an objective that is not linear", "semicontinuous variables"
+"""What a model may have beside rows and columns with bounds, and what its matrix does not show."""
 
 _PACKED = (".gz", ".bz2")
 _MARK = b"\xef\xbb\xbf"
 # Sections of MPS that say nothing of rows and columns, and those with constraints that are no rows of a matrix.
 _BESIDE = ("OBJSENSE", "OBJNAME", "OBJECT", "BRANCH", "QUADOBJ", "QMATRIX", "QSECTION", "START", "SETS")
+_QUADRATIC_SECTIONS = ("QUADOBJ", "QMATRIX", "QSECTION")
+_SEMICONTINUOUS_BOUND = re.compile(r"\s+S[CI]\s")
+_LP_COMMENT = re.compile(r"\\.*")
 _OTHER = ("QCMATRIX", "CSECTION", "INDICATORS", "SOS", "SOS1", "SOS2", "GENCONS", "PWLOBJ")
 _SENSES = ("MAX", "MIN", "MAXIMIZE", "MINIMIZE")
 _LAZY = ("LAZYCONS", "USERCUTS")
@@ -61,6 +67,33 @@ def plain_text(data: bytes, form: str) -> bytes:
     return text.encode("utf-8", "surrogateescape")
 
 
+def left_out(data: bytes, form: str) -> tuple[str, ...]:
+    """What `plain_text` leaves out of a text, if it decides whether the model is a linear program with bounds."""
+    text = _unpacked(data).removeprefix(_MARK).decode("utf-8", "surrogateescape")
+    found = {"mps": _left_out_of_mps, "lp": _left_out_of_lp}.get(form, lambda _: frozenset())(text.splitlines())
+    return tuple(what for what in (NONLINEAR_OBJECTIVE, SEMICONTINUOUS) if what in found)
+
+
+def _left_out_of_mps(lines: list[str]) -> frozenset[str]:
+    section, found = "", set()
+    for line in lines:
+        if line[:1] not in ("", " ", "\t", "*"):
+            section = line.split()[0].upper()
+        elif section in _QUADRATIC_SECTIONS and line.strip():
+            found.add(NONLINEAR_OBJECTIVE)
+        elif section == "BOUNDS" and _SEMICONTINUOUS_BOUND.match(line):
+            found.add(SEMICONTINUOUS)
+    return frozenset(found)
+
+
+def _left_out_of_lp(lines: list[str]) -> frozenset[str]:
+    plain = [_LP_COMMENT.sub("", line) for line in lines]
+    first, last = _rows_of_lp(plain)
+    found = {NONLINEAR_OBJECTIVE} if _QUADRATIC.search("\n".join(plain[:first])) else set()
+    behind = (line.strip().lower() for line in plain[last:] if _LP_BEHIND.fullmatch(line))
+    return frozenset(found | ({SEMICONTINUOUS} if any(line.startswith("semi") for line in behind) else set()))
+
+
 def _unpacked(data: bytes) -> bytes:
     for magic, program, unpack in ((b"\x1f\x8b", "gunzip", gzip.decompress), (b"BZh", "bunzip2", bz2.decompress)):
         if data.startswith(magic):
@@ -81,7 +114,7 @@ def _mps_lines(lines: list[str]) -> Iterator[str]:
             section = first
         if first in _OTHER:
             raise BadInput(f"no linear model, line {place}: constraints of the section {first} are no rows of a matrix")
-        is_semicontinuous = section == "BOUNDS" and re.match(r"\s+S[CI]\s", line)
+        is_semicontinuous = section == "BOUNDS" and _SEMICONTINUOUS_BOUND.match(line)
         yield f"*{line}" if section in _BESIDE or is_semicontinuous or is_lazy else line
 
 
@@ -89,9 +122,8 @@ def _lp(text: str) -> str:
     """The text of an LP file without what GLPK does not know and what says nothing of rows and columns."""
     if re.match(r"\s*(/\*(.|\n)*?\*/\s*)?(max|min)\s*:", text, re.I):
         raise BadInput("no model, line 1: this is the LP format of lp_solve, which `xli` of lp_solve turns into MPS")
-    lines = [re.sub(r"\\.*", "", line) for line in text.split("\n")]
-    first = next((place for place, line in enumerate(lines) if _LP_ROWS.match(line)), len(lines))
-    last = next((place for place, line in enumerate(lines) if place > first and _LP_BEHIND.fullmatch(line)), len(lines))
+    lines = [_LP_COMMENT.sub("", line) for line in text.split("\n")]
+    first, last = _rows_of_lp(lines)
     for place, line in enumerate(lines[first:], first + 1):
         _must_be_rows(line, place, place <= last)
     rows = "\n".join("" if _LP_LAZY.fullmatch(line) else line for line in lines[first:last])
@@ -99,6 +131,13 @@ def _lp(text: str) -> str:
     objective = _objective("\n".join(lines[:first]), rows)
     behind = list(_without_semicontinuous(lines[last:]))
     return "\n".join([objective] * (first > 0) + [rows] * (last > first) + behind)
+
+
+def _rows_of_lp(lines: list[str]) -> tuple[int, int]:
+    """The places where the rows begin and end."""
+    first = next((place for place, line in enumerate(lines) if _LP_ROWS.match(line)), len(lines))
+    behind = (place for place, line in enumerate(lines) if place > first and _LP_BEHIND.fullmatch(line))
+    return first, next(behind, len(lines))
 
 
 def _must_be_rows(line: str, place: int, is_row: bool) -> None:

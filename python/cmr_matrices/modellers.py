@@ -11,19 +11,18 @@ from __future__ import annotations
 
 import os
 import re
-from collections.abc import Iterable, Iterator, Sequence
 from typing import Any, Literal, get_args
 
 from .constraints import Choice, Constraints, Scaling, constraints_of_model, matrix_of_constraints, matrix_of_model
 from .errors import BadCoefficients, BadInput, shown
 from .given import one_of
-from .libraries import library
 from .matrix import Matrix
+from .model_objects import linopy_model, pulp_model, pyomo_model, scipy_model
 from .model_reductions import connected_parts, reduced
-from .models import Coefficient, Model, read_model
+from .models import read_model
 from .program import StrPath
 from .reductions import Reductions
-from .sources import MatrixLike, entries_of
+from .sources import MatrixLike
 
 __all__ = [
     "constraints_of_file",
@@ -144,19 +143,9 @@ def from_pulp(
 ) -> Matrix:
     """The matrix of a `pulp.LpProblem`: its constraints in their order, and its variables in the order of `variables()`.
 
-    `rows`, `without` and `unit_rows` choose constraints as in `from_model`.
+    `rows`, `without` and `unit_rows` choose constraints as in `from_model`. Raises `BadInput` if it has special ordered sets.
     """
-    choice = _choice(rows, without, unit_rows)
-    if not callable(getattr(problem, "variables", None)) or not hasattr(problem, "constraints"):
-        raise BadInput(f"a model of PuLP is a pulp.LpProblem, and here it is {shown(problem)}")
-    columns = tuple(variable.name for variable in problem.variables())
-    places = {name: place for place, name in enumerate(columns)}
-    found = (
-        (row, places[variable.name], value)
-        for row, constraint in enumerate(problem.constraints.values())
-        for variable, value in constraint.items()
-    )
-    return _matrix(tuple(problem.constraints), columns, found, choice)
+    return matrix_of_model(pulp_model(problem), _choice(rows, without, unit_rows))[0]
 
 
 def from_pyomo(
@@ -164,26 +153,10 @@ def from_pyomo(
 ) -> Matrix:
     """The matrix of a model of Pyomo: its active constraints, and its variables that are not fixed.
 
-    `rows`, `without` and `unit_rows` choose constraints as in `from_model`. Raises `BadInput` at a constraint that is not linear.
+    `rows`, `without` and `unit_rows` choose constraints as in `from_model`. Raises `BadInput` at a constraint that is not linear, or
+    if it has special ordered sets.
     """
-    choice = _choice(rows, without, unit_rows)
-    if not callable(getattr(model, "component_data_objects", None)):
-        raise BadInput(f"a model of Pyomo is a ConcreteModel, and here it is {shown(model)}")
-    environ = library("pyomo.environ", "from_pyomo")
-    Constraint, Var = environ.Constraint, environ.Var  # noqa: N806
-    generate_standard_repn = library("pyomo.repn", "from_pyomo").generate_standard_repn
-
-    variables = [variable for variable in model.component_data_objects(Var) if not variable.fixed]
-    constraints = list(model.component_data_objects(Constraint, active=True))
-    places = {id(variable): place for place, variable in enumerate(variables)}
-    found = []
-    for row, constraint in enumerate(constraints):
-        terms = generate_standard_repn(constraint.body)
-        if not terms.is_linear():
-            raise BadInput(f"row {constraint.name}: the constraint is not linear")
-        for variable, value in zip(terms.linear_vars, terms.linear_coefs):
-            found.append((row, places[id(variable)], value))
-    return _matrix(_names(constraints), _names(variables), found, choice)
+    return matrix_of_model(pyomo_model(model, "from_pyomo"), _choice(rows, without, unit_rows))[0]
 
 
 def from_linopy(
@@ -193,13 +166,7 @@ def from_linopy(
 
     `rows`, `without` and `unit_rows` choose constraints as in `from_model`.
     """
-    choice = _choice(rows, without, unit_rows)
-    kept: Any = getattr(model, "matrices", None)
-    if not all(hasattr(kept, part) for part in ("A", "clabels", "vlabels")):
-        raise BadInput(f"a model of linopy is a linopy.Model, and here it is {shown(model)}")
-    entries = entries_of(kept.A)
-    names = tuple(f"con{label}" for label in kept.clabels)
-    return _matrix(names, tuple(f"var{label}" for label in kept.vlabels), entries.entries, choice)
+    return matrix_of_model(linopy_model(model), _choice(rows, without, unit_rows))[0]
 
 
 def from_scipy(
@@ -215,35 +182,4 @@ def from_scipy(
     The rows are named `ub0`, `ub1`, .., `eq0`, `eq1`, .., and the columns `x0`, `x1`, .. `rows`, `without` and `unit_rows` choose rows
     by these names as in `from_model`, so `rows="eq"` takes those of `A_eq`.
     """
-    choice = _choice(rows, without, unit_rows)
-    names: list[str] = []
-    found: list[tuple[int, int, Any]] = []
-    widths: set[int] = set()
-    for kind, source in (("ub", A_ub), ("eq", A_eq)):
-        if source is not None:
-            entries = entries_of(source)
-            found += ((row + len(names), column, value) for row, column, value in entries.entries)
-            names += (f"{kind}{row}" for row in range(entries.shape[0]))
-            widths.add(entries.shape[1])
-    if len(widths) > 1:
-        raise BadInput(f"A_ub and A_eq have {' and '.join(map(str, sorted(widths)))} columns")
-    columns = tuple(f"x{column}" for column in range(max(widths, default=0)))
-    return _matrix(tuple(names), columns, found, choice)
-
-
-def _matrix(
-    rows: Sequence[str], columns: Sequence[str], found: Iterable[tuple[int, int, Any]], choice: Choice
-) -> Matrix:
-    return matrix_of_model(Model(tuple(rows), tuple(columns), tuple(_coefficients(found))), choice)[0]
-
-
-def _coefficients(found: Iterable[tuple[int, int, Any]]) -> Iterator[Coefficient]:
-    for row, column, value in found:
-        try:
-            yield Coefficient(row, column, float(value))
-        except (TypeError, ValueError):
-            raise BadInput(f"row {row}, column {column}: the coefficient {shown(value)} is no number") from None
-
-
-def _names(components: Iterable[Any]) -> tuple[str, ...]:
-    return tuple(str(component.name) for component in components)
+    return matrix_of_model(scipy_model(A_ub, None, A_eq), _choice(rows, without, unit_rows))[0]

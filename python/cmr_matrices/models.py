@@ -8,21 +8,28 @@ from __future__ import annotations
 
 import os
 import re
+import resource
+import signal
 import subprocess
 import tempfile
 from collections.abc import Iterator
-from contextlib import contextmanager
-from dataclasses import dataclass
+from contextlib import contextmanager, suppress
+from dataclasses import dataclass, replace
+from math import ceil, inf, isfinite
 from pathlib import Path
 from typing import Any
 
-from .errors import BadInput
+from .errors import BadInput, CommandMissing, Unreadable
 from .libraries import library
-from .model_texts import format_of, plain_text
+from .model_texts import format_of, left_out, plain_text
 
-__all__ = ["Coefficient", "Model", "read_model"]
+__all__ = ["Coefficient", "Ends", "Model", "read_model"]
 
 TRANSLATIONS = {"lp": "--lp", "mathprog": "--math"}
+
+# About as many nonzeros as the package can look at in a second on a slow machine.
+_NONZEROS_PER_SECOND = 30_000
+_SMALLER = "take a smaller instance or a larger time limit"
 
 
 @dataclass(frozen=True)
@@ -35,25 +42,40 @@ class Coefficient:
 
 
 @dataclass(frozen=True)
-class Model:
-    """The constraints of a linear model: free rows, such as the objective, are none of them.
+class Ends:
+    """The least and the greatest value of a row or of a column. They are equal for an equation."""
 
-    `sides` has the right-hand sides of each row, two for a range, `bounds` the finite bounds of each column, and `whole` tells which
-    columns are variables in whole numbers, where these are known.
+    lower: float = -inf
+    upper: float = inf
+
+    @property
+    def finite(self) -> tuple[float, ...]:
+        """The ends that are numbers, without repetition."""
+        return tuple(end for end in dict.fromkeys((self.lower, self.upper)) if isfinite(end))
+
+
+@dataclass(frozen=True)
+class Model:
+    """The constraints of a linear model, without free rows such as the objective.
+
+    `sides` are the right-hand sides of the rows, `bounds` the bounds of the columns, and `whole` says which columns are integer
+    variables. Each is empty if it is unknown. `left_out` names what the model has beside linear constraints.
     """
 
     rows: tuple[str, ...]
     columns: tuple[str, ...]
     coefficients: tuple[Coefficient, ...]
-    sides: tuple[tuple[float, ...], ...] = ()
-    bounds: tuple[tuple[float, ...], ...] = ()
+    sides: tuple[Ends, ...] = ()
+    bounds: tuple[Ends, ...] = ()
     whole: tuple[bool, ...] = ()
+    left_out: tuple[str, ...] = ()
 
 
-def read_model(name: str, form: str | None, data: str | None = None) -> Model:
+def read_model(name: str, form: str | None, data: str | None = None, seconds: float | None = None) -> Model:
     """The model of a file in the format `mps`, `lp` or `mathprog`, which may have its data in a second file.
 
-    Where no format is given, the file's suffix tells it, or what the file begins with.
+    If no format is given, the file's suffix decides, or what the file begins with. With a limit in `seconds` it raises `BadInput` if GLPK
+    needs more processor time to generate the model, or if the model has more nonzeros than can be looked at in this time.
     """
     text = _read(name)
     if data:
@@ -62,34 +84,54 @@ def read_model(name: str, form: str | None, data: str | None = None) -> Model:
     if data and form != "mathprog":
         raise BadInput(f"{name}: --data goes with a model in GNU MathProg, and this is {form}")
     try:
-        text = plain_text(text, form)
+        plain, beside = plain_text(text, form), left_out(text, form)
     except BadInput as fault:
         raise BadInput(f"{name}: {fault}") from fault
-    with tempfile.TemporaryDirectory() as folder:
+    with tempfile.TemporaryDirectory(prefix="cmr-") as folder:
         source, translated = (os.path.join(folder, part) for part in ("model", "model.mps"))
-        Path(source).write_bytes(text)
-        if form == "mps":
-            return _read_mps(source, name)
-        _translate(source, name, TRANSLATIONS[form], data, translated)
-        return _read_mps(translated, name)
+        Path(source).write_bytes(plain)
+        if form != "mps":
+            _translate(source, name, TRANSLATIONS[form], data, translated, seconds)
+        most = None if seconds is None else int(_NONZEROS_PER_SECOND * seconds)
+        return replace(_read_mps(source if form == "mps" else translated, name, most), left_out=beside)
 
 
-def _translate(source: str, name: str, option: str, data: str | None, translated: str) -> None:
+def _translate(
+    source: str, name: str, option: str, data: str | None, translated: str, seconds: float | None
+) -> None:
     command = ["glpsol", option, source, "--check", "--wfreemps", translated]
     if data:
         command += ["--data", os.path.abspath(data)]
     try:
-        run = subprocess.run(command, capture_output=True, text=True, errors="replace", check=False)
+        status, printed = _run(command, seconds)
     except FileNotFoundError as fault:
-        raise BadInput(f"{name}: reading it needs glpsol of Debian's glpk-utils") from fault
-    if run.returncode != 0 or not os.path.exists(translated):
-        words = _Complaint.of(run.stdout).words
+        raise CommandMissing(f"reading {name}", "glpsol", "glpk-utils") from fault
+    if status in (-signal.SIGXCPU, -signal.SIGKILL) and seconds is not None:
+        raise BadInput(f"{name}: GLPK does not generate the model within {seconds:g} seconds; {_SMALLER}")
+    if status != 0 or not os.path.exists(translated):
+        words = _Complaint.of(printed).words
         hint = f" (files of tables are looked for from {os.getcwd()})" if "table" in words else ""
         raise BadInput(f"{name}: no model, {words}{hint}")
 
 
-def _read_mps(path: str, name: str) -> Model:
-    """Reads fixed MPS, and else free MPS. The file may stand for another one, whose name is told."""
+def _run(command: list[str], seconds: float | None) -> tuple[int, str]:
+    """The status of a run and what it printed. The system ends the run after this processor time."""
+    pipe = subprocess.PIPE
+    with subprocess.Popen(command, stdout=pipe, stderr=subprocess.STDOUT, text=True, errors="replace") as process:
+        if seconds is not None:
+            most = max(ceil(seconds), 1)
+            with suppress(ProcessLookupError):
+                resource.prlimit(process.pid, resource.RLIMIT_CPU, (most, most + 1))
+        try:
+            printed, _ = process.communicate()
+        except BaseException:
+            process.kill()
+            raise
+    return process.returncode, printed
+
+
+def _read_mps(path: str, name: str, most: int | None) -> Model:
+    """Reads fixed MPS, and otherwise free MPS. Faults name the file `name`."""
     glpk = _glpk()
     complaints = []
     for kind in (glpk.GLP_MPS_DECK, glpk.GLP_MPS_FILE):
@@ -98,6 +140,9 @@ def _read_mps(path: str, name: str) -> Model:
             with _printed() as printed:
                 refused = glpk.glp_read_mps(problem, kind, None, path) != 0
             if not refused:
+                count = max(glpk.glp_get_num_nz(problem), glpk.glp_get_num_rows(problem))
+                if most is not None and count > most:
+                    raise BadInput(f"{name}: there are {count} nonzeros, too many for the time limit; {_SMALLER}")
                 return _constraints(glpk, problem)
             complaints.append(_Complaint.of(printed[0]))
         finally:
@@ -127,18 +172,21 @@ def _constraints(glpk: Any, problem: Any) -> Model:
     )
 
 
-def _sides(glpk: Any, problem: Any, row: int) -> tuple[float, ...]:
+def _sides(glpk: Any, problem: Any, row: int) -> Ends:
     kind = glpk.glp_get_row_type(problem, row)
-    lower = [glpk.glp_get_row_lb(problem, row)] if kind in (glpk.GLP_LO, glpk.GLP_DB, glpk.GLP_FX) else []
-    upper = [glpk.glp_get_row_ub(problem, row)] if kind in (glpk.GLP_UP, glpk.GLP_DB) else []
-    return tuple(lower + upper)
+    return _ends(glpk, kind, glpk.glp_get_row_lb(problem, row), glpk.glp_get_row_ub(problem, row))
 
 
-def _bounds(glpk: Any, problem: Any, column: int) -> tuple[float, ...]:
+def _bounds(glpk: Any, problem: Any, column: int) -> Ends:
     kind = glpk.glp_get_col_type(problem, column)
-    lower = [glpk.glp_get_col_lb(problem, column)] if kind in (glpk.GLP_LO, glpk.GLP_DB, glpk.GLP_FX) else []
-    upper = [glpk.glp_get_col_ub(problem, column)] if kind in (glpk.GLP_UP, glpk.GLP_DB) else []
-    return tuple(lower + upper)
+    return _ends(glpk, kind, glpk.glp_get_col_lb(problem, column), glpk.glp_get_col_ub(problem, column))
+
+
+def _ends(glpk: Any, kind: int, lower: float, upper: float) -> Ends:
+    if kind == glpk.GLP_FX:
+        return Ends(lower, lower)
+    has_lower, has_upper = kind in (glpk.GLP_LO, glpk.GLP_DB), kind in (glpk.GLP_UP, glpk.GLP_DB)
+    return Ends(lower if has_lower else -inf, upper if has_upper else inf)
 
 
 def _numbers(count: int) -> range:
@@ -153,7 +201,7 @@ def _read(name: str) -> bytes:
     try:
         return Path(name).read_bytes()
     except OSError as fault:
-        raise BadInput(f"cannot read {name}: {fault.strerror}") from fault
+        raise Unreadable(f"cannot read {name}: {fault.strerror}") from fault
 
 
 @contextmanager

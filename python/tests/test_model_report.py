@@ -14,11 +14,14 @@ from itertools import combinations
 from pathlib import Path
 
 from cmr_matrices import BadInput, ModelReport, model_report
-from cmr_matrices.constraints import Choice
+from cmr_matrices.constraints import Choice, Constraints
+from cmr_matrices.lines import Names
+from cmr_matrices.model_texts import NONLINEAR_OBJECTIVE, SEMICONTINUOUS
 from cmr_matrices.modellers import constraints_of_file
 from cmr_matrices.reporting.minimal import determinant
 from cmr_matrices.reporting.repeating import row_pattern
 from cmr_matrices.reporting.rows import said_rows
+from cmr_matrices.reporting.sampling import near_lines
 from tests.independent import is_unimodular, is_violator
 from tests.support import EXAMPLES, needs_command, needs_module, needs_program
 
@@ -107,9 +110,32 @@ class Reports(ReportTest):
         report = model_report(path)
         self.assertEqual(report.verdict, "yes")
         self.assertEqual([str(it) for it in report.not_whole], ["right-hand side 1.5 of a", "right-hand side 2.5 of b"])
-        self.assertIn("No whole numbers: right-hand side 1.5 of a and right-hand side 2.5 of b.", report.to_text())
+        self.assertIn("Not integral: right-hand side 1.5 of a and right-hand side 2.5 of b.", report.to_text())
         bounds = self.write("bounds.lp", "Minimize\n x + y\nSubject To\n c: x + y <= 3\nBounds\n x <= 1.5\nEnd\n")
         self.assertEqual([str(it) for it in model_report(bounds).not_whole], ["bound 1.5 of x"])
+        # A bound counts though its column is in no row that is kept.
+        rows = {"a": [1, 1, 0, 0], "b": [0, 1, 1, 0], "c": [1, 0, 1, 0], "other": [0, 0, 0, 2]}
+        text = lp_text(rows | {"last": [0, 0, 1, 3]}).replace("General", "Bounds\n x3 <= 1.5\nGeneral")
+        report = model_report(self.write("apart.lp", text))
+        self.assertIn("bound 1.5 of x3", [str(it) for it in report.not_whole])
+        self.assertIn("with integral right-hand sides and bounds a linear program solves", report.to_text())
+
+    def test_what_is_no_linear_program_is_said(self) -> None:
+        text = "Minimize\n x + [ x ^2 ] / 2\nSubject To\n c: x + y <= 3\nBounds\n x <= 4\nSemi-continuous\n x\nEnd\n"
+        report = model_report(self.write("curved.lp", text))
+        self.assertEqual((report.verdict, report.rows.model.left_out), ("yes", (NONLINEAR_OBJECTIVE, SEMICONTINUOUS)))
+        self.assertIn("The model has an objective that is not linear, so an optimum need not be at a vertex.", report.to_text())
+        self.assertIn("The model has semicontinuous variables", report.to_html())
+        found = json.loads(report.to_json())
+        self.assertEqual((found["left_out"], found["relax"]["solves_as_a_linear_program"]), ([*report.rows.model.left_out], False))
+
+    def test_a_no_claims_nothing_of_equations(self) -> None:
+        """The equations have the determinant 1, so all their solutions are integral, though the matrix has a violator."""
+        rows = {"a": [1, 1, 0], "b": [1, -1, 1], "c": [0, 1, -1]}
+        self.assertEqual(determinant([*rows.values()]), 1)
+        report = model_report(self.write("equations.lp", lp_text(rows).replace("<=", "=")))
+        self.assertEqual(report.verdict, "no")
+        self.assertIn("The vertices of this model may still be integral.", report.to_text())
 
     def test_all_rows_have_other_coefficients(self) -> None:
         report = model_report(self.write("large.lp", lp_text({"a": [2, 3, 0], "b": [0, 1, 5]})))
@@ -156,16 +182,65 @@ class Reports(ReportTest):
         assert report.kept is not None
         self.assertFalse(report.kept.is_largest)
         self.assertNotIn(None, report.kept.refused.values())
-        self.assertIn("This was found greedily: no other family can be added", report.to_text())
+        self.assertIn("The search was greedy: no other family can be added", report.to_text())
+        self.assertTrue(report.kept.is_greedy)
 
     def test_a_limit_ends_the_search(self) -> None:
         report = model_report(EXAMPLES / "goods.mod", questions=1)
         self.assertEqual(report.verdict, "no")
         assert report.within is not None
         self.assertTrue(report.within.is_cut)
-        self.assertIn("Row by row the search was ended by its limit before one of load[..]", report.to_text())
-        hasty = model_report(EXAMPLES / "goods.mod", time_limit=0.000001)
-        self.assertEqual((hasty.verdict, hasty.whole.why_open, hasty.asked), ("undecided", "the time is over", 0))
+        self.assertEqual(report.ended["rows of load[..]"], "questions")
+        self.assertIn("The limits on questions ended these steps: ", report.to_text())
+        self.assertIn("A limit ended the search row by row before it found a row of load[..]", report.to_text())
+        hasty = model_report(EXAMPLES / "goods.mod", time_limit=0.01)
+        self.assertEqual((hasty.verdict, hasty.whole.why_open), ("undecided", "the time is over"))
+        self.assertEqual(set(hasty.ended.values()), {"time"})
+        for text in (hasty.to_text(), hasty.to_html()):
+            self.assertIn("The time limit of 0.01 seconds ended these steps: the whole matrix; all sets of families of rows;", text)
+            self.assertIn("Their results depend on the speed of the machine.", text)
+        self.assertEqual({family.state for family in hasty.families}, {"open"})
+        self.assertIsNone(hasty.rest)
+        self.assertIn("No rows were found that can be kept.", hasty.to_text())
+        self.assertEqual(json.loads(hasty.to_json())["ended"], dict(hasty.ended))
+        self.assertEqual(model_report(EXAMPLES / "crews.mod").ended, {})
+
+    def test_what_a_limit_has_ended_is_said_of_a_greedy_search(self) -> None:
+        """All sets of families cannot be tried, so the search is greedy, and the report says why."""
+        report = model_report(EXAMPLES / "crews.mod", questions=1)
+        self.assertEqual(report.ended["all sets of families of rows"], "questions")
+        assert report.kept is not None
+        self.assertEqual((report.kept.is_greedy, report.kept.is_cut, report.kept.is_largest), (True, True, False))
+        self.assertIn("A limit ended the search, so another choice may keep more rows.", report.to_text())
+
+    def test_a_part_that_is_too_large(self) -> None:
+        """Rows i and i + 1 share a column, in a cycle of odd length with cycles that cross it: nothing is reducible."""
+        rows: dict[str, list[str]] = {f"r({at})": [] for at in range(1101)}
+        for at in range(1101):
+            for step in (1, 2):
+                for row in (at, (at + step) % 1101):
+                    rows[f"r({row})"].append(f"c{at}_{step}")
+        lines = [f" {name}: {' + '.join(columns)} <= 1" for name, columns in rows.items()]
+        path = self.write("large.lp", "\n".join(["Minimize", " cost: c0_1", "Subject To", *lines, "End", ""]))
+        report = model_report(path, questions=3)
+        self.assertEqual((report.whole.verdict, report.verdict), ("undecided", "no"))
+        self.assertEqual(report.whole.why_open, "1101x2202 is larger than a matrix may be")
+        assert report.minimal is not None
+        self.assertEqual(abs(report.minimal.determinant or 0), 2)
+        self.assertIn("</html>", report.to_html())
+
+    def test_a_model_that_takes_too_long_to_read(self) -> None:
+        text = "set S := 1..2**19; var x{S}; a{s in S}: x[s] <= 1; b: sum{s in S} x[s] <= 1; end;\n"
+        for seconds, line in ((1, "GLPK does not generate the model within 1 seconds"), (None, "")):
+            path = self.write("huge.mod", text if line else text.replace("2**19", "9"))
+            if line:
+                with self.assertRaisesRegex(BadInput, f"{line}; take a smaller instance or a larger time limit"):
+                    model_report(path, time_limit=seconds)
+            else:
+                self.assertEqual(model_report(path).verdict, "yes")
+        many = self.write("many.lp", lp_text({"a": [1] * 40, "b": [1] * 40}))
+        with self.assertRaisesRegex(BadInput, "there are 80 nonzeros, too many for the time limit; take a smaller instance"):
+            model_report(many, time_limit=0.001)
 
     def test_left_open(self) -> None:
         report = model_report(EXAMPLES / "goods.mod", pivots=0, questions=1)
@@ -225,25 +300,42 @@ class Pages(ReportTest):
             self.assertIn("default-src 'none'", page)
 
     @needs_command("chromium")
-    def test_a_browser_shows_it(self) -> None:
+    def test_a_browser_shows_it_at_two_sizes(self) -> None:
         for name, path in (("hard", self.model()), ("wards", EXAMPLES / "wards.mod"), ("crew", EXAMPLES / "crews.mod")):
             page = self.write(f"{name}.html", model_report(path).to_html())
-            words = [
-                "chromium",
-                "--headless",
-                "--no-sandbox",
-                "--disable-gpu",
-                f"--user-data-dir={self.folder / 'profile'}",
-            ]
-            picture = self.folder / f"{name}.png"
             with self.subTest(name=name):
-                ran = subprocess.run([*words, "--dump-dom", page.as_uri()], capture_output=True, text=True, check=True)
-                self.assertEqual(ran.stdout.count("<h1>"), 1)
-                self.assertIn("<h2>How to repeat it</h2>", ran.stdout)
-                self.assertNotIn('<b>&amp;"', ran.stdout.replace("<b>network</b>", ""))
-                size = ["--window-size=1400,1000", f"--screenshot={picture}"]
-                subprocess.run([*words, *size, page.as_uri()], capture_output=True, check=True)
-                self.assertGreater(picture.stat().st_size, 20_000)
+                shown = self.browse("--dump-dom", page)
+                self.assertEqual(shown.count("<h1>"), 1)
+                self.assertIn("<h2>How to repeat it</h2>", shown)
+                self.assertNotIn('<b>&amp;"', shown.replace("<b>network</b>", ""))
+                for width, height in ((1400, 1000), (420, 900)):
+                    picture = self.folder / f"{name}{width}.png"
+                    self.browse(f"--window-size={width},{height}", f"--screenshot={picture}", page)
+                    self.assertGreater(picture.stat().st_size, 20_000)
+                    self.assertEqual(self.overflow(page, width), "0", "the page is wider than the window")
+
+    def browse(self, *words: str | Path) -> str:
+        options = ["--headless", "--no-sandbox", "--disable-gpu", f"--user-data-dir={self.folder / 'profile'}"]
+        command = ["chromium", *options, *(it.as_uri() if isinstance(it, Path) else it for it in words)]
+        return subprocess.run(command, capture_output=True, text=True, check=True).stdout
+
+    def overflow(self, page: Path, width: int) -> str:
+        """By how many points a page is wider than a window, as a frame of this width tells it."""
+        read = "const it = frame.contentDocument.documentElement; out.textContent = it.scrollWidth - it.clientWidth"
+        frame = f'<iframe id="frame" src="{page.name}" width="{width}" height="900" onload="{read}"></iframe><p id="out"></p>'
+        outside = self.write("frame.html", f"<!DOCTYPE html><title>frame</title>{frame}")
+        shown = self.browse("--allow-file-access-from-files", "--dump-dom", outside)
+        return shown.partition('<p id="out">')[2].partition("<")[0]
+
+    def test_a_large_page_is_small(self) -> None:
+        """A model of 1,000 by 1,000 has a page of less than 3 MB."""
+        chance = random.Random(5)
+        rows = {f"cap({at})": sorted(chance.sample(range(1000), 12)) for at in range(1000)}
+        lines = [f" {name}: {' + '.join(f'x{at}' for at in columns)} <= 1" for name, columns in rows.items()]
+        path = self.write("large.lp", "\n".join(["Minimize", " cost: x0", "Subject To", *lines, "End", ""]))
+        report = model_report(path, questions=1, time_limit=1)
+        self.assertEqual(report.shape, (1000, 1000))
+        self.assertLess(len(report.to_html()), 3_000_000)
 
 
 class Words(unittest.TestCase):
@@ -261,6 +353,15 @@ class Words(unittest.TestCase):
             self.assertEqual(
                 [name for name in names if re.search(pattern, name)], [name for name in names if name in wanted]
             )
+
+    def test_near_lines(self) -> None:
+        names = Names(tuple("abcd"), tuple("xyz"))
+        entries = {(0, 1): 1, (1, 1): 1, (1, 0): -1, (3, 0): 1, (2, 2): 1}
+        constraints = Constraints(names, entries)
+        self.assertEqual(near_lines(constraints, 9), ((0, 1, 3), (0, 1)))
+        self.assertEqual(near_lines(constraints, 2), ((0, 1), (0, 1)))
+        self.assertEqual(near_lines(constraints, 1), ((0,), (1,)))
+        self.assertEqual(near_lines(Constraints(names, {}), 5), ((), ()))
 
     def test_determinants(self) -> None:
         self.assertEqual(determinant([[1, 1, 0], [0, 1, 1], [1, 0, 1]]), 2)

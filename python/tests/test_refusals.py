@@ -82,7 +82,7 @@ class Refusals(unittest.TestCase):
         self.says("a model of PuLP is a pulp.LpProblem, and here it is 5", cmr.from_pulp, 5)
         self.says("a model of Pyomo is a ConcreteModel, and here it is 5", cmr.from_pyomo, 5)
         self.says("a model of linopy is a linopy.Model, and here it is 5", cmr.from_linopy, 5)
-        self.says("row 0, column 0: the coefficient 'a' is no number", cmr.from_scipy, [["a"]])
+        self.says("row ub0, column x0: the coefficient 'a' is no number", cmr.from_scipy, [["a"]])
 
     def test_texts_and_lists(self) -> None:
         for kind in (cmr.Tree, cmr.Graph, cmr.Chain, cmr.Names, cmr.Reductions, cmr.Signing, Submatrix, Matrix):

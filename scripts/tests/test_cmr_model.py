@@ -2,7 +2,10 @@
 
 import json
 import os
+import signal
 import subprocess
+import time
+from contextlib import suppress
 from pathlib import Path
 
 from building.clone import BUILT
@@ -19,6 +22,12 @@ two{p in parts, h in hours: h < 130}: x[p,h] + x[p,h+1] >= 1;
 three{p in parts, h in hours: h < 129}: x[p,h] + x[p,h+1] + x[p,h+2] >= 1;
 end;
 """
+
+
+def _take_signals():
+    """A shell lets what it runs in the background ignore signals."""
+    for number in (signal.SIGINT, signal.SIGTERM, signal.SIGHUP):
+        signal.signal(number, signal.SIG_DFL)
 
 
 @needs_python
@@ -61,6 +70,63 @@ class ModelTest(ScriptTest):
                 self.assertTrue(run.stderr.startswith(line), run.stderr)
         run = self.run_script("cmr-model", EXAMPLES / "crews.mod", "--pivots", "200")
         self.assertEqual((run.returncode, run.stdout), (2, ""))
+
+    def test_help(self):
+        run = self.run_script("cmr-model", "--help")
+        self.assertEqual((run.returncode, run.stderr), (0, ""))
+        self.assertIn("usage: cmr-model", run.stdout)
+        self.assertIn("Status: 0 yes, 1 no, 6 undecided", run.stdout)
+
+    def test_words_that_are_refused(self):
+        model = self.write("own.lp", "Minimize\n x\nSubject To\n c: x <= 1\nEnd\n")
+        for words in (["--html", model], ["--html", "-"], ["--html", ""], ["--time-limit", "0"], ["--lines", "25"], ["other.lp"]):
+            with self.subTest(words=words):
+                run = self.run_script("cmr-model", model, *words)
+                self.assertEqual((run.returncode, run.stdout), (2, ""))
+        self.assertIn("Subject To", self.read(model))
+
+    def test_a_missing_library_is_named(self):
+        (self.folder / "swiglpk.py").write_text("raise ImportError\n")
+        run = self.run_script("cmr-model", EXAMPLES / "assignment.mps", env=os.environ | {"PYTHONPATH": str(self.folder)})
+        self.assertEqual((run.returncode, run.stdout), (70, ""))
+        self.assertEqual(run.stderr, "cmr-model: reading a model needs swiglpk: `pip install swiglpk`, or Debian's python3-swiglpk\n")
+        run = self.run_script("cmr-model", EXAMPLES / "crews.mod", env=os.environ | {"PATH": str(self.folder)})
+        self.assertEqual((run.returncode, run.stdout), (70, ""))
+        self.assertIn("needs the command glpsol: `apt-get install glpk-utils` on Debian; pip has no package of it", run.stderr)
+
+    def test_an_interrupt_leaves_nothing(self):
+        (self.folder / "work").mkdir()
+        waiting = self.folder / self.write("waiting", "#!/bin/sh\ntouch begun\nexec sleep 600\n")
+        waiting.chmod(0o755)
+        page = self.folder / self.write("page.html", "before")
+        for number in (signal.SIGINT, signal.SIGTERM, signal.SIGHUP):
+            with self.subTest(signal=number):
+                words = [TOP / "scripts" / "cmr-model", EXAMPLES / "assignment.mps", "--html", page, "--program", waiting]
+                pipes = {"stdout": subprocess.PIPE, "stderr": subprocess.PIPE, "env": os.environ | {"TMPDIR": str(self.folder / "work")}}
+                with subprocess.Popen(words, preexec_fn=_take_signals, **pipes) as run:
+                    while not list((self.folder / "work").glob("cmr-*/begun")):
+                        self.assertIsNone(run.poll())
+                        time.sleep(0.05)
+                    run.send_signal(number)
+                    printed, said = run.communicate(timeout=120)
+                self.assertEqual((run.returncode, printed, said), (128 + number, b"", b""))
+                self.assertEqual((list((self.folder / "work").iterdir()), page.read_text()), ([], "before"))
+                self.assertEqual(sorted(it.name for it in self.folder.iterdir()), ["page.html", "waiting", "work"])
+
+    def test_a_bar_on_a_terminal(self):
+        master, slave = os.openpty()
+        words = [TOP / "scripts" / "cmr-model", EXAMPLES / "crews.mod"]
+        with subprocess.Popen(words, stdout=subprocess.DEVNULL, stderr=slave, cwd=self.folder) as run:
+            os.close(slave)
+            said = b""
+            with suppress(OSError):
+                while piece := os.read(master, 10_000):
+                    said += piece
+        os.close(master)
+        self.assertEqual(run.returncode, 1)
+        self.assertIn(b"reading the model", said)
+        self.assertIn(b"all sets of families of rows", said)
+        self.assertTrue(said.endswith(b"\x1b[K") or b"\r" in said[-200:])
 
     def test_the_same_page_each_time(self):
         pages = []

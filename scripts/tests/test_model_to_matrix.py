@@ -403,14 +403,17 @@ class Refusals(ScriptTest):
         for rows, columns, line in [(1001, 1, "1001 rows"), (1, 1001, "1001 columns")]:
             model = self.write("bad.mps", free_mps(rows, columns))
             said = f"bad.mps: there are {line}, and a matrix may have at most 1000"
-            self.assertEqual(self.refused(model), f"{said} (--reduce takes away those that cannot matter)")
+            self.assertEqual(self.refused(model), f"{said} (--reduce removes reducible lines; cmr-model looks for rows that can be kept)")
 
     def test_too_many_lines_after_the_reductions(self):
         """Rows i and i + 1 share a column, in a cycle of odd length with two cycles that cross it: no line can be removed."""
         lines = ["NAME cycles", "ROWS", *(f" L r{row}" for row in range(1101)), "COLUMNS"]
         lines += [f" c{row}_{step} r{row} 1 r{(row + step) % 1101} 1" for row in range(1101) for step in (1, 7)]
         model = self.write("bad.mps", "\n".join([*lines, "RHS", "ENDATA", ""]))
-        said = "bad.mps: there are 1101 rows, and a matrix may have at most 1000; reduced by 0, 1101x2202 is left"
+        said = (
+            "bad.mps: there are 1101 rows, and a matrix may have at most 1000 (reduced by 0, 1101x2202 is left; "
+            "cmr-model looks for rows that can be kept)"
+        )
         self.assertEqual(self.refused(model, "--reduce", "list"), said)
         self.assertFalse((self.folder / "list").exists())
 

@@ -1,30 +1,31 @@
-"""Reads a model in integer programming, and says whether its linear program gives whole numbers, and if not which rows to relax.
+"""Reads a model in integer programming, and says whether its linear program is integral, and if not which rows to relax.
 
-The answer is that of `cmr tu` on the constraint matrix, whose rows are divided by their common factors: a matrix is totally unimodular
-exactly where all right-hand sides in whole numbers have whole vertices alone. For a no it names a fault as small as it finds, a set of
-families of rows to keep, and single rows to relax. A family has the names that are the same up to digits and what stands in brackets.
-Every answer is checked by `cmr check`.
+The answer is that of `cmr tu` on the constraint matrix, whose rows are divided by their common factors. For a no the report has a
+violator that is as small as was found, the families of rows that can be kept, and the rows to relax. A family has the names that are the
+same up to digits and what is in brackets. `cmr check` accepts the evidence of each answer.
 
-Status: 0 yes, 1 no, 6 undecided, as of `cmr tu`; 2 where the words are refused, 3 where the model is, 4 where a file cannot be read or
-written, 70 where there is no program.
+Status: 0 yes, 1 no, 6 undecided, as of `cmr tu`; 2 if the words are refused, 3 if the model is, 4 if a file cannot be read or written,
+5 if memory is refused, 70 if the program cmr or a library is missing or fails.
 """
 
 from __future__ import annotations
 
 import argparse
+import os
 import re
 import sys
 from collections.abc import Callable
 from typing import Any
 
-from ..errors import BadInput, CmrError, ProgramMissing
+from ..errors import BadInput, CmrError, CommandMissing, LibraryMissing, OutOfMemory, Unreadable
 from ..program import NO, UNDECIDED, YES
 from ..reporting.report import QUESTIONS, ModelReport, model_report
-from .command import command_parser, end, write_text
+from .command import command_parser, end, write_text, write_whole
+from .signals import end_if_told, end_on_signals
 
 __all__ = ["main"]
 
-BAD_MODEL, BAD_FILE, NO_PROGRAM, INTERRUPTED = 3, 4, 70, 130
+BAD_MODEL, BAD_FILE, NO_MEMORY, NO_PROGRAM = 3, 4, 5, 70
 _STATUSES = {"yes": YES, "no": NO, "undecided": UNDECIDED}
 
 
@@ -42,16 +43,16 @@ def arguments() -> argparse.Namespace:
     parser = command_parser(__doc__)
     add = parser.add_argument
     add("model", metavar="MODEL", help="the model: free or fixed MPS, GNU MathProg, or the LP format of CPLEX")
-    add("--html", metavar="REPORT", help="a file that gets the report as one page of HTML, which needs nothing else")
+    add("--html", metavar="REPORT", help="write the report to this file as one page of HTML")
     add("--json", action="store_true", help="print one object of JSON in place of the text")
     add(
         "--format",
         choices=("mps", "mathprog", "lp"),
-        help="the model's format; where it is left out, .mod is mathprog, .lp is lp, .mps is mps, and else the content tells",
+        help="the model's format (by default .mod is mathprog, .lp is lp, .mps is mps, and otherwise the content decides)",
     )
-    add("--data", metavar="DATA", help="the file with the data of a MathProg model, where it has one")
-    add("--lines", metavar="L", type=number(0, 24), help="the budget of the searches (14)")
-    add("--pivots", metavar="K", type=number(0, 100), default=20, help="go on behind so many pivots (20)")
+    add("--data", metavar="DATA", help="the file with the data of a MathProg model, if they are apart")
+    add("--lines", metavar="L", type=number(0, 24), help="the budget of the searches, 0 to 24 (14)")
+    add("--pivots", metavar="K", type=number(0, 100), default=20, help="go on after at most K pivots, 0 to 100 (20)")
     add(
         "--questions",
         metavar="N",
@@ -62,12 +63,19 @@ def arguments() -> argparse.Namespace:
     add(
         "--time-limit",
         metavar="S",
-        type=number(1, 10**8),
+        type=number(1, 2_000_000),
         default=8,
-        help="the seconds for all questions together (8)",
+        help="end the search after S seconds of processor time, and say which steps are not done (8)",
     )
-    add("--program", metavar="PATH", help="the program cmr, where it is not to be looked for")
-    return parser.parse_args()
+    add("--program", metavar="PATH", help="the path of the program cmr")
+    chosen = parser.parse_args()
+    if chosen.html is not None and (chosen.html in ("", "-") or _is_one_file(chosen.html, chosen.model, chosen.data)):
+        parser.error("--html needs a file, and not that of the model")
+    return chosen
+
+
+def _is_one_file(name: str, *others: str | None) -> bool:
+    return any(other is not None and os.path.realpath(name) == os.path.realpath(other) for other in others)
 
 
 class _Progress:
@@ -79,15 +87,17 @@ class _Progress:
         self._what = ""
 
     def __call__(self, what: str, done: int, most: int) -> None:
+        end_if_told()
         if not self._is_shown:
             return
         if what != self._what:
             self.close()
-            self._what, self._bar = what, _bar(what, most)
+            self._what, self._bar = what, _bar(what, most) if most else None
         if self._bar is not None:
             self._bar.update()
         else:
-            print(f"\r\x1b[Kcmr-model: {what}: {done} of at most {most} questions", end="", file=sys.stderr, flush=True)
+            said = f": {done} of at most {most} questions" if most else ""
+            print(f"\r\x1b[Kcmr-model: {what}{said}", end="", file=sys.stderr, flush=True)
 
     def close(self) -> None:
         """Leaves the terminal as it was."""
@@ -95,6 +105,7 @@ class _Progress:
             self._bar.close()
         elif self._is_shown and self._what:
             print("\r\x1b[K", end="", file=sys.stderr, flush=True)
+        self._what, self._bar = "", None
 
 
 def _bar(what: str, most: int) -> Any:
@@ -122,14 +133,22 @@ def _work(chosen: argparse.Namespace, found: list[ModelReport]) -> None:
         )
     finally:
         progress.close()
-    if chosen.html:
-        write_text(chosen.html, report.to_html())
-    write_text("-", report.to_json() if chosen.json else report.to_text())
+    text = report.to_json() if chosen.json else report.to_text()
+    if chosen.html is not None:
+        write_whole(chosen.html, report.to_html())
+    write_text("-", text)
     found.append(report)
 
 
-def _refused(fault: BadInput) -> bool:
-    return str(fault).startswith(("cannot read ", "cannot write "))
+def _status(fault: CmrError) -> int:
+    """The status of a run without an answer."""
+    if isinstance(fault, OutOfMemory):
+        return NO_MEMORY
+    if isinstance(fault, Unreadable):
+        return BAD_FILE
+    if isinstance(fault, BadInput) and not isinstance(fault, (LibraryMissing, CommandMissing)):
+        return BAD_MODEL
+    return NO_PROGRAM
 
 
 def main() -> int:
@@ -141,20 +160,13 @@ def main() -> int:
     def work() -> None:
         try:
             _work(chosen, found)
-        except ProgramMissing as fault:
-            faults.append(NO_PROGRAM)
-            raise BadInput(str(fault)) from fault
-        except BadInput as fault:
-            faults.append(BAD_FILE if _refused(fault) else BAD_MODEL)
-            raise
         except CmrError as fault:
-            faults.append(NO_PROGRAM)
+            faults.append(_status(fault))
             raise BadInput(str(fault)) from fault
 
-    try:
-        status = end(work)
-    except KeyboardInterrupt:
-        return INTERRUPTED
+    end_on_signals()
+    status = end(work)
+    end_if_told()
     if faults:
         return faults[0]
     return status or _STATUSES[found[0].verdict]

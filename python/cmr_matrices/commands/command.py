@@ -14,10 +14,10 @@ from collections.abc import Callable
 from pathlib import Path
 from typing import TypeVar
 
-from ..errors import BadInput
+from ..errors import BadInput, Unreadable
 from ..version import __version__
 
-__all__ = ["command_parser", "end", "read_as", "read_text", "write_text"]
+__all__ = ["command_parser", "end", "read_as", "read_text", "write_text", "write_whole"]
 
 _Value = TypeVar("_Value")
 
@@ -65,7 +65,7 @@ def read_text(name: str) -> str:
     try:
         data = sys.stdin.buffer.read() if name == "-" else Path(name).read_bytes()
     except OSError as fault:
-        raise BadInput(f"cannot read {name}: {fault.strerror}") from fault
+        raise Unreadable(f"cannot read {name}: {fault.strerror}") from fault
     return data.decode("utf-8", "surrogateescape")
 
 
@@ -89,4 +89,20 @@ def write_text(name: str, text: str) -> None:
     except BrokenPipeError:
         raise
     except OSError as fault:
-        raise BadInput(f"cannot write {name}: {fault.strerror}") from fault
+        raise Unreadable(f"cannot write {name}: {fault.strerror}") from fault
+
+
+def write_whole(name: str, text: str) -> None:
+    """Writes a text to a file so that a run which is ended leaves the file as it was. A device or a pipe is written at once."""
+    path = Path(os.path.realpath(name))
+    if path.exists() and not path.is_file():
+        write_text(name, text)
+        return
+    beside = path.with_name(f".{path.name}.{os.getpid()}")
+    try:
+        beside.write_bytes(text.encode("utf-8", "surrogateescape"))
+        os.replace(beside, path)
+    except OSError as fault:
+        raise Unreadable(f"cannot write {name}: {fault.strerror}") from fault
+    finally:
+        beside.unlink(missing_ok=True)

@@ -102,8 +102,8 @@ def _work(chosen: argparse.Namespace) -> None:
         is_large = max(constraints.names.shape) > LIMIT
         whole = None if chosen.parts and is_large else matrix_of_part(chosen.model, constraints)
     except BadInput as fault:
-        hint = " (--reduce takes away those that cannot matter)" if steps is None else f"; {said[-1].rstrip()}"
-        raise BadInput(f"{fault}{hint}") from fault
+        hint = " (--reduce removes reducible lines" if steps is None else f" ({said[-1].rstrip()}"
+        raise BadInput(f"{fault}{hint}; cmr-model looks for rows that can be kept)") from fault
     if steps is not None:
         write_text(chosen.reduce, f"{steps}\n" if len(steps) else "")
     if chosen.parts:

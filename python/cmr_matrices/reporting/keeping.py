@@ -3,7 +3,7 @@
 from __future__ import annotations
 
 from collections.abc import Iterable, Iterator, Sequence
-from dataclasses import dataclass, field
+from dataclasses import dataclass, field, replace
 from itertools import combinations
 
 from .asking import Asked, Asker, Cells
@@ -11,17 +11,17 @@ from .asking import Asked, Asker, Cells
 __all__ = ["Budget", "Kept", "keep_blocks"]
 
 FEW = 12
-"""Up to so many blocks all sets of them are looked at."""
+"""The most blocks of which all sets are tried."""
 
 _TOGETHER = 32
-"""How many blocks are added at once by a greedy search, before those that make violators are left out again."""
+"""How many blocks a greedy search adds at once, before it leaves out those that make violators."""
 
 Block = tuple[int, ...]
 
 
 @dataclass(frozen=True)
 class Budget:
-    """What is done with at most so many questions until such a part of all time is over."""
+    """What is done, with the most questions, and the part of all time at which it ends."""
 
     what: str
     questions: int
@@ -30,50 +30,70 @@ class Budget:
 
 @dataclass(frozen=True)
 class Kept:
-    """The blocks that are kept, by their places, the answer on their rows, and for each other one why it cannot be added.
+    """The blocks that are kept, by their places, the answer on their rows, and for each other block why it cannot be added.
 
-    That is a violator within the kept rows and its own, or None where it is open, or was not asked. It is proved largest where every
-    set of blocks with more rows has a violator.
+    That is a violator within the kept rows and its own, or None if the question is open or was not asked. The set is proved largest if
+    every set of blocks with more rows has a violator.
     """
 
     blocks: tuple[int, ...]
     answer: Asked | None
     refused: dict[int, Cells | None] = field(default_factory=dict)
     is_largest: bool = False
+    is_greedy: bool = False
+    """Whether blocks were added one after another. Otherwise all sets with more rows were tried or have a violator."""
     is_cut: bool = False
-    """Whether questions or time were over before the end."""
+    """Whether a limit ended the search, or the search of all sets before it."""
     violators: tuple[tuple[frozenset[int], Cells], ...] = ()
-    """All violators that were found, each with the blocks in which it lies: no set with all of these can be kept."""
+    """All violators that are known, each with the blocks in which it lies: no set with all of these can be kept."""
 
 
-def keep_blocks(asker: Asker, base: Sequence[int], blocks: Sequence[Block], budget: Budget, *, all_sets: bool) -> Kept:
-    """A set of blocks whose rows, beside those of the base, are totally unimodular. Of at most 12 blocks a largest one, if asked for.
+def keep_blocks(
+    asker: Asker,
+    base: Sequence[int],
+    blocks: Sequence[Block],
+    budget: Budget,
+    *,
+    all_sets: bool,
+    known: Iterable[Cells] = (),
+) -> Kept:
+    """A set of blocks whose rows are totally unimodular together with those of the base. `known` are violators of some of these rows.
 
-    Where the budget is over before, a greedy one is tried, with as many questions.
+    If asked for, and if there are at most 12 blocks, it is a largest set by the number of rows. If a limit ends this search, a greedy
+    search follows, with as many questions.
     """
-    work = _Work(asker, tuple(base), tuple(blocks))
+    work = _Work(asker, tuple(base), tuple(blocks), known)
+    is_cut = False
     if all_sets and len(blocks) <= FEW:
-        asker.begin(budget.what, budget.questions, budget.part - 0.1)
+        asker.begin(f"all sets of {budget.what}", budget.questions, budget.part - 0.1)
         found = work.largest()
         if found is not None:
             return found
+        is_cut = True
     asker.begin(budget.what, budget.questions, budget.part)
-    return work.greedy()
+    return work.greedy(is_cut)
 
 
 class _Work:
-    """The violators that were found, as sets of blocks: no set that has all blocks of one can be kept."""
+    """The violators that are known, as sets of blocks: no set that has all blocks of one can be kept."""
 
-    def __init__(self, asker: Asker, base: Block, blocks: tuple[Block, ...]) -> None:
+    def __init__(self, asker: Asker, base: Block, blocks: tuple[Block, ...], known: Iterable[Cells]) -> None:
         self._asker = asker
         self._base = base
         self._blocks = blocks
         self._owner = {row: place for place, block in enumerate(blocks) for row in block}
         self._violators: list[tuple[frozenset[int], Cells]] = []
         self._open: list[frozenset[int]] = []
+        for cells in known:
+            self._add(cells)
+
+    def _add(self, violator: Cells) -> None:
+        owners = frozenset(self._owner[row] for row in violator.rows if row in self._owner)
+        if self._owner.keys() | set(self._base) >= set(violator.rows):
+            self._violators.append((owners, violator))
 
     def largest(self) -> Kept | None:
-        """The first set that is kept, of those with most rows first. None where the budget is over."""
+        """The first set that can be kept, in the order of falling numbers of rows. None if a limit ends the search."""
         for chosen in self._by_size():
             if self._violated(chosen) is not None:
                 continue
@@ -82,11 +102,11 @@ class _Work:
             answer = self._ask(chosen)
             if answer.verdict == "yes":
                 is_largest = all(self._rows(left) <= self._rows(chosen) for left in self._open)
-                return self._kept(chosen, answer, is_largest=is_largest, is_cut=False)
-        return self._kept(frozenset(), None, is_largest=not self._open, is_cut=False)
+                return self._kept(chosen, answer, is_largest=is_largest)
+        return self._kept(frozenset(), None, is_largest=not self._open)
 
     def _by_size(self) -> Iterator[frozenset[int]]:
-        """All sets but the empty one, those with most rows first. Of these come first those with more blocks, and with earlier ones."""
+        """All sets except the empty one, by falling numbers of rows, then by falling numbers of blocks, then in the order of blocks."""
         every = tuple(range(len(self._blocks)))
         sets = [chosen for size in reversed(every) for chosen in combinations(every, size + 1)]
         yield from (frozenset(chosen) for chosen in sorted(sets, key=self._rows, reverse=True))
@@ -94,8 +114,8 @@ class _Work:
     def _rows(self, chosen: Iterable[int]) -> int:
         return sum(map(self._size, chosen))
 
-    def greedy(self) -> Kept:
-        """Adds some blocks at once, and leaves out one of each violator. Then takes back what can be taken back."""
+    def greedy(self, was_cut: bool) -> Kept:
+        """Adds some blocks at once, and leaves out one of each violator. Then adds each that was left out if it can be kept."""
         chosen: frozenset[int] = frozenset()
         answer: Asked | None = None
         dropped: list[int] = []
@@ -116,10 +136,10 @@ class _Work:
             tried = self._ask(chosen | {place})
             if tried.verdict == "yes":
                 chosen, answer = chosen | {place}, tried
-        return self._kept(chosen, answer, is_largest=False, is_cut=is_cut)
+        return replace(self._kept(chosen, answer, is_largest=False), is_greedy=True, is_cut=is_cut or was_cut)
 
     def _added(self, chosen: frozenset[int], some: frozenset[int]) -> tuple[frozenset[int], Asked | None, bool]:
-        """What is left of some blocks beside chosen ones, when one of them goes for each violator; and whether the budget was over."""
+        """What is left of some blocks beside the chosen ones if one of them is left out for each violator, and whether a limit ended it."""
         while some:
             found = self._violated(chosen | some)
             if found is None:
@@ -132,25 +152,24 @@ class _Work:
                 assert found is not None
             own = found & some
             if not own:
-                # It lies in what was kept before, which the first rows of the base alone can do.
+                # It lies in what was kept before, so no block of these is at fault.
                 return chosen, None, False
             some -= {min(own, key=lambda place: (self._size(place), -self._weight(place), -place))}
         return chosen, None, False
 
-    def _kept(self, chosen: frozenset[int], answer: Asked | None, *, is_largest: bool, is_cut: bool) -> Kept:
+    def _kept(self, chosen: frozenset[int], answer: Asked | None, *, is_largest: bool) -> Kept:
         assert answer is None or answer.verdict == "yes"
         refused: dict[int, Cells | None] = {}
         for place in range(len(self._blocks)):
             if place not in chosen:
                 among = chosen | {place}
                 refused[place] = next((cells for blocks, cells in self._violators if blocks <= among), None)
-        return Kept(tuple(sorted(chosen)), answer, refused, is_largest, is_cut, tuple(self._violators))
+        return Kept(tuple(sorted(chosen)), answer, refused, is_largest, violators=tuple(self._violators))
 
     def _ask(self, chosen: frozenset[int]) -> Asked:
         answer = self._asker.ask([*self._base, *(row for place in chosen for row in self._blocks[place])])
         if answer.violator is not None:
-            owners = frozenset(self._owner[row] for row in answer.violator.rows if row in self._owner)
-            self._violators.append((owners, answer.violator))
+            self._add(answer.violator)
         elif answer.verdict == "undecided":
             self._open.append(chosen)
         return answer

@@ -17,8 +17,8 @@ _QUESTIONS = 150
 class Minimal:
     """Lines of a model that are not totally unimodular, with their entries.
 
-    It is minimal where, as soon as any one of its lines is left out, what stays is totally unimodular. It is square then, and its
-    determinant is 2 or -2.
+    It is minimal if the other lines are totally unimodular whichever line is left out. It is then square, and its determinant is 2
+    or -2.
     """
 
     cells: Cells
@@ -30,8 +30,8 @@ class Minimal:
 
 
 def minimal_violator(asker: Asker, violator: Cells, part: float) -> Minimal:
-    """What is left of a violator when one line after another is left out, as long as a violator stays."""
-    asker.begin("the smallest violator", _QUESTIONS, part)
+    """What is left of a violator when one line after another is left out, as long as a violator remains."""
+    asker.begin("a smaller violator", _QUESTIONS, part)
     found, is_minimal = violator, True
     for kind in ("row", "column"):
         for line in found.rows if kind == "row" else found.columns:
@@ -55,7 +55,7 @@ def minimal_violator(asker: Asker, violator: Cells, part: float) -> Minimal:
 
 
 def _without(asker: Asker, found: Cells, kind: str, line: int) -> tuple[Cells | None, bool]:
-    """A violator without a line, if there is one, and whether that is open."""
+    """A violator without a line, if there is one, and whether the question is open."""
     rows = tuple(row for row in found.rows if kind != "row" or row != line)
     columns = tuple(column for column in found.columns if kind != "column" or column != line)
     matrix = asker.matrix_of(Cells(rows, columns))
@@ -63,10 +63,9 @@ def _without(asker: Asker, found: Cells, kind: str, line: int) -> tuple[Cells | 
         answer = asker.ask_matrix(matrix)
     except TimeLimitReached:
         return None, True
-    part = answer.violator
-    if part is None:
-        return None, answer.is_undecided
-    return Cells(tuple(rows[at] for at in part.rows), tuple(columns[at] for at in part.columns)), False
+    if answer.violator is None:
+        return None, answer.verdict != "yes"
+    return Cells(rows, columns).part(answer.violator), False
 
 
 def determinant(rows: Sequence[Sequence[int]]) -> int:

@@ -1,4 +1,4 @@
-"""A report as one page of HTML with its pictures in it: it takes nothing from anywhere, and runs nothing."""
+"""A report as one page of HTML that contains its pictures. It loads no other file and runs no script."""
 
 from __future__ import annotations
 
@@ -16,22 +16,27 @@ __all__ = ["report_page"]
 
 _TREES = 4
 _MOST = 60
-_STATES = {"kept": ("keep", "kept"), "relaxed": ("relax", "relaxed"), "partly": ("relax in part", "partly")}
+_STATES = {
+    "kept": ("keep", "kept"),
+    "relaxed": ("relax", "relaxed"),
+    "partly": ("relax in part", "partly"),
+    "open": ("open", "partly"),
+}
 _VERDICTS = {"yes": "totally unimodular", "no": "not totally unimodular", "undecided": "undecided"}
 _KINDS = {
     "network": "a network matrix, with the graph as its evidence",
     "conetwork": "its transpose is a network matrix",
     "r10": "the matrix R10, which is neither",
-    "enumerated": "so small that all sets of rows were tried",
+    "enumerated": "a small matrix of which every set of lines on the shorter side was tried",
     "empty": "nothing is left",
-    "reduced": "lines without effect are taken away: zero, one nonzero, copies",
+    "reduced": "lines are removed that change no verdict: zero, one nonzero, copies",
     "onesum": "connected parts",
-    "twosum": "two parts that have a row of one and a column of the other in common",
+    "twosum": "a two-sum of two parts, joined at a row of one and a column of the other",
     "delta": "a three-sum of two parts",
     "y": "a three-sum of two parts",
     "mixed": "a three-sum of two parts",
     "concentrated": "a three-sum of two parts",
-    "pivoted": "the same behind a step of the simplex method",
+    "pivoted": "the same matrix after a pivot",
     "cycle": "a violator: a cycle with a sum of 2 modulo 4",
     "violator": "a violator",
     "undecided": "left open",
@@ -86,6 +91,13 @@ pre { background: #f1f4f7; border: 1px solid var(--line); border-radius: 8px; pa
 code, pre { font-family: ui-monospace, "DejaVu Sans Mono", Menlo, monospace; }
 details summary { cursor: pointer; color: var(--soft); }
 footer { color: var(--soft); font-size: 13px; }
+@media (max-width: 720px) {
+  main { padding: 16px 12px 40px; } section { padding: 14px 16px; }
+  table.families thead { display: none; }
+  table.families tr { display: block; padding: 8px 0; border-bottom: 1px solid var(--line); }
+  table.families td { display: inline-block; border: 0; padding: 2px 12px 2px 0; } table.families td.why { display: block; }
+  td.name { min-width: 0; } td.rows::before { content: "rows "; } td.relaxed:not(:empty)::before { content: "relaxed "; }
+}
 @media print { body { background: #fff; } main { max-width: none; } section { break-inside: avoid; } }
 """
 
@@ -119,14 +131,14 @@ def _head(report: ModelReport, name: str) -> Iterator[str]:
     whole = sum(report.rows.model.whole)
     left = report.reduced.left
     size = f"{left[0]} &times; {left[1]}"
-    yield f'<header><div><h1>{name}</h1><div class="soft">Does its linear program give whole numbers?</div></div>'
+    yield f'<header><div><h1>{name}</h1><div class="soft">Is its linear program integral?</div></div>'
     yield f'<div class="badge {report.verdict}">{_VERDICTS[report.verdict]}</div></header>'
     tiles = [
         (f"{rows} &times; {columns}", "rows (constraints) and columns (variables)"),
         (str(nonzeros), f"nonzeros in {sentences.counted(len(report.families), 'family', 'families')} of rows"),
-        (f"{whole} of {columns}", "variables are declared in whole numbers"),
+        (f"{whole} of {columns}", "variables are declared as integers"),
         (size if all(left) else "nothing", "is left by the reductions"),
-        (str(len(report.relaxed)), f"rows to relax of {rows}"),
+        ("-" if report.rest is None else str(len(report.relaxed)), f"rows to relax of {rows}"),
     ]
     yield '<div class="tiles">'
     yield from (f'<div class="tile"><b>{number}</b><span>{words}</span></div>' for number, words in tiles)
@@ -136,6 +148,7 @@ def _head(report: ModelReport, name: str) -> Iterator[str]:
 def _answer(report: ModelReport) -> Iterator[str]:
     yield f'<section class="answer {report.verdict}"><h2>The answer</h2>'
     yield from (f"<p>{escape(sentence)}</p>" for sentence in sentences.of_verdict(report))
+    yield from (f'<p class="warn">{escape(sentence)}</p>' for sentence in sentences.of_limits(report))
     relaxation = sentences.of_relaxation(report) if report.verdict != "yes" else []
     for number, sentence in enumerate(relaxation):
         look = ' class="relax"' if not number and report.rest is not None else ""
@@ -151,7 +164,7 @@ def _answer(report: ModelReport) -> Iterator[str]:
 
 
 def _pictures(report: ModelReport) -> Iterator[str]:
-    """The matrix, and beside it the violator where both have room."""
+    """The matrix, and beside it the violator if both have room."""
     yield '<section><div class="beside"><div>'
     yield f'<h2>The matrix</h2><div class="scroll">{spy(report)}</div></div>'
     if report.minimal is not None:
@@ -184,7 +197,7 @@ def _violator(report: ModelReport) -> Iterator[str]:
     if found is None:
         return
     said = sentences.of_violator(report)
-    yield f"<h2>The smallest violator that was found</h2><p>{escape(said[:1].upper() + said[1:])}.</p>"
+    yield f"<h2>The smallest violator that was found</h2><p>It has {escape(said)}.</p>"
     if max(len(found.row_names), len(found.column_names)) > 24:
         yield f"<p>rows {escape(', '.join(found.row_names))}</p><p>columns {escape(', '.join(found.column_names))}</p>"
     else:
@@ -194,10 +207,10 @@ def _violator(report: ModelReport) -> Iterator[str]:
         for name, entries in zip(found.row_names, found.entries):
             yield f"<tr><th>{escape(name)}</th>{''.join(map(_cell, entries))}</tr>"
         yield "</tbody></table></div>"
-    if found.determinant is not None and abs(found.determinant) > 1:
+    if found.determinant in (2, -2):
         yield (
-            f'<p class="soft">A square submatrix with the determinant {found.determinant}: by Cramer&#x27;s rule these rows and variables '
-            "alone have a vertex with a half in it for some whole right-hand side.</p>"
+            f'<p class="soft">By Cramer&#x27;s rule with the determinant {found.determinant}, inequalities in these rows and variables '
+            "only have a vertex with a half for some integral right-hand sides.</p>"
         )
 
 
@@ -216,7 +229,7 @@ def _families(report: ModelReport) -> Iterator[str]:
     yield "</tbody></table>"
     if len(ordered) > _MOST:
         yield f'<p class="soft">and {len(ordered) - _MOST} other families</p>'
-    yield '<p class="soft">Names of one family are the same up to digits and what stands in brackets.</p></section>'
+    yield '<p class="soft">The names of one family are the same up to digits and bracketed text.</p></section>'
 
 
 def _family(report: ModelReport, number: int, family: FamilyLine) -> str:
@@ -226,19 +239,20 @@ def _family(report: ModelReport, number: int, family: FamilyLine) -> str:
         names = [report.rows.model.rows[row] for row in family.relaxed]
         why = f"{why}; relaxed: {sentences.listed(names, 12)}"
     chip = f'<span class="chip" style="background:{COLOURS[number % len(COLOURS)]}"></span>'
-    more = f'<td class="number">{len(family.relaxed) or ""}</td><td>{escape(why)}</td>' if report.relaxed else ""
+    count = len(family.relaxed) or ""
+    more = f'<td class="number relaxed">{count}</td><td class="why">{escape(why)}</td>' if report.relaxed else ""
     return (
-        f'<tr><td class="name">{chip}{escape(family.said)}</td><td class="number">{family.rows}</td>'
+        f'<tr><td class="name">{chip}{escape(family.said)}</td><td class="number rows">{family.rows}</td>'
         f'<td class="state"><span class="pill {look}">{words}</span></td>{more}</tr>'
     )
 
 
 def _trees(report: ModelReport) -> Iterator[str]:
-    asked = report.rest or report.whole
+    asked = report.rest if report.rest is not None else report.whole
     trees = [piece.tree for piece in asked.pieces if piece.tree is not None]
     if not trees:
         return
-    title = "Why the rest is totally unimodular" if report.relaxed and report.rest else "The decomposition"
+    title = "Why the remaining rows are totally unimodular" if report.relaxed and report.rest is not None else "The decomposition"
     yield f"<section><h2>{title}</h2>"
     if report.reason and asked.verdict == "yes":
         yield f"<p>{escape(report.reason.sentence)}</p>"
@@ -261,17 +275,18 @@ def _outline(lines: Iterable[str]) -> Iterator[str]:
 
 
 def _before(report: ModelReport) -> Iterator[str]:
-    yield f"<section><h2>What was reduced before</h2><p>{escape(sentences.of_reductions(report))}</p></section>"
+    yield f"<section><h2>Reductions</h2><p>{escape(sentences.of_reductions(report))}</p></section>"
 
 
 def _commands(report: ModelReport) -> Iterator[str]:
     yield "<section><h2>How to repeat it</h2>"
     yield (
-        '<p class="soft">These commands give each answer again, one after another in one folder. In a clone '
-        "<code>model_to_matrix</code> and <code>name_lines</code> stand in <code>scripts/</code>, and <code>./cmr</code> "
-        "is the program; where it is installed they are "
-        "<code>cmr-from-model</code> and <code>cmr-names</code>.</p>"
+        '<p class="soft">These commands repeat each answer. Run them in this order in one folder. In a clone '
+        "<code>model_to_matrix</code> and <code>name_lines</code> are in <code>scripts/</code>, and <code>./cmr</code> "
+        "is the program. Where the program is installed, they are <code>cmr-from-model</code> and <code>cmr-names</code>.</p>"
     )
+    if report.is_in_memory:
+        yield f"<p>The commands read the file <code>{escape(report.file)}</code>, whose text <code>ModelReport.to_mps()</code> gives.</p>"
     for it in repeated(report):
         if it.commands:
             says = f' <span class="soft">prints <code>{escape(it.says)}</code></span>' if it.says else ""
@@ -281,9 +296,10 @@ def _commands(report: ModelReport) -> Iterator[str]:
 
 
 def _foot(report: ModelReport) -> Iterator[str]:
-    asked = sentences.counted(report.asked, "question was", "questions were")
-    checked = sentences.counted(report.checked, "piece of evidence was", "pieces of evidence were")
+    asked = sentences.counted(report.asked, "question", "questions")
+    checked = sentences.counted(report.checked, "piece of evidence", "pieces of evidence")
+    unproved = "" if report.is_proved else " The program was compiled by <code>./try-cmr</code> without proofs."
     yield (
-        f"<footer><p>{asked} put to the proved program <code>cmr</code>. {checked} accepted by <code>cmr check</code>, which knows nothing "
-        "of the search. Graphs, reductions and determinants were computed again by the package. Nothing else is said here.</p></footer>"
+        f"<footer><p>The program <code>cmr</code> answered {asked}, and <code>cmr check</code> accepted {checked}.{unproved} The Python "
+        "package computed graphs, reductions and determinants again.</p></footer>"
     )

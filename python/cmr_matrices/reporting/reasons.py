@@ -3,6 +3,8 @@
 from __future__ import annotations
 
 from collections import Counter
+from dataclasses import dataclass
+from typing import Literal
 
 from ..clock import Clock
 from ..errors import ProgramFault
@@ -13,32 +15,37 @@ from ..questions import is_conetwork, is_network
 from ..trees import Tree
 from ..walks import arcs_of_walks
 
-__all__ = ["Reason", "reason_of"]
+__all__ = ["Reason", "reason_of", "reason_of_tree"]
 
 _LEAVES = {
     "network": ("network matrix", "network matrices"),
     "conetwork": ("transposed network matrix", "transposed network matrices"),
     "r10": ("matrix R10", "matrices R10"),
-    "enumerated": ("small matrix that was searched whole", "small matrices that were searched whole"),
+    "enumerated": ("small matrix of which every set of lines was tried", "small matrices of which every set of lines was tried"),
 }
 _SUMS = {"twosum": "two-sum", "delta": "three-sum", "y": "three-sum", "mixed": "three-sum", "concentrated": "three-sum"}
 
 
+@dataclass(frozen=True)
 class Reason:
-    """A word for the class, and the sentence. `command` is the word of the program that shows it, where there is one."""
+    """A word for the class, the sentence, and the words of the program that show it, if there are any."""
 
-    def __init__(self, word: str, sentence: str, words: tuple[str, ...] = ()) -> None:
-        self.word = word
-        self.sentence = sentence
-        self.words = words
+    word: Literal["network", "conetwork", "sums"]
+    sentence: str
+    words: tuple[str, ...] = ()
 
 
 def reason_of(matrix: Matrix, tree: Tree, program: StrPath | None, clock: Clock) -> Reason:
-    """Why the matrix of a tree that says yes is totally unimodular. A graph is tested by what its paths take."""
+    """Why the matrix of a tree that says yes is totally unimodular. The arcs of each walk in a graph are compared with the matrix."""
     if _is_shown(matrix, is_turned=False, program=program, clock=clock):
         return Reason("network", _of_network(matrix), ("network",))
     if _is_shown(matrix, is_turned=True, program=program, clock=clock):
         return Reason("conetwork", _of_conetwork(matrix), ("network", "-t"))
+    return reason_of_tree(tree)
+
+
+def reason_of_tree(tree: Tree) -> Reason:
+    """Why the matrix of a tree that says yes is totally unimodular, by the kinds of its nodes."""
     return Reason("sums", _of_sums(tree))
 
 
@@ -67,7 +74,7 @@ def _of_network(matrix: Matrix) -> str:
     if max(counts.values()) <= 2:
         return f"{said}: each variable is in at most two rows, as in a flow, a transport or an assignment."
     if _are_intervals(matrix):
-        return f"{said}: in the order of the model the rows of each variable are next to one another (intervals)."
+        return f"{said}: the rows of each variable are consecutive in the order of the model (intervals)."
     return f"{said}: each variable is a path in a tree whose arcs are the rows."
 
 
@@ -77,12 +84,12 @@ def _of_conetwork(matrix: Matrix) -> str:
     if max(counts.values(), default=0) <= 2:
         return f"{said}: each row has at most two variables, as differences have."
     if _are_intervals(matrix.T):
-        return f"{said}: in the order of the model the variables of each row are next to one another (intervals)."
+        return f"{said}: the variables of each row are consecutive in the order of the model (intervals)."
     return f"{said}: each row is a path in a tree whose arcs are the variables."
 
 
 def _are_intervals(matrix: Matrix) -> bool:
-    """Whether the nonzeros of each column are of one sign and next to one another."""
+    """Whether the nonzeros of each column are of one sign and consecutive."""
     found: dict[int, list[tuple[int, int]]] = {}
     for row, column, entry in matrix.nonzeros:
         found.setdefault(column, []).append((row, entry))
@@ -97,16 +104,16 @@ def _of_sums(tree: Tree) -> str:
     nodes = [node for _, node in tree.walk() if node.kind not in ("reduced", "empty")]
     if len(nodes) == 1 and nodes[0].kind == "enumerated":
         size = nodes[0].lines.size
-        return f"A part of {size} is left by the reductions, and each set of its shorter side was tried (Ghouila-Houri 1962)."
+        return f"The reductions leave a part of {size}, and every set of lines on its shorter side was tried (Ghouila-Houri 1962)."
     leaves = [_counted(kinds[kind], *words) for kind, words in _LEAVES.items() if kinds[kind]]  # type: ignore[index]
     sums: Counter[str] = Counter()
     for kind, word in _SUMS.items():
         sums[word] += kinds[kind]  # type: ignore[index]
     joined = [_counted(count, word, f"{word}s") for word, count in sums.items() if count]
     pivots = _counted(kinds["pivoted"], "pivot", "pivots")
-    behind = f", behind {pivots}" if kinds["pivoted"] else ""
+    after = f", after {pivots}" if kinds["pivoted"] else ""
     by = f" by {' and '.join(joined)}" if joined else ""
-    return f"It is put together of {_listed(leaves)}{by}{behind} (Seymour's decomposition)."
+    return f"It is composed of {_listed(leaves)}{by}{after} (Seymour's decomposition)."
 
 
 def _counted(count: int, one: str, several: str) -> str:

@@ -10,7 +10,7 @@ from ..errors import ProgramFault
 from ..lines import Line
 from ..model_reductions import connected_parts, reduced
 from ..program import REFUSED
-from ..reductions import Reductions
+from ..reductions import Reason, Reductions
 
 __all__ = ["Reduced", "reduced_and_checked", "reduced_model"]
 
@@ -49,30 +49,36 @@ def reduced_and_checked(constraints: Constraints) -> tuple[Constraints, Reductio
 
 
 def _must_reduce(constraints: Constraints, steps: Reductions, left: Constraints) -> None:
-    """Raises `ProgramFault` where a step is not what it says of what the steps before it leave, or where not so much is left."""
-    nears: dict[Line, dict[Line, int]] = {}
-    for kind, count in zip(("row", "column"), constraints.names.shape):
-        for number in range(count):
-            nears[Line("row" if kind == "row" else "column", number)] = {}
+    """Raises `ProgramFault` if a step is not what it says of what the steps before it leave, or if something else is left."""
+    height, width = constraints.names.shape
+    nears: dict[int, dict[int, int]] = {line: {} for line in range(height + width)}
     for (row, column), entry in constraints.entries.items():
-        nears[Line("row", row)][Line("column", column)] = entry
-        nears[Line("column", column)][Line("row", row)] = entry
+        nears[row][height + column] = nears[height + column][row] = entry
     for step in steps:
-        own = nears.pop(step.line, None)
-        other = nears.get(step.other) if step.other else None
-        match step.reason:
-            case "zero":
-                holds = own == {}
-            case "unit":
-                holds = own is not None and list(own) == [step.other]
-            case "copy":
-                holds = own is not None and own == other
-            case _:
-                holds = own is not None and other == {line: -entry for line, entry in own.items()}
-        if not holds or own is None:
+        line = _number(step.line, height)
+        own = nears.pop(line, None)
+        other = _number(step.other, height) if step.other else -1
+        if own is None or not _holds(step.reason, own, other, nears):
             raise ProgramFault(REFUSED, f"the reduction {step.named(constraints.names)} is none")
-        for line in own:
-            del nears[line][step.line]
-    shape = tuple(sum(1 for line in nears if line.kind == kind) for kind in ("row", "column"))
-    if shape != left.names.shape or sum(map(len, nears.values())) != 2 * len(left.entries):
+        for crossing in own:
+            del nears[crossing][line]
+    rows = sum(1 for line in nears if line < height)
+    if (rows, len(nears) - rows) != left.names.shape or sum(map(len, nears.values())) != 2 * len(left.entries):
         raise ProgramFault(REFUSED, "the reductions do not leave what they say")
+
+
+def _number(line: Line, height: int) -> int:
+    return line.number if line.kind == "row" else height + line.number
+
+
+def _holds(reason: Reason, own: dict[int, int], other: int, nears: dict[int, dict[int, int]]) -> bool:
+    """Whether a line with these nonzeros is reducible for a reason."""
+    match reason:
+        case "zero":
+            return not own
+        case "unit":
+            return list(own) == [other]
+        case "copy":
+            return own == nears.get(other)
+        case "negative":
+            return nears.get(other) == {line: -entry for line, entry in own.items()}

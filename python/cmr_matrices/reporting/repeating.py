@@ -17,7 +17,7 @@ from .report import ModelReport
 __all__ = ["Repeated", "repeated", "row_pattern"]
 
 _APART = 6
-"""Up to so many parts have commands of their own."""
+"""The most parts that have commands of their own."""
 
 
 @dataclass(frozen=True)
@@ -37,7 +37,7 @@ def repeated(report: ModelReport) -> tuple[Repeated, ...]:
 class _Commands:
     def __init__(self, report: ModelReport) -> None:
         self._report = report
-        self._stem = re.sub(r"[^A-Za-z0-9_-]", "_", Path(report.model).name.split(".")[0]) or "model"
+        self._stem = re.sub(r"[^A-Za-z0-9_-]", "_", Path(report.file).name.split(".")[0]) or "model"
 
     def all(self) -> Iterable[Repeated]:
         report = self._report
@@ -47,7 +47,7 @@ class _Commands:
         if report.whole.rows:
             what = "the rows with coefficients -1, 0 and 1" if report.rows.refused else "the whole matrix"
             yield from self._asked(what, self._stem, report.whole, ())
-        if report.reason and report.reason.words and report.whole.verdict == "yes" and not report.whole.is_reduced:
+        if report.reason is not None and report.reason.words and report.whole.verdict == "yes" and not report.whole.is_reduced:
             yield self._class(self._stem)
         if report.minimal is not None:
             yield self._violator("the smallest violator", f"{self._stem}-violator", report.minimal.cells)
@@ -60,11 +60,11 @@ class _Commands:
             name = f"{self._stem}-rest"
             relaxed = [row for row in report.relaxed if row not in report.rows.refused]
             yield from self._asked("what is left once these rows are relaxed", name, report.rest, relaxed)
-            if report.reason and report.reason.words and not report.rest.is_reduced:
+            if report.reason is not None and report.reason.words and not report.rest.is_reduced:
                 yield self._class(name)
 
     def _other_violators(self) -> Iterable[Repeated]:
-        """The violators by which sets with more families are ruled out, but for those of the families that are relaxed."""
+        """The violators that rule out sets with more rows, without those of the families that are relaxed."""
         report = self._report
         if report.kept is None or not report.kept.is_largest:
             return
@@ -78,7 +78,9 @@ class _Commands:
     def _source(self) -> list[str]:
         report = self._report
         words = ["--format", report.form] if report.form else []
-        return [*words, *(["--data", report.data] if report.data else []), report.model]
+        # A name that begins with a hyphen would be an option.
+        file = f"./{report.file}" if report.file.startswith("-") else report.file
+        return [*words, *(["--data", report.data] if report.data else []), file]
 
     def _matrix(self, name: str, choice: Sequence[str], reduces: bool) -> str:
         report = self._report
@@ -97,7 +99,7 @@ class _Commands:
         answered = [number for number, piece in enumerate(asked.pieces, 1) if piece.answer is not None]
         if not asked.pieces:
             yield Repeated(what, (first,), "")
-        elif any(piece.matrix is None for piece in asked.pieces):
+        elif asked.is_reduced and any(piece.is_too_large for piece in asked.pieces):
             # A part is too large, and model_to_matrix writes none of them.
             return
         elif len(answered) > _APART:
@@ -135,7 +137,7 @@ class _Commands:
         return Repeated("why", (command,), f"{reason.word}: yes")
 
     def _violator(self, what: str, name: str, cells: Cells) -> Repeated:
-        """The violator as a text, and its check, on the whole matrix or on its rows alone where that is too large."""
+        """The violator as a text, and its check, on the whole matrix, or on the violator's rows only if the matrix is too large."""
         report = self._report
         rows = report.whole.rows
         is_large = report.whole.is_reduced
@@ -161,7 +163,7 @@ class _Commands:
 
 
 def row_pattern(wanted: Sequence[str], names: Iterable[str]) -> str:
-    """A regular expression that has a match in these names, and in no other: by families where that is right, else by names."""
+    """A regular expression that has a match in these names, and in no other: by families if they have no other rows, else by names."""
     taken = set(wanted)
     parts = [_family_pattern(family) for family in dict.fromkeys(map(family_of, wanted))]
     pattern = _one_of(parts)

@@ -1,25 +1,32 @@
-"""The report of one model: from its file to what a modeller asks of it."""
+"""The report of one model: from the model to what a modeller asks of it."""
 
 from __future__ import annotations
 
 import os
-from collections.abc import Iterable, Sequence
+import re
+from collections.abc import Iterable, Mapping, Sequence
 from dataclasses import dataclass, field
-from typing import Literal
+from typing import Any, Literal, get_args
 
 from ..answers import Verdict
 from ..clock import Clock
-from ..errors import BadInput
+from ..errors import BadInput, TimeLimitReached, shown
+from ..given import one_of
 from ..given import whole as whole_number
+from ..matrix import Matrix
 from ..modellers import Format
-from ..models import read_model
-from ..program import StrPath
-from .asking import Asked, Asker, Cells, Tell
+from ..model_objects import model_of
+from ..models import Model, read_model
+from ..mps import model_text
+from ..program import StrPath, find_program, unproved
+from ..trees import Tree
+from .asking import Asked, Asker, Cells, Limit, Tell, processor_seconds
 from .keeping import Budget, Kept, keep_blocks
 from .minimal import Minimal, minimal_violator
-from .reasons import Reason, reason_of
+from .reasons import Reason, reason_of, reason_of_tree
 from .reducing import Reduced, reduced_model
 from .rows import ModelRows, NotWhole, RowFamily, said_rows
+from .sampling import near_lines
 
 __all__ = ["FamilyLine", "ModelReport", "model_report"]
 
@@ -27,42 +34,51 @@ QUESTIONS = 300
 """The most questions of each search for rows to keep."""
 
 _FEW = 6
-# When the steps end, as parts of all time.
+_SAMPLES = (100, 300, 1000)
+# The parts of all time at which the steps end.
 _WHOLE, _SMALLER, _FAMILIES, _ROWS, _ALL = 0.4, 0.5, 0.75, 0.92, 1.0
+
+State = Literal["kept", "relaxed", "partly", "open"]
 
 
 @dataclass(frozen=True)
 class FamilyLine:
-    """What becomes of a family of rows: how many there are, which are kept, which relaxed, and why."""
+    """What becomes of a family of rows: how many there are, which rows are relaxed, and why."""
 
     name: str
     said: str
     rows: int
-    state: Literal["kept", "relaxed", "partly"]
+    state: State
     relaxed: tuple[int, ...]
     coefficients: tuple[int, ...]
     """The rows with coefficients other than -1, 0 and 1."""
     violator: Cells | None
     is_open: bool
-    """Whether it is not known to spoil the rest: a question was left open, or was not asked."""
+    """Whether no violator shows that it cannot be kept: a question was left open, or was not asked."""
 
 
 @dataclass(frozen=True)
 class ModelReport:
-    """What was found of a model. `verdict` is that on its whole matrix, and every answer was checked by `cmr check`."""
+    """What was found of a model. `verdict` is that on its whole matrix. `cmr check` accepted the evidence of every answer."""
 
     model: str
+    """The name of the model, or the path of its file."""
     verdict: Verdict
     rows: ModelRows = field(repr=False)
-    pivots: int
-    lines: int | None
-    form: str | None
-    data: str | None
+    file: str = field(repr=False)
+    """The file that the commands read: that of the model, or the one for which `to_mps` gives the text."""
+    is_in_memory: bool = field(repr=False)
+    is_proved: bool = field(repr=False)
+    """Whether the program was not one that `./try-cmr` has compiled without proofs."""
+    pivots: int = field(repr=False)
+    lines: int | None = field(repr=False)
+    form: str | None = field(repr=False)
+    data: str | None = field(repr=False)
     whole: Asked = field(repr=False)
     """The answer on all rows whose coefficients are -1, 0 and 1."""
     reduced: Reduced = field(repr=False)
     reason: Reason | None = field(repr=False)
-    """Of a yes on these rows, or of what is left once `relaxed` is."""
+    """Why the rows that are kept are totally unimodular."""
     minimal: Minimal | None = field(repr=False)
     families: tuple[FamilyLine, ...] = field(repr=False)
     kept: Kept | None = field(repr=False)
@@ -70,9 +86,13 @@ class ModelReport:
     """The family within which single rows were tried."""
     within: Kept | None = field(repr=False)
     rest: Asked | None = field(repr=False)
-    """The answer on what is kept."""
+    """The answer on the rows that are kept."""
     asked: int = field(repr=False)
     checked: int = field(repr=False)
+    ended: Mapping[str, Limit] = field(repr=False)
+    """The steps that a limit has ended. What `time` has ended may depend on the speed of the machine."""
+    time_limit: float | None = field(repr=False)
+    questions: int = field(repr=False)
 
     @property
     def shape(self) -> tuple[int, int]:
@@ -94,12 +114,13 @@ class ModelReport:
             return family.said
         if len(family.relaxed) > _FEW:
             return f"{len(family.relaxed)} of the {family.rows} rows of {family.said}"
-        return ", ".join(self.rows.model.rows[row] for row in family.relaxed)
+        *others, last = (self.rows.model.rows[row] for row in family.relaxed)
+        return f"{', '.join(others)} and {last}" if others else last
 
     @property
     def not_whole(self) -> tuple[NotWhole, ...]:
-        """The right-hand sides and bounds of the kept rows that are no whole numbers."""
-        return self.rows.not_whole(self.rest.rows if self.rest else self.whole.rows)
+        """The right-hand sides of the kept rows, and the bounds, that are no integers."""
+        return self.rows.not_whole(self.rest.rows if self.rest is not None else self.whole.rows)
 
     def names_of(self, cells: Cells) -> tuple[tuple[str, ...], tuple[str, ...]]:
         """The names of some rows and columns."""
@@ -113,7 +134,7 @@ class ModelReport:
         return report_text(self)
 
     def to_html(self) -> str:
-        """The report as one page of HTML that needs nothing else."""
+        """The report as one page of HTML that needs no other file."""
         from .page import report_page  # pylint: disable=import-outside-toplevel
 
         return report_page(self)
@@ -124,12 +145,16 @@ class ModelReport:
 
         return report_json(self)
 
+    def to_mps(self) -> str:
+        """The constraints of the model in free MPS, without its objective. The commands of the report of a model in memory read it."""
+        return model_text(self.rows.model)
+
     def __str__(self) -> str:
         return self.to_text().rstrip("\n")
 
 
 def model_report(
-    path: StrPath,
+    model: Any,
     *,
     form: Format | None = None,
     data: StrPath | None = None,
@@ -140,52 +165,86 @@ def model_report(
     program: StrPath | None = None,
     tell: Tell | None = None,
 ) -> ModelReport:
-    """The report of a model in a file, of the formats of `from_model`.
+    """The report of a model: is its constraint matrix totally unimodular, and why? If not, which rows spoil it, and which to relax?
 
-    Is its constraint matrix totally unimodular, and why? If not, which families of rows spoil it, and which to relax so that what is
-    left is?
+    `model` is the path of a file, in the formats of `from_model` with `form` and `data`, or a model in memory: a `pulp.LpProblem`, a
+    `ConcreteModel` of Pyomo, a `linopy.Model`, constraints of `scipy.optimize.milp`, or the arguments of `scipy.optimize.linprog` in
+    `scipy_model`.
 
-    `form` is the format, if the suffix of the file does not give it, and `data` the data of a model of MathProg. `lines` is the budget of
-    each search, 0 to 24 lines (14); `pivots` the number of pivots that may be made on the path to an open part, 0 to 100 (20).
-    `questions` is the greatest number of questions on the families, and again on the rows of one family, 1 to 100,000 (300).
-    `time_limit` is in seconds, 0 to 2,000,000, for all questions: on the whole matrix, for a smallest violator, on the families, and on
-    the rows of one family. `program` is the program's path. `tell` is called before each question with the name of the step, the
-    question's number in it, counted from 1, and the greatest number.
+    `lines` is the budget of the search, 0 to 24 lines (14); `pivots` how many pivots may be made on the way to a part that is left open,
+    0 to 100 (20). `questions`, 1 to 100,000 (300), are the most for each search for rows to keep. `time_limit` is in seconds,
+    0 to 2,000,000, of processor time for the whole call: the search ends then, and `ended` names the steps that are not done. `program` is
+    the program's path. `tell` is called with each question.
     """
-    name = os.fspath(path)
+    start = processor_seconds()
     whole_number("questions", questions, 1, 100_000)
-    model = read_model(name, form, None if data is None else os.fspath(data))
-    try:
-        rows = ModelRows.of(model)
-    except BadInput as fault:
-        raise BadInput(f"{name}: {fault}") from fault
-    asker = Asker(rows, lines=lines, pivots=pivots, seconds=time_limit, program=program, tell=tell)
-    work = _Work(asker, rows, questions)
-    found = work.done()
+    limit = Clock(time_limit).limit
+    proved = find_program(program) != unproved()
+    if tell is not None:
+        tell("reading the model", 0, 0)
+    source = _source(model, form, data, limit)
+    rows = source.rows
+    asker = Asker(rows, lines=lines, pivots=pivots, seconds=limit, program=program, tell=tell, start=start)
+    found = _Work(asker, rows, questions).done()
     return ModelReport(
-        model=name,
+        model=source.name,
         verdict="no" if rows.refused or found.minimal is not None else found.whole.verdict,
         rows=rows,
+        file=source.file,
+        is_in_memory=source.is_in_memory,
+        is_proved=proved,
         pivots=pivots,
         lines=lines,
         form=form,
         data=None if data is None else os.fspath(data),
-        whole=found.whole,
-        reduced=found.reduced,
-        reason=found.reason,
-        minimal=found.minimal,
-        families=found.families,
-        kept=found.kept,
-        inside=found.inside,
-        within=found.within,
-        rest=found.rest,
+        **vars(found),
         asked=asker.asked,
         checked=asker.checked,
+        ended=dict(asker.ended),
+        time_limit=limit,
+        questions=questions,
     )
 
 
 @dataclass(frozen=True)
+class _Source:
+    """A model with its name and the file that commands read."""
+
+    model: Model
+    name: str
+    file: str
+    is_in_memory: bool
+
+    @property
+    def rows(self) -> ModelRows:
+        """The divided rows of the model. A fault names the model."""
+        try:
+            return ModelRows.of(self.model)
+        except BadInput as fault:
+            raise BadInput(f"{self.name}: {fault}") from fault
+
+
+def _source(model: Any, form: Format | None, data: StrPath | None, seconds: float | None) -> _Source:
+    if isinstance(model, (str, os.PathLike)):
+        if data is not None and not isinstance(data, (str, os.PathLike)):
+            raise BadInput(f"data is the path of the file with the data, and here it is {shown(data)}")
+        if form is not None:
+            one_of("form", form, get_args(Format))
+        path = os.fspath(model)
+        read = read_model(path, form, None if data is None else os.fspath(data), seconds)
+        return _Source(read, path, path, False)
+    if form is not None or data is not None:
+        raise BadInput("form and data go with a model in a file, and here it is one in memory")
+    said = getattr(model, "name", None)
+    name = said if isinstance(said, str) and said.strip() else "model"
+    file = re.sub(r"[^\w.-]", "_", name)
+    return _Source(model_of(model), name, f"{file}.mps", True)
+
+
+@dataclass(frozen=True)
 class _Found:
+    """What the steps find, under the names of `ModelReport`."""
+
     whole: Asked
     reduced: Reduced
     reason: Reason | None
@@ -216,11 +275,13 @@ class _Work:
             return _Found(
                 whole, reduced, self._reason(whole), None, self._lines(None, None, None), None, None, None, whole
             )
-        minimal = minimal_violator(self._asker, whole.violator, _SMALLER) if whole.violator else None
+        violator = whole.violator or self._near_violator(whole)
+        minimal = minimal_violator(self._asker, violator, _SMALLER) if violator is not None else None
         taken = [place for place, family in enumerate(self._families) if family.rows]
         blocks = [self._families[place].rows for place in taken]
         budget = Budget("families of rows", self._questions, _FAMILIES)
-        kept = keep_blocks(self._asker, (), blocks, budget, all_sets=True)
+        known = [minimal.cells] if minimal is not None else []
+        kept = keep_blocks(self._asker, (), blocks, budget, all_sets=True, known=known)
         base = [row for at in kept.blocks for row in blocks[at]]
         several = [at for at in kept.refused if len(blocks[at]) > 1]
         smallest = min(several or kept.refused, key=lambda at: (len(blocks[at]), at))
@@ -229,29 +290,42 @@ class _Work:
             budget = Budget(f"rows of {self._families[taken[smallest]].name}", self._questions, _ROWS)
             single = [(row,) for row in blocks[smallest]]
             within = keep_blocks(self._asker, base, single, budget, all_sets=False)
-        # Where the whole matrix is left open, a violator of some of its rows decides it.
+        # If the whole matrix is left open, a violator of some of its rows decides it.
         others = [cells for search in (kept, within) if search is not None for _, cells in search.violators]
         if minimal is None and others:
             smaller = min(others, key=lambda cells: len(cells.rows) + len(cells.columns))
             minimal = minimal_violator(self._asker, smaller, _ALL)
-        rest = (within.answer if within else None) or kept.answer
+        rest = within.answer if within is not None and within.answer is not None else kept.answer
         families = self._lines((taken, kept), taken[smallest], within)
-        inside = self._families[taken[smallest]].name if within else None
-        reason = self._reason(rest) if rest else None
+        inside = self._families[taken[smallest]].name if within is not None else None
+        reason = self._reason(rest) if rest is not None else None
         return _Found(whole, reduced, reason, minimal, families, kept, inside, within, rest)
 
+    def _near_violator(self, whole: Asked) -> Cells | None:
+        """A violator among near lines of the first part that is too large to be asked."""
+        part = next((piece.constraints for piece in whole.pieces if piece.is_too_large), None)
+        if part is None:
+            return None
+        cells = self._asker.all_cells(part)
+        self._asker.begin("near lines of the matrix", len(_SAMPLES), _WHOLE)
+        for most in _SAMPLES:
+            rows, columns = near_lines(part, most)
+            near = Cells(tuple(cells.rows[row] for row in rows), tuple(cells.columns[column] for column in columns))
+            violator = None if self._asker.is_spent else self._asker.violator_in(near)
+            if violator is not None:
+                return violator
+        return None
+
     def _reason(self, asked: Asked) -> Reason:
-        """Why what is kept is totally unimodular, part by part."""
-        clock = Clock(None)
+        """Why the rows that are kept are totally unimodular, part by part."""
+        self._asker.begin("why they are totally unimodular", self._questions, _ALL)
         found = [
-            reason_of(piece.matrix, piece.tree, self._asker.program, clock)
+            self._reason_of(piece.matrix, piece.tree)
             for piece in asked.pieces
             if piece.matrix is not None and piece.tree is not None
         ]
         if not found:
-            return Reason(
-                "network", "It is a network matrix: its rows and columns can be taken away one by one (reductions)."
-            )
+            return Reason("network", "It is a network matrix: the reductions remove its rows and columns one by one.")
         words = {reason.word for reason in found}
         if len(found) == 1:
             return found[0]
@@ -263,10 +337,18 @@ class _Work:
         kinds = {
             "network": "network matrices",
             "conetwork": "transposed network matrices",
-            "sums": "put together of such",
+            "sums": "sums of such matrices",
         }
         said = " or ".join(kind for word, kind in kinds.items() if word in words)
         return Reason("sums", f"Its {len(found)} connected parts are {said}.")
+
+    def _reason_of(self, matrix: Matrix, tree: Tree) -> Reason:
+        """The reason of one part. If there is no time to look for a graph, it is that of the tree."""
+        try:
+            return reason_of(matrix, tree, self._asker.program, Clock(self._asker.time_left()))
+        except TimeLimitReached:
+            self._asker.ended["why they are totally unimodular"] = "time"
+            return reason_of_tree(tree)
 
     def _lines(
         self, chosen: tuple[Sequence[int], Kept] | None, inside: int | None, within: Kept | None
@@ -283,16 +365,16 @@ class _Work:
         spoiling: Iterable[int] = ()
         if kept is not None and place in kept.refused:
             assert place is not None
-            # Rows of the family may show by themselves what is left open of all of them.
+            # Some rows of the family may have a violator though the family is left open.
             found = [cells for _, cells in within.violators] if within else []
             violator = kept.refused[place] or next(iter(found), None)
             is_open = violator is None
             spoiling = [family.rows[at] for at in within.refused] if within else family.rows
         relaxed = tuple(sorted({*family.refused, *spoiling}))
         count = len(family.rows) + len(family.refused)
-        state: Literal["kept", "relaxed", "partly"] = (
-            "kept" if not relaxed else "relaxed" if len(relaxed) == count else "partly"
-        )
+        state: State = "kept" if not relaxed else "relaxed" if len(relaxed) == count else "partly"
+        if state == "relaxed" and is_open and not family.refused:
+            state = "open"
         names = self._rows.model.rows
         said = said_rows(family.name, [names[row] for row in sorted((*family.rows, *family.refused))])
         return FamilyLine(family.name, said, count, state, relaxed, family.refused, violator, is_open)

@@ -1,4 +1,4 @@
-"""The rows of a model as those of a matrix: each divided by its common factor, those with other entries than -1, 0 and 1 apart."""
+"""The rows of a model, each divided by its common factor. Rows with entries other than -1, 0 and 1 are apart."""
 
 from __future__ import annotations
 
@@ -26,7 +26,7 @@ class RowFamily:
 
 @dataclass(frozen=True)
 class NotWhole:
-    """A right-hand side of a row, or a bound of a column, that is no whole number. A side is that of the divided row."""
+    """A right-hand side of a row, or a bound of a column, that is no integer. A side is that of the divided row."""
 
     kind: str
     name: str
@@ -51,7 +51,7 @@ class ModelRows:
 
     @classmethod
     def of(cls, model: Model) -> ModelRows:
-        """The divided rows. Raises `BadInput` where there are none, or where two lines have one name."""
+        """The divided rows. Raises `BadInput` if there are none, or if two rows or two columns have one name."""
         if not model.rows:
             raise BadInput("there are no rows")
         for kind, names in (("rows", model.rows), ("columns", model.columns)):
@@ -87,7 +87,7 @@ class ModelRows:
         )
 
     def columns_of(self, rows: Iterable[int]) -> tuple[int, ...]:
-        """The columns that are in some rows, and all of them where all rows are taken."""
+        """The columns that are in some rows, or all columns if all rows are taken."""
         taken = set(rows)
         if len(taken) == len(self.model.rows):
             return tuple(range(len(self.model.columns)))
@@ -106,22 +106,19 @@ class ModelRows:
         return Constraints(names, entries)
 
     def not_whole(self, rows: Iterable[int]) -> tuple[NotWhole, ...]:
-        """The right-hand sides of some rows, and the bounds of their columns, that are no whole numbers."""
-        taken = tuple(rows)
+        """The right-hand sides of some rows, and the bounds of all columns, that are no integers."""
         found = []
-        for row in taken if self.model.sides else ():
+        for row in rows if self.model.sides else ():
             factor = self.divided[row].factor if row in self.divided else 1
-            sides = (Fraction(f"{side:.15g}") / factor for side in self.model.sides[row])
+            sides = (Fraction(f"{side:.15g}") / factor for side in self.model.sides[row].finite)
             found += [NotWhole("row", self.model.rows[row], float(side)) for side in sides if side.denominator != 1]
-        for column in self.columns_of(taken) if self.model.bounds else ():
-            bounds = (Fraction(f"{bound:.15g}") for bound in self.model.bounds[column])
-            name = self.model.columns[column]
-            found += [NotWhole("column", name, float(bound)) for bound in bounds if bound.denominator != 1]
+        for name, ends in zip(self.model.columns, self.model.bounds):
+            found += [NotWhole("column", name, bound) for bound in ends.finite if not bound.is_integer()]
         return tuple(found)
 
 
 def said_rows(family: str, names: Sequence[str]) -> str:
-    """A family in few words: `skill(0..3)` where one number runs, and else `flow[..]`. One row is said by its name."""
+    """A family in few words: `skill(0..3)` if one number runs, otherwise `flow[..]`. One row is said by its name."""
     if len(names) == 1:
         return names[0]
     head, tail = _common(names), _common([name[::-1] for name in names])[::-1]

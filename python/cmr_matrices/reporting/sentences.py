@@ -4,6 +4,7 @@ from __future__ import annotations
 
 from collections.abc import Sequence
 
+from ..model_texts import NONLINEAR_OBJECTIVE, SEMICONTINUOUS
 from .report import FamilyLine, ModelReport
 
 __all__ = [
@@ -11,11 +12,13 @@ __all__ = [
     "left_open",
     "listed",
     "of_coefficients",
-    "of_violator",
+    "of_left_out",
+    "of_limits",
     "of_reductions",
     "of_relaxation",
     "of_sides",
     "of_verdict",
+    "of_violator",
     "of_within",
     "why_relaxed",
 ]
@@ -29,7 +32,7 @@ def counted(count: int, one: str, several: str | None = None) -> str:
 
 
 def listed(words: Sequence[str], most: int | None = None) -> str:
-    """Words with commas and `and`; beyond so many their number."""
+    """Words with commas and `and`. Of more than `most` words the first ones and the number of the others."""
     shown = list(words)
     if most is not None and len(shown) > most + 1:
         shown = [*shown[:most], f"{len(words) - most} others"]
@@ -40,14 +43,14 @@ def of_verdict(report: ModelReport) -> list[str]:
     """What the verdict means for the linear program."""
     match report.verdict:
         case "yes":
-            said = "So for whole right-hand sides and bounds every vertex of the linear program is in whole numbers."
-            return [*([report.reason.sentence] if report.reason else []), said]
+            said = "If the right-hand sides and bounds are integers, all vertices of the linear program are integral."
+            return [*([report.reason.sentence] if report.reason else []), said, *of_left_out(report)]
         case "no":
             return [
-                "For some whole right-hand sides, if not for these, a vertex of the linear program is not in whole numbers "
-                "(Hoffman and Kruskal 1956)."
+                "With inequalities, some integral right-hand sides and bounds give a linear program with a vertex that is not integral "
+                "(Hoffman and Kruskal 1956). The vertices of this model may still be integral."
             ]
-    return [f"It is left open: {left_open(report)}."]
+    return [f"The question is open: {left_open(report)}."]
 
 
 def left_open(report: ModelReport) -> str:
@@ -55,13 +58,42 @@ def left_open(report: ModelReport) -> str:
     return report.whole.why_open
 
 
+def of_limits(report: ModelReport) -> list[str]:
+    """Which steps a limit has ended, and what that means for the answer."""
+    timed = [what for what, limit in report.ended.items() if limit == "time"]
+    counted_out = [what for what, limit in report.ended.items() if limit == "questions"]
+    said = []
+    if timed:
+        said.append(
+            f"The time limit of {report.time_limit or 0:g} seconds ended these steps: {'; '.join(timed)}. Their results depend on the "
+            "speed of the machine. `--time-limit` sets the limit."
+        )
+    if counted_out:
+        said.append(f"The limits on questions ended these steps: {'; '.join(counted_out)}. `--questions` sets that of each search.")
+    return said
+
+
+def of_left_out(report: ModelReport) -> list[str]:
+    """What the model has beside linear constraints and bounds, so that it is no linear program."""
+    found = report.rows.model.left_out
+    said = []
+    if NONLINEAR_OBJECTIVE in found:
+        said.append("The model has an objective that is not linear, so an optimum need not be at a vertex.")
+    if SEMICONTINUOUS in found:
+        said.append("The model has semicontinuous variables, which a linear program does not have.")
+    return said
+
+
 def of_sides(report: ModelReport) -> str:
-    """Whether right-hand sides and bounds are whole numbers."""
-    which = "" if report.verdict == "yes" else " of what is left"
+    """Whether right-hand sides and bounds are integers."""
+    which = "" if report.verdict == "yes" else " of the remaining rows"
     found = [str(it) for it in report.not_whole]
-    if not found:
-        return f"All right-hand sides and bounds{which} are whole numbers."
-    return f"No whole numbers{which}: {listed(found, _SOME)}. Whole vertices need whole ones."
+    if found:
+        said = f"Not integral: {listed(found, _SOME)}."
+        return f"{said} The vertices need not be integral unless all right-hand sides and bounds are integers."
+    if not report.rows.model.sides:
+        return "The right-hand sides are not known. The vertices need not be integral unless they and all bounds are integers."
+    return f"All right-hand sides{which} and all bounds are integers."
 
 
 def of_coefficients(report: ModelReport) -> list[str]:
@@ -73,7 +105,7 @@ def of_coefficients(report: ModelReport) -> list[str]:
             column, entry = next((column, entry) for column, entry in report.rows.entries[row] if abs(entry) != 1)
             count = len(family.coefficients)
             rows = family.said if count == family.rows else f"{count} of {counted(family.rows, 'row')} of {family.said}"
-            divided = ", once the row is divided," if row in report.rows.divided else ""
+            divided = ", after the division of the row," if row in report.rows.divided else ""
             at = (
                 model.columns[column]
                 if family.said == model.rows[row]
@@ -92,20 +124,18 @@ def of_violator(report: ModelReport) -> str:
     assert found is not None
     size = f"{counted(len(found.row_names), 'row')} and {counted(len(found.column_names), 'column')}"
     if found.is_minimal:
-        return f"{size} with the determinant {found.determinant}; without any one of these lines the others are totally unimodular"
-    return f"{size}, all with even sums, and a sum of 2 modulo 4; smaller ones were not all tried"
+        return f"{size} with the determinant {found.determinant}; if any of these lines is left out, the others are totally unimodular"
+    return f"{size}, all with even sums, and a sum of 2 modulo 4; not all smaller ones were tried"
 
 
 def of_relaxation(report: ModelReport) -> list[str]:
-    """What to relax, and what the rest is then."""
+    """What to relax, and what the remaining rows are then."""
     if report.rest is None:
         is_sure = report.kept is not None and report.kept.is_largest
-        return ["No family of rows is totally unimodular by itself." if is_sure else "No rows were found to keep."]
+        return ["No family of rows is totally unimodular by itself." if is_sure else "No rows were found that can be kept."]
     if not report.relaxed:
         return []
-    is_one = len(report.relaxed) == 1
-    solves = "with whole right-hand sides it would solve" if report.not_whole else "it solves"
-    said = [f"Relax {listed(report.relax)}: the rest is totally unimodular, and {solves} as a linear program."]
+    said = [f"Relax {listed(report.relax)}: the remaining rows are totally unimodular, and {_solves(report)}."]
     if report.reason:
         said.append(report.reason.sentence)
     kept = report.kept
@@ -115,40 +145,51 @@ def of_relaxation(report: ModelReport) -> list[str]:
         families = [family.said for family in report.families if family.violator is not None or family.is_open]
         said.append(f"By whole families: relax {listed(families)}. {_how(report)}")
     said.append(of_within(report))
-    subject = "it" if is_one else "they"
+    subject = "it" if len(report.relaxed) == 1 else "they"
     said.append(
-        f"In a Lagrangian relaxation {subject} would go to the objective, or in a decomposition to the master problem. As the rest "
-        "has whole vertices for whole right-hand sides, the bound is that of the linear program (Geoffrion 1974)."
+        f"In a Lagrangian relaxation {subject} would move to the objective, and in a decomposition to the master problem. The bound is "
+        "that of the linear program, since the remaining rows have integral vertices if their right-hand sides are integers (Geoffrion 1974)."
     )
-    return [sentence for sentence in said if sentence]
+    return [sentence for sentence in [*said, *of_left_out(report)] if sentence]
+
+
+def _solves(report: ModelReport) -> str:
+    """Whether what is kept solves as a linear program, and under which condition."""
+    if report.not_whole:
+        return "with integral right-hand sides and bounds a linear program solves the remaining model"
+    if report.rows.model.left_out:
+        return f"without {listed(report.rows.model.left_out)} a linear program solves the remaining model"
+    return "a linear program solves the remaining model"
 
 
 def _how(report: ModelReport) -> str:
     kept = report.kept
     assert kept is not None
     if kept.is_largest:
-        return "No other choice of families keeps more rows: each one that would has a violator."
+        return "No other choice of families keeps more rows: each choice of more rows has a violator."
     if kept.is_cut:
-        return "The search was ended by its limit, so more families may be kept."
+        return "A limit ended the search, so another choice may keep more rows."
+    if not kept.is_greedy:
+        return "Some choice of families with more rows is left open."
     is_sure = all(violator is not None for violator in kept.refused.values())
     added = "no other family can be added" if is_sure else "no other family was found that can be added"
-    return f"This was found greedily: {added}, but another choice may keep more."
+    return f"The search was greedy: {added}, but another choice may keep more rows."
 
 
 def of_within(report: ModelReport) -> str:
-    """What came of trying single rows of one family."""
+    """The result of trying single rows of one family."""
     within = report.within
     if within is None or report.inside is None:
         return ""
     count = len(within.refused) + len(within.blocks)
     said = next(family.said for family in report.families if family.name == report.inside)
     if not within.blocks and within.is_cut:
-        return f"Row by row the search was ended by its limit before one of {said} was found that can be kept."
+        return f"A limit ended the search row by row before it found a row of {said} that can be kept."
     if not within.blocks:
         is_sure = all(violator is not None for violator in within.refused.values())
-        return f"Row by row none of {said} {'can be kept' if is_sure else 'was found that can be kept'}."
-    end = ", and the search was ended by its limit, so more may be" if within.is_cut else ""
-    return f"Row by row {len(within.blocks)} of {count} of {said} can be kept (greedily{end})."
+        return f"Row by row, none of {said} {'can be kept' if is_sure else 'was found that can be kept'}."
+    end = ", and a limit ended the search" if within.is_cut else ""
+    return f"Row by row, {len(within.blocks)} of {count} of {said} can be kept (the search was greedy{end}, so it may be more)."
 
 
 def why_relaxed(report: ModelReport, family: FamilyLine) -> str:
@@ -162,22 +203,22 @@ def why_relaxed(report: ModelReport, family: FamilyLine) -> str:
         rows, columns = report.names_of(family.violator)
         said.append(f"a violator with rows {listed(rows, 5)}, columns {listed(columns, 5)}")
     elif family.is_open:
-        said.append("left open beside what is kept")
+        said.append("not known whether it can be kept")
     return "; ".join(said)
 
 
 def of_reductions(report: ModelReport) -> str:
-    """How many lines stand for how many."""
+    """How many lines the reductions remove, and what is left."""
     found = report.reduced
     rows, columns = found.size
     if not found.rows + found.columns:
-        return f"No row or column can be taken away before: {rows}x{columns}."
+        return f"No row or column is reducible: {rows}x{columns}."
     reasons = ", ".join(f"{count} {_REASONS[reason]}" for reason, count in found.counts.items())
-    left = "nothing is left" if 0 in found.left else f"{found.left[0]} rows and {found.left[1]} columns stand for all"
+    left = "nothing is left" if 0 in found.left else f"{found.left[0]} rows and {found.left[1]} columns are left"
     parts = f", in {counted(found.parts, 'connected part')}" if found.parts > 1 else ""
     return (
-        f"{found.rows} of {counted(rows, 'row')} and {found.columns} of {counted(columns, 'column')} neither make nor lose a violator "
-        f"({reasons}): {left}{parts}."
+        f"{found.rows} of {counted(rows, 'row')} and {found.columns} of {counted(columns, 'column')} are reducible, so they change no "
+        f"verdict ({reasons}): {left}{parts}."
     )
 
 

@@ -34,7 +34,7 @@ class _Band:
 
 
 class _Layout:
-    """Where rows and columns stand, in the order of their families."""
+    """The positions of rows and columns, in the order of their families."""
 
     def __init__(self, report: ModelReport) -> None:
         model = report.rows.model
@@ -44,7 +44,7 @@ class _Layout:
         self.has_row_names = self.height <= _NAMED
         self.has_column_names = self.width <= _NAMED
         fit = min(_WIDTH / max(self.width, 1), _HEIGHT / max(self.height, 1), _LARGEST)
-        # Several entries share a point where they are too many.
+        # Several entries share a point if there are too many.
         self.step = max(1, -int(-_LEAST // fit)) if fit < _LEAST else 1
         self.cell = fit
         names = model.rows if self.has_row_names else [band.name for band in self.row_bands]

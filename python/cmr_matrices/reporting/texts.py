@@ -8,8 +8,9 @@ from typing import Any
 
 from . import sentences
 from .asking import Asked, Cells
+from .minimal import Minimal
 from .repeating import repeated
-from .report import ModelReport
+from .report import FamilyLine, ModelReport
 from .rows import NotWhole
 
 __all__ = ["report_json", "report_text"]
@@ -17,7 +18,7 @@ __all__ = ["report_json", "report_text"]
 _MOST = 20
 """The most families that are listed, and the most lines of a tree and of a violator."""
 
-_STATES = {"kept": "keep", "relaxed": "relax", "partly": "in part"}
+_STATES = {"kept": "keep", "relaxed": "relax", "partly": "in part", "open": "open"}
 
 
 def report_text(report: ModelReport) -> str:
@@ -30,10 +31,11 @@ def _lines(report: ModelReport) -> Iterator[str]:
     yield from sentences.of_verdict(report)
     if report.verdict == "yes":
         yield sentences.of_sides(report)
+    yield from _titled("Limits", sentences.of_limits(report))
     yield from _titled("Coefficients", sentences.of_coefficients(report))
     if report.minimal is not None:
         yield ""
-        yield f"The smallest violator that was found: {sentences.of_violator(report)}."
+        yield f"The smallest violator that was found has {sentences.of_violator(report)}."
         yield from _table(report)
     if report.verdict != "yes":
         yield ""
@@ -84,25 +86,27 @@ def _families(report: ModelReport) -> Iterator[str]:
 
 
 def _tree(report: ModelReport) -> Iterator[str]:
-    asked = report.rest or report.whole
+    asked = report.rest if report.rest is not None else report.whole
     lines = [line for piece in asked.pieces if piece.tree is not None for line in piece.tree.outline().splitlines()]
     if lines:
         yield ""
-        yield f"The decomposition of {'what is left' if report.relaxed else 'the matrix'}:"
+        yield f"The decomposition of {'the remaining rows' if report.relaxed else 'the matrix'}:"
         yield from (f"  {line if len(line) <= 200 else line[:200] + ' ..'}" for line in lines[:_MOST])
         if len(lines) > _MOST:
             yield f"  and {len(lines) - _MOST} other nodes"
 
 
 def report_json(report: ModelReport) -> str:
-    """One object, whose keys stay as they are."""
+    """One object, whose keys do not depend on the model."""
     return json.dumps(_object(report), indent=1, ensure_ascii=False) + "\n"
 
 
 def _object(report: ModelReport) -> dict[str, Any]:
-    model, found = report.rows.model, report.minimal
+    model = report.rows.model
     return {
         "model": report.model,
+        "file": report.file,
+        "in_memory": report.is_in_memory,
         "totally_unimodular": report.verdict,
         "rows": len(model.rows),
         "columns": len(model.columns),
@@ -110,49 +114,60 @@ def _object(report: ModelReport) -> dict[str, Any]:
         "pivots": report.pivots,
         "why": None if report.reason is None else {"class": report.reason.word, "sentence": report.reason.sentence},
         "not_whole": [_not_whole(it) for it in report.not_whole],
+        "left_out": model.left_out,
         "coefficients": {
             "refused": [model.rows[row] for row in sorted(report.rows.refused)],
             "divided": {scaling.name: str(scaling.factor) for scaling in report.rows.divided.values()},
         },
-        "violator": found
-        and {
-            "rows": found.row_names,
-            "columns": found.column_names,
-            "entries": found.entries,
-            "minimal": found.is_minimal,
-            "determinant": found.determinant,
-        },
-        "families": [
-            {
-                "family": family.name,
-                "said": family.said,
-                "rows": family.rows,
-                "state": family.state,
-                "relaxed": [model.rows[row] for row in family.relaxed],
-                "why": sentences.why_relaxed(report, family),
-                "violator": _cells(report, family.violator),
-            }
-            for family in report.families
-        ],
-        "relax": {
-            "said": report.relax,
-            "rows": [model.rows[row] for row in report.relaxed],
-            "largest": bool(report.kept and report.kept.is_largest),
-            "solves_as_a_linear_program": report.rest is not None,
-        },
+        "violator": _minimal(report.minimal),
+        "families": [_family(report, family) for family in report.families],
+        "relax": _relaxation(report),
         "open": None if report.verdict != "undecided" else {"why": report.whole.why_open} | _open(report),
-        "reduced": {
-            "rows": report.reduced.rows,
-            "columns": report.reduced.columns,
-            **report.reduced.counts,
-            "left": report.reduced.left,
-            "parts": report.reduced.parts,
-        },
-        "tree": _outline(report.rest or report.whole),
+        "ended": dict(report.ended),
+        "reduced": _reduced(report),
+        "tree": _outline(report.rest if report.rest is not None else report.whole),
         "asked": report.asked,
         "checked": report.checked,
         "commands": [{"what": it.what, "commands": it.commands, "says": it.says} for it in repeated(report)],
     }
+
+
+def _minimal(found: Minimal | None) -> dict[str, Any] | None:
+    return None if found is None else {
+        "rows": found.row_names,
+        "columns": found.column_names,
+        "entries": found.entries,
+        "minimal": found.is_minimal,
+        "determinant": found.determinant,
+    }
+
+
+def _family(report: ModelReport, family: FamilyLine) -> dict[str, Any]:
+    return {
+        "family": family.name,
+        "said": family.said,
+        "rows": family.rows,
+        "state": family.state,
+        "relaxed": [report.rows.model.rows[row] for row in family.relaxed],
+        "why": sentences.why_relaxed(report, family),
+        "violator": _cells(report, family.violator),
+    }
+
+
+def _relaxation(report: ModelReport) -> dict[str, Any]:
+    model = report.rows.model
+    return {
+        "said": report.relax,
+        "rows": [model.rows[row] for row in report.relaxed],
+        "largest": report.kept is not None and report.kept.is_largest,
+        "rest_is_totally_unimodular": report.rest is not None,
+        "solves_as_a_linear_program": report.rest is not None and not report.not_whole and not model.left_out,
+    }
+
+
+def _reduced(report: ModelReport) -> dict[str, Any]:
+    found = report.reduced
+    return {"rows": found.rows, "columns": found.columns, **found.counts, "left": found.left, "parts": found.parts}
 
 
 def _open(report: ModelReport) -> dict[str, Any]:

@@ -37,7 +37,7 @@ class _Placed:
 
 
 def drawn_tree(tree: Tree, limit: int = 40) -> str:
-    """The picture of a tree with about so many boxes at most."""
+    """The picture of a tree with about `limit` boxes at most."""
     style = Style(tree.names or Names.numbered(*tree.shape, first=1), 12)
     root = _placed(tree_boxes(tree.root, limit), style)
     sides = _sides(root)
