@@ -25,10 +25,10 @@ Verdict = Literal["yes", "no", "undecided"]
 class Answer:
     """What the program says of a matrix: true for a yes, false for a no. The truth value of an undecided answer raises `Undecided`.
 
-    An answer is no truth value itself: `answer == True` raises `TypeError`, where `bool(answer)` or `answer.verdict == "yes"` is meant.
+    An answer is not a truth value itself: `answer == True` raises `TypeError`. Use `bool(answer)` or `answer.verdict == "yes"`.
 
-    Evidence that does not belong to the question or to the verdict, or was not asked for, is None. Which evidence a function
-    gives stands in its own documentation.
+    Evidence that does not belong to the question or to the verdict, or was not asked for, is None. The documentation of
+    each function says which evidence it gives.
     """
 
     property_name: str
@@ -39,17 +39,17 @@ class Answer:
     open: Submatrix | None = field(default=None, repr=False)
     """Of an undecided answer: the submatrix that is too large for the budget."""
     minimal: Submatrix | None = field(default=None, repr=False)
-    """Of a no: a submatrix without the property that has it as soon as any one of its lines is left out."""
+    """Of a no: a submatrix without the property that has it when any one of its lines is removed."""
     rest: Submatrix | None = field(default=None, repr=False)
     """What the series-parallel reductions leave."""
     tree: Tree | None = field(default=None, repr=False)
-    """The decomposition tree, of the signed matrix where that is given."""
+    """The decomposition tree, of the signed matrix if there is one."""
     graph: Graph | None = field(default=None, repr=False)
     """Of a yes: the graph that shows the property."""
     reductions: Reductions | None = field(default=None, repr=False)
     """The series-parallel reductions in their order."""
     signed: Matrix | None = field(default=None, repr=False)
-    """The 0/1 matrix with the signs that make it totally unimodular, where any signs do."""
+    """The 0/1 matrix with the signs that make it totally unimodular, if any signs do."""
     chain: Chain | None = field(default=None, repr=False)
     """Of a no on regularity: the steps which show that no signs do."""
     signing: Signing | None = field(default=None, repr=False)
@@ -95,7 +95,7 @@ class Answer:
 
 @dataclass(frozen=True)
 class Checked:
-    """What `check` says of evidence: true where it keeps its rules, and false where it is refused."""
+    """What `check` says of evidence: true if the evidence keeps its rules, and false if `check` refuses it."""
 
     accepted: bool
     says: Literal["yes", "no", "undecided", "not regular"] | None = None

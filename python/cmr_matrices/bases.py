@@ -18,7 +18,7 @@ def left_after(
 ) -> list[list[int]]:
     """The submatrix on some rows and columns after pivots over the field of 2 or 3 elements, with entries -1, 0 and 1.
 
-    Raises `BadInput` where a line is given twice or is none of the matrix, or where the entry of a pivot is 0.
+    Raises `BadInput` if a line is given twice or is not a line of the matrix, or if the entry of a pivot is 0.
     """
     for numbers, kind in ((rows, "row"), (columns, "column")):
         if len(set(numbers)) < len(numbers):

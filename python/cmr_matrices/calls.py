@@ -20,6 +20,6 @@ class Call:
 
     @classmethod
     def begin(cls, program: StrPath | None, time_limit: TimeLimit) -> Call:
-        """Raises `BadInput` where the limit is none, and `ProgramMissing`."""
+        """Raises `BadInput` if the limit is not valid, and `ProgramMissing`."""
         clock = Clock.of(time_limit)
         return cls(find_program(program), clock)

@@ -15,7 +15,7 @@ __all__ = ["Chain", "ChainStep"]
 class ChainStep:
     """A one of the matrix, in a row and a column counted from 0, that gets its sign.
 
-    Where `lines` is None the sign is free and is +1. Else it is forced: it makes the sum over these lines divisible by 4.
+    If `lines` is None, the sign is free and is +1. Otherwise it is forced: it makes the sum over these lines divisible by 4.
     """
 
     row: int
@@ -57,7 +57,7 @@ class Chain:
 
     @classmethod
     def from_text(cls, text: str, names: Names | None = None) -> Chain:
-        """The chain that a text has. Raises `BadInput` where it is none."""
+        """The chain that a text contains. Raises `BadInput` if the text is not a chain."""
         words = Words(text)
         try:
             if words.word() != "cmr-chain" or words.word() != "1":

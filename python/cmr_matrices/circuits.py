@@ -15,16 +15,16 @@ from .tableaux import Field
 __all__ = ["LARGEST", "circuits", "isomorphism"]
 
 LARGEST = 4096
-"""The most vectors of a kernel that are gone through."""
+"""The most vectors of a kernel that are tried."""
 
 Entries = list[list[int]]
 """The rows of a standard matrix `A`."""
 
 
 def circuits(entries: Entries, columns: int, field: Field) -> frozenset[int]:
-    """The circuits of the matroid of `[I A]`, each as a set of bits: the rows are the first elements, and then come the columns.
+    """The circuits of the matroid of `[I A]`, each as a set of bits: the rows are the first elements, followed by the columns.
 
-    Raises `BadInput` where the matrix has more columns than can be gone through.
+    Raises `BadInput` if the kernel of the matrix has more than `LARGEST` vectors.
     """
     if field**columns > LARGEST:
         raise BadInput(f"{columns} elements beside a basis are too many for a list of all circuits")
@@ -43,7 +43,7 @@ def circuits(entries: Entries, columns: int, field: Field) -> frozenset[int]:
 
 
 def isomorphism(first: frozenset[int], second: frozenset[int], size: int) -> tuple[int, ...] | None:
-    """The element of the second matroid for each of the first, or None where no map takes circuits to circuits both ways."""
+    """The element of the second matroid for each element of the first, or None if no bijection maps circuits to circuits."""
     if sorted(map(int.bit_count, first)) != sorted(map(int.bit_count, second)):
         return None
     kinds = _kinds(first, size), _kinds(second, size)

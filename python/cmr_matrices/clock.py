@@ -9,7 +9,7 @@ from .errors import BadInput, TimeLimitReached
 
 __all__ = ["Clock", "TimeLimit"]
 
-# Systems wait for so many seconds at once, and for not many more.
+# The seconds for which all systems can wait at once. Some cannot wait much longer.
 _LONGEST = 2_000_000
 
 
@@ -22,11 +22,11 @@ class Clock:
 
     @classmethod
     def of(cls, limit: TimeLimit) -> Clock:
-        """The clock of a limit that begins now, or the one that is given. Raises `BadInput` where it is no number in its range."""
+        """The clock of a limit that begins now, or the clock that is given. Raises `BadInput` if the limit is not a number in its range."""
         return limit if isinstance(limit, Clock) else cls(limit)
 
     def left(self) -> float | None:
-        """How many are left, or None where there is no limit. Raises `TimeLimitReached` where none is."""
+        """The seconds that are left, or None if there is no limit. Raises `TimeLimitReached` if none are left."""
         if self.limit is None or self._end is None:
             return None
         seconds = self._end - time.monotonic()
@@ -36,7 +36,7 @@ class Clock:
 
 
 TimeLimit = float | Clock | None
-"""A limit in seconds, or a clock that is going already."""
+"""A limit in seconds, or a clock that is already running."""
 
 
 def _seconds(limit: Any) -> float:

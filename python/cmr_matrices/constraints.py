@@ -1,4 +1,4 @@
-"""The constraints of a model as whole numbers: rows that are chosen, scaling, and the families of rows that are refused."""
+"""The constraints of a model as integers: the chosen rows, scaling, and the families of rows that are refused."""
 
 from __future__ import annotations
 
@@ -32,8 +32,8 @@ Entries = dict[tuple[int, int], Fraction]
 class Choice:
     """Which rows of a model are taken, and whether they are scaled.
 
-    Rows are taken whose names have a match of `rows` and none of `without`, and with `unit_rows` those alone whose coefficients, after
-    the division of rows where it is scaled, are -1, 0 and 1. Then the columns are those that are in these rows.
+    The names of these rows have a match of `rows` and none of `without`. With `unit_rows` their coefficients are also -1, 0 and 1, after
+    the division of rows if they are scaled. If rows are chosen, the columns are those that occur in these rows.
     """
 
     rows: re.Pattern[str] | None = None
@@ -56,7 +56,7 @@ class Choice:
 class Scaling:
     """A line that was divided by the common factor of its entries, which may be a fraction such as 1/2.
 
-    `fractional` are right-hand sides of the row that are no whole numbers once they are divided too.
+    `fractional` are the right-hand sides of the row that are not integers after the division.
     """
 
     kind: str
@@ -81,9 +81,9 @@ class Constraints:
 
 
 def matrix_of_model(model: Model, choice: Choice = Choice()) -> tuple[Matrix, tuple[Scaling, ...]]:
-    """The constraint matrix of a model, and the lines that were divided where it is scaled.
+    """The constraint matrix of a model, and the lines that were divided if the matrix is scaled.
 
-    Raises `BadInput` where it is no matrix with entries -1, 0 and 1, with the names of the row and the column at fault.
+    Raises `BadInput` if an entry is not -1, 0 or 1, with the names of the row and the column at fault.
     """
     constraints = constraints_of_model(model, choice)
     return matrix_of_constraints(constraints), constraints.scalings
@@ -100,7 +100,7 @@ def matrix_of_constraints(constraints: Constraints) -> Matrix:
 
 
 def constraints_of_model(model: Model, choice: Choice = Choice()) -> Constraints:
-    """The chosen constraints, of any number. Raises `BadCoefficients` where an entry is none of -1, 0 and 1."""
+    """The chosen constraints, of any number. Raises `BadCoefficients` if an entry is not -1, 0 or 1."""
     if not model.rows:
         raise BadInput("there are no rows")
     taken = _only_rows(model, [row for row, name in enumerate(model.rows) if choice.takes(name)], choice.is_all)
@@ -166,7 +166,7 @@ def _columns_divided(model: Model, entries: Entries) -> tuple[Entries, list[Scal
 
 
 def _factors(entries: Iterable[tuple[int, Fraction]]) -> dict[int, Fraction]:
-    """The common factor of the entries of each line: the greatest one by which all become whole numbers."""
+    """The common factor of the entries of each line: the greatest factor by which all entries become integers."""
     values: dict[int, set[Fraction]] = {}
     for line, entry in entries:
         values.setdefault(line, set()).add(entry)

@@ -29,9 +29,9 @@ def document(kind: str, name: str, statements: Iterable[str]) -> str:
 
 
 def svg(dot: str) -> str | None:
-    """The picture of a graph as an `svg` element, or None where Graphviz is not there.
+    """The picture of a graph as an `svg` element, or None if Graphviz is not installed.
 
-    What dot writes before the element, an XML declaration and a document type, is no part of a page that shows it.
+    The XML declaration and the document type that dot writes before the element are omitted, since the element is part of a page.
     """
     program = shutil.which("dot")
     if program is None:

@@ -18,8 +18,8 @@ def graph_of_edges(edges: Iterable[Sequence[Any]], *, directed: bool = True) -> 
     """The graph whose edges are pairs of nodes, or of two nodes and a name.
 
     The arcs of its tree are the edges that close no cycle with those before them, and all others are walks. Nodes are any values, and
-    are numbered as they come. Where the edges are in several connected parts, these are put together at one node each, which changes
-    no walk. Raises `BadInput` where there are more than 1,000 arcs or walks.
+    are numbered in the order in which they occur. If the edges are in several connected parts, the parts are joined at one node each, which
+    changes no walk. Raises `BadInput` if there are more than 1,000 arcs or walks.
     """
     numbers: dict[Hashable, int] = {}
     above: list[int] = []
@@ -83,7 +83,7 @@ def _root(above: list[int], node: int) -> int:
 
 
 def _joined(above: list[int]) -> list[int]:
-    """New numbers for the nodes, where one node of each connected part has the number 0."""
+    """New numbers for the nodes, in which one node of each connected part has the number 0."""
     fresh = 0
     places = []
     for node in range(len(above)):

@@ -48,7 +48,7 @@ class BadInput(CmrError, ValueError):
 
 
 class BadEntry(BadInput):
-    """An entry that the matrix may not have, with its place counted from 0, and the names of its lines where they have some."""
+    """An entry that the matrix may not have, with its position counted from 0, and the names of its lines if they have names."""
 
     def __init__(
         self,
@@ -131,7 +131,7 @@ class Family:
 
 
 class BadCoefficients(BadInput):
-    """Coefficients of a model that are none of -1, 0 and 1: where the first stands, and the families of all rows."""
+    """Coefficients of a model other than -1, 0 and 1: the position of the first, and the families of all rows."""
 
     def __init__(self, place: str, families: tuple[Family, ...]) -> None:
         super().__init__(place, families)
@@ -209,7 +209,7 @@ class BadCommandLine(ProgramFault, ValueError):
 
 @dataclass(frozen=True)
 class TextPlace:
-    """A word of a text, empty at the end of the text, and where it stands: its line and its column, counted from 1."""
+    """A word of a text, empty at the end of the text, and its position: its line and its column, counted from 1."""
 
     line: int
     column: int
@@ -233,10 +233,10 @@ class TextPlace:
 
 
 class BadText(ProgramFault, BadInput):
-    """A text has a fault (status 3): its kind, and the byte before which all is in order, or None where it is too long.
+    """A text has a fault (status 3): its kind, and the byte before which the text is valid, or None if the text is too long.
 
-    `place` is the line, the column and the word at this byte, and `hint` what the text seems to be, where it is one that the package
-    has given to the program.
+    `place` is the line, the column and the word at this byte. `hint` says what the text seems to be, if the package has given this text
+    to the program.
     """
 
     def __init__(

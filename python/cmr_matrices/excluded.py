@@ -132,7 +132,7 @@ class ExcludedMinor:
     def verify(self, matrix: MatrixLike) -> bool:
         """Whether this is a minor of the matroid of the matrix, and one that the class excludes.
 
-        Neither the program nor what has found the minor is asked: the pivots are made, and sets of elements are tried for being a basis.
+        This uses neither the program nor the search for minors: it makes the pivots, and tests which sets of elements are a basis.
         """
         return self.fault(matrix) is None
 

@@ -1,8 +1,10 @@
-"""Camion's signing of a 0/1 matrix, as the steps of a chain: the only signs, but for multiplied lines, that can be totally unimodular.
+"""Camion's signing of a 0/1 matrix, as the steps of a chain.
 
-The lines are taken one after another, each beside those with which it has a one. Its first one to the lines before is free. Of the
-others the one goes next that a shortest path through the lines before joins to a signed one of the line: the path and the line are
-then a cycle without chords, so each of their lines has two ones. `check` tests chains, whoever has made them.
+If any signs make the matrix totally unimodular, these do. All such signs are the same up to multiplication of lines by -1.
+
+The lines are added one after another, each after a line with which it has a one. The first one of a line in common with earlier lines is
+free. The next one is the end of a shortest path through earlier lines from a signed one of the line. The path and the line are then a
+chordless cycle, so each of their lines has two ones. `check` tests every chain, whatever made it.
 """
 
 from __future__ import annotations
@@ -26,7 +28,7 @@ def forced_signs(matrix: Matrix) -> tuple[tuple[ChainStep, ...], Matrix]:
 
 
 class _Signing:
-    """The signs that are given so far. Lines are numbers here: the rows, and behind them the columns."""
+    """The signs that are given so far. Lines are numbers here: first the rows, then the columns."""
 
     def __init__(self, matrix: Matrix) -> None:
         self.signs: dict[tuple[int, int], int] = {}
@@ -40,7 +42,7 @@ class _Signing:
             self._crossings[self._rows + column].append(row)
 
     def steps(self) -> Iterator[ChainStep]:
-        """Signs all ones, a step after the other."""
+        """Signs all ones, one step after another."""
         is_before = bytearray(len(self._crossings))
         for line in self._growing():
             others = [other for other in self._crossings[line] if is_before[other]]
@@ -51,7 +53,7 @@ class _Signing:
                 self._before[other].append(line)
 
     def _growing(self) -> Iterator[int]:
-        """All lines, each but the first of a connected part behind one with which it has a one."""
+        """All lines, each after a line with which it has a one, except the first line of a connected part."""
         is_taken = bytearray(len(self._crossings))
         for first in range(len(self._crossings)):
             pending = [] if is_taken[first] else [first]

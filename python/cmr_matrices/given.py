@@ -1,4 +1,4 @@
-"""What callers give: texts, numbers, words and lists. What is none of these is refused in a sentence that says what is taken."""
+"""What callers give: texts, numbers, words and lists. An error says what is accepted."""
 
 from __future__ import annotations
 
@@ -12,7 +12,7 @@ __all__ = ["listed", "one_of", "text_given", "whole"]
 
 
 def whole(name: str, value: Any, least: int | None = None, greatest: int | None = None) -> int:
-    """A whole number. Raises `BadInput` where it is none, or is out of its range, where it has one."""
+    """An integer. Raises `BadInput` if the value is not an integer, or is outside of the range if there is one."""
     try:
         number = index(value)
     except TypeError:
@@ -23,21 +23,21 @@ def whole(name: str, value: Any, least: int | None = None, greatest: int | None 
 
 
 def one_of(name: str, value: Any, words: Sequence[str]) -> str:
-    """A word. Raises `BadInput` where it is none of some."""
+    """A word. Raises `BadInput` if the value is not one of `words`."""
     if not isinstance(value, str) or value not in words:
         raise BadInput(f"{name} is one of {', '.join(words)}, and here it is {shown(value)}")
     return value
 
 
 def listed(name: str, values: Any, what: str) -> list[Any]:
-    """A list, or what can be made one, but no text. Raises `BadInput` where it is none."""
+    """A list of the values of an iterable. Raises `BadInput` if the value is not iterable, or is a text."""
     if isinstance(values, (str, bytes)) or not isinstance(values, Iterable):
         raise BadInput(f"{name} is a list of {what}, and here it is {shown(values)}")
     return list(values)
 
 
 def text_given(name: str, value: Any) -> str:
-    """A text. Raises `BadInput` where it is none."""
+    """A text. Raises `BadInput` if the value is not a text."""
     if not isinstance(value, str):
         raise BadInput(f"{name}: a text is read, and here it is {shown(value)}")
     return value

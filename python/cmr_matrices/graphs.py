@@ -36,11 +36,11 @@ class Edge:
 
 @dataclass(frozen=True)
 class Graph:
-    """A tree on the nodes 0, 1, .., n with n arcs, and beside it a walk in this tree for each line of the other kind.
+    """A tree on the nodes 0, 1, .., n with n arcs, and a walk in this tree for each line of the other kind.
 
-    The arcs stand for the rows and the walks for the columns; where the transposed matrix was tested it is the other way
-    round. A line has a nonzero exactly at the arcs of its walk. In a directed graph the entry is 1 where the walk takes the
-    arc from its tail to its head, and -1 where it takes it backwards.
+    The arcs represent the rows and the walks represent the columns; if the transposed matrix was tested, it is the other way
+    round. The nonzeros of a line are at the arcs of its walk. In a directed graph the entry is 1 if the walk takes the arc from
+    its tail to its head, and -1 if it takes the arc backwards.
     """
 
     arcs: tuple[Edge, ...]
@@ -55,7 +55,7 @@ class Graph:
 
     @property
     def arc_kind(self) -> Kind:
-        """Whether the arcs stand for rows or for columns; for rows where there are no lines."""
+        """Whether the arcs represent rows or columns; rows if there are no lines."""
         if self.arcs:
             return self.arcs[0].line.kind
         return "row" if not self.walks or self.walks[0].line.kind == "column" else "column"
@@ -67,7 +67,7 @@ class Graph:
         return counts if self.arc_kind == "row" else counts[::-1]
 
     def to_networkx(self) -> Any:
-        """A multigraph of networkx, a `MultiDiGraph` where this graph is directed and else a `MultiGraph`.
+        """A multigraph of networkx, a `MultiDiGraph` if this graph is directed and otherwise a `MultiGraph`.
 
         Each edge has its `Line` as key and as attribute `line`, the line's name as `name`, and whether it is an arc of the
         tree as `in_tree`.
@@ -120,7 +120,7 @@ class Graph:
 
     @classmethod
     def from_text(cls, text: str, *, directed: bool = True, names: Names | None = None) -> Graph:
-        """The graph that a text has. Raises `BadInput` where it is none."""
+        """The graph that a text contains. Raises `BadInput` if the text is not a graph."""
         edges = []
         for place, line in enumerate(text_given("no graph", text).splitlines(), 1):
             found = _EDGE.fullmatch(line)
@@ -141,7 +141,7 @@ def _numbers(edges: Sequence[Edge]) -> Iterator[list[int]]:
 
 
 def _split(edges: list[Edge]) -> tuple[tuple[Edge, ...], tuple[Edge, ...]]:
-    """The tree's edges come first, and all stand for lines of one kind; where all edges are loops at 0 there are none."""
+    """The edges of the tree come first, and represent lines of one kind. If all edges are loops at 0, the tree has no edges."""
     kinds = [edge.line.kind for edge in edges]
     size = kinds.count(kinds[0]) if any(edge.tail or edge.head for edge in edges) else 0
     arcs, walks = tuple(edges[:size]), tuple(edges[size:])

@@ -1,4 +1,4 @@
-"""Libraries that the package uses where its caller does, and what installs them."""
+"""Libraries that the package uses if its caller does, and what installs them."""
 
 from __future__ import annotations
 
@@ -13,7 +13,7 @@ _DEBIAN = {"numpy", "scipy", "networkx", "pandas", "pulp", "swiglpk"}
 
 
 def library(name: str, use: str) -> Any:
-    """A module, for a use in words. Raises `LibraryMissing` with the packages that have it where it is not there."""
+    """A module; `use` says what needs it. Raises `LibraryMissing`, with the packages that contain it, if it is not installed."""
     try:
         return import_module(name)
     except ImportError as fault:

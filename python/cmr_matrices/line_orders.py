@@ -1,4 +1,4 @@
-"""Lines of a matrix in another order: the reordered matrix, and the way back of what is found of it."""
+"""Lines of a matrix in another order: the reordered matrix, and how its evidence is mapped back."""
 
 from __future__ import annotations
 
@@ -101,6 +101,6 @@ def drawn_orders(matrix: Matrix, lines: LineSet, count: int, seed: int) -> Itera
 
 
 def _shuffled(numbers: tuple[int, ...], draw: random.Random) -> tuple[int, ...]:
-    # Of the generator's methods `random` alone gives the same numbers in every version of Python.
+    # Only the method `random` of the generator gives the same numbers in every version of Python.
     keys = {number: draw.random() for number in numbers}
     return tuple(sorted(numbers, key=keys.__getitem__))

@@ -32,13 +32,13 @@ class Line:
 
     @classmethod
     def of_word(cls, word: str) -> Line:
-        """The line that a word such as `r3` or `c12` of a text stands for."""
+        """The line that a word such as `r3` or `c12` of a text names."""
         return cls("row" if word[0] == "r" else "column", int(word[1:]) - 1)
 
 
 @dataclass(frozen=True, slots=True)
 class LineSet:
-    """Some rows and columns of a matrix, counted from 0, each list rising."""
+    """Some rows and columns of a matrix, counted from 0, each list increasing."""
 
     rows: tuple[int, ...]
     columns: tuple[int, ...]
@@ -112,7 +112,7 @@ class Names:
         return " ".join(self.line(line) for line in lines)
 
     def must_fit(self, rows: int, columns: int) -> None:
-        """Raises `BadInput` where the matrix has another size."""
+        """Raises `BadInput` if the matrix has another size."""
         if self.shape != (rows, columns):
             size = f"{len(self.rows)}x{len(self.columns)}"
             raise BadInput(f"the names are those of a matrix of size {size}, and here it is {rows}x{columns}")
@@ -139,7 +139,7 @@ class Names:
 
     @classmethod
     def from_text(cls, text: str) -> Names:
-        """The names that a text has. A name is all that stands behind the first space of its line."""
+        """The names that a text contains. A name is the rest of its line after the first space."""
         rows: list[str] = []
         columns: list[str] = []
         for place, line in enumerate(text_given("no names", text).splitlines(), 1):

@@ -30,7 +30,7 @@ class Matrix:
     """A matrix with entries -1, 0 and 1 and at most 1,000 rows and 1,000 columns, counted from 0.
 
     `nonzeros` has a triple (row, column, value) for each nonzero, row by row. `names` may name all rows and columns, and evidence
-    then shows them; two matrices are equal where their shapes and nonzeros are.
+    then shows them. Two matrices are equal if their shapes and nonzeros are equal.
     """
 
     shape: tuple[int, int]
@@ -71,13 +71,13 @@ class Matrix:
         row_names: Iterable[object] | None = None,
         column_names: Iterable[object] | None = None,
     ) -> Matrix:
-        """The matrix that another object stands for.
+        """The matrix that another object represents.
 
-        Taken are lists of lists, numpy arrays of two dimensions, sparse arrays and matrices of scipy of every format, pandas
-        frames, whose labels become names, and Sage matrices. An entry is taken where it equals -1, 0 or 1, so whole floats are,
-        and so are elements of finite fields.
+        The object is a list of lists, a numpy array of two dimensions, a sparse array or matrix of scipy in any format, a pandas
+        frame, whose labels become names, or a Sage matrix. An entry is accepted if it equals -1, 0 or 1; it may be a float or an
+        element of a finite field.
 
-        Raises `BadEntry` at the first other entry, and `BadInput` where the shape is none.
+        Raises `BadEntry` at the first other entry, and `BadInput` if the object is not a matrix.
         """
         rows = None if row_names is None else _names("row_names", row_names)
         columns = None if column_names is None else _names("column_names", column_names)
@@ -103,9 +103,9 @@ class Matrix:
 
     @classmethod
     def from_triples(cls, triples: Iterable[Sequence[Any]], shape: tuple[int, int]) -> Matrix:
-        """The matrix with a value at each (row, column, value), counted from 0, and 0 at all other places.
+        """The matrix with a value at each (row, column, value), counted from 0, and 0 at all other positions.
 
-        Raises `BadInput` where a place is named twice or is outside of the shape, and `BadEntry` for a value other than -1, 0, 1.
+        Raises `BadInput` if a position is named twice or is outside of the shape, and `BadEntry` for a value other than -1, 0, 1.
         """
         rows, columns = _pair("shape", shape)
         entries: dict[tuple[int, int], int] = {}
@@ -148,7 +148,7 @@ class Matrix:
     def submatrix(self, rows: Iterable[int], columns: Iterable[int]) -> Matrix:
         """The submatrix on some rows and columns in the given order, with their names.
 
-        Raises `BadInput` where a line is given twice, or is none of the matrix.
+        Raises `BadInput` if a line is given twice, or is not a line of the matrix.
         """
         rows, columns = (
             tuple(whole(f"a {kind}", line) for line in listed(f"{kind}s", lines, f"numbers of {kind}s"))
@@ -166,10 +166,10 @@ class Matrix:
     def pivoted(self, row: int, column: int) -> Matrix:
         """The pivot at a nonzero a: a step of the simplex method in the tableau of `A x + y = b`, which the same pivot undoes.
 
-        Beside row and column an entry becomes A[i][j] - a A[i][column] A[row][j]; the row is multiplied by a and the column by -a, and
-        a stays. The row and the column exchange their names, since each then stands for the variable, or the element of the matroid, of
-        the other. Raises `BadEntry` where the entry is 0, or where one of the pivot is none of -1, 0 and 1: `Matroid.pivot` pivots over
-        GF(2) and GF(3), where every entry stays in the field.
+        Outside of the row and the column an entry becomes A[i][j] - a A[i][column] A[row][j]. The row is multiplied by a and the column
+        by -a, and a itself remains. The row and the column exchange their names, since each then represents the variable, or the element
+        of the matroid, of the other. Raises `BadEntry` if a is 0, or if an entry of the pivot is not -1, 0 or 1. `Matroid.pivot` pivots
+        over GF(2) and GF(3), so every entry remains in the field.
         """
         pivot = self[row, column]
         if pivot == 0:
@@ -187,7 +187,7 @@ class Matrix:
         return replace(made, names=self.names and self.names.exchanged(row, column))
 
     def determinant(self) -> int:
-        """The determinant of a square matrix, by elimination in whole numbers. Raises `BadInput` if the matrix is not square.
+        """The determinant of a square matrix, by elimination in integers. Raises `BadInput` if the matrix is not square.
 
         A violator that contains no smaller violator is square, and its determinant is 2 or -2. So each violator contains a square
         submatrix with such a determinant.
@@ -264,7 +264,7 @@ class Matrix:
 
     @classmethod
     def from_text(cls, text: str, *, sparse: bool = False) -> Matrix:
-        """The matrix that a dense or a sparse text stands for. Raises `BadInput` or `BadEntry` where it is none."""
+        """The matrix of a dense or a sparse text. Raises `BadInput` or `BadEntry` if the text is not a matrix."""
         if not _NUMBERS.fullmatch(text_given("no matrix", text)):
             raise BadInput("no matrix: the text has other words than numbers")
         try:
@@ -346,7 +346,7 @@ def _places(lines: tuple[int, ...], count: int, kind: str) -> dict[int, int]:
 
 
 def _entry(row: int, column: int, value: Any) -> int:
-    """The entry as a whole number. 1 comes before -1, since the two are one where two is zero."""
+    """The entry as an integer. 1 is tried before -1, since the two are equal in a field of characteristic 2."""
     with suppress(TypeError, ValueError):
         for entry in (0, 1, -1):
             if bool(value == entry):

@@ -1,7 +1,8 @@
-"""The way from a matrix outside of a class to a minor that the class excludes: what is not needed is deleted or contracted.
+"""The search for an excluded minor of a matrix outside of a class: it deletes and contracts the elements that are not needed.
 
-An element that can neither be deleted nor contracted, since the matroid is in the class after either, is in each minor that is outside
-of the class, and stays so in every minor. So each element is tried once, and what is left has no smaller minor outside of the class.
+If the matroid is in the class after the deletion of an element and after its contraction, the element is needed: every minor outside of
+the class contains it. An element that is needed remains needed in each minor. So each element is tried once, and the remaining minor
+contains no smaller minor outside of the class.
 """
 
 from __future__ import annotations
@@ -20,7 +21,7 @@ from .tableaux import Field, Operation, Tableau, bits_of
 __all__ = ["Outside", "fewer_lines", "four_points", "least_minor", "line_tableau", "named_minor"]
 
 Outside = Callable[[Tableau[Line]], bool | None]
-"""Whether the matrix of a tableau is outside of a class; None where that is undecided."""
+"""Whether the matrix of a tableau is outside of a class; None if that is undecided."""
 
 
 def line_tableau(matrix: Matrix, field: Field) -> Tableau[Line]:
@@ -34,10 +35,10 @@ def fewer_lines(tableau: Tableau[Line], outside: Outside) -> None:
 
 
 def least_minor(tableau: Tableau[Line], kind: MinorClass, outside: Outside) -> None:
-    """Leaves of a tableau outside of a class an excluded minor. Raises `Undecided` where the class of a smaller minor is undecided.
+    """Reduces a tableau outside of a class to an excluded minor. Raises `Undecided` if the class of a smaller minor is undecided.
 
-    Lines are taken away before there are pivots, so that few are needed. Series and parallel elements go unasked, since the excluded minors
-    have none.
+    Lines are removed before there are pivots, so that few pivots are needed. Series and parallel elements are removed without a question,
+    since the excluded minors have none.
     """
     reduction = _Reduction(tableau, outside, lambda: _recognised(tableau, kind) is not None)
     reduction.reduce(with_pivots=False)
@@ -78,12 +79,12 @@ class _Reduction:
                 return
 
     def try_open(self) -> bool:
-        """Tries once more what is undecided, which may be decided where others have gone. Whether an element goes."""
+        """Tries the undecided elements again, since fewer elements are left. Returns whether it has removed an element."""
         again, self.open = self.open, set()
         return any([self._can_go([one]) for one in sorted(again)])
 
     def _goes(self, chunk: Sequence[Line], *, by_lines: bool) -> bool:
-        """Whether the elements of a chunk go that are left, all at once."""
+        """Removes the remaining elements of a chunk all at once, if that is possible, and returns whether it is."""
         places = self._tableau.places
         operations: list[tuple[Line, Operation]] = [
             (element, "contract" if (places[element].kind == "row") == by_lines else "delete")
@@ -123,9 +124,9 @@ def _recognised(tableau: Tableau[Line], kind: MinorClass) -> tuple[str, list[Lin
 
 
 def named_minor(tableau: Tableau[Line], matrix: Matrix, kind: MinorClass) -> ExcludedMinor:
-    """The excluded minor that is left of a matrix in a tableau, with as few pivots as lead to its elements.
+    """The excluded minor that a tableau of a matrix contains, with as few pivots as lead to its elements.
 
-    Raises `ProgramFault` where what is left is none, so that an answer on the way was wrong.
+    Raises `ProgramFault` if the tableau contains no excluded minor, since an answer of the search was then wrong.
     """
     found = _recognised(tableau, kind)
     if found is None:

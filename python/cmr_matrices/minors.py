@@ -27,7 +27,7 @@ def excluded_minor(
     time_limit: float | None = None,
     program: StrPath | None = None,
 ) -> ExcludedMinor | None:
-    """A minor by which a matrix is outside of a class, or None where it is in the class.
+    """An excluded minor of a matrix outside of a class, or None if the matrix is in the class.
 
     The classes, each with its excluded minors, are `totally unimodular` (U2,4), `regular` (F7, F7*), `graphic` (F7, F7*, M*(K5),
     M*(K3,3)), `cographic` (F7, F7*, M(K5), M(K3,3)), `network` (U2,4, M*(K5), M*(K3,3)), `conetwork` (U2,4, M(K5), M(K3,3)),

@@ -143,7 +143,7 @@ def scipy_model(
     """The model of the arguments of `scipy.optimize.linprog`, without `c`. Give it to `model_report`.
 
     The rows are named `ub0`, `ub1`, .., `eq0`, `eq1`, .., and the columns `x0`, `x1`, .. `bounds` is one pair, a sequence of pairs or a
-    `scipy.optimize.Bounds`; the bounds are (0, None) if it is left out.
+    `scipy.optimize.Bounds`; the default is (0, None).
     """
     names: list[str] = []
     found: list[tuple[int, int, Any]] = []

@@ -1,8 +1,8 @@
 """Reductions of constraints of any number, and their connected parts.
 
-A line that is zero, has one nonzero, or equals another line or its negative neither makes nor loses a violator (docs/DEFINITIONS.md), and a
-violator with no line to spare lies in one connected part. So the matrix is totally unimodular exactly where what is left is, and
-exactly where all its parts are.
+Removing a line that is zero, has one nonzero, or equals another line or its negative neither creates nor destroys a violator
+(docs/DEFINITIONS.md). A violator that contains no smaller violator is in one connected part. So the matrix is totally unimodular if and
+only if all connected parts of the reduced matrix are.
 """
 
 from __future__ import annotations
@@ -66,7 +66,7 @@ def _part(constraints: Constraints, rows: list[int], columns: list[int]) -> Cons
 
 
 def _nears(constraints: Constraints) -> list[dict[int, int]]:
-    """The lines that each line crosses in a nonzero, with the entries. Columns have the numbers behind those of the rows."""
+    """The lines that each line crosses in a nonzero, with the entries. The numbers of the columns follow those of the rows."""
     height, width = constraints.names.shape
     nears: list[dict[int, int]] = [{} for _ in range(height + width)]
     for (row, column), entry in constraints.entries.items():

@@ -1,4 +1,4 @@
-"""Texts of models as solvers write them, in words that GLPK knows. Lines stay where they are, so faults keep their line numbers."""
+"""Texts of models as solvers write them, changed to what GLPK reads. Each line keeps its number, so faults name the right line."""
 
 from __future__ import annotations
 
@@ -49,7 +49,7 @@ _QUADRATIC = re.compile(r"[+-]?\s*\[[^]]*\]\s*(?:/\s*2)?", re.S)
 
 
 def format_of(name: str, data: bytes) -> str:
-    """The format that the suffix of a file tells, or else what it begins with, MPS where that tells nothing."""
+    """The format: by the suffix of the file, otherwise by its first characters, and otherwise MPS."""
     suffixes = [suffix.lower() for suffix in Path(name).suffixes if suffix.lower() not in _PACKED]
     if suffixes and suffixes[-1] in FORMATS:
         return FORMATS[suffixes[-1]]
@@ -58,7 +58,7 @@ def format_of(name: str, data: bytes) -> str:
 
 
 def plain_text(data: bytes, form: str) -> bytes:
-    """The text as GLPK reads it. Raises `BadInput` where it has constraints that are no rows of a matrix."""
+    """The text as GLPK reads it. Raises `BadInput` if it has constraints that are not rows of a matrix."""
     text = _unpacked(data).removeprefix(_MARK).decode("utf-8", "surrogateescape").replace("\r\n", "\n")
     if form == "mps":
         text = "\n".join(_mps_lines(text.split("\n")))
@@ -105,7 +105,7 @@ def _unpacked(data: bytes) -> bytes:
 
 
 def _mps_lines(lines: list[str]) -> Iterator[str]:
-    """The lines of MPS, where those of sections that GLPK does not know become comments."""
+    """The lines of MPS. The lines of sections that GLPK does not know become comments."""
     section = ""
     for place, line in enumerate(lines, 1):
         first = line.split()[0].upper() if line[:1] not in ("", " ", "\t", "*") else ""
@@ -134,7 +134,7 @@ def _lp(text: str) -> str:
 
 
 def _rows_of_lp(lines: list[str]) -> tuple[int, int]:
-    """The places where the rows begin and end."""
+    """The positions at which the rows begin and end."""
     first = next((place for place, line in enumerate(lines) if _LP_ROWS.match(line)), len(lines))
     behind = (place for place, line in enumerate(lines) if place > first and _LP_BEHIND.fullmatch(line))
     return first, next(behind, len(lines))
@@ -150,7 +150,7 @@ def _must_be_rows(line: str, place: int, is_row: bool) -> None:
 
 
 def _objective(text: str, rows: str) -> str:
-    """The objective without what is quadratic in it and without its constant, and 0 times a variable where it is empty."""
+    """The objective without its quadratic part and its constant; 0 times a variable if the objective is empty."""
     linear = _blank(_CONSTANT, _blank(_QUADRATIC, text))
     if _LP_HEAD.fullmatch(linear) and (found := _LP_VARIABLE.search(_LP_LABEL.sub(" ", _LP_ROWS.sub("", rows, 1)))):
         return f"{linear} 0 {found[0]}"
@@ -158,7 +158,7 @@ def _objective(text: str, rows: str) -> str:
 
 
 def _without_semicontinuous(lines: list[str]) -> Iterator[str]:
-    """The sections behind the rows, without those that name semicontinuous variables."""
+    """The sections after the rows, without the sections that name semicontinuous variables."""
     is_left_out = False
     for line in lines:
         if _LP_BEHIND.fullmatch(line):

@@ -3,8 +3,8 @@
 The matrix has a row for each constraint and a column for each variable, with their names. The objective, right-hand sides and
 bounds do not occur in it. docs/FROM_A_MODEL.md says what a verdict on it says of the model.
 
-All raise `BadInput` where there are no rows, or more than 1,000 rows or columns, or where a coefficient is none of -1, 0 and 1,
-with the names of its row and its column.
+All raise `BadInput` if there are no rows, if there are more than 1,000 rows or columns, or if a coefficient is not -1, 0 or 1, with the
+names of its row and its column.
 """
 
 from __future__ import annotations
@@ -49,11 +49,12 @@ def from_model(
     unit_rows: bool = False,
     data: StrPath | None = None,
 ) -> Matrix:
-    """The matrix of a model in a file: fixed or free MPS, the LP format of CPLEX, or GNU MathProg, which may have its `data` apart.
+    """The matrix of a model in a file: fixed or free MPS, the LP format of CPLEX, or GNU MathProg, with its `data` in a second file.
 
-    Where `form` is left out, the suffixes `.lp`, `.mod` and `.mps` tell the format, and else what the file begins with. With `rows` the
-    matrix has the rows whose names have a match, with `without` those that have none, with `unit_rows` those whose coefficients are
-    -1, 0 and 1, and then the columns that are in them. GLPK reads the files, so Debian's python3-swiglpk has to be there.
+    Without `form`, the suffixes `.lp`, `.mod` and `.mps` determine the format, and otherwise the first characters of the file. With `rows`
+    the matrix has the rows whose names have a match, with `without` the rows whose names have none, and with `unit_rows` the rows whose
+    coefficients are -1, 0 and 1; its columns are those that occur in these rows. GLPK reads the files, so Debian's python3-swiglpk has to
+    be installed.
     """
     choice = _choice(rows, without, unit_rows)
     return matrix_of_part(path, constraints_of_file(path, form, choice, data))
@@ -68,10 +69,10 @@ def from_model_scaled(
     unit_rows: bool = False,
     data: StrPath | None = None,
 ) -> tuple[Matrix, tuple[Scaling, ...]]:
-    """The same where each row, and then each column, is divided by the common factor of its coefficients first.
+    """As `from_model`, after each row, and then each column, is divided by the common factor of its coefficients.
 
-    A factor may be a fraction: rows of 0.5 are divided by 1/2. Beside the matrix stand the lines that were divided: their right-hand
-    sides have to be integral after the division, and those that are not are named there.
+    A factor may be a fraction: rows of 0.5 are divided by 1/2. The second value lists the lines that were divided. Their right-hand sides
+    have to be integral after the division; the list names those that are not.
     """
     choice = _choice(rows, without, unit_rows, scale=True)
     constraints = constraints_of_file(path, form, choice, data)
@@ -87,10 +88,10 @@ def reduced_parts(
     unit_rows: bool = False,
     data: StrPath | None = None,
 ) -> tuple[tuple[Matrix, ...], Reductions]:
-    """The connected parts of what is left of a model, which may have any number of rows, once its reducible lines are taken away.
+    """The connected parts of a model without its reducible lines, and the reductions. The model may have any number of rows.
 
-    These are lines that are zero, have one nonzero, or are copies or negatives of others, and the list of reductions has them. The
-    matrix of the model is totally unimodular exactly where all parts are. Raises `BadInput` where a part is too large for a matrix.
+    A line is reducible if it is zero, has one nonzero, or is a copy or a negative of another line. The matrix of the model is totally
+    unimodular if and only if all parts are. Raises `BadInput` if a part is too large for a matrix.
     """
     choice = _choice(rows, without, unit_rows)
     left, steps = reduced(constraints_of_file(path, form, choice, data))
@@ -116,7 +117,7 @@ def constraints_of_file(path: StrPath, form: Format | None, choice: Choice, data
 
 
 def matrix_of_part(path: StrPath, constraints: Constraints) -> Matrix:
-    """The matrix of constraints of a file, which is named where they are too many."""
+    """The matrix of the constraints of a file. If there are too many, the error names the file."""
     try:
         return matrix_of_constraints(constraints)
     except BadInput as fault:

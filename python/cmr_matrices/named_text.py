@@ -23,8 +23,9 @@ NUMBERS = re.compile(rf"\s*{NUMBER}(?:\s+{NUMBER})*\s*")
 def named_text(text: str, names: Names, tree: Tree | None) -> str:
     """The text with names for the numbers of rows and columns.
 
-    A tree text becomes its outline, and a submatrix text its two lists. Of all other texts the lines that name rows or columns
-    are changed, and those of an outline where the tree is given; the others stay. Of an outline without its tree pivots have their names.
+    A tree text becomes its outline, and a submatrix text its two lists. In all other texts the lines that name rows or
+    columns are changed, and all lines of an outline if the tree is given; other lines are not changed. Without the tree, only the pivots of
+    an outline get names.
     """
     if text.split(maxsplit=1)[:1] in (["cmr-tree"], ["cmr-pivots"]):
         return "".join(f"{line}\n" for line in outline_lines(Tree.from_text(text), names))
@@ -57,7 +58,7 @@ def _same_node(line: str, node: str) -> str:
 
 
 def _submatrix(text: str, names: Names) -> Submatrix:
-    """Numbers alone are a submatrix text, whose counts come first and have to fit."""
+    """A text of numbers only is a submatrix text. It begins with its counts, which have to be right."""
     numbers = [int(word) for word in text.split()]
     if len(numbers) < 4 or len(numbers) != 4 + numbers[2] + numbers[3]:
         raise BadInput("numbers alone, but no submatrix: the counts and the lists do not fit")

@@ -1,9 +1,9 @@
-"""A no by a part of a matrix: few lines on which it is neither of two classes of graphs show that the whole matrix has no property.
+"""A no by a part of a matrix: a small part outside of two classes of graphs, which shows that the whole matrix lacks the property.
 
 A matrix that is not regular is neither graphic nor cographic, and one that is not totally unimodular is neither a network matrix nor the
 transpose of one. These four classes are decided fast at every size. So lines are removed while the rest stays outside of one of them: few
-lines are left, also of a large matrix. If the rest has not the property, then its chain or violator is one of the whole matrix. If it has,
-nothing is known of the whole matrix.
+lines are left, also of a large matrix. If the rest lacks the property, its chain or violator is one of the whole matrix. If it has the
+property, nothing is known of the whole matrix.
 
 Source: Tutte 1959 and Seymour 1980, by which graphic and cographic matroids are regular.
 """

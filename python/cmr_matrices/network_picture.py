@@ -1,8 +1,8 @@
 """Pictures of graphs that show that a matrix is graphic or a network matrix.
 
-The tree is drawn, and the walks as dashed edges. Where each walk takes at most two arcs, the matrix may be that of a flow model, a network
-whose nodes are the rows: where the caller says so, the rows are drawn as nodes and the columns as edges between them. This leaves out the
-nodes of the tree and its arcs, so it is no picture of a graph that shows that a matroid is graphic.
+The arcs of the tree are drawn in full, and the walks as dashed edges. If each walk takes at most two arcs, the matrix may be the matrix
+of a flow model, a network whose nodes are the rows. The caller may then ask for the rows as nodes and the columns as edges between them.
+This omits the nodes and the arcs of the tree, so it does not show the graph of a graphic matroid.
 """
 
 from __future__ import annotations
@@ -24,15 +24,15 @@ if TYPE_CHECKING:
 __all__ = ["DRAWN", "picture"]
 
 DRAWN = 1000
-"""The most edges that are drawn where no limit is given."""
+"""The default limit on the edges that are drawn."""
 
-# Up to so many edges the layers of dot can be followed.
+# The most edges with which the layers of dot are readable.
 _LAYERED = 40
-# The words of a name, of which those behind the first are its index.
+# The words of a name. The words after the first are its index.
 _INDEX = re.compile(r"[^][(){},;_ ]+")
 _FONT = {"fontname": "Helvetica"}
 _WALK = {"style": "dashed", "color": "#3060a0", "fontcolor": "#3060a0"}
-# Where edges cross, colours tell which name belongs to which.
+# If edges cross, colours show which name belongs to which edge.
 _COLOURS = ("#20639b", "#b03a2e", "#1e8449", "#7d3c98", "#9c640c", "#17202a")
 _BOX = {"shape": "box", "style": "rounded,filled", "fillcolor": "#eef3f8", "color": "#708090"}
 _CIRCLE = {"shape": "circle", "width": "0.3", "fixedsize": "true", "style": "filled", "fillcolor": "white"}
@@ -68,8 +68,8 @@ class _Drawn:
 def picture(graph: Graph, names: Names, *, directed: bool, limit: int = DRAWN, tree: bool = False) -> str:
     """The graph in DOT. With more edges than the limit the families of its lines are drawn, with their counts.
 
-    `tree` draws the tree in any case, and else the rows are nodes where no walk takes more than two arcs. The layout is chosen by the
-    number of edges, and any program of Graphviz then uses it.
+    With `tree` the tree is always drawn; otherwise the rows are nodes if no walk takes more than two arcs. The layout depends on the number
+    of edges, and all programs of Graphviz use it.
     """
     taken = None if tree else arcs_of_walks(graph, 2)
     count = len(graph.edges) if taken is None else len(graph.walks)
@@ -81,10 +81,10 @@ def picture(graph: Graph, names: Names, *, directed: bool, limit: int = DRAWN, t
 
 
 def _signs(graph: Graph, taken: Taken, names: Names) -> dict[Line, int]:
-    """A sign for each arc such that walks with two arcs have one 1 and one -1 once the arcs have their signs.
+    """A sign for each arc, such that walks with two arcs have one 1 and one -1 if the arcs have these signs.
 
-    All signs of a connected part can be turned, and its edges with them. What names tell decides: `flow[a,b]` leads from `node[a]` to
-    `node[b]`. Where they tell nothing, the first arc of the part has the sign 1.
+    All signs of a connected part can be reversed together. The names decide: `flow[a,b]` leads from `node[a]` to `node[b]`. If they give no
+    direction, the first arc of the part has the sign 1.
     """
     near: dict[Line, list[tuple[Line, int, int]]] = {arc.line: [] for arc in graph.arcs}
     for walk, arcs in taken.items():
@@ -111,7 +111,7 @@ def _signs(graph: Graph, taken: Taken, names: Names) -> dict[Line, int]:
 
 
 def _order(edge: str, first: str, second: str) -> int:
-    """1 where the name of an edge has the index of the first end before that of the second one, -1 the other way, and else 0."""
+    """1 if the name of an edge contains the index of the first end before the index of the second, -1 if after, and otherwise 0."""
     words, *ends = (_INDEX.findall(name)[1:] for name in (edge, first, second))
     places = [_place(words, end) for end in ends]
     match places:
@@ -200,7 +200,7 @@ def _has_two_sides(edges: Sequence[_Drawn]) -> bool:
 
 
 def _summary(graph: Graph, names: Names, taken: Taken | None, *, directed: bool) -> str:
-    """The families of the lines: where rows are nodes as a graph of their own, and else as a list."""
+    """The families of the lines: as a graph if rows are nodes, and otherwise as a list."""
     if taken is None:
         arcs = families_of(names.line(arc.line) for arc in graph.arcs)
         walks = families_of(names.line(walk.line) for walk in graph.walks)

@@ -95,7 +95,7 @@ class Node:
 
     @property
     def printed(self) -> str:
-        """What the program prints of the node: the kind, the size, and where it is pivoted, counted from 1."""
+        """What the program prints of the node: the kind, the size, and the position of the pivot if there is one, counted from 1."""
         return self.outline + "".join(f" {line.kind} {line.number + 1}" for line in self.place)
 
     def walk(self) -> Iterator[tuple[int, Node]]:
@@ -107,7 +107,7 @@ class Node:
             pending.extend((depth + 1, child) for child in reversed(node.children))
 
     def rebuilt(self, change: Callable[[Node, tuple[Node, ...]], Node]) -> Node:
-        """The tree below this node made anew from the leaves up: each node of what it was and of its new children."""
+        """The tree below this node, made again from the leaves up: `change` gets each node and its new children."""
         done: list[Node] = []
         for _, node in reversed(list(self.walk())):
             done.append(change(node, tuple(done.pop() for _ in node.children)))

@@ -1,4 +1,4 @@
-"""The options of the searches as keywords, with their ranges, and the words that say them to the program."""
+"""The options of the searches as keywords, with their ranges, and the arguments of the program for them."""
 
 from __future__ import annotations
 
@@ -8,7 +8,7 @@ __all__ = ["budget_words"]
 
 
 def budget_words(lines: int | None, pivots: int, workers: int | None) -> list[str]:
-    """The words of a budget. An option that is left out has no words, and the program its own default; so have no pivots."""
+    """The arguments for a budget. An option that is None has no arguments, so the program uses its default; neither have 0 pivots."""
     return [
         *_words("--lines", None if lines is None else whole("lines", lines, 0, 24)),
         *_words("--pivots", whole("pivots", pivots, 0, 100) or None),

@@ -1,4 +1,4 @@
-"""Values as HTML, as notebooks show them: tables with the names of lines, and a reason where there is no picture."""
+"""Values as HTML, as notebooks show them: tables with the names of lines, and a reason if there is no picture."""
 
 from __future__ import annotations
 
@@ -48,7 +48,7 @@ def line_list(kinds: Iterable[tuple[str, Sequence[str]]]) -> str:
 
 
 def no_picture(what: str) -> str | None:
-    """Why there is no picture of something that could be drawn, or None where Graphviz is there."""
+    """Why there is no picture of something that could be drawn, or None if Graphviz is installed."""
     return paragraph(f"{what} is drawn where Graphviz is there: Debian's graphviz") if shutil.which("dot") is None else None
 
 

@@ -39,7 +39,7 @@ YES, NO, UNDECIDED, REFUSED = 0, 1, 6, 7
 _NOT_RUN = 126
 
 _CLONE = Path(__file__).resolve().parents[2]
-# Where the package is installed below a prefix, as scripts/install does it.
+# The prefix below which scripts/install has installed the package.
 _BESIDE = _CLONE.parents[1] / "bin" / "cmr"
 _TEXT_FAULT = re.compile(r"cmr: (?P<name>.*): (?:(?P<kind>[A-Za-z]+) at byte (?P<byte>[0-9]+)|TooLong)", re.DOTALL)
 
@@ -53,7 +53,7 @@ class Ran:
     files: Mapping[str, str]
 
     def said(self, *words: str) -> str:
-        """What the first line says behind one of some words and a colon. Raises `ProgramFault` where it is no such line."""
+        """What the first line says after one of these words and a colon. Raises `ProgramFault` if the line has another form."""
         line = self.lines[0] if self.lines else ""
         word, colon, said = line.partition(": ")
         if not colon or word not in words:
@@ -61,7 +61,7 @@ class Ran:
         return said
 
     def file(self, name: str) -> str:
-        """The text of a file that is written for every answer. Raises `ProgramFault` where it was not written."""
+        """The text of a file that is written for every answer. Raises `ProgramFault` if it was not written."""
         if name not in self.files:
             raise ProgramFault(self.status, f"the program is not cmr: it did not write the file {name}")
         return self.files[name]
@@ -81,7 +81,7 @@ def find_program(program: StrPath | None = None) -> Path:
 
 
 def unproved() -> Path:
-    """Where `./try-cmr` keeps the program that it has compiled without proofs, in this clone."""
+    """The path of the program that `./try-cmr` has compiled without proofs, in this clone."""
     return _CLONE / "out" / "unproved" / "cmr"
 
 
@@ -115,12 +115,12 @@ def run(
     program: StrPath | None = None,
     time_limit: TimeLimit = None,
 ) -> Ran:
-    """A run of the program on standard input and on files, in a folder that is gone once it ends.
+    """A run of the program on standard input and on files, in a folder that is removed when the run ends.
 
-    `inputs` are the texts of the files that it reads, and `outputs` the names of those that it may write; its words name them as
-    they stand here. `time_limit` is in seconds. Whatever ends the call also ends the program.
+    `inputs` are the texts of the files that the program reads, and `outputs` the names of the files that it may write; its arguments use
+    the same names. `time_limit` is in seconds. Whatever ends the call also ends the program.
 
-    Raises `ProgramMissing`, `TimeLimitReached` or, where the program does not answer, the `ProgramFault` of its status.
+    Raises `ProgramMissing`, `TimeLimitReached` or, if the program does not answer, the `ProgramFault` of its status.
     """
     clock = Clock.of(time_limit)
     command = [str(find_program(program)), *words]

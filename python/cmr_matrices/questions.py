@@ -1,22 +1,21 @@
-"""The questions that a matrix is asked. Each is a run of the proved program, which decides.
+"""The questions about a matrix. The proved program decides each of them.
 
-All take whatever `Matrix.of` takes, and these keywords:
+All accept whatever `Matrix.of` accepts, and these keywords:
 
-* `certificate`: whether evidence is computed that costs more than the answer;
+* `certificate`: whether to compute evidence that costs more than the answer;
 * `parts`: whether a part of the matrix may decide a no before pivots are made (default true): `cmr_matrices.narrowing` says how;
 * `lines`: the budget of the search through row sets, 0 to 24 (default 14);
 * `workers`: how many threads share the searches, 1 to 64; it changes no answer;
-* `pivots`: how many pivots may be made on the path to a part that nothing else decides, 0 to 100 (default 20): docs/DEFINITIONS.md has the
-  rule;
-* `tries`: where the matrix is undecided, in how many other orders of the lines it is asked again, 0 to 1000, with orders that
-  `seed`, any whole number, draws, and with as many pivots in each;
-* `time_limit`: the seconds that the whole call may take, 0 to 2,000,000, or None for no limit (the default): what is given is
-  made a matrix, which is not interrupted, and then the program is run, and ended where they are over; once there is an undecided
-  answer, it is given without the steps that were left;
-* `program`: the program's path, where it is not to be looked for.
+* `pivots`: how many pivots may be made on the path to a part that is left open, 0 to 100 (default 20): docs/DEFINITIONS.md has the rule;
+* `tries`: the number of other orders of the lines in which an undecided matrix is asked again, 0 to 1000 (default 0); `seed`, any
+  integer, determines these orders, and each has as many pivots;
+* `time_limit`: the seconds that the whole call may take, 0 to 2,000,000, or None for no limit (the default). The conversion of the
+  argument to a matrix is not interrupted. The program is ended when the time is over. If there is an undecided answer by then, it is
+  returned;
+* `program`: the program's path; without it, the package searches for the program.
 
-All raise `ProgramMissing` before they look at the matrix, `BadEntry` and `BadInput` for what is no matrix of theirs or out of a range,
-`TimeLimitReached`, and `OutOfMemory`.
+All raise `ProgramMissing` before they look at the matrix, `BadEntry` and `BadInput` if an argument is not a valid matrix or is out of its
+range, `TimeLimitReached`, and `OutOfMemory`.
 """
 
 from __future__ import annotations
@@ -64,12 +63,12 @@ def is_totally_unimodular(
 ) -> Answer:
     """Whether every square submatrix has the determinant -1, 0 or 1.
 
-    A no has a `violator`, and an undecided answer the part that is `open`. With `certificate` there is the `tree` too. Without `parts` the
-    answer and its tree are those of one run of the program with as many pivots, if there are no `tries`.
+    A no has a `violator`, and an undecided answer the part that is `open`. With `certificate` there is also the `tree`. Without `parts`
+    and `tries` the answer and its tree are those of one run of the program with as many pivots.
 
     `lines` is the budget of the search, 0 to 24 lines (14); `workers` the threads that share it, 1 to 64 (1); `pivots` how many pivots
-    may be made on the way to a part that is left open, 0 to 100 (20); `tries` in how many other orders an undecided matrix is asked again,
-    0 to 1000 (0), which `seed`, any whole number (0), draws. `time_limit` is in seconds, 0 to 2,000,000, for the whole call. `program` is
+    may be made on the path to a part that is left open, 0 to 100 (20); `tries` in how many other orders an undecided matrix is asked again,
+    0 to 1000 (0), which `seed`, any integer (0), determines. `time_limit` is in seconds, 0 to 2,000,000, for the whole call. `program` is
     the program's path.
 
     Source: Ghouila-Houri 1962; Hoffman and Kruskal 1956; Seymour 1980.
@@ -93,12 +92,12 @@ def is_regular(
 ) -> Answer:
     """Whether the ones of a 0/1 matrix can be signed so that it becomes totally unimodular.
 
-    So is whether the binary matroid that it represents, beside the identity, is regular. A no has a `violator` of the signed
+    This decides whether the binary matroid of `[I A]` is regular. A no has a `violator` of the signed
     matrix. With `certificate` there are the `signed` matrix, its `tree`, and for a no the `chain`.
 
     `lines` is the budget of the search, 0 to 24 lines (14); `workers` the threads that share it, 1 to 64 (1); `pivots` how many pivots
-    may be made on the way to a part that is left open, 0 to 100 (20); `tries` in how many other orders an undecided matrix is asked again,
-    0 to 1000 (0), which `seed`, any whole number (0), draws. `time_limit` is in seconds, 0 to 2,000,000, for the whole call. `program` is
+    may be made on the path to a part that is left open, 0 to 100 (20); `tries` in how many other orders an undecided matrix is asked again,
+    0 to 1000 (0), which `seed`, any integer (0), determines. `time_limit` is in seconds, 0 to 2,000,000, for the whole call. `program` is
     the program's path.
 
     Source: Camion 1965; Seymour 1980; Truemper, *Matroid Decomposition*.
@@ -126,7 +125,7 @@ def is_graphic(
 def is_cographic(
     matrix: MatrixLike, *, certificate: bool = False, time_limit: float | None = None, program: StrPath | None = None
 ) -> Answer:
-    """Whether the transpose of a 0/1 matrix is graphic. The arcs of the `graph` stand for the columns, else as `is_graphic`.
+    """Whether the transpose of a 0/1 matrix is graphic. The arcs of the `graph` represent the columns; otherwise as `is_graphic`.
 
     `time_limit` is in seconds, 0 to 2,000,000, for the whole call, and `program` the program's path.
     """
@@ -137,7 +136,7 @@ def is_cographic(
 def is_network(
     matrix: MatrixLike, *, certificate: bool = False, time_limit: float | None = None, program: StrPath | None = None
 ) -> Answer:
-    """Whether a matrix is that of paths in a directed tree: an entry is 1 where the path takes the arc forwards, -1 backwards.
+    """Whether a matrix is that of paths in a directed tree: an entry is 1 if the path takes the arc forwards, -1 if backwards.
 
     With `certificate` a yes has the `graph`, which is directed, and a no a `minimal` submatrix.
 
@@ -152,7 +151,7 @@ def is_network(
 def is_conetwork(
     matrix: MatrixLike, *, certificate: bool = False, time_limit: float | None = None, program: StrPath | None = None
 ) -> Answer:
-    """Whether the transposed matrix is a network matrix. The arcs of the `graph` stand for the columns, else as `is_network`.
+    """Whether the transposed matrix is a network matrix. The arcs of the `graph` represent the columns; otherwise as `is_network`.
 
     `time_limit` is in seconds, 0 to 2,000,000, for the whole call, and `program` the program's path.
     """
@@ -200,8 +199,8 @@ def is_balanced(
     has the `tree` of the totally unimodular matrix.
 
     `lines` is the budget of the search, 0 to 24 lines (14); `workers` the threads that share it, 1 to 64 (1); `pivots` how many pivots
-    may be made on the way to a part that is left open, 0 to 100 (20); `tries` in how many other orders an undecided matrix is asked again,
-    0 to 1000 (0), which `seed`, any whole number (0), draws. `time_limit` is in seconds, 0 to 2,000,000, for the whole call. `program` is
+    may be made on the path to a part that is left open, 0 to 100 (20); `tries` in how many other orders an undecided matrix is asked again,
+    0 to 1000 (0), which `seed`, any integer (0), determines. `time_limit` is in seconds, 0 to 2,000,000, for the whole call. `program` is
     the program's path.
 
     Source: Berge 1970; Truemper, *Matroid Decomposition*.

@@ -24,13 +24,13 @@ __all__ = ["Question", "printed_part", "read_answer"]
 
 @dataclass(frozen=True)
 class Question:
-    """A tool of the program with its words, and the files that it is to write, each by the option that names it."""
+    """A tool of the program with its arguments, and the files that it writes, each by the option that names it."""
 
     property_name: str
     words: tuple[str, ...]
     files: Mapping[str, str] = field(default_factory=dict)
     said: str = ""
-    """The program's own word for the property, where that is another."""
+    """The program's own word for the property, if that is another."""
 
     def ask(self, matrix: Matrix, program: StrPath | None, time_limit: TimeLimit) -> Answer:
         """What the program says of a matrix."""
@@ -49,8 +49,8 @@ class Question:
 def read_answer(ran: Ran, matrix: Matrix, property_name: str, *, word: str = "", directed: bool = True) -> Answer:
     """The answer that a run on a matrix has printed and written, with all its evidence.
 
-    `word` is the program's own for the property, where that is another. Raises `ProgramFault` where the first line is not that of
-    the answer, as it is where another program was run.
+    `word` is the program's own word for the property, if that is another. Raises `ProgramFault` if the first line is not the line of the
+    answer, for example after a run of another program.
     """
     verdict: Verdict = "yes" if ran.status == YES else "no" if ran.status == NO else "undecided"
     if ran.said(word or property_name) != verdict:
@@ -79,9 +79,9 @@ def read_answer(ran: Ran, matrix: Matrix, property_name: str, *, word: str = "",
 def printed_part(
     found: Mapping[str, LineSet], matrix: Matrix, word: str, entries: Matrix | None = None
 ) -> Submatrix | None:
-    """The submatrix that stands behind a word in what was printed, or None where there is none.
+    """The submatrix that was printed after a word, or None if there is none.
 
-    It is to be shown with the entries of a matrix, where one is given and it is small.
+    If a matrix is given and the submatrix is small, it is shown with its entries.
     """
     lines = found.get(word)
     if lines is None:

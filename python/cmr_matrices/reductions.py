@@ -60,7 +60,7 @@ class Reductions:
 
     @classmethod
     def from_text(cls, text: str, names: Names | None = None) -> Reductions:
-        """The reductions that a list has. Raises `BadInput` where it is none."""
+        """The reductions of a list. Raises `BadInput` if the text is not such a list."""
         steps = []
         for place, line in enumerate(text_given("no list of reductions", text).splitlines(), 1):
             found = REDUCTION.fullmatch(line)

@@ -24,9 +24,9 @@ _SAGE = re.compile(r"\s*Matroid\(groundset=(?P<elements>\[.*\]),\s*matrix=Matrix
 
 @dataclass(frozen=True, eq=False)
 class Matroid:
-    """The matroid that `[I A]` represents over a field: `matrix` is `A`, and names a basis by its rows and the others by its columns.
+    """The matroid that `[I A]` represents over a field. `matrix` is `A`: its rows name the elements of a basis, its columns the others.
 
-    Two are equal where the matrices, the names and the fields are; `is_isomorphic` asks whether the matroids are the same up to names.
+    Two values are equal if their matrices, names and fields are; `is_isomorphic` asks whether the matroids are the same up to names.
     """
 
     matrix: Matrix
@@ -188,7 +188,7 @@ class Matroid:
         )
 
     def isomorphism(self, other: Matroid) -> dict[str, str] | None:
-        """The element of another matroid for each of this one, or None where the two are not isomorphic. Both have to be small."""
+        """The element of another matroid for each element of this one, or None if they are not isomorphic. Both have to be small."""
         if (self.rank, len(self.elements)) != (other.rank, len(other.elements)):
             return None
         pair = (self.dual(), other.dual()) if self.matrix.shape[1] > self.rank else (self, other)

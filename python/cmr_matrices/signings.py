@@ -16,7 +16,7 @@ __all__ = ["Signing", "SigningStep"]
 
 @dataclass(frozen=True, slots=True)
 class SigningStep:
-    """A step of the run: a pivot in a row and a column, or, where the column is None, a row that is put aside. Counted from 0."""
+    """A step of the run: a pivot in a row and a column, or a row that is put aside if the column is None. Counted from 0."""
 
     row: int
     column: int | None = None

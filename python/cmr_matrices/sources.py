@@ -65,7 +65,7 @@ class Entries:
 
 
 def entries_of(source: Any) -> Entries:
-    """The entries of an object. Raises `BadInput` where it is no matrix."""
+    """The entries of an object. Raises `BadInput` if it is not a matrix."""
     if hasattr(source, "tocoo"):
         return _of_scipy(source)
     if callable(getattr(source, "nrows", None)) and callable(getattr(source, "ncols", None)):
@@ -80,7 +80,7 @@ def entries_of(source: Any) -> Entries:
 
 
 def _of_scipy(source: Any) -> Entries:
-    """Values at one place are added, as scipy does where it makes an array of them."""
+    """Values at one position are added, as scipy does in a conversion to an array."""
     shape = _shape(source.shape)
     coordinates = source.tocoo()
     array = _array_of_coordinates(coordinates, shape)

@@ -16,14 +16,14 @@ __all__ = ["Submatrix"]
 
 @dataclass(frozen=True)
 class Submatrix:
-    """Some rows and columns, counted from 0 and rising, of a matrix with the given shape."""
+    """Some rows and columns of a matrix with the given shape, counted from 0 and in increasing order."""
 
     shape: tuple[int, int]
     rows: tuple[int, ...]
     columns: tuple[int, ...]
     names: Names | None = field(default=None, compare=False, repr=False)
     entries: tuple[tuple[int, ...], ...] | None = field(default=None, compare=False, repr=False)
-    """The entries of its rows, where it is the violator of an answer and is small."""
+    """The entries of its rows, if it is the violator of an answer and is small."""
 
     @property
     def lines(self) -> LineSet:
@@ -32,18 +32,18 @@ class Submatrix:
 
     @property
     def row_names(self) -> tuple[str, ...]:
-        """The names of the rows, `r0`, `r1`, .. where the matrix has none."""
+        """The names of the rows, `r0`, `r1`, .. if the matrix has none."""
         names = self.names or Names.numbered(*self.shape)
         return tuple(names.rows[row] for row in self.rows)
 
     @property
     def column_names(self) -> tuple[str, ...]:
-        """The names of the columns, `c0`, `c1`, .. where the matrix has none."""
+        """The names of the columns, `c0`, `c1`, .. if the matrix has none."""
         names = self.names or Names.numbered(*self.shape)
         return tuple(names.columns[column] for column in self.columns)
 
     def submatrix(self, matrix: MatrixLike) -> Matrix:
-        """The submatrix of a matrix on these lines. Raises `BadInput` where the matrix has another shape."""
+        """The submatrix of a matrix on these lines. Raises `BadInput` if the matrix has another shape."""
         whole = Matrix.of(matrix)
         if whole.shape != self.shape:
             raise BadInput(f"the submatrix is one of a matrix of shape {self.shape}, and here it is {whole.shape}")
@@ -57,7 +57,7 @@ class Submatrix:
 
     @classmethod
     def from_text(cls, text: str, names: Names | None = None) -> Submatrix:
-        """The submatrix that a text names. Raises `BadInput` where it is none."""
+        """The submatrix that a text names. Raises `BadInput` if the text is not a submatrix."""
         words = Words(text)
         try:
             shape = words.shape()

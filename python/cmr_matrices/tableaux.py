@@ -159,7 +159,7 @@ class Tableau(Generic[Element]):
         self.remove_columns(line.number for line in lines if line.kind == "column")
 
     def apply(self, operations: Iterable[tuple[Element, Operation]]) -> None:
-        """Deletes and contracts elements. Where one stands on the other side, a pivot changes that before."""
+        """Deletes and contracts elements. A deleted row or a contracted column is first exchanged by a pivot."""
         chosen = tuple(operations)
         by_line = [one for one in chosen if (self.places[one[0]].kind == "row") == (one[1] == "contract")]
         self.remove_lines(element for element, _ in by_line)
@@ -218,7 +218,7 @@ class Tableau(Generic[Element]):
         return bool(columns)
 
     def _partner(self, line: Line) -> int | None:
-        """A line that crosses a line at a nonzero, with few nonzeros where there is a choice."""
+        """A line that crosses a line at a nonzero. Of several columns it is the first, and of several rows one with few nonzeros."""
         if line.kind == "row":
             return next(bits_of(sum(self.rows[line.number])), None)
         bit = 1 << line.number
@@ -255,7 +255,7 @@ def _negative(row: Row) -> Row:
 
 
 def bits_of(number: int) -> Iterator[int]:
-    """The places of the bits that are set, rising."""
+    """The positions of the bits that are set, in increasing order."""
     while number:
         least = number & -number
         yield least.bit_length() - 1

@@ -76,20 +76,20 @@ def sign(
 def check(
     matrix: MatrixLike, evidence: Evidence | Answer, *, time_limit: TimeLimit = None, program: StrPath | None = None
 ) -> Checked:
-    """Checks evidence on a matrix apart from what made it: a tree, a chain, a violator, or the text of one of these.
+    """Checks evidence for a matrix, whatever made it: a tree, a chain, a violator, or the text of one of these.
 
-    Of an answer all evidence is checked, and has to say what the answer does:
+    If it is given an answer, `check` checks all of its evidence, which has to say what the answer says:
 
     * the chain of a no on regularity, and the tree of a yes on it, on the signed matrix;
     * the tree of other answers, or the violator, which for a no on balance also has two nonzeros in each line;
     * the graph, whose matrix, that of `matrix_of`, has to be this one;
     * the signing, whose column sums have to be -1, 0 or 1;
     * the reductions, step by step, with what they leave;
-    * the minimal submatrix, which has to lack the property, and to have it without any one of its lines.
+    * the minimal submatrix, which has to lack the property, and to have it when any one of its lines is removed.
 
     `time_limit` is in seconds, 0 to 2,000,000, for the whole call, and `program` the program's path.
 
-    Raises `BadInput` if an answer has none of these, and `BadText` where a text is no evidence, with the byte at fault.
+    Raises `BadInput` if an answer has none of these, and `BadText` if a text is not evidence, with the byte at fault.
     """
     call = Call.begin(program, time_limit)
     if isinstance(evidence, Answer):
@@ -118,11 +118,11 @@ def _check(taken: Matrix, evidence: Evidence, call: Call) -> Checked:
 def parts(
     matrix: MatrixLike, tree: Tree | str, *, time_limit: float | None = None, program: StrPath | None = None
 ) -> Parts:
-    """The two matrices of which a matrix is the sum that the root of its tree says. `compose` is the way back.
+    """The two matrices of which a matrix is the sum, by the root of its tree. `compose` is the inverse.
 
     `time_limit` is in seconds, 0 to 2,000,000, for the whole call, and `program` the program's path.
 
-    Raises `Refused` where the root is no two-sum and no three-sum, or the tree breaks a rule.
+    Raises `Refused` if the root is neither a two-sum nor a three-sum, or if the tree breaks a rule.
     """
     call = Call.begin(program, time_limit)
     taken = Matrix.of(matrix)
@@ -153,7 +153,7 @@ def compose(
 
     `time_limit` is in seconds, 0 to 2,000,000, for the whole call, and `program` the program's path.
 
-    `kind` is one, two, delta, y, mixed or concentrated. Raises `Refused` where there is no such sum, with the cause of docs/FORMATS.md.
+    `kind` is one, two, delta, y, mixed or concentrated. Raises `Refused` if there is no such sum, with the cause of docs/FORMATS.md.
     """
     call = Call.begin(program, time_limit)
     one_of("kind", kind, get_args(SumKind))
@@ -177,8 +177,8 @@ def generate(
 
     `time_limit` is in seconds, 0 to 2,000,000, for the whole call, and `program` the program's path.
 
-    `size` is 1 to 1000, with `twosum` at most 249, and `number` 0 to 2147483647 chooses among them. docs/DEFINITIONS.md has the
-    definition. Raises `BadCommandLine` where one is out of its range.
+    `size` is 1 to 1000, with `twosum` at most 249, and `number`, 0 to 2147483647, chooses among the matrices of this size.
+    docs/DEFINITIONS.md has the definition. Raises `BadCommandLine` if `size` or `number` is out of its range.
     """
     call = Call.begin(program, time_limit)
     one_of("kind", kind, ("network", "twosum"))
@@ -191,11 +191,11 @@ def generate(
 
 
 def matrix_of(graph: Graph | str, *, time_limit: float | None = None, program: StrPath | None = None) -> Matrix:
-    """The one matrix for which a graph shows the property: that of its paths, with directions where it is directed.
+    """The matrix for which a graph shows the property: the matrix of its paths, with signs if the graph is directed.
 
     `time_limit` is in seconds, 0 to 2,000,000, for the whole call, and `program` the program's path.
 
-    Raises `BadText` where a text, which counts as directed, is no graph with its rows first.
+    Raises `BadText` if a text, which is read as a directed graph, is not a graph with its rows first.
     """
     call = Call.begin(program, time_limit)
     if not isinstance(graph, (str, Graph)):

@@ -1,8 +1,8 @@
 """The picture of a decomposition tree as boxes, few enough to be read.
 
-A box stands for one node, or for several of one kind that are counted together: more than three leaves below one node, and
-in a large tree also sums below sums of their kind, with the reductions between them. What is still too much is counted
-in boxes that stand for whole parts of the tree.
+A box represents one node, or several nodes of one kind that are counted together: more than three leaves below one node, and in a large
+tree also sums below sums of the same kind, with the reductions between them. If there are still too many boxes, a box represents a
+whole part of the tree.
 """
 
 from __future__ import annotations
@@ -28,7 +28,7 @@ COLOURS = {"inner": "white", "yes": "#dcefdc", "no": "#f6cccc", "open": "#fdf0c4
 
 @dataclass
 class Box:
-    """Nodes that are drawn as one box. A whole box also stands for all that is below them."""
+    """Nodes that are drawn as one box. A whole box also represents all nodes below them."""
 
     nodes: list[Node]
     whole: bool = False
@@ -68,7 +68,7 @@ def tree_boxes(root_node: Node, limit: int) -> Box:
 
 
 def _boxes(root: Node, gather: bool, limit: int | None) -> Box:
-    """The boxes of a tree, made breadth first; past the limit a box stands for all that is below it."""
+    """The boxes of a tree, made breadth first. Beyond the limit a box represents all nodes below it."""
     first = _gathered(root) if gather else Box([root])
     pending = deque([first])
     made = 1

@@ -1,4 +1,4 @@
-"""The texts of decomposition trees: `cmr-tree 2` is written, or `cmr-pivots 1` where a node is pivoted, and `cmr-tree 1` is read too.
+"""The texts of decomposition trees: `cmr-tree 2`, or `cmr-pivots 1` if a node is pivoted. `cmr-tree 1` is only read.
 
 docs/FORMATS.md has the formats.
 """
@@ -17,7 +17,7 @@ __all__ = ["read_tree", "tree_text"]
 
 
 def read_tree(text: str) -> tuple[tuple[int, int], Node]:
-    """The shape of the matrix and the root of the tree that a text has. Raises `BadInput` where it is none."""
+    """The shape of the matrix and the root of the tree in a text. Raises `BadInput` if the text is not a tree."""
     try:
         return _TreeReader(text).tree()
     except BadInput as fault:

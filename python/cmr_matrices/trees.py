@@ -1,6 +1,6 @@
-"""Decomposition trees, which say why a matrix is totally unimodular or where it fails to be.
+"""Decomposition trees, which say why a matrix is totally unimodular, or which lines are at fault.
 
-docs/FORMATS.md has the kinds of nodes with their rules, and docs/DEFINITIONS.md says why a tree that keeps them tells right.
+docs/FORMATS.md has the kinds of nodes with their rules, and docs/DEFINITIONS.md says why a tree that keeps the rules is right.
 Source: Seymour's decomposition of regular matroids; Truemper, *Matroid Decomposition*.
 """
 
@@ -27,7 +27,7 @@ __all__ = ["Tree", "outline_lines"]
 
 @dataclass(frozen=True, eq=False)
 class Tree:
-    """A decomposition tree of a matrix with the given shape. Two trees are equal where their texts are."""
+    """A decomposition tree of a matrix with the given shape. Two trees are equal if their texts are."""
 
     shape: tuple[int, int]
     root: Node = field(repr=False)
@@ -38,10 +38,10 @@ class Tree:
         return self.root.walk()
 
     def submatrices(self, matrix: MatrixLike) -> Iterator[tuple[Node, Matrix]]:
-        """Each node in preorder with the submatrix of which it speaks: that on its lines, below pivoted nodes after their pivots.
+        """Each node in preorder with its submatrix: the submatrix on the node's lines, after the pivots of the nodes above it.
 
-        Raises `BadInput` where the matrix has another shape, and `BadEntry` where a pivot is none, or gives another entry than -1,
-        0 and 1, which no tree has that `check` accepts.
+        Raises `BadInput` if the matrix has another shape, and `BadEntry` if a pivot is at a zero or gives an entry other than -1, 0 and
+        1; `check` refuses such a tree.
         """
         whole = LineSet(tuple(range(self.shape[0])), tuple(range(self.shape[1])))
         pending = [(self.root, Submatrix(self.shape, whole.rows, whole.columns).submatrix(matrix), whole)]
@@ -65,7 +65,7 @@ class Tree:
 
     @property
     def verdict(self) -> Literal["yes", "no", "undecided"]:
-        """What the tree says: no where a node has a fault, else undecided where one is left open, else yes."""
+        """What the tree says: no if a node has a fault, otherwise undecided if a node is left open, otherwise yes."""
         kinds = {node.kind for _, node in self.walk()}
         if kinds & {"cycle", "violator"}:
             return "no"
@@ -105,7 +105,7 @@ class Tree:
 
     @classmethod
     def from_text(cls, text: str, names: Names | None = None) -> Tree:
-        """The tree that a text has. Raises `BadInput` where it is none."""
+        """The tree that a text contains. Raises `BadInput` if the text is not a tree."""
         shape, root = read_tree(text)
         return cls(shape, root, names)
 
@@ -124,14 +124,14 @@ class Tree:
 
 
 def outline_lines(tree: Tree, names: Names) -> Iterator[str]:
-    """The lines of the outline, one after another. Raises `BadInput` where the names are those of another matrix."""
+    """The lines of the outline, one after another. Raises `BadInput` if the names belong to another matrix."""
     names.must_fit(*tree.shape)
     for depth, node in tree.walk():
         yield " ".join(filter(None, (str(depth), node.outline, _named_node(node, names))))
 
 
 def _named_node(node: Node, names: Names) -> str:
-    """The lines of a fault or a leaf, what a reduction takes away, and where the children of a sum are joined."""
+    """The lines of a fault or a leaf, the lines that a reduction removes, and the lines at which the children of a sum are joined."""
     if node.fault is not None:
         return f"fault {names.line_set(node.fault)}"
     if node.removed:

@@ -1,10 +1,11 @@
-"""What is asked again in other orders of the lines where the program leaves a matrix undecided, with the pivots that it may make.
+"""Questions in other orders of the lines, about a matrix that the program leaves undecided.
 
-A part that is left open has no cycle fault in its own order, and has one in nearly every other where it is not totally unimodular;
-that is asked first, since it takes little. Then the whole matrix is asked, where its decomposition may take another way.
+In its own order the program has found no cycle fault of an open part. If the part is not totally unimodular, the program finds one in
+nearly every other order. This question is fast, so it comes first. The second question is about the whole matrix, if another order may
+change its decomposition.
 
-What is found in another order is no answer yet: its evidence is taken back to the matrix's own order, and `check` tests it there. A
-no has a violator, that of a 0/1 matrix on regularity a chain; a yes has a tree, that of a 0/1 matrix one of the signed matrix.
+An answer in another order counts only after its evidence is mapped back to the matrix's own order, and `check` accepts it there. The
+evidence of a no is a violator, or a chain for regularity. The evidence of a yes is a tree, of the signed matrix for regularity.
 """
 
 from __future__ import annotations
@@ -33,7 +34,7 @@ __all__ = ["Tries"]
 _CAMION = Question("without cycle fault", ("camion",), said="camion")
 
 _Found = Iterator[Answer | None]
-"""What is found in one order after another, None where it is nothing."""
+"""What is found in one order after another, or None if nothing is found."""
 
 
 @dataclass(frozen=True)
@@ -46,9 +47,9 @@ class Tries:
     program: StrPath | None
 
     def decided(self, question: Question, matrix: Matrix, undecided: Answer) -> Answer:
-        """The answer to a question in other orders, or the undecided one where none decides it within the limit of time.
+        """The answer to a question in other orders, or the undecided answer if no order decides it within the limit of time.
 
-        The question is one that has the tree of its answer.
+        The question asks for the tree of its answer.
         """
         in_own_order: dict[str, Callable[[Question, Matrix, Answer], _Found]] = {
             "totally unimodular": self._violated,
@@ -135,7 +136,7 @@ class Tries:
         return fault and order.submatrix(fault)
 
     def _wholes(self, question: Question, matrix: Matrix, tree: Tree) -> Iterator[tuple[LineOrder, Answer]]:
-        """The whole matrix in other orders, where its decomposition may differ: only sums, and pivots, are taken by choice."""
+        """The whole matrix in other orders, if its decomposition may differ: only sums and pivots depend on the order."""
         if "--pivots" in question.words or any(node.connectors for _, node in tree.walk()):
             for order in drawn_orders(matrix, tree.root.lines, self.count, self.seed):
                 yield order, self._ask(question, order.reordered())

@@ -12,11 +12,11 @@ if TYPE_CHECKING:
 __all__ = ["Taken", "arcs_of_walks"]
 
 Taken = dict[Line, list[tuple[Line, int]]]
-"""For each walk the arcs that it takes, with 1 where it is forwards and else -1."""
+"""For each walk the arcs that it takes, with 1 if it takes the arc forwards and otherwise -1."""
 
 
 def arcs_of_walks(graph: Graph, most: int | None = None) -> Taken | None:
-    """The arcs of each walk of a graph, or None where one takes more than so many."""
+    """The arcs of each walk of a graph, or None if a walk takes more than `most` arcs."""
     near: list[list[tuple[int, Edge]]] = [[] for _ in range(len(graph.arcs) + 1)]
     for arc in graph.arcs:
         near[arc.tail].append((arc.head, arc))

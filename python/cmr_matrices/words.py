@@ -16,7 +16,7 @@ LIMIT = 1000
 
 _WORD = re.compile(r"[^\t-\r ]+")
 _COUNT = re.compile(r"\+?[0-9]+")
-# The numbers of nearly all words. Others have signs or zeros in front, are above the limit, or are none.
+# The numbers of nearly all words. Other words begin with a sign or a zero, are above the limit, or are no numbers.
 _PLAIN = {str(number): number for number in range(LIMIT + 1)}
 
 
@@ -61,7 +61,7 @@ class Words:
         raise self.fault(f"{_short(word)} is no row or column")
 
     def line_set(self, shape: tuple[int, int]) -> LineSet:
-        """Two counts, and then a rising list of rows and one of columns."""
+        """Two counts, followed by increasing lists of rows and columns."""
         rows, columns = self.count(shape[0]), self.count(shape[1])
         return LineSet(self._rising(rows, shape[0]), self._rising(columns, shape[1]))
 

@@ -27,7 +27,7 @@ def closing_line(result: unittest.TestResult) -> str:
 
 
 def main() -> int:
-    """Runs the tests, and gives the status: 0 where none failed."""
+    """Runs the tests, and gives the status: 0 if none failed."""
     # A shell lets what it runs in the background ignore an interrupt, and what is run by that ignores it too.
     signal.signal(signal.SIGINT, signal.default_int_handler)
     tests = unittest.defaultTestLoader.discover(str(PACKAGE / "tests"), top_level_dir=str(PACKAGE))

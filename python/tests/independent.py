@@ -1,6 +1,6 @@
-"""Checks of answers and evidence that call neither the program nor more of the package than its values.
+"""Checks of answers and evidence that do not call the program, and use only the values of the package.
 
-They go by the definitions of docs/DEFINITIONS.md and are slow: they are for matrices with few lines.
+They follow the definitions of docs/DEFINITIONS.md and are slow, so they are for matrices with few lines.
 """
 
 from __future__ import annotations
@@ -32,7 +32,7 @@ def is_signed(rows: Rows) -> bool:
 
 
 def is_unimodular(rows: Rows) -> bool:
-    """Ghouila-Houri's condition: whether every set of rows, or of columns where there are fewer, has a signing."""
+    """Ghouila-Houri's condition: whether every set of rows, or of columns if there are fewer, has a signing."""
     shorter = rows if len(rows) <= len(rows[0]) else transposed(rows)
     sets = (chosen for size in range(1, len(shorter) + 1) for chosen in combinations(shorter, size))
     return all(is_signed(chosen) for chosen in sets)
@@ -56,7 +56,7 @@ def is_balanced(rows: Rows) -> bool:
 
 
 def reproduced(graph: Graph, lines: LineSet) -> dict[tuple[int, int], int]:
-    """The nonzeros, by row and column, of the matrix on some lines whose walks a graph has; absolute where it has no directions."""
+    """The nonzeros, by row and column, of the matrix of a graph's walks on some lines; without signs if the graph is undirected."""
     steps: dict[int, list[tuple[int, Line, int]]] = {node: [] for node in range(len(graph.arcs) + 1)}
     for arc in graph.arcs:
         steps[arc.tail].append((arc.head, arc.line, 1))
@@ -88,7 +88,7 @@ def shows(graph: Graph, rows: Rows, lines: LineSet | None = None) -> bool:
 
 
 def keeps_reducing(rows: Rows, lines: Sequence[Line], left: LineSet, *, binary: bool = False) -> LineSet | None:
-    """What stays of some lines where others go one after another, or None where one of these is not reducible at its turn."""
+    """What is left of some lines when others are removed one after another, or None if one of these is not reducible at its turn."""
     for line in lines:
         if line not in left or not is_reducible(rows, line, left, binary):
             return None
@@ -128,7 +128,7 @@ def chain_holds(rows: Rows, chain: Chain) -> bool:
 
 
 def signs_of_steps(rows: Rows, steps: Iterable[ChainStep]) -> dict[tuple[int, int], int] | None:
-    """The signs that the steps of a chain give, or None where a step breaks its rule."""
+    """The signs that the steps of a chain give, or None if a step breaks its rule."""
     signs: dict[tuple[int, int], int] = {}
     for step in steps:
         place = step.row, step.column
@@ -173,7 +173,7 @@ def tree_holds(rows: Rows, tree: Tree) -> bool:
 
 
 def pivot_of(rows: Rows, node: Node) -> list[list[int]]:
-    """The entries after the pivot of a node, which changes those of its lines alone."""
+    """The entries after the pivot of a node, which changes only the entries on its lines."""
     r, c = (line.number for line in node.place)
     a = rows[r][c]
     made = [list(row) for row in rows]

@@ -1,6 +1,6 @@
-"""The plain slow program of the pivots in a decomposition: it asks the program itself for the tree of each pivoted submatrix alone.
+"""A plain slow program for decompositions with pivots. It asks the program itself only for the tree of each pivoted submatrix.
 
-It goes by the rule of docs/DEFINITIONS.md, with pivots, draws and the way back of violators of its own, and is for comparing.
+It follows the rule of docs/DEFINITIONS.md, with its own pivots, draws and inverse map of violators. Tests compare the results.
 """
 
 from __future__ import annotations
@@ -29,10 +29,10 @@ class Draws:
 
 
 def violator_before(matrix: Matrix, row: int, column: int, fault: LineSet) -> LineSet:
-    """The violator of a matrix that one of its pivot at a nonzero comes from.
+    """The violator of a matrix to which a violator of its pivot at a nonzero is mapped back.
 
-    It has the same lines but perhaps the pivot's: its row exactly where the fault's rows have an odd sum in the pivot's column, and its
-    column exactly where the fault's columns have one in the pivot's row.
+    It has the same lines, except perhaps the lines of the pivot. It has the row of the pivot if and only if the fault's rows have an odd
+    sum in the pivot's column, and the column of the pivot if and only if the fault's columns have an odd sum in the pivot's row.
     """
     rows, columns = set(fault.rows), set(fault.columns)
     in_column = sum(value for at, across, value in matrix.nonzeros if across == column and at in rows)
@@ -41,7 +41,7 @@ def violator_before(matrix: Matrix, row: int, column: int, fault: LineSet) -> Li
 
 
 def slow_tree(matrix: Matrix, pivots: int, lines: int) -> tuple[Tree, int]:
-    """The decomposition with so many pivots on the way to a node and this budget of lines, and the most that were made on a way."""
+    """The decomposition with up to `pivots` pivots on the path to a node and the budget `lines`, and the most pivots that a path has."""
     search = _Search(lines)
     tree = search.tree(matrix, min(pivots, MOST_LEVELS - sum(matrix.shape)), Draws())
     return tree, search.deepest
@@ -53,7 +53,7 @@ class _Search:
     deepest: int = 0
 
     def tree(self, matrix: Matrix, left: int, draws: Draws, made: int = 0) -> Tree:
-        """The tree of a matrix in which so many pivots may still be made."""
+        """The tree of a matrix in which up to `left` more pivots may be made."""
         self.deepest = max(self.deepest, made)
         tree = asked_once("totally unimodular", matrix, lines=self.lines).tree
         assert tree is not None

@@ -1,4 +1,4 @@
-"""What the tests share, and what they pass over where something is not there."""
+"""What the tests share, and how they skip what the machine does not have."""
 
 from __future__ import annotations
 
@@ -54,17 +54,17 @@ def _needs(tool: str, found: bool) -> Callable[[_Test], _Test]:
 
 
 def needs_module(name: str) -> Callable[[_Test], _Test]:
-    """Passes a test over by name where Python has no such module."""
+    """Skips a test, by name, if Python has no such module."""
     return _needs(name, importlib.util.find_spec(name) is not None)
 
 
 def needs_command(name: str) -> Callable[[_Test], _Test]:
-    """Passes a test over by name where the system has no such command."""
+    """Skips a test, by name, if the system has no such command."""
     return _needs(name, shutil.which(name) is not None)
 
 
 def waits_until(happened: Callable[[], bool], what: str) -> None:
-    """Waits until something has happened, and fails where it does not."""
+    """Waits until something has happened, and fails if it does not happen."""
     end = time.monotonic() + PATIENCE
     while not happened():
         if time.monotonic() > end:

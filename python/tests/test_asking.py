@@ -1,4 +1,4 @@
-"""A run of the program for a verdict: its statuses, what it prints, its end, and what is left of it. Shell scripts stand for it."""
+"""A run of the program for a verdict: its statuses, its output, its end, and what it leaves. Shell scripts replace the program."""
 
 from __future__ import annotations
 

@@ -121,7 +121,7 @@ class Classified(unittest.TestCase):
             self.assertNotEqual(row.verdicts["regular"], "-")
 
     def test_contradictions(self) -> None:
-        """A program that says no to one tool alone: the row has the fault, with and without signs."""
+        """A program that says no to only one tool: the row has the fault, with and without signs."""
         for tool, rows in (("tu", [[1, 1], [0, 1]]), ("regular", [[1, -1], [0, 1]])):
             with tempfile.TemporaryDirectory() as folder:
                 program = Path(folder, "cmr")

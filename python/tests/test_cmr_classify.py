@@ -72,7 +72,7 @@ class CommandTest(unittest.TestCase):
         return path
 
     def waits_for(self, run: subprocess.Popen[bytes], table: Path, lines: int) -> None:
-        """Waits until a run has written so many lines of its table."""
+        """Waits until a run has written a number of lines of its table."""
         waits_until(lambda: run.poll() is not None or _lines(table) >= lines, "the table")
 
 
@@ -145,7 +145,7 @@ class Tables(CommandTest):
         self.parquet()
 
     def test_parquet_over_a_stand_in(self) -> None:
-        """pyarrow is no package of Debian, so that its part is also tried with values and types alone."""
+        """Debian has no package for pyarrow, so this code is also tested with a stand-in that has only values and types."""
         stand_ins = str(Path(__file__).parent / "stand_ins")
         with mock.patch.dict(os.environ, {"PYTHONPATH": stand_ins}):
             self.parquet()
@@ -159,7 +159,7 @@ class Tables(CommandTest):
         self.assertEqual(self.runs("--tables", "table.parquet").stdout, ran.stdout)
 
     def test_pivots(self) -> None:
-        """What is undecided is decided behind pivots, of each class that has a budget."""
+        """Each class that has a budget is decided after pivots."""
         words = ["-", "--format", "sparse", "--output", "table.csv", "--classes", "tu,balanced", "--lines", "0"]
         goods = Matrix.of(two_goods(6)).to_text()
         for pivots, verdict in ((0, "undecided"), (20, "yes")):

@@ -12,7 +12,7 @@ RANGES = {
     "workers": "1 to 64",
     "pivots": "0 to 100",
     "tries": "0 to 1000",
-    "seed": "any whole number",
+    "seed": "any integer",
     "time_limit": "in seconds, 0 to 2,000,000",
 }
 

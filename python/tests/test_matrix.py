@@ -40,7 +40,7 @@ class SparseSageMatrix(SageMatrix):
 
 
 class Residue:
-    """An element of a ring, which equals whole numbers but is none."""
+    """An element of a ring, which equals integers but is not an integer."""
 
     __hash__ = None  # type: ignore[assignment]
 

@@ -172,7 +172,7 @@ class Found(unittest.TestCase):
                 self.holds(minor, rows)
 
     def test_networks_of_other_signs(self) -> None:
-        """Where the signs are right and the support is not graphic the minor is that of the support."""
+        """If the signs are right and the support is not graphic, the minor is a minor of the support."""
         signed = cmr.is_regular(cmr.named("K3,3*"), certificate=True).signed
         assert signed is not None
         minor = excluded_minor(signed, "network")
@@ -195,7 +195,7 @@ class Found(unittest.TestCase):
         self.assertEqual((len(found), set(found)), (10, {"F7", "F7*"}))
 
     def test_parts_that_are_regular(self) -> None:
-        """Where the parts that are left of the graphs' classes are regular, the chain of the whole matrix shows the lines."""
+        """If the parts outside of the classes of graphs are regular, the chain of the whole matrix shows the lines."""
         blocks = [cmr.named(name).to_lists() for name in ("F7", "K5*", "K5")]
         for order in itertools.permutations(blocks):
             rows = block_diagonal(order)
@@ -209,7 +209,7 @@ class Found(unittest.TestCase):
         self.assertEqual(str(minor).splitlines()[0], "minor F7: a=1 b=2 c=3 d=4 e=5 f=6 g=7")
 
     def test_undecided(self) -> None:
-        """Two goods over six connections are totally unimodular, which is found behind pivots alone."""
+        """Two goods over six connections are totally unimodular, which is found only after pivots."""
         balances = [[-1, -1, 0, -1, -1, 0], [1, 0, -1, 1, 0, -1]]
         goods = [[*row, *[0] * 6] for row in balances] + [[*[0] * 6, *row] for row in balances]
         goods += [[int(connection == other) for _ in range(2) for other in range(6)] for connection in range(6)]

@@ -158,7 +158,7 @@ class Term(SimpleNamespace):
 
 
 def pyomo_modules() -> dict[str, ModuleType]:
-    """What is used of Pyomo, where an expression is the tuple of its terms, its constant and whether it is linear."""
+    """The part of Pyomo that is used. An expression is a tuple of its terms, its constant and whether it is linear."""
     environ, repn, top = ModuleType("pyomo.environ"), ModuleType("pyomo.repn"), ModuleType("pyomo")
     environ.__dict__.update(Constraint="Constraint", Var="Var", Objective="Objective", SOSConstraint="SOS", value=lambda it: it)
 

@@ -37,7 +37,7 @@ def grown(number: random.Random, size: int, more: int) -> Constraints:
 
 
 def replayed(constraints: Constraints) -> None:
-    """Raises `AssertionError` where a step of the list is none on what the steps before it leave."""
+    """Raises `AssertionError` if a step of the list is not a reduction of what the steps before it leave."""
     rest, steps = reduced(constraints)
     lines = {line: dict[Line, int]() for line in _lines(constraints)}
     for (row, column), entry in constraints.entries.items():
@@ -66,7 +66,7 @@ def _lines(constraints: Constraints) -> list[Line]:
 @needs_program
 class Law(unittest.TestCase):
     def has_one_verdict(self, constraints: Constraints) -> str:
-        """The verdict of total unimodularity, where all verdicts are those of the rest and of its parts."""
+        """The verdict of total unimodularity. Tests that all verdicts on the rest and on its parts are those on the matrix."""
         replayed(constraints)
         rest, _ = reduced(constraints)
         whole, left = matrix_of_constraints(constraints), matrix_of_constraints(rest)

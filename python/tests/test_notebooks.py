@@ -129,7 +129,7 @@ class Tables(unittest.TestCase):
 @needs_module("IPython")
 @needs_command("dot")
 class Pages(unittest.TestCase):
-    """Each value is the last line of a cell, as it would be where a kernel ran it."""
+    """Each value is the last line of a cell, as in a run by a kernel."""
 
     def page(self, *values: Any) -> str:
         formats: Any = import_module("nbformat.v4")

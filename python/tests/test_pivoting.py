@@ -1,4 +1,4 @@
-"""What is decided behind pivots: models, random matrices of few lines, and the trees of a plain slow program."""
+"""Answers after pivots: models, random matrices with few lines, and the trees of a plain slow program."""
 
 from __future__ import annotations
 
@@ -184,7 +184,7 @@ class RandomMatrices(AnswerTest):
         self.assertGreater(verdicts["no", True], 5)
 
     def test_few_pivots(self) -> None:
-        """Where some are too few, the tree is that of the slow program too."""
+        """If there are too few pivots, the tree is also the tree of the slow program."""
         draw = random.Random(12)
         for rows, pivots in product([kind(draw) for kind in [with_full_row, pivoted_goods] * 10], (1, 2)):
             with self.subTest(rows=rows, pivots=pivots):
@@ -210,7 +210,7 @@ class RandomMatrices(AnswerTest):
 
 
 def any_signs(draw: random.Random) -> Rows:
-    """Three to eight rows and columns each with entries by chance, some of them a network matrix but for one entry."""
+    """Three to eight rows and columns with random entries; half of the matrices are network matrices except for one entry."""
     height, width = draw.randint(3, 8), draw.randint(3, 8)
     if draw.random() < 0.5:
         return [[draw.choice((-1, 0, 0, 1)) for _ in range(width)] for _ in range(height)]
@@ -230,7 +230,7 @@ def with_full_row(draw: random.Random) -> Rows:
 
 
 def pivoted_goods(draw: random.Random) -> Rows:
-    """Two goods over four or five connections, of which a few lines are left out, after pivots, and with an entry changed in half."""
+    """Two goods over four or five connections after pivots, without a few lines, and in half of the matrices with a changed entry."""
     connections = draw.randint(4, 5)
     matrix = Matrix.of(two_goods(connections))
     for _ in range(draw.randint(0, 3)):

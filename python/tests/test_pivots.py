@@ -33,7 +33,7 @@ NAMES = Names(("a", "b", "c"), ("x", "y", "z"))
 
 
 def pivoted_tree(draw: random.Random) -> tuple[list[list[int]], Tree] | None:
-    """A network matrix after one to three pivots, with the tree that undoes them; None where a pivot has other entries."""
+    """A network matrix after one to three pivots, with the tree that undoes them; None if a pivot has other entries."""
     matrix = Matrix.of(network(draw, draw.randint(1, 6), draw.randint(1, 6)))
     root = cmr.is_totally_unimodular(matrix, certificate=True).tree
     assert root is not None

@@ -167,7 +167,7 @@ class RandomMatrices(unittest.TestCase):
 @needs_program
 class MinimalSubmatrices(unittest.TestCase):
     def test_each_line_is_needed(self) -> None:
-        """Of 60 matrices: a minimal submatrix lacks the property, and has it where one line is left out."""
+        """Of 60 matrices: a minimal submatrix lacks the property, and has it when any one of its lines is removed."""
         draw = random.Random(8)
         for _ in range(60):
             rows = drawn(draw)

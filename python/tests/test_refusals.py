@@ -168,7 +168,7 @@ class Answers(unittest.TestCase):
         self.assertFalse(check([[1, 1, 0], [0, 1, 1], [0, 0, 1]], is_graphic(TRIANGLE, certificate=True)))
         self.assertFalse(check([[1, 1], [1, 1]], is_graphic(TRIANGLE, certificate=True)))
         self.assertFalse(check(TRIANGLE, is_regular(R10, certificate=True)))
-        # A violator of total unimodularity is none of balance, where a line has more than two nonzeros.
+        # A violator of total unimodularity is not a violator of balance if a line has more than two nonzeros.
         violator = Submatrix((2, 4), (0, 1), (0, 1, 2, 3))
         rows = [[1, 1, 1, 1], [1, 1, 1, -1]]
         self.assertFalse(check(rows, Answer("balanced", "no", violator=violator)))

@@ -1,4 +1,4 @@
-"""Streams of many texts: where each ends, which faults it has, and what comes behind."""
+"""Streams of many texts: where each ends, which faults it has, and what follows."""
 
 from __future__ import annotations
 

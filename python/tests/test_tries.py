@@ -35,7 +35,7 @@ class Orders(unittest.TestCase):
             self.assertEqual(order.reordered()[row, column], matrix[back])
 
     def test_forced_signs(self) -> None:
-        """The steps sign each one once, by their rules, and what they sign is totally unimodular where any signs are."""
+        """The steps sign each one once, by their rules, and the signed matrix is totally unimodular if any signing is."""
         draw = random.Random(4)
         for rows in (FANO, R10, *(drawn(draw) for _ in range(150))):
             support = [[abs(entry) for entry in row] for row in rows]

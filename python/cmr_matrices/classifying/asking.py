@@ -79,12 +79,12 @@ def _end(process: int) -> None:
 
 @cache
 def _environment() -> dict[bytes, bytes]:
-    """The environment as it was at the first run. To turn it into bytes anew takes a tenth of the time of a run."""
+    """The environment at the first run. Converting it to bytes for each run would take a tenth of the time of a run."""
     return dict(os.environb)
 
 
 def _printed(reading: int, process: int, time_limit: float | None) -> tuple[int, str]:
-    """The status, and the front of what was printed."""
+    """The status, and the beginning of what was printed."""
     deadline = None if time_limit is None else time.monotonic() + time_limit
     front = b""
     while True:
@@ -108,7 +108,7 @@ def _verdict(status: int, printed: str, said: str) -> str:
 
 
 def fault_words(fault: CmrError) -> tuple[str, int | None]:
-    """The kind of a fault, and its byte where it has one."""
+    """The kind of a fault, and its byte if it has one."""
     if isinstance(fault, BadText):
         return fault.kind, fault.byte
     return type(fault).__name__, None

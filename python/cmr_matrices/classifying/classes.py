@@ -54,12 +54,12 @@ CLASSES = (
 CLASS_NAMES = tuple(kind.name for kind in CLASSES)
 
 _ASKED_FIRST = ("camion", "regular", "network", "graphic", "conetwork", "cographic")
-"""Where answers settle others: those first of which a no settles many at the least cost."""
+"""The order of questions if answers settle others: first the classes of which a no settles many at the least cost."""
 
 
 @dataclass(frozen=True)
 class Inclusion:
-    """What is in all classes of `within` is in the class `holds`. Where it is binary, it is one of 0/1 matrices alone."""
+    """A matrix that is in all classes of `within` is in the class `holds`."""
 
     within: tuple[str, ...]
     holds: str
@@ -89,7 +89,7 @@ INCLUSIONS = (
     Inclusion(("series-parallel",), "binary-series-parallel"),
     Inclusion(("binary-series-parallel",), "series-parallel"),
 )
-"""Those with a class of 0/1 matrices are asked of these alone, since the others have no verdict there."""
+"""An inclusion with a class of 0/1 matrices applies to 0/1 matrices only, since other matrices have no verdict on that class."""
 
 
 def chosen_classes(names: str) -> tuple[MatrixClass, ...]:
@@ -102,7 +102,7 @@ def chosen_classes(names: str) -> tuple[MatrixClass, ...]:
 
 
 def contradictions(verdicts: Mapping[str, str]) -> Iterator[Inclusion]:
-    """The inclusions that a row breaks: all that is within is yes, and what then holds is no."""
+    """The inclusions that a row breaks: each class of `within` has a yes, and `holds` has a no."""
     for inclusion in INCLUSIONS:
         if verdicts.get(inclusion.holds) == "no" and all(verdicts.get(name) == "yes" for name in inclusion.within):
             yield inclusion
@@ -120,9 +120,9 @@ def settle(verdicts: dict[str, str], names: Sequence[str]) -> None:
 
 
 def asking_order(classes: Iterable[MatrixClass], is_sparse: bool) -> list[MatrixClass]:
-    """The order in which classes are asked where answers settle others.
+    """The order in which classes are asked if answers settle others.
 
-    A series-parallel 0/1 matrix is in all classes, so where there are few nonzeros that is asked first.
+    A series-parallel 0/1 matrix is in all classes, so this class is asked first if there are few nonzeros.
     """
     order = ("series-parallel", *_ASKED_FIRST) if is_sparse else _ASKED_FIRST
     rank = {name: place for place, name in enumerate(order)}

@@ -1,7 +1,7 @@
 """Blocks of matrices on a Dask cluster, by Debian's python3-distributed.
 
-The package and the program are sent along, so that all rows come from the same ones, also on workers that join later; the program may
-instead be named where each worker has it. Files are read here. A block of a worker that is lost is given to another by Dask.
+Each worker gets the package and the program, also if it joins later, so all rows are results of the same versions. Each worker may
+instead use a program of its own, at a given path. This machine reads the files. If a worker is lost, Dask gives its block to another.
 """
 
 from __future__ import annotations
@@ -32,7 +32,7 @@ class Cluster:
     """The workers of a Dask scheduler at an address such as `tcp://host:8786`."""
 
     def __init__(self, address: str, settings: Settings, program: str | None) -> None:
-        """`program` is its path on each worker, where it is not sent along."""
+        """`program` is its path on each worker; without it, the program is sent to the workers."""
         try:
             import distributed  # pylint: disable=import-outside-toplevel
         except ImportError as fault:

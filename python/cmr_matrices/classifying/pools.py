@@ -1,7 +1,7 @@
 """Who classifies: processes on this machine, or the workers of a Dask cluster.
 
-Both take blocks of matrices one after another, hold no more of them than they have workers for, and give each row once. Where a
-worker dies, its block is done again; a matrix on which one dies twice gets a row with that fault.
+Both take blocks of matrices one after another, hold only as many blocks as they have workers for, and return each row once. If a worker
+dies, its block is repeated; a matrix on which workers die twice gets a row with that fault.
 """
 
 from __future__ import annotations
@@ -28,7 +28,7 @@ _SECONDS = 5.0
 
 
 def blocks_of(items: Iterator[Item], size: int) -> Iterator[Block]:
-    """The matrices in blocks of a size. A block is smaller where texts are large, or where they come slowly."""
+    """The matrices in blocks of a size. A block is smaller if texts are large, or if they arrive slowly."""
     block: Block = []
     held = 0
     begun = time.monotonic()
@@ -126,7 +126,7 @@ class Processes:
 
 
 def _serve(connection: Connection, others: Connection, settings: Settings) -> None:
-    """A worker: it hears no interrupt, and ends where the process that began it does."""
+    """A worker: it ignores interrupts, and ends when the process that began it ends."""
     others.close()
     signal.signal(signal.SIGINT, signal.SIG_IGN)
     signal.signal(signal.SIGTERM, _leave)

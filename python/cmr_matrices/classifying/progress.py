@@ -16,7 +16,7 @@ _SECONDS = 60.0
 
 
 class Progress:
-    """Counts rows. How many there will be is told from the bytes that are done, where all inputs are files."""
+    """Counts rows. If all inputs are files, it estimates the total from the bytes that are done."""
 
     def __init__(self, sources: Sequence[Source], parts: int) -> None:
         sizes = [source.size for source in sources]

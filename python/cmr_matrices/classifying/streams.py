@@ -1,7 +1,7 @@
-"""Where matrices come from: files and folders, streams of many texts, and models.
+"""The sources of matrices: files and folders, streams of many texts, and models.
 
-A text of either format tells its own length, so a stream may hold many, one after another. They are found by counting words; the
-program alone says which fault a text has. A text whose counts are none has no known end, and what follows it is not read.
+A text of either format states its own length, so a stream may contain many texts, one after another. They are found by counting words.
+Only the program says which fault a text has. If the counts of a text are not valid, its end is unknown, and the rest is not read.
 """
 
 from __future__ import annotations
@@ -34,7 +34,7 @@ _MODELS = frozenset(FORMATS)
 
 @dataclass(frozen=True)
 class Source:
-    """A file with texts or a model, or standard input, which is `-`. `size` is its bytes where it is a file."""
+    """A file with texts or a model, or standard input, which is `-`. `size` is the number of its bytes if it is a file."""
 
     name: str
     is_model: bool
@@ -45,7 +45,7 @@ class Source:
 class Item:
     """A matrix to be classified: the file and its number there, counted from 1, and its text, which begins at the byte `start`.
 
-    A model has no text. Where `fault` is there, a kind and a message, nothing could be read.
+    A model has no text. If there is a `fault`, a kind and a message, the matrix could not be read.
     """
 
     file: str
@@ -102,7 +102,7 @@ def part_of(items: Iterable[Item], part: int, parts: int) -> Iterator[Item]:
 
 
 def texts_of(stream: BinaryIO, form: Format) -> Iterator[tuple[int, bytes, bool]]:
-    """The texts of a stream, each with the place of its first byte, and whether its end is not known and nothing is read behind it."""
+    """The texts of a stream, each with the position of its first byte, and whether its end is unknown, so that it is the last one read."""
     words = _Words(stream)
     head = 3 if form == "sparse" else 2
     while words.next() is not None:
@@ -125,7 +125,7 @@ def texts_of(stream: BinaryIO, form: Format) -> Iterator[tuple[int, bytes, bool]
 
 
 def _head(words: _Words, length: int) -> list[int] | None:
-    """The counts with which a text begins, whose first word was taken, or None where they are none."""
+    """The counts with which a text begins, or None if they are not valid. The first word has been taken."""
     counts: list[int] = []
     while True:
         found = _COUNT.fullmatch(words.word)
@@ -144,7 +144,7 @@ class _Words:
     def __init__(self, stream: BinaryIO) -> None:
         self._stream = stream
         self._piece = b""
-        """It ends at white space, or where the stream does."""
+        """It ends at white space, or at the end of the stream."""
         self._base = 0
         self._rest = b""
         self._places: Iterator[re.Match[bytes]] = iter(())
@@ -168,7 +168,7 @@ class _Words:
         return self.word
 
     def take(self, count: int) -> bool:
-        """Takes so many words, and says whether they are there, each of them whole."""
+        """Takes `count` words, and returns whether the stream has them, each of them whole."""
         left = count
         while left and self.next() is not None and not self.is_cut:
             left -= 1
@@ -223,7 +223,7 @@ class _Words:
 
 
 def _cut(read: bytes) -> int:
-    """Behind the last white space of what was read, or 0 where there is none."""
+    """The position after the last white space of what was read, or 0 if there is none."""
     for place in range(len(read) - 1, -1, -1):
         if read[place] in b"\t\n\v\f\r ":
             return place + 1

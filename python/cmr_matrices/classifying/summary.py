@@ -111,7 +111,7 @@ def _text(x: int, y: int, words: str, anchor: str = "middle") -> str:
 
 
 def _mark(x: int, y: int, word: str) -> str:
-    """A full dot for a yes, a ring for what is undecided, a dash where the class is not defined, a pale dot for a no."""
+    """A full dot for a yes, a ring for what is undecided, a dash if the class is not defined, a pale dot for a no."""
     if word == "-":
         return _box(x - 4, y - 1, 8, 2, "#999999")
     if word == "undecided":

@@ -1,7 +1,7 @@
 """Tables: a row for each matrix, written as it is found, as CSV, JSON lines or Parquet.
 
-A row is written whole, by one call, and behind its evidence. A table that was cut, in a row or between two, is taken up where its
-last whole row ends. Parquet cannot be written row by row: the rows are kept in a table of JSON lines beside it until all are there.
+A row is written whole, by one call, after its evidence. If a table was cut off, in a row or between two, writing resumes at the end of
+the last whole row. Parquet cannot be written row by row, so the rows are kept in a table of JSON lines beside it until all are there.
 """
 
 from __future__ import annotations
@@ -39,7 +39,7 @@ class Done:
         self._files: dict[str, bytearray] = {}
 
     def add(self, file: str, number: int) -> None:
-        """Takes a row in. Raises `BadInput` where it was there already."""
+        """Adds a row. Raises `BadInput` if it was there already."""
         bits = self._files.setdefault(file, bytearray())
         if number // 8 >= len(bits):
             bits.extend(bytes(number // 8 - len(bits) + 1 + len(bits) // 4))
@@ -57,13 +57,13 @@ class Lines(Protocol):
     """How rows stand in a file as bytes."""
 
     def head(self, classes: Sequence[str]) -> bytes:
-        """What stands before all rows."""
+        """The bytes before all rows."""
 
     def row(self, values: dict[str, Any]) -> bytes:
         """A row, with its end."""
 
     def read(self, stream: BinaryIO) -> Iterator[tuple[list[str], dict[str, Any] | None, int]]:
-        """The whole rows, each with the columns and the place in the file behind it; first the head, without a row."""
+        """The whole rows, each with the columns and the position in the file after it; first the head, without a row."""
 
 
 class _Csv:
@@ -124,7 +124,7 @@ class Table:
         self._finished = finished
 
     def begin(self) -> None:
-        """Writes what stands before all rows."""
+        """Writes the head of the table, before all rows."""
         self._stream.write(self._lines.head(self._classes))
         self._stream.flush()
 
@@ -134,7 +134,7 @@ class Table:
         self._stream.flush()
 
     def finish(self) -> None:
-        """Ends a table in which all rows stand."""
+        """Ends a table that has all its rows."""
         if self._finished is not None:
             _write_parquet(Path(self._stream.name), self._finished, self._classes)
         if self._stream is not sys.stdout.buffer:
@@ -144,9 +144,9 @@ class Table:
 
 
 def open_table(name: str, classes: Sequence[str], *, resumes: bool) -> tuple[Table, Iterator[dict[str, Any]]]:
-    """A table to write to, and the rows that stand in it, which have to be gone through before one is written.
+    """A table to write to, and the rows that it contains, which have to be read before one is written.
 
-    Raises `BadInput` where a table is there that is not to be taken up, or is one of other classes, or is being written.
+    Raises `BadInput` if there is a table already that is not to be resumed, has other classes, or is being written.
     """
     if name == "-":
         table = Table(sys.stdout.buffer, _Csv(), classes)
@@ -177,7 +177,7 @@ def files_of(name: str) -> list[str]:
 
 
 def read_table(name: str) -> Iterator[dict[str, Any]]:
-    """The rows of a table in a file, where a cut one counts as none."""
+    """The rows of a table in a file, without a row that was cut off."""
     path = Path(name)
     if path.suffix == ".parquet":
         for _, batch in _parquet_batches(path):
@@ -196,7 +196,7 @@ def _begun(table: Table) -> Iterator[dict[str, Any]]:
 
 
 def _standing(table: Table, stream: BinaryIO, name: str, classes: Sequence[str]) -> Iterator[dict[str, Any]]:
-    """The rows that stand in a table. What is behind the last whole one is then cut off."""
+    """The rows that a table contains. Whatever follows the last whole row is then cut off."""
     end = 0
     for columns, values, end in _read(stream, _lines_of(Path(stream.name)), name):
         if columns != columns_of(classes):

@@ -44,7 +44,7 @@ class Settings:
     time_limit: float | None = None
     evidence: bool = False
     infers: bool = False
-    """Whether a class is not asked where the inclusions settle it. Else the verdicts are held against them."""
+    """Whether to skip a class that the inclusions settle. Otherwise the verdicts are compared with the inclusions."""
     pivots: int = 0
     """The most pivots on the path to a part that nothing else decides."""
     minors: bool = False
@@ -65,7 +65,7 @@ class Settings:
 
 @dataclass(frozen=True)
 class Row:
-    """What is found of a matrix. Where there is a fault the verdicts that were not found are empty."""
+    """The results for a matrix. If there is a fault, the verdicts that were not found are empty."""
 
     file: str
     number: int
@@ -111,7 +111,7 @@ def classify(item: Item, settings: Settings) -> Row:
 
 
 def with_texts(item: Item) -> Item:
-    """The item with its text where it is a model, for a machine that has not the file."""
+    """The item, with its text if it is a model, for a machine that does not have the file."""
     if item.text is not None or item.fault:
         return item
     try:
@@ -172,7 +172,7 @@ class _Source:
 
     @property
     def matrix(self) -> Matrix:
-        """The matrix that the text stands for."""
+        """The matrix of the text."""
         return Matrix.from_text(self.text.decode("ascii"), sparse=self.form == "sparse")
 
     @contextmanager
@@ -197,7 +197,7 @@ class _Asked:
         self._folder = folder
 
     def all_classes(self, shape: _Shape) -> None:
-        """Asks for each class that the matrix has a verdict on, except those that are settled where that is wanted."""
+        """Asks about each class on which the matrix has a verdict, except classes that are settled already if `infers` is set."""
         classes = self.settings.classes
         names = [kind.name for kind in classes if self.settings.asks(kind, shape)]
         if not names:
@@ -229,7 +229,7 @@ class _Asked:
                         self.evidence[f"{kind.word}/minor"] = minor.to_text().encode("ascii")
 
     def must_be_read(self) -> None:
-        """Raises the fault that the text has, where no class is asked that would find it."""
+        """Raises the fault of the text, if no class is asked that would find it."""
         self._verdict(_CAMION, self.source, [])
 
     def support_fits(self) -> bool:
@@ -301,7 +301,7 @@ def _dense_text(matrix: Matrix) -> str:
 
 
 def _shape_of(text: bytes, form: Format) -> _Shape | None:
-    """The sizes of a matrix and what its entries are, or None where the text may have a fault, which the program then names."""
+    """The sizes of a matrix and what its entries are, or None if the text may have a fault, which the program then names."""
     try:
         numbers = [int(word) for word in text.decode("ascii").split()]
     except ValueError:

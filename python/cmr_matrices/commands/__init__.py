@@ -1,1 +1,1 @@
-"""The commands that stand beside the program: they lead from a model to it, and name and draw what it wrote."""
+"""The commands of the package: they lead from a model to the program, and name and draw what it wrote."""

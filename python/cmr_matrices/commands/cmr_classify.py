@@ -1,10 +1,10 @@
 """Writes a table of the classes of many matrices: a row for each, with a verdict for each class.
 
-INPUT is a file or `-`, which hold texts of matrices one after another, or a model (.mps, .lp, .mod), or a folder of such files. The
-verdicts are `yes`, `no`, `undecided`, and `-` if a class is one of 0/1 matrices and the matrix has an entry -1.
+INPUT is a file or `-` with texts of matrices one after another, or a model (.mps, .lp, .mod), or a folder of such files. The verdicts
+are `yes`, `no`, `undecided`, and `-` if the class requires a 0/1 matrix and the matrix has an entry -1.
 
-Status: 0 where all matrices have their verdicts, 1 where an input is refused, 3 where some rows have a fault, 8 where verdicts
-contradict each other, which would be a defect of cmr.
+Status: 0 if all matrices have their verdicts, 1 if an input is refused, 3 if some rows have a fault, 8 if verdicts contradict each
+other, which would be a defect of cmr.
 """
 
 from __future__ import annotations
@@ -34,7 +34,7 @@ from .command import command_parser, end, write_text
 FAULTS, CONTRADICTIONS, INTERRUPTED = 3, 8, 130
 
 _WORDS = {"/": "%2F", "..": "%2E%2E"}
-"""What stands for a part of a path that would lead out of the folder of evidence."""
+"""The replacement of a part of a path that would lead out of the folder of evidence."""
 
 
 def part(text: str) -> tuple[int, int]:
@@ -70,7 +70,7 @@ def arguments() -> argparse.Namespace:
         metavar="LIST",
         type=classes,
         default=",".join(CLASS_NAMES),
-        help="some of %(default)s; all where left out",
+        help="some of %(default)s (default: all)",
     )
     add("--format", choices=("dense", "sparse"), default="dense", help="the format of texts (dense)")
     add(
@@ -78,34 +78,34 @@ def arguments() -> argparse.Namespace:
         metavar="N",
         type=number(1, 1024),
         default=os.cpu_count() or 1,
-        help="how many processes (one a processor)",
+        help="the number of processes (one for each processor)",
     )
     add(
         "--output",
         metavar="TABLE",
         default="-",
-        help="CSV, or by its ending .jsonl or .parquet; standard output where left out",
+        help="the table: CSV, or the format of the ending .jsonl or .parquet (standard output)",
     )
-    add("--resume", action="store_true", help="go on with a table: what has a row there is not done again")
-    add("--part", metavar="K/N", type=part, default=(1, 1), help="take every N-th matrix from the K-th on")
+    add("--resume", action="store_true", help="continue a table: skip the matrices that have a row in it")
+    add("--part", metavar="K/N", type=part, default=(1, 1), help="take every N-th matrix, starting with the K-th")
     add("--evidence", metavar="DIR", help="keep evidence in DIR/CLASS/FILE/NUMBER.KIND")
-    add("--minors", action="store_true", help="keep excluded minors too, for each no of a class that has some")
+    add("--minors", action="store_true", help="also keep an excluded minor for each no of a class that has excluded minors")
     add("--lines", metavar="L", type=number(0, 24), help="the budget of the searches (14)")
     add("--pivots", metavar="K", type=number(0, 100), default=20, help="make up to K pivots of an open part (20)")
     add("--tries", metavar="N", type=number(0, 1000), default=0, help="ask again in N other orders of the lines (0)")
     add("--support", action="store_true", help="ask regular of the support of a matrix with an entry -1")
-    add("--time-limit", metavar="S", type=number(1, 10**8), help="leave a class undecided after so many seconds")
+    add("--time-limit", metavar="S", type=number(1, 10**8), help="leave a class undecided after S seconds")
     add(
         "--infer",
         action="store_true",
-        help="do not ask what the known inclusions settle; consistency is then not looked at",
+        help="skip what the known inclusions settle; consistency is then not checked",
     )
-    add("--picture", metavar="SVG", help="draw how many matrices are in which classes")
-    add("--tables", action="store_true", help="INPUT are tables, such as those of parts: only sum them up")
-    add("--dask", metavar="ADDRESS", help="send blocks to a Dask cluster, with the package and the program")
-    add("--worker-program", metavar="PATH", help="with --dask: the program on each worker, instead of sending it")
-    add("--block", metavar="N", type=number(1, 10**6), default=16, help="how many matrices are sent at once (16)")
-    add("--program", metavar="PATH", help="the program cmr, where it is not to be looked for")
+    add("--picture", metavar="SVG", help="draw the number of matrices in each combination of classes")
+    add("--tables", action="store_true", help="each INPUT is a table, for example of a part: only combine and summarise them")
+    add("--dask", metavar="ADDRESS", help="send blocks of matrices to a Dask cluster, with the package and the program")
+    add("--worker-program", metavar="PATH", help="with --dask: the path of the program on each worker, instead of sending it")
+    add("--block", metavar="N", type=number(1, 10**6), default=16, help="the number of matrices that are sent at once (16)")
+    add("--program", metavar="PATH", help="the path of the program cmr")
     chosen = parser.parse_args()
     if chosen.resume and chosen.output == "-":
         parser.error("--resume needs --output")

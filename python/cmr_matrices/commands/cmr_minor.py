@@ -1,12 +1,13 @@
-"""Names an excluded minor of a matrix that is outside of a class, or checks one that was written.
+"""Names an excluded minor of a matrix that is outside of a class, or checks such a minor.
 
-    cmr-minor CLASS [MATRIX]       asks cmr, and prints a minor where the answer is no; MATRIX may be standard input
-    cmr-minor check MATRIX MINOR   checks what -M wrote on a matrix, by plain arithmetic, without cmr
+    cmr-minor CLASS [MATRIX]       asks cmr, and prints a minor if the answer is no; MATRIX may be standard input
+    cmr-minor check MATRIX MINOR   checks the minor that -M wrote, by plain arithmetic, without cmr
 
 CLASS is one of tu, regular, graphic, cographic, network, conetwork, series-parallel and binary-series-parallel.
 
-Status: 0 for a yes, 1 for a no and for a minor that holds, 2 where the words are refused, 3 where a text is, 4 where a file cannot be
-read or written, 5 where memory is refused, 6 for an undecided answer, 7 where check refuses a minor, 70 where there is no program.
+Status: 0 for a yes, 1 for a no and for a minor that is accepted, 2 if the arguments are refused, 3 if a text is refused, 4 if a file
+cannot be read or written, 5 if there is not enough memory, 6 for an undecided answer, 7 for a minor that check refuses, 70 if there is
+no program.
 """
 
 from __future__ import annotations
@@ -45,13 +46,13 @@ def arguments() -> argparse.Namespace:
     add("of", metavar="CLASS", choices=[*(kind.word for kind in CLASSES), "check"], help="the class, or check")
     add("files", metavar="FILE", nargs="*", help="MATRIX, and with check MATRIX and MINOR; - is standard input")
     add("-i", dest="format", choices=("dense", "sparse"), default="dense", help="the format of MATRIX (dense)")
-    add("-M", metavar="MINOR", dest="minor", help="the file that gets the minor, to be checked")
-    add("--names", metavar="NAMES", help="print the names of this file, as model_to_matrix and named write it")
+    add("-M", metavar="MINOR", dest="minor", help="write the minor to this file, to be checked")
+    add("--names", metavar="NAMES", help="print the names in this file, which model_to_matrix or named wrote")
     add("--sage", action="store_true", help="print a last line with the minor, which Sage reads")
     add("--lines", metavar="L", type=_number(0, 24), help="the budget of the searches (14)")
-    add("--pivots", metavar="K", type=_number(0, 100), default=20, help="go on behind so many pivots (20)")
-    add("--time-limit", metavar="S", type=_number(1, 10**8), help="end the runs of cmr after so many seconds")
-    add("--program", metavar="PATH", help="the program cmr, where it is not to be looked for")
+    add("--pivots", metavar="K", type=_number(0, 100), default=20, help="make up to K pivots of an open part (20)")
+    add("--time-limit", metavar="S", type=_number(1, 10**8), help="end the runs of cmr after S seconds")
+    add("--program", metavar="PATH", help="the path of the program cmr")
     chosen = parser.parse_intermixed_args()
     if len(chosen.files) > 1 + (chosen.of == "check") or (chosen.of == "check" and len(chosen.files) < 2):
         parser.error("check takes MATRIX and MINOR" if chosen.of == "check" else "there is one MATRIX at most")

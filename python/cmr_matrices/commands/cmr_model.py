@@ -1,11 +1,11 @@
 """Reads a model in integer programming, and says whether its linear program is integral, and if not which rows to relax.
 
-The answer is that of `cmr tu` on the constraint matrix, whose rows are divided by their common factors. For a no the report has a
-violator that is as small as was found, the families of rows that can be kept, and the rows to relax. A family has the names that are the
-same up to digits and what is in brackets. `cmr check` accepts the evidence of each answer.
+The answer is the answer of `cmr tu` on the constraint matrix, whose rows are divided by their common factors. For a no the report has
+the smallest violator that was found, the families of rows that can be kept, and the rows to relax. The names of a family are the same up
+to digits and bracketed text. `cmr check` accepts the evidence of each answer.
 
-Status: 0 yes, 1 no, 6 undecided, as of `cmr tu`; 2 if the words are refused, 3 if the model is, 4 if a file cannot be read or written,
-5 if memory is refused, 70 if the program cmr or a library is missing or fails.
+Status: 0 yes, 1 no, 6 undecided, as of `cmr tu`; 2 if the arguments are refused, 3 if the model is refused, 4 if a file cannot be read
+or written, 5 if there is not enough memory, 70 if the program cmr or a library is missing or fails.
 """
 
 from __future__ import annotations
@@ -50,9 +50,9 @@ def arguments() -> argparse.Namespace:
         choices=("mps", "mathprog", "lp"),
         help="the model's format (by default .mod is mathprog, .lp is lp, .mps is mps, and otherwise the content decides)",
     )
-    add("--data", metavar="DATA", help="the file with the data of a MathProg model, if they are apart")
+    add("--data", metavar="DATA", help="the file with the data of a MathProg model, if it has one")
     add("--lines", metavar="L", type=number(0, 24), help="the budget of the searches, 0 to 24 (14)")
-    add("--pivots", metavar="K", type=number(0, 100), default=20, help="go on after at most K pivots, 0 to 100 (20)")
+    add("--pivots", metavar="K", type=number(0, 100), default=20, help="make up to K pivots of an open part, 0 to 100 (20)")
     add(
         "--questions",
         metavar="N",
@@ -65,7 +65,7 @@ def arguments() -> argparse.Namespace:
         metavar="S",
         type=number(1, 2_000_000),
         default=8,
-        help="end the search after S seconds of processor time, and say which steps are not done (8)",
+        help="end the search after S seconds of processor time, and say which steps it ended (8)",
     )
     add("--program", metavar="PATH", help="the path of the program cmr")
     chosen = parser.parse_args()

@@ -1,6 +1,6 @@
 """How the commands read, write and end.
 
-Texts are UTF-8, and a name in another encoding passes with its bytes as they are.
+Texts are UTF-8. A name in another encoding keeps its bytes.
 """
 
 from __future__ import annotations
@@ -37,7 +37,7 @@ def _say_warning(message: Warning | str, *_: object, **__: object) -> None:
 
 
 def end(work: Callable[[], None]) -> int:
-    """Does the work and gives the exit status: 1 with one line on standard error where an input is refused."""
+    """Does the work and gives the exit status: 1, with one line on standard error, if an input is refused."""
     name = Path(sys.argv[0]).name
     try:
         work()
@@ -70,7 +70,7 @@ def read_text(name: str) -> str:
 
 
 def read_as(name: str, reader: Callable[[str], _Value]) -> _Value:
-    """What a reader makes of the text of a file; where it refuses the text, the file is named."""
+    """What a reader makes of the text of a file. If it refuses the text, the error names the file."""
     text = read_text(name)
     try:
         return reader(text)

@@ -1,7 +1,7 @@
 """Writes a list of edges as a graph text for `cmr graphic -c` and `cmr network -c`, which print its matrix.
 
 The list has a line `TAIL HEAD` or `TAIL HEAD NAME` for each edge, with any words for nodes, or it is GraphML, which networkx
-reads. The first edges that close no cycle are the spanning tree, whose arcs are the rows; all others are the columns.
+reads. The first edges that close no cycle form the spanning tree, whose arcs are the rows; all other edges are the columns.
 """
 
 from __future__ import annotations
@@ -20,9 +20,9 @@ def arguments() -> argparse.Namespace:
     """What the words of the command line say."""
     parser = command_parser(__doc__)
     parser.add_argument(
-        "edges", metavar="EDGES", nargs="?", default="-", help="the list of edges; standard input where it is left out"
+        "edges", metavar="EDGES", nargs="?", default="-", help="the list of edges (standard input)"
     )
-    parser.add_argument("--names", metavar="NAMES", help="a file that gets the names of the edges, by rows and columns")
+    parser.add_argument("--names", metavar="NAMES", help="write the names of the edges, by rows and columns, to this file")
     return parser.parse_args()
 
 

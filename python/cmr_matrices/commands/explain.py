@@ -1,9 +1,9 @@
-"""Runs `cmr WORDS..` with its own output and status, and where it is refused or undecided says more on standard error.
+"""Runs `cmr WORDS..` with its own output and status, and if it is refused or undecided says more on standard error.
 
 `--help` lists the tools, `TOOL --help` shows the usage of one, and `--version` the version of the package.
 
 Words: which one is at fault, the usage of its tool, and ranges. Texts: line, column and word, and what the file seems to be.
-Files: why they cannot be read or written. A run that would write over a file that it reads is not made (status 2).
+Files: why they cannot be read or written. A run that would overwrite a file that it reads is refused (status 2).
 """
 
 from __future__ import annotations
@@ -146,7 +146,7 @@ def _text(name: str, data: bytes) -> bytes:
 
 
 def main() -> int:
-    """Runs the program, and gives its status; 70 where there is none."""
+    """Runs the program, and gives its status; 70 if there is no program."""
     try:
         return _run(sys.argv[1:])
     except ProgramMissing as fault:

@@ -1,9 +1,9 @@
 """Writes a graph of `cmr graphic -G` or `cmr network -G` as a picture in DOT, for example for `dot -Tsvg`.
 
 All nodes and edges are drawn: the edges of the tree in full, and the edges that join the ends of paths dashed. --rows-as-nodes draws
-the network of a flow model, in which no column has more than two nonzeros: its rows are the nodes and its columns the edges. This leaves
-out the nodes of the tree. Each node or edge has the number or the name of its row or column. The layout depends on the number of edges:
-that of dot up to 40, of neato up to 150 (in trees 250), and beyond that of sfdp, without names of edges.
+the network of a flow model, in which no column has more than two nonzeros: its rows are the nodes and its columns the edges. This omits
+the nodes of the tree. Each node or edge has the number or the name of its row or column. The number of edges determines the layout: dot
+up to 40, neato up to 150 (in trees 250), and sfdp, without names of edges, for more.
 """
 
 from __future__ import annotations
@@ -20,14 +20,14 @@ def arguments() -> argparse.Namespace:
     """What the words of the command line say."""
     parser = command_parser(__doc__)
     parser.add_argument(
-        "graph", metavar="GRAPH", nargs="?", default="-", help="the graph text; standard input where it is left out"
+        "graph", metavar="GRAPH", nargs="?", default="-", help="the graph text (standard input)"
     )
     parser.add_argument(
-        "--names", metavar="NAMES", help="the names of model_to_matrix, to stand for the numbers of rows and columns"
+        "--names", metavar="NAMES", help="the names of model_to_matrix, in place of the numbers of rows and columns"
     )
-    parser.add_argument("--undirected", action="store_true", help="draw no arrows, as it fits a graph of `cmr graphic`")
+    parser.add_argument("--undirected", action="store_true", help="draw no arrows, as in a graph of `cmr graphic`")
     drawn = parser.add_mutually_exclusive_group()
-    drawn.add_argument("--tree", action="store_true", help="draw the tree and its paths, as without an option")
+    drawn.add_argument("--tree", action="store_true", help="draw the tree and its paths (the default)")
     drawn.add_argument(
         "--rows-as-nodes",
         action="store_true",
@@ -38,7 +38,7 @@ def arguments() -> argparse.Namespace:
         metavar="N",
         type=int,
         default=DRAWN,
-        help=f"draw N edges at most, and else the families of rows and columns with their counts ({DRAWN})",
+        help=f"draw up to N edges, and otherwise the families of rows and columns with their counts ({DRAWN})",
     )
     return parser.parse_args()
 

@@ -1,8 +1,8 @@
 """Writes the constraint matrix of a linear model as a sparse text for cmr, with the names of its rows and columns.
 
-Free rows, such as the objective, and bounds are left out. Nothing is written where the matrix has an entry other than -1,
-0 and 1: such a matrix is not totally unimodular, and the place of the first such entry is told, with the families of the rows.
-A family has the names that are the same up to digits and what stands in brackets.
+Free rows, such as the objective, and bounds are omitted. If the matrix has an entry other than -1, 0 and 1, nothing is written: the
+matrix is not totally unimodular, and the error names the position of the first such entry and the families of the rows. The names of a
+family are the same up to digits and bracketed text.
 """
 
 from __future__ import annotations
@@ -45,21 +45,21 @@ def arguments() -> argparse.Namespace:
     parser.add_argument(
         "--format",
         choices=("mps", "mathprog", "lp"),
-        help="the model's format; where it is left out, .mod is mathprog, .lp is lp, .mps is mps, and else the content tells",
+        help="the model's format (by default .mod is mathprog, .lp is lp, .mps is mps, and otherwise the content decides)",
     )
     _add_choices(parser)
     parser.add_argument(
         "--reduce",
         metavar="LIST",
-        help="take away lines that are zero, have one nonzero, or are copies or negatives, and list them in this file",
+        help="remove lines that are zero, have one nonzero, or are copies or negatives, and list them in this file",
     )
     parser.add_argument(
         "--parts",
         metavar="DIR",
         help="a folder that gets a matrix and names for each connected part of what is left; then MATRIX and NAMES "
-        "are written only where they have no more lines than a matrix may have",
+        "are written only if they have no more lines than a matrix may have",
     )
-    parser.add_argument("--data", metavar="DATA", help="the file with the data of a MathProg model, where it has one")
+    parser.add_argument("--data", metavar="DATA", help="the file with the data of a MathProg model, if it has one")
     return parser.parse_args()
 
 
@@ -69,23 +69,23 @@ def _add_choices(parser: argparse.ArgumentParser) -> None:
         "--rows",
         metavar="REGEX",
         type=pattern,
-        help="take only the rows whose names have a match, and the columns that are in them",
+        help="take only the rows whose names have a match, and the columns that occur in them",
     )
     parser.add_argument(
         "--without",
         metavar="REGEX",
         type=pattern,
-        help="leave out the rows whose names have a match, and the columns that are in no other",
+        help="omit the rows whose names have a match, and the columns that occur in no other row",
     )
     parser.add_argument(
         "--unit-rows",
         action="store_true",
-        help="take only the rows whose coefficients are -1, 0 and 1, with --scale once they are divided",
+        help="take only the rows whose coefficients are -1, 0 and 1, with --scale after the division",
     )
     parser.add_argument(
         "--scale",
         action="store_true",
-        help="divide each row, then each column, by the common factor of its coefficients, and print what was divided",
+        help="divide each row, then each column, by the common factor of its coefficients, and print the factors",
     )
 
 

@@ -1,7 +1,7 @@
 """Puts the names of a model in place of the numbers of rows and columns in what cmr printed or wrote.
 
-It takes what cmr prints, and the files of its options: submatrices, lists of reductions, graphs, and decomposition trees, which
-become outlines. With --tree the lines of a printed outline get what their nodes name.
+It reads what cmr prints, and the files of its options: submatrices, lists of reductions, graphs, and decomposition trees, which
+become outlines. With --tree the lines of a printed outline get the names of their nodes.
 """
 
 from __future__ import annotations
@@ -19,7 +19,7 @@ def arguments() -> argparse.Namespace:
     parser = command_parser(__doc__)
     parser.add_argument("names", metavar="NAMES", help="the names that model_to_matrix wrote")
     parser.add_argument(
-        "text", metavar="TEXT", nargs="?", default="-", help="what cmr made; standard input where it is left out"
+        "text", metavar="TEXT", nargs="?", default="-", help="what cmr printed or wrote (standard input)"
     )
     parser.add_argument("--tree", metavar="TREE", help="the tree text of the printed outline")
     return parser.parse_args()

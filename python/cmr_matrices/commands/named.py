@@ -1,10 +1,10 @@
 """Writes the matrix of a matroid of the literature as a dense text for cmr: R10, R12, F7, K5, K3,3, W4, .., and with * their duals.
 
-K and one number is a complete graph, K and two numbers a complete bipartite graph, W a wheel and its number of spokes, Z a binary spike
-with its tip and its rank. Others are AG(3,2), S8, PG(2,2), V8 and Petersen. The matrix is beside the identity in a representation over
+K with one number is a complete graph, K with two numbers a complete bipartite graph, W with a number of spokes a wheel, and Z with a rank
+a binary spike with its tip. Other names are AG(3,2), S8, PG(2,2), V8 and Petersen. The matrix A represents the matroid by [I A] over
 GF(2), and the transposed matrix represents the dual.
 
-With --ternary the representation is over GF(3), with entries -1, 0 and 1. U2,4, P8, R9 and T8 are not binary, and have no other.
+With --ternary the representation is over GF(3), with entries -1, 0 and 1. U2,4, P8, R9 and T8 are not binary, so they need --ternary.
 """
 
 from __future__ import annotations
@@ -24,7 +24,7 @@ def arguments() -> argparse.Namespace:
     parser.add_argument(
         "--names",
         metavar="NAMES",
-        help="a file that gets the names of rows and columns: the edges of a graph, or 1, 2, ..",
+        help="write the names of rows and columns to this file: the edges of a graph, or 1, 2, ..",
     )
     return parser.parse_args()
 

@@ -1,7 +1,7 @@
-"""How a signal ends the work of a command: as an exception, so that what the work began is taken back.
+"""How a signal ends the work of a command: as an exception, so that the work undoes what it began.
 
-Python drops an exception in what it calls while it takes a value away, and a signal may arrive there. So a work that takes long asks from
-time to time whether it is to end.
+Python drops an exception that is raised while a value is destroyed, and a signal may arrive then. So long work asks from time to time
+whether it is to end.
 """
 
 from __future__ import annotations
@@ -32,20 +32,20 @@ def end_on_signals() -> None:
             end_if_told()
 
     for it in ENDING:
-        # What is ignored stays so: a work under nohup goes on.
+        # An ignored signal remains ignored, so work under nohup continues.
         if signal.getsignal(it) is not signal.SIG_IGN:
             signal.signal(it, leave)
 
 
 def end_if_told() -> None:
-    """Leaves the work where a signal has told it to end."""
+    """Ends the work if a signal has asked for its end."""
     if _Told.number is not None:
         sys.exit(128 + _Told.number)
 
 
 @contextmanager
 def signals_wait() -> Iterator[None]:
-    """A signal ends what is done inside where it asks `end_if_told` alone, and behind it at the latest."""
+    """A signal ends the work inside only when it calls `end_if_told`, and at the latest at the end of the block."""
     _Told.waits = True
     try:
         yield
@@ -55,6 +55,6 @@ def signals_wait() -> Iterator[None]:
 
 
 def ignore_signals() -> None:
-    """What is done from here on is done whole."""
+    """Ignores signals, so that all further work is completed."""
     for it in ENDING:
         signal.signal(it, signal.SIG_IGN)

@@ -1,7 +1,7 @@
 """Writes a decomposition tree of cmr as a picture in DOT, for example for `dot -Tsvg`.
 
-A box shows the kind of a node, its rows and columns by number, and where there are few of them by name. Leaves with a yes are
-green, faults red and undecided leaves yellow. In a tree with many nodes like ones are counted together.
+A box shows the kind of a node and the number of its rows and columns, and their names if there are few of them. Leaves with a yes are
+green, faults red and undecided leaves yellow. In a tree with many nodes, similar nodes are counted in one box.
 """
 
 from __future__ import annotations
@@ -17,15 +17,15 @@ def arguments() -> argparse.Namespace:
     """What the words of the command line say."""
     parser = command_parser(__doc__)
     parser.add_argument(
-        "tree", metavar="TREE", nargs="?", default="-", help="the tree text; standard input where it is left out"
+        "tree", metavar="TREE", nargs="?", default="-", help="the tree text (standard input)"
     )
     parser.add_argument(
-        "--names", metavar="NAMES", help="the names of model_to_matrix, to stand for the numbers of rows and columns"
+        "--names", metavar="NAMES", help="the names of model_to_matrix, in place of the numbers of rows and columns"
     )
     parser.add_argument(
         "--small", metavar="N", type=int, default=10, help="list the lines of nodes with at most N lines (10)"
     )
-    parser.add_argument("--limit", metavar="N", type=int, default=40, help="draw about N boxes at most (40)")
+    parser.add_argument("--limit", metavar="N", type=int, default=40, help="draw at most about N boxes (40)")
     return parser.parse_args()
 
 

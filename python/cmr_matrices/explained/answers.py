@@ -1,4 +1,4 @@
-"""What can be done where the answer is undecided or evidence is refused."""
+"""What can be done if the answer is undecided or evidence is refused."""
 
 from __future__ import annotations
 

@@ -77,7 +77,7 @@ def text_fault(order: Order, name: str, texts: Mapping[str, bytes], kind: str, b
 
 
 def _wanted(order: Order, name: str, data: bytes) -> str:
-    """As what a file was read. Where one name stands for two texts, the first that it cannot be."""
+    """The kind of text that a file was read as. If it was read as two kinds, the first that it cannot be."""
     if "-c" in order.flags:
         return "graph"
     matrix = "sparse" if order.sparse else "dense"
@@ -160,7 +160,7 @@ def _out_of_range(wanted: str, head: list[int], kind: str, place: _Place) -> str
 
 
 def _guessed(order: Order, wanted: str, kind: str, seems: Guess, other: Guess | None) -> Iterator[str]:
-    """What the text seems to be, where it is not what was wanted. `other` is the other text that is read."""
+    """What the text seems to be, if it is not what was expected. `other` is the other text that is read."""
     what = seems.what
     if seems.kind == "empty":
         yield f"is {what}"

@@ -66,7 +66,7 @@ class Guess:
 
 
 def guess(data: bytes) -> Guess:
-    """What the bytes seem to be. The kinds `dense`, `sparse`, `submatrix` and `rows` are numbers alone."""
+    """What the bytes seem to be. The kinds `dense`, `sparse`, `submatrix` and `rows` contain only numbers."""
     if not data.strip(_SPACE):
         return Guess("empty", "empty" if not data else "empty: it has white space alone")
     for magic, kind, what, aid in _MAGIC:
@@ -91,7 +91,7 @@ def guess(data: bytes) -> Guess:
 
 
 def has_size(data: bytes, kind: str) -> bool:
-    """Whether a text of whole numbers alone has as many as a text of the kind `dense`, `sparse` or `submatrix` with its sizes has."""
+    """Whether a text contains only integers, and as many as a `dense`, `sparse` or `submatrix` text with these counts."""
     words = data.decode("utf-8", "replace").split()
     return all(_WHOLE.fullmatch(word) for word in words) and _has_counts([int(word[:12]) for word in words], kind)
 
@@ -149,7 +149,7 @@ _HEAD = "and the numbers of rows and columns come first"
 
 
 def _whole(text: str, words: list[str]) -> Guess:
-    """Whole numbers alone. Their counts and their sizes tell what they can be."""
+    """A text of integers only. Their number and their sizes determine what it can be."""
     numbers = [int(word[:12]) for word in words]
     found = [kind for kind, fits in _FITS.items() if _has_counts(numbers, kind) and fits(numbers)]
     found += ["rows"] if _table(text) and all(abs(number) < 2 for number in numbers) else []
@@ -166,7 +166,7 @@ def _whole(text: str, words: list[str]) -> Guess:
 
 
 def _has_counts(numbers: list[int], kind: str) -> bool:
-    """Whether there are as many numbers as those in front say."""
+    """Whether there are as many numbers as the first ones say."""
     match kind, numbers:
         case "dense", [rows, columns, *rest]:
             return min(rows, columns) >= 0 and len(rest) == rows * columns
@@ -240,7 +240,7 @@ def _sized(text: str, between: str = r"\s+") -> str:
 
 
 def _matlab(text: str) -> tuple[int, int] | None:
-    """The numbers of rows and of columns where rows of several numbers have `;` between them, and not only line ends."""
+    """The numbers of rows and of columns, if rows of several numbers are separated by `;` and not only by line ends."""
     plain = re.sub(r"^\s*(\w+\s*=)?\s*\[|\]\s*;?\s*$", "", text)
     if ";" not in plain or not re.fullmatch(r"[0-9;,.+\s-]*", plain):
         return None
@@ -249,7 +249,7 @@ def _matlab(text: str) -> tuple[int, int] | None:
 
 
 def _table(text: str, between: str = r"\s+") -> tuple[int, int] | None:
-    """How many lines there are with how many words each, where that is one number."""
+    """The number of lines and of words in each line, if all lines have the same number of words."""
     lines = [[word for word in re.split(between, line) if word] for line in text.splitlines()]
     lengths = [len(line) for line in lines if line]
     return (len(lengths), lengths[0]) if lengths and len(set(lengths)) == 1 else None

@@ -76,7 +76,7 @@ _USAGE_PART = re.compile(r"\[[^]]*\]|--?[A-Za-z]+ [A-Z]+|[A-Z]+")
 
 @dataclass(frozen=True)
 class WordFault:
-    """A word at fault and why, or a word that is missing. `tool` is there where its usage helps."""
+    """A word at fault and why, or a word that is missing. `tool` is given if its usage helps."""
 
     why: str
     tool: Tool | None = None
@@ -97,7 +97,7 @@ class Tool:
 
     @property
     def reads_input(self) -> bool:
-        """Whether its last word is a file that may be left out."""
+        """Whether its last word is an optional file."""
         return self.operands == ("FILE",)
 
     @classmethod
@@ -227,7 +227,7 @@ def _long_option(order: Order, word: str, left: list[str]) -> str:
 
 
 def _letters(order: Order, word: str, left: list[str]) -> str:
-    """The letters of a word such as `-bS`: flags, and behind them one option, whose value may follow at once."""
+    """The letters of a word such as `-bS`: flags, followed by one option, whose value may follow without a space."""
     for place, letter in enumerate(word[1:], 1):
         option = f"-{letter}"
         if option in order.tool.values:

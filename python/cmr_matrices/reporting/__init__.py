@@ -1,1 +1,1 @@
-"""The report of a model: whether its linear program gives whole numbers, which constraints spoil it, and which to relax."""
+"""The report of a model: whether its linear program is integral, which constraints are at fault, and which to relax."""

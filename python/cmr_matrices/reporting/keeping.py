@@ -115,7 +115,7 @@ class _Work:
         return sum(map(self._size, chosen))
 
     def greedy(self, was_cut: bool) -> Kept:
-        """Adds some blocks at once, and leaves out one of each violator. Then adds each that was left out if it can be kept."""
+        """Adds several blocks at once, and drops one block of each violator. Then adds each dropped block that can be kept."""
         chosen: frozenset[int] = frozenset()
         answer: Asked | None = None
         dropped: list[int] = []
@@ -139,7 +139,7 @@ class _Work:
         return replace(self._kept(chosen, answer, is_largest=False), is_greedy=True, is_cut=is_cut or was_cut)
 
     def _added(self, chosen: frozenset[int], some: frozenset[int]) -> tuple[frozenset[int], Asked | None, bool]:
-        """What is left of some blocks beside the chosen ones if one of them is left out for each violator, and whether a limit ended it."""
+        """The chosen blocks and those of `some` that remain when one is dropped for each violator, and whether a limit ended the search."""
         while some:
             found = self._violated(chosen | some)
             if found is None:

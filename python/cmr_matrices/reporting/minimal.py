@@ -1,4 +1,4 @@
-"""A violator from which no line can be left out, with its determinant."""
+"""A violator from which no line can be removed, with its determinant."""
 
 from __future__ import annotations
 
@@ -17,7 +17,7 @@ _QUESTIONS = 150
 class Minimal:
     """Lines of a model that are not totally unimodular, with their entries.
 
-    It is minimal if the other lines are totally unimodular whichever line is left out. It is then square, and its determinant is 2
+    It is minimal if it becomes totally unimodular when any one of its lines is removed. It is then square, and its determinant is 2
     or -2.
     """
 
@@ -30,7 +30,7 @@ class Minimal:
 
 
 def minimal_violator(asker: Asker, violator: Cells, part: float) -> Minimal:
-    """What is left of a violator when one line after another is left out, as long as a violator remains."""
+    """What is left of a violator when one line after another is removed, as long as a violator remains."""
     asker.begin("a smaller violator", _QUESTIONS, part)
     found, is_minimal = violator, True
     for kind in ("row", "column"):
@@ -69,7 +69,7 @@ def _without(asker: Asker, found: Cells, kind: str, line: int) -> tuple[Cells | 
 
 
 def determinant(rows: Sequence[Sequence[int]]) -> int:
-    """The determinant of whole numbers, by the elimination of Bareiss, which divides without rest."""
+    """The determinant of integers, by the elimination of Bareiss, whose divisions have no remainder."""
     left = [list(row) for row in rows]
     sign, before = 1, 1
     for place in range(len(left)):

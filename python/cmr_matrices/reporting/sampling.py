@@ -8,7 +8,7 @@ __all__ = ["near_lines"]
 
 
 def near_lines(constraints: Constraints, most: int) -> tuple[tuple[int, ...], tuple[int, ...]]:
-    """The first rows and columns, at most `most` of each, that are met from the first nonzero on, line by line, in rising order."""
+    """The first rows and columns, at most `most` of each, of a search from the first nonzero, line by line, in increasing order."""
     rows: dict[int, list[int]] = {}
     columns: dict[int, list[int]] = {}
     for row, column in sorted(constraints.entries):

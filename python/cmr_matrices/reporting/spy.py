@@ -26,7 +26,7 @@ _SHORT = 26
 
 @dataclass(frozen=True)
 class _Band:
-    """A family of rows or columns with the places that it takes, the first one and the one behind the last."""
+    """A family of rows or columns with its positions: the first one, and the one after the last."""
 
     name: str
     begin: int

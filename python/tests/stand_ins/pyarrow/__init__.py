@@ -1,4 +1,4 @@
-"""A stand-in for what the package asks of pyarrow, where that is not there: tables with types, kept as JSON lines.
+"""A stand-in for pyarrow on machines without it: tables with types, kept as JSON lines.
 
 It refuses a value that is not of the type of its column, as pyarrow does.
 """
@@ -11,7 +11,7 @@ from typing import Any
 
 
 def int64() -> type:
-    """The type of whole numbers."""
+    """The type of integers."""
     return int
 
 
