@@ -67,7 +67,7 @@ class Scaling:
     def __str__(self) -> str:
         is_part = isinstance(self.factor, Fraction) and self.factor.numerator == 1
         done = f"multiplied by {self.factor.denominator}" if is_part else f"divided by {self.factor}"
-        sides = "".join(f", and its right-hand side {side:.12g} becomes no whole number" for side in self.fractional)
+        sides = "".join(f", and its right-hand side {side:.12g} becomes no integer" for side in self.fractional)
         return f"{self.kind} {self.name} {done}{sides}"
 
 
@@ -111,7 +111,7 @@ def constraints_of_model(model: Model, choice: Choice = Choice()) -> Constraints
         bad = {row for (row, _), entry in entries.items() if abs(entry) != 1}
         taken = _only_rows(taken, [row for row in range(len(taken.rows)) if row not in bad], False)
         if not taken.rows:
-            raise BadInput("there is no row with coefficients -1, 0 and 1 alone")
+            raise BadInput("there is no row with only the coefficients -1, 0 and 1")
         entries, row_scalings = rows_divided(taken) if choice.scale else (_entries(taken), [])
     column_scalings: list[Scaling] = []
     if choice.scale:
@@ -191,7 +191,7 @@ def _must_be_units(model: Model, entries: Entries, entry_name: str) -> None:
     if large:
         row, column = large[0]
         entry = entries[row, column]
-        fault = "is none of -1, 0 and 1" if entry.denominator == 1 else "is no whole number"
+        fault = "is none of -1, 0 and 1" if entry.denominator == 1 else "is no integer"
         place = f"row {model.rows[row]}, column {model.columns[column]}"
         said = f"{place}: the {entry_name} {float(entry):.12g} {fault}"
         raise BadCoefficients(said, tuple(_families(model, large)))

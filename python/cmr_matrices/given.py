@@ -16,7 +16,7 @@ def whole(name: str, value: Any, least: int | None = None, greatest: int | None 
     try:
         number = index(value)
     except TypeError:
-        raise BadInput(f"{name} is a whole number, and here it is {shown(value)}") from None
+        raise BadInput(f"{name} is an integer, and here it is {shown(value)}") from None
     if least is not None and greatest is not None and not least <= number <= greatest:
         raise BadInput(f"{name} is a number from {least} to {greatest}, and here it is {number}")
     return number

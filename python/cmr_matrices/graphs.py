@@ -147,7 +147,7 @@ def _split(edges: list[Edge]) -> tuple[tuple[Edge, ...], tuple[Edge, ...]]:
     arcs, walks = tuple(edges[:size]), tuple(edges[size:])
     for part in (arcs, walks):
         if [edge.line for edge in part] != [Line(part[0].line.kind, number) for number in range(len(part))]:
-            raise BadInput("no graph, its edges do not stand for all rows and columns in their order")
+            raise BadInput("no graph, its edges do not represent all rows and columns in their order")
     if not _is_tree(arcs):
         raise BadInput(f"no graph, its first edges are no tree on the nodes 0 to {size}")
     if any(max(edge.tail, edge.head) > size for edge in walks):

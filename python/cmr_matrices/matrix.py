@@ -240,7 +240,7 @@ class Matrix:
 
     def __array__(self, dtype: Any = None, copy: bool | None = None) -> Any:
         if copy is False:
-            raise ValueError("a matrix becomes an array by a copy alone")
+            raise ValueError("a matrix becomes an array only by a copy")
         array = self.to_numpy()
         return array if dtype is None else array.astype(dtype)
 
@@ -319,7 +319,7 @@ def _pair(name: str, pair: Any) -> tuple[int, int]:
         first, second = pair
         return index(first), index(second)
     except (TypeError, ValueError):
-        raise BadInput(f"{name} is a pair of whole numbers, of rows and of columns, and here it is {shown(pair)}") from None
+        raise BadInput(f"{name} is a pair of integers, of rows and of columns, and here it is {shown(pair)}") from None
 
 
 def _names(name: str, names: Any) -> tuple[object, ...]:

@@ -61,6 +61,6 @@ def _submatrix(text: str, names: Names) -> Submatrix:
     """A text of numbers only is a submatrix text. It begins with its counts, which have to be right."""
     numbers = [int(word) for word in text.split()]
     if len(numbers) < 4 or len(numbers) != 4 + numbers[2] + numbers[3]:
-        raise BadInput("numbers alone, but no submatrix: the counts and the lists do not fit")
+        raise BadInput("only numbers, but no submatrix: the counts and the lists do not fit")
     names.must_fit(numbers[0], numbers[1])
     return Submatrix.from_text(text, names)

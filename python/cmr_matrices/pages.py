@@ -49,7 +49,7 @@ def line_list(kinds: Iterable[tuple[str, Sequence[str]]]) -> str:
 
 def no_picture(what: str) -> str | None:
     """Why there is no picture of something that could be drawn, or None if Graphviz is installed."""
-    return paragraph(f"{what} is drawn where Graphviz is there: Debian's graphviz") if shutil.which("dot") is None else None
+    return paragraph(f"{what} is drawn if Graphviz is installed: Debian's graphviz") if shutil.which("dot") is None else None
 
 
 def _row(cell: str, texts: Sequence[str], head: str | None = None) -> str:

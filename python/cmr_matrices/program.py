@@ -102,7 +102,7 @@ def _found(program: StrPath | None) -> Path:
         if os.access(path, os.X_OK) and not path.is_dir():
             return path
     is_clone = (_CLONE / "crates.txt").exists()
-    clone = f"the clone, {built} and {unproved()}" if is_clone else "the clone, but the package stands in none"
+    clone = f"the clone, {built} and {unproved()}" if is_clone else "the clone, but the package is not in a clone"
     raise ProgramMissing(["CMR_PROGRAM, which is not set", "PATH", clone])
 
 

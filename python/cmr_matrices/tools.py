@@ -220,7 +220,7 @@ def _check_answer(matrix: Matrix, answer: Answer, call: Call) -> Checked:
     if not found:
         raise BadInput(
             f"the answer `{answer.property_name}: {answer.verdict}` has no evidence to check; "
-            "`certificate=True` asks for it, where its question has some"
+            "`certificate=True` asks for it, if its question has some"
         )
     for checked in found:
         if checked.accepted and checked.says != expected:

@@ -23,7 +23,7 @@ class Scipy(unittest.TestCase):
     def test_refusals(self) -> None:
         refused_arguments: list[tuple[tuple[Any, Any], str]] = [
             (([[1]], [[1, 0]]), "A_ub and A_eq have 1 and 2 columns"),
-            (([[1, 0.5]], None), "row ub0, column x1: the coefficient 0.5 is no whole number"),
+            (([[1, 0.5]], None), "row ub0, column x1: the coefficient 0.5 is no integer"),
             (([[1, 3]], None), "row ub0, column x1: the coefficient 3 is none of -1, 0 and 1"),
             ((None, None), "there are no rows"),
         ]

@@ -83,7 +83,7 @@ class Pictures(unittest.TestCase):
         with mock.patch("shutil.which", return_value=None):
             for value in DRAWN:
                 self.assertIsNone(value._repr_svg_())
-                self.assertIn("is drawn where Graphviz is there", value._repr_html_() or "")
+                self.assertIn("is drawn if Graphviz is installed", value._repr_html_() or "")
 
 
 class Tables(unittest.TestCase):

@@ -54,17 +54,17 @@ class Refusals(unittest.TestCase):
     def test_words_and_numbers(self) -> None:
         self.says("kind is one of network, twosum, and here it is 'foo'", cmr.generate, "foo", 3, 1)
         self.says("kind is one of one, two, delta, y, mixed, concentrated", cmr.compose, "three", FANO, FANO)
-        self.says("size is a whole number, and here it is 'a'", cmr.generate, "network", "a", 1)
+        self.says("size is an integer, and here it is 'a'", cmr.generate, "network", "a", 1)
         with self.assertRaises(BadCommandLine) as refused:
             cmr.generate("twosum", 250, 1)
         self.assertEqual(str(refused.exception), "size is a number from 1 to 249, and here it is 250")
-        self.says("a row is a whole number, and here it is 'a'", sign, FANO, ["a"])
+        self.says("a row is an integer, and here it is 'a'", sign, FANO, ["a"])
         self.says("rows is a list of numbers of rows", sign, FANO, 5)
         self.says("rows is a list of numbers of rows", sign, FANO, "12")
         self.says("there is no row 3", sign, FANO, [3])
 
     def test_limits(self) -> None:
-        self.says("seed is a whole number, and here it is 'x'", is_totally_unimodular, FANO, seed="x")
+        self.says("seed is an integer, and here it is 'x'", is_totally_unimodular, FANO, seed="x")
         self.says("tries is a number from 0 to 1000", is_totally_unimodular, FANO, tries=-1)
         calls: list[tuple[Call, tuple[Any, ...]]] = [(is_graphic, (FANO,)), (check, (FANO, "")), (cmr.generate, ("network", 1, 1))]
         for call, arguments in calls:
@@ -91,12 +91,12 @@ class Refusals(unittest.TestCase):
         self.says("a graph of networkx is taken, and here it is 5", cmr.graph_of_networkx, 5)
         self.says("edges is a list of edges", cmr.graph_of_edges, 5)
         self.says("5 is no edge, which has two ends and may have a name", cmr.graph_of_edges, [5])
-        self.says("shape is a pair of whole numbers", Matrix.from_triples, [], 5)
+        self.says("shape is a pair of integers", Matrix.from_triples, [], 5)
         self.says("triples is a list of triples, and here it is 5", Matrix.from_triples, 5, (1, 1))
         self.says("[1] is no triple of a row, a column and a value", Matrix.from_triples, [[1]], (1, 1))
         self.says("rows is a list of numbers of rows, and here it is 5", matrix.submatrix, 5, [0])
-        self.says("a column is a whole number, and here it is 'a'", matrix.submatrix, [0], ["a"])
-        self.says("a place is a pair of whole numbers", matrix.pivoted, "a", 0)
+        self.says("a column is an integer, and here it is 'a'", matrix.submatrix, [0], ["a"])
+        self.says("a place is a pair of integers", matrix.pivoted, "a", 0)
         self.says("row_names is a list of names, and here it is 5", Matrix.of, FANO, row_names=5)
         self.says("data is the path of the file with the data", cmr.from_model, EXAMPLES / "wards.mod", data=5)
 
@@ -229,7 +229,7 @@ class Answers(unittest.TestCase):
         for answer in (is_totally_unimodular([[1]]), is_regular(FANO), is_series_parallel(R10)):
             with self.subTest(answer=answer), self.assertRaises(BadInput) as refused:
                 check(FANO, answer)
-            self.assertIn("`certificate=True` asks for it, where its question has some", str(refused.exception))
+            self.assertIn("`certificate=True` asks for it, if its question has some", str(refused.exception))
 
     def test_an_answer_is_no_truth_value(self) -> None:
         answer = is_totally_unimodular([[1]])

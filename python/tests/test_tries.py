@@ -141,8 +141,8 @@ class Tried(unittest.TestCase):
     def test_numbers_out_of_their_ranges(self) -> None:
         for options, line in [
             ({"tries": -1}, "tries is a number from 0 to 1000, and here it is -1"),
-            ({"tries": 1.5}, "tries is a whole number, and here it is 1.5"),
-            ({"lines": 1.5}, "lines is a whole number, and here it is 1.5"),
+            ({"tries": 1.5}, "tries is an integer, and here it is 1.5"),
+            ({"lines": 1.5}, "lines is an integer, and here it is 1.5"),
         ]:
             with self.subTest(line=line), self.assertRaises(BadInput) as refused:
                 cmr.is_totally_unimodular(FANO, **options)  # type: ignore[arg-type]

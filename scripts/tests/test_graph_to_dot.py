@@ -116,8 +116,8 @@ class GraphPictures(ScriptTest):
         for text, line in [
             ("0 1\n", "line 1 is not `TAIL HEAD rI` or `TAIL HEAD cJ`"),
             ("0 1 r1\n1 0 x1\n", "line 2 is not `TAIL HEAD rI` or `TAIL HEAD cJ`"),
-            ("0 1 r1\n0 1 c1\n0 1 r2\n", "its edges do not stand for all rows and columns in their order"),
-            ("0 1 r2\n", "its edges do not stand for all rows and columns in their order"),
+            ("0 1 r1\n0 1 c1\n0 1 r2\n", "its edges do not represent all rows and columns in their order"),
+            ("0 1 r2\n", "its edges do not represent all rows and columns in their order"),
             ("0 2 r1\n", "its first edges are no tree on the nodes 0 to 1"),
             ("0 1 r1\n1 0 r2\n", "its first edges are no tree on the nodes 0 to 2"),
             ("0 1 r1\n0 2 c1\n", "a path ends outside of the tree"),

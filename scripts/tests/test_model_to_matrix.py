@@ -168,10 +168,10 @@ class Models(ScriptTest):
         )
         matrix, _, printed = self.convert(model, "--scale")
         self.assertEqual(matrix, "2 3 4\n1 1 1\n1 2 1\n2 1 1\n2 3 -1\n")
-        self.assertEqual(printed, "row first multiplied by 2, and its right-hand side 0.75 becomes no whole number\n")
+        self.assertEqual(printed, "row first multiplied by 2, and its right-hand side 0.75 becomes no integer\n")
         model = self.write("two.mps", small_mps((2, 1.5), (2, 1.5)).replace("RHS", "RHS\n b first 5 second 3"))
         printed = self.convert(model, "--scale")[2]
-        first = "row first divided by 2, and its right-hand side 5 becomes no whole number\n"
+        first = "row first divided by 2, and its right-hand side 5 becomes no integer\n"
         self.assertEqual(printed, f"{first}row second divided by 3/2\n")
         model = self.write("tenth.mps", small_mps((0.1, 0.3), (0.1, -0.3)))
         self.assertEqual(self.convert(model, "--scale")[2], "row first multiplied by 10\nrow second divided by 3/10\n")
@@ -371,12 +371,12 @@ class Refusals(ScriptTest):
         self.assertEqual(self.refused(small, "--rows", "third"), "small.mps: there is no row whose name fits")
         self.assertEqual(self.refused(small, "--without", "."), "small.mps: there is no row whose name fits")
         large = self.write("large.mps", small_mps((2, 3)))
-        line = "large.mps: there is no row with coefficients -1, 0 and 1 alone"
+        line = "large.mps: there is no row with only the coefficients -1, 0 and 1"
         self.assertEqual(self.refused(large, "--unit-rows"), line)
 
     def test_coefficients_that_are_no_whole_numbers(self):
         model = self.write("bad.mps", small_mps((1, 1), (1, 0.5)))
-        line = "bad.mps: row second, column x2: the coefficient 0.5 is no whole number"
+        line = "bad.mps: row second, column x2: the coefficient 0.5 is no integer"
         families = [("1", "1", "1", "second"), ("1", "0", "0", "first")]
         self.assertEqual(self.refused_with_families("model_to_matrix", model, "a", "b"), (line, families))
         line = "bad.mps: row second, column x1: the divided coefficient 2 is none of -1, 0 and 1"

@@ -53,7 +53,7 @@ class NameLines(ScriptTest):
             ("open rows 1 columns 0\n", "column 0 has no name: there are 3 names of columns"),
             ("0 1 r4\n", "row 4 has no name: there are 2 names of rows"),
             ("3 3 0 0\n", "the names are those of a matrix of size 2x3, and here it is 3x3"),
-            ("2 3 1 1\n1\n", "numbers alone, but no submatrix: the counts and the lists do not fit"),
+            ("2 3 1 1\n1\n", "only numbers, but no submatrix: the counts and the lists do not fit"),
         ]:
             with self.subTest(text=text):
                 self.assertEqual(self.refused(text), f"-: {line}")

@@ -29,7 +29,7 @@ _BINARY = {
     "graphic": "; `network` reads -1 too",
     "regular": ", and signs the ones itself; `tu` reads -1 too",
     "series-parallel": " with `-b`, and -1 too without it",
-    "check": " where the evidence is a chain of signs",
+    "check": " if the evidence is a chain of signs",
 }
 
 
@@ -115,20 +115,20 @@ _KINDS = {
     "TwiceNamed": "is the column of a place that was named before",
     "OtherSize": "is a size that is not the matrix's",
     "NotRising": "is not above the number before it in its list",
-    "WrongVersion": "stands where a tree text has `cmr-tree 2`, `cmr-tree 1` or `cmr-pivots 1`, and a chain text `cmr-chain 1`",
+    "WrongVersion": "is where a tree text has `cmr-tree 2`, `cmr-tree 1` or `cmr-pivots 1`, and a chain text `cmr-chain 1`",
     "TooDeep": "begins a node that is deeper than 2,000",
-    "UnknownKind": "is no kind of a node (`concentrated` is one in version 2 alone)",
-    "UnknownStep": "stands where `free`, `forced` or `violator` is due",
+    "UnknownKind": "is no kind of a node (`concentrated` is one only in version 2)",
+    "UnknownStep": "is where `free`, `forced` or `violator` is expected",
     "NotPart": "is no line of the node to which it belongs",
-    "BadElement": "stands where the next row or the next column is due: r1, r2, .. and then c1, c2, ..",
+    "BadElement": "is where the next row or the next column is expected: r1, r2, .. and then c1, c2, ..",
     "NotTree": "the edges of the rows, which come first, are no tree on the nodes 0 to their number",
 }
 
 
 def _not_number(word: str) -> str:
-    shown = f"`{word}`" if word.isprintable() else "what stands there"
+    shown = f"`{word}`" if word.isprintable() else "the word"
     if re.fullmatch(r"[+-]?[0-9]*\.[0-9]*([eE][+-]?[0-9]+)?|[+-]?[0-9]+[eE][+-]?[0-9]+", word):
-        return f"{shown} is no whole number, and entries are -1, 0 and 1 without a point"
+        return f"{shown} is no integer, and entries are -1, 0 and 1 without a point"
     if word.startswith("-"):
         return f"{shown} is no count, which has no minus" if word[1:].isdigit() else f"{shown} is no number"
     return f"{shown} is no number"
@@ -178,7 +178,7 @@ _FITS = (("evidence", "tree"), ("evidence", "chain"), ("evidence", "submatrix"),
 
 
 def _default(form: str) -> str:
-    return " (`-i` left out is the same)" if form == "dense" else ""
+    return " (the same as without `-i`)" if form == "dense" else ""
 
 
 def _hint(order: Order, wanted: str, seems: Guess, other: Guess | None) -> str:

@@ -61,7 +61,7 @@ def cannot_write(name: str) -> list[str]:
         return [f"{name}: {path.parent} is no folder"]
     if not os.access(path if path.exists() else path.parent, os.W_OK):
         return [f"{name}: Permission denied"]
-    return [f"{name}: the disk is full, or what takes it is closed; of this file and those behind it use none"]
+    return [f"{name}: the disk is full, or what takes it is closed; do not use this file or those after it"]
 
 
 def _cause(name: str, mode: str) -> str:

@@ -68,7 +68,7 @@ class Guess:
 def guess(data: bytes) -> Guess:
     """What the bytes seem to be. The kinds `dense`, `sparse`, `submatrix` and `rows` contain only numbers."""
     if not data.strip(_SPACE):
-        return Guess("empty", "empty" if not data else "empty: it has white space alone")
+        return Guess("empty", "empty" if not data else "empty: it has only white space")
     for magic, kind, what, aid in _MAGIC:
         if data.startswith(magic):
             return Guess(kind, what, aid)
@@ -76,7 +76,7 @@ def guess(data: bytes) -> Guess:
         inner = guess(data[3:])
         return Guess(
             "bom",
-            f"{inner.what} behind a byte order mark, which editors of Windows put in front",
+            f"{inner.what} after a byte order mark, which editors of Windows write first",
             "`tail -c +4 FILE` leaves it out",
         )
     if b"\0" in data[:4096]:
@@ -162,7 +162,7 @@ def _whole(text: str, words: list[str]) -> Guess:
             return Guess("submatrix", f"a submatrix text for a matrix of size {numbers[0]}x{numbers[1]}")
         case [kind]:
             return Guess(kind, f"a {kind} text of size {numbers[0]}x{numbers[1]}")
-    return Guess("numbers", f"{len(words)} whole numbers, which are neither a dense nor a sparse text")
+    return Guess("numbers", f"{len(words)} integers, which are neither a dense nor a sparse text")
 
 
 def _has_counts(numbers: list[int], kind: str) -> bool:

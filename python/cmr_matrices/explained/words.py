@@ -192,7 +192,7 @@ def _unknown_tool(word: str) -> str:
     if plain in _OTHER_NAMES:
         return f"`{word}` is no tool: that is `{_OTHER_NAMES[plain]}`"
     if word.startswith("-"):
-        return f"`{word}` comes too early: the first word names the tool, and its options stand behind it"
+        return f"`{word}` comes too early: the first word names the tool, and its options follow it"
     if "." in word or "/" in word:
         return f"`{word}` is no tool, which comes first: for example `cmr tu {word}`"
     near = get_close_matches(plain, TOOLS, 1)
@@ -236,7 +236,7 @@ def _letters(order: Order, word: str, left: list[str]) -> str:
         if option not in order.tool.flags:
             return _unknown_option(order.tool, option, word)
         if option in order.flags:
-            return f"`{option}` stands twice"
+            return f"`{option}` occurs twice"
         order.flags.add(option)
     return ""
 
@@ -245,21 +245,21 @@ def _set(order: Order, option: str, value: str | None, left: list[str]) -> str:
     takes = "FILE" if option in OUTPUTS else _TAKES[option]
     if value is None:
         if not left:
-            return f"`{option}` is the last word, and takes {takes} behind it"
+            return f"`{option}` is the last word, and needs {takes} after it"
         value = left.pop(0)
         if value.startswith("-"):
-            reason = "a file cannot be called so; `./` in front of the name helps" if len(value) > 1 else _DASH
-            return f"`{option}` takes {takes}, and `{value}` stands behind it: " + (
+            reason = "a file cannot be called so; write `./` before the name" if len(value) > 1 else _DASH
+            return f"`{option}` takes {takes}, and `{value}` follows it: " + (
                 reason if takes == "FILE" else "that is no format" if option == "-i" else "that is no number"
             )
     if option in order.options:
-        return f"`{option}` stands twice"
+        return f"`{option}` occurs twice"
     order.options[option] = value
     return ""
 
 
 _TAKES = {"-i": "dense or sparse", "--lines": "L", "--pivots": "K", "-w": "N"}
-_DASH = "`-` is standard input as the last word alone, and nothing can be written to it; /dev/stdout can be named"
+_DASH = "`-` is standard input only as the last word, and nothing can be written to it; /dev/stdout can be named"
 
 
 def _unknown_option(tool: Tool, option: str, word: str = "") -> str:
@@ -284,9 +284,9 @@ def _unknown_option(tool: Tool, option: str, word: str = "") -> str:
 def _bad_operands(order: Order, from_input: bool) -> str:
     tool, operands = order.tool, order.operands
     if not tool.reads_input and "-" in operands:
-        return f"`-` is standard input for tools with one file alone, and {tool.name} has names for all its files"
+        return f"`-` is standard input only for tools with one file, and {tool.name} has names for all its files"
     if tool.reads_input and "-" in operands:
-        return "`-` is standard input as the last word alone"
+        return "`-` is standard input only as the last word"
     most = len(tool.operands)
     if from_input and operands:
         return f"`-` is standard input, and `{operands[0]}` is a file beside it: one of the two has to go"
