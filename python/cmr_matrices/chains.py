@@ -40,9 +40,9 @@ class Chain:
 
     @property
     def needed(self) -> LineSet:
-        """The lines of the steps on which the signs in the violator depend, and those of the violator.
+        """The lines of the violator, and of the steps on which its signs depend.
 
-        The submatrix on these lines is not regular either, which the chain of these steps shows.
+        The submatrix on these lines is not regular either: the chain of these steps shows it.
         """
         forced = {(step.row, step.column): step.lines for step in self.steps}
         rows, columns = set(self.violator.rows), set(self.violator.columns)

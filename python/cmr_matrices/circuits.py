@@ -1,6 +1,6 @@
-"""Circuits of small matroids, and the maps of elements that take those of one matroid to those of another.
+"""Circuits of small matroids, and the maps of elements that take the circuits of one matroid to the circuits of another.
 
-A circuit is a least set of elements that are dependent: the support of a vector of the kernel of `[I A]` that has no smaller one in it.
+A circuit is a minimal dependent set of elements: a minimal support of the nonzero vectors in the kernel of `[I A]`.
 """
 
 from __future__ import annotations

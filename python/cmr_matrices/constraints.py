@@ -138,13 +138,13 @@ def _only_rows(model: Model, rows: list[int], is_all: bool) -> Model:
 
 
 def _entries(model: Model) -> Entries:
-    """The nonzeros as fractions: what stands in a file as 0.1 is a tenth."""
+    """The nonzeros as fractions: 0.1 in a file is a tenth."""
     values = {value: Fraction(f"{value:.15g}") for value in {at.value for at in model.coefficients}}
     return {(at.row, at.column): values[at.value] for at in model.coefficients if at.value}
 
 
 def rows_divided(model: Model) -> tuple[Entries, list[Scaling]]:
-    """Divides each row by the common factor of its entries, and tells the rows that it changes."""
+    """Divides each row by the common factor of its entries, and lists the rows that it changes."""
     entries = _entries(model)
     factors = _factors((row, entry) for (row, _), entry in entries.items())
     changed = {row for row, factor in factors.items() if factor != 1}
@@ -186,7 +186,7 @@ def _plain(factor: Fraction) -> int | Fraction:
 
 
 def _must_be_units(model: Model, entries: Entries, entry_name: str) -> None:
-    """Raises `BadCoefficients` at the first entry that is none of -1, 0 and 1, with the families of rows that have some."""
+    """Raises `BadCoefficients` at the first entry other than -1, 0 and 1, with the families of the rows that have such entries."""
     large = [place for place, entry in entries.items() if abs(entry) != 1]
     if large:
         row, column = large[0]

@@ -49,7 +49,7 @@ def graph_of_edges(edges: Iterable[Sequence[Any]], *, directed: bool = True) -> 
 
 
 def graph_of_networkx(graph: Any) -> Graph:
-    """The graph of networkx, directed or not. An edge has the name that its data has as `name` or `label`, or else one of its ends."""
+    """The graph of networkx, directed or not. The name of an edge is `name` or `label` in its data, or otherwise made of its ends."""
     if not callable(getattr(graph, "is_directed", None)) or not hasattr(graph, "edges"):
         raise BadInput(f"a graph of networkx is taken, and here it is {shown(graph)}")
     edges = []
@@ -60,7 +60,7 @@ def graph_of_networkx(graph: Any) -> Graph:
 
 
 def edges_of_text(text: str) -> list[tuple[str, ...]]:
-    """The edges of a text with a line `TAIL HEAD` or `TAIL HEAD NAME` for each. Empty lines, and those that begin with #, are none."""
+    """The edges of a text with a line `TAIL HEAD` or `TAIL HEAD NAME` for each. Empty lines, and lines that begin with #, are ignored."""
     edges: list[tuple[str, ...]] = []
     for place, line in enumerate(text.removeprefix("\ufeff").splitlines(), 1):
         words = line.split(maxsplit=2)

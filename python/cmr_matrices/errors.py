@@ -119,9 +119,9 @@ class Unreadable(BadInput):
 
 @dataclass(frozen=True)
 class Family:
-    """Rows whose names are the same up to digits and what stands in brackets.
+    """Rows whose names are the same up to digits and bracketed text.
 
-    How many there are, how many of them have entries that are refused, and how many such entries there are.
+    The numbers of these rows, of those with refused entries, and of the refused entries.
     """
 
     name: str
@@ -148,7 +148,7 @@ class Undecided(CmrError):
 
 
 class Refused(CmrError):
-    """A sum that is none, or a tree that has no two parts. `cause` is the word, or the words, of the program."""
+    """There is no such sum, or a tree does not have two parts. `cause` is what the program says."""
 
     def __init__(self, cause: str) -> None:
         super().__init__(cause)

@@ -1,4 +1,4 @@
-"""Families of names: names that are the same up to digits and what stands in brackets."""
+"""Families of names: names that are the same up to digits and bracketed text."""
 
 from __future__ import annotations
 

@@ -27,7 +27,7 @@ _EDGE = re.compile(r"([0-9]{1,4}) ([0-9]{1,4}) ([rc][1-9][0-9]{0,3})")
 
 @dataclass(frozen=True, slots=True)
 class Edge:
-    """An edge with the row or column for which it stands."""
+    """An edge with the row or column that it represents."""
 
     tail: int
     head: int

@@ -60,7 +60,7 @@ class LineSet:
 
     @property
     def words(self) -> str:
-        """The two counts and the two lists as they stand in texts."""
+        """The two counts and the two lists, as in texts."""
         numbers = (
             len(self.rows),
             len(self.columns),

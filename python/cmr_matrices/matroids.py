@@ -1,7 +1,7 @@
-"""Matroids of the literature, by the matrix that stands beside the identity in a representation over GF(2) or GF(3).
+"""Matroids of the literature, by the matrix A of a representation [I A] over GF(2) or GF(3).
 
 The matrix has a row for each element of a basis and a column for each other element. Over GF(2) a column has ones at the basis elements
-that add up to its element. The dual matroid is represented by the transposed matrix.
+that add up to its element. The transposed matrix represents the dual matroid.
 
 Source: Seymour for R10 and R12; Oxley, *Matroid Theory*, appendix, for the others.
 """

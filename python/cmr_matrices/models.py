@@ -1,7 +1,7 @@
 """Constraints of linear models, and models in files, read by GLPK through Debian's `python3-swiglpk`.
 
 GLPK reads fixed and free MPS and keeps the names, without their blanks. Models in GNU MathProg and in the LP format of CPLEX
-are turned into free MPS by `glpsol` of Debian's `glpk-utils`. What solvers write and GLPK does not know is put in its words first.
+are converted to free MPS by `glpsol` of Debian's `glpk-utils`. What solvers write and GLPK does not read is first changed to what it reads.
 """
 
 from __future__ import annotations
@@ -34,7 +34,7 @@ _SMALLER = "take a smaller instance or a larger time limit"
 
 @dataclass(frozen=True)
 class Coefficient:
-    """What stands at a row and a column, both counted from 0."""
+    """The entry at a row and a column, both counted from 0."""
 
     row: int
     column: int

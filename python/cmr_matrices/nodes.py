@@ -55,12 +55,12 @@ KINDS_OF_VERSION: dict[tuple[str, str], dict[str, NodeKind]] = {
 
 @dataclass(frozen=True, eq=False)
 class Node:
-    """A node with its lines, what it says of them, and its children. Lines are those of the whole matrix, counted from 0.
+    """A node with its lines, what it says of them, and its children. Lines are lines of the whole matrix, counted from 0.
 
     `fault` are the lines of a fault (`cycle` and `violator`); `graph` shows a `network`, and of a `conetwork` the transposed
-    matrix; `removed` are the lines that a `reduced` node takes away, one after another. A sum of two matrices has its `connectors`,
+    matrix; `removed` are the lines that a `reduced` node removes, one after another. A sum of two matrices has its `connectors`,
     row and column of a `twosum` and (i, p, q) and (k, j, o) of a three-sum, and `side`, the lines of side one. A `pivoted` node has
-    the `place` of its pivot, a row and a column; what is below it speaks of the pivot of its submatrix: see `Tree.submatrices`.
+    the `place` of its pivot, a row and a column; the nodes below it describe the pivot of its submatrix: see `Tree.submatrices`.
     """
 
     kind: NodeKind

@@ -68,11 +68,11 @@ class Ran:
 
 
 def find_program(program: StrPath | None = None) -> Path:
-    """The program: what is given, or else what `CMR_PROGRAM` names, is on the `PATH`, is built in this clone, or is installed beside.
+    """The program: the given one, or what `CMR_PROGRAM` names, is on the `PATH`, is built in this clone, or is installed beside.
 
-    Last comes what `./try-cmr` has compiled in this clone without proofs, with the warning `UnprovedProgram`.
+    The last of these is the program that `./try-cmr` has compiled in this clone without proofs, with the warning `UnprovedProgram`.
 
-    Raises `ProgramMissing` with the places that were looked at. A place that is named is the only one.
+    Raises `ProgramMissing` with the places that were searched. A path that is given, by the argument or `CMR_PROGRAM`, is the only place.
     """
     path = _found(program)
     if path == unproved():

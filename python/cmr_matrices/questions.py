@@ -110,9 +110,9 @@ def is_regular(
 def is_graphic(
     matrix: MatrixLike, *, certificate: bool = False, time_limit: float | None = None, program: StrPath | None = None
 ) -> Answer:
-    """Whether a 0/1 matrix is that of paths in a tree: each column has ones at the arcs of a path.
+    """Whether a 0/1 matrix is the matrix of paths in a tree: each column has ones at the arcs of a path.
 
-    With `certificate` a yes has the `graph`, which has no directions, and a no a `minimal` submatrix.
+    With `certificate` a yes has the `graph`, which is undirected, and a no a `minimal` submatrix.
 
     `time_limit` is in seconds, 0 to 2,000,000, for the whole call, and `program` the program's path.
 
@@ -136,7 +136,7 @@ def is_cographic(
 def is_network(
     matrix: MatrixLike, *, certificate: bool = False, time_limit: float | None = None, program: StrPath | None = None
 ) -> Answer:
-    """Whether a matrix is that of paths in a directed tree: an entry is 1 if the path takes the arc forwards, -1 if backwards.
+    """Whether a matrix is the matrix of paths in a directed tree: an entry is 1 if the path takes the arc forwards, -1 if backwards.
 
     With `certificate` a yes has the `graph`, which is directed, and a no a `minimal` submatrix.
 
@@ -167,7 +167,7 @@ def is_series_parallel(
     time_limit: float | None = None,
     program: StrPath | None = None,
 ) -> Answer:
-    """Whether lines that are zero, have one nonzero, or equal another line or its negative can be taken away until none is left.
+    """Whether removing lines that are zero, have one nonzero, or equal another line or its negative leaves no lines.
 
     With `binary` the matrix is 0/1, and negatives do not count. A no has the `rest`. With `certificate` there are the
     `reductions`, and for a no a `minimal` submatrix.
@@ -212,7 +212,7 @@ def is_balanced(
 def has_no_cycle_fault(
     matrix: MatrixLike, *, time_limit: float | None = None, program: StrPath | None = None
 ) -> Answer:
-    """Camion's test: whether the signs are those of a totally unimodular matrix, if any signs of these nonzeros are.
+    """Camion's test: whether there is no cycle fault. If some signs of these nonzeros are totally unimodular, these signs are then too.
 
     A no has the cycle fault as its `violator`. Which fault is found depends on the order of the lines.
 

@@ -1,4 +1,4 @@
-"""Answers as values: a question is put to the program, and what it printed and wrote is read."""
+"""Answers as values: runs the program on a question, and reads what it prints and writes."""
 
 from __future__ import annotations
 

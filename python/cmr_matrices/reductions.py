@@ -1,4 +1,4 @@
-"""Series-parallel reductions: lines that are taken away one after another. docs/DEFINITIONS.md says when a line is reducible."""
+"""Series-parallel reductions: lines that are removed one after another. docs/DEFINITIONS.md says when a line is reducible."""
 
 from __future__ import annotations
 

@@ -56,7 +56,7 @@ class Matroid:
     def from_named(cls, name: str, field: Field | None = None) -> Matroid:
         """A matroid of the literature that `named` knows, such as `F7*`, `R10`, `M*(K3,3)` or `U2,4`.
 
-        It is represented over the `field`: if that is None, over GF(3) if the matroid is not binary, and else over GF(2).
+        The representation is over the `field`. The default is GF(2), and GF(3) if the matroid is not binary.
         """
         chosen = field_of_named(name) if field is None else field
         return cls(named(name, chosen), chosen)
@@ -67,8 +67,8 @@ class Matroid:
     ) -> Matroid:
         """The matroid of the columns of any matrix over a field: its elements are the columns, in any representation.
 
-        Entries are -1, 0 and 1; over GF(2) -1 is 1. The basis is the first in the order of the columns. Elements without names are those
-        of a frame's columns, or else `e0`, `e1`, ..
+        Entries are -1, 0 and 1; over GF(2) -1 is 1. The basis is the first in the order of the columns. Without `elements`, the names
+        are the labels of a frame's columns, or otherwise `e0`, `e1`, ..
         """
         taken = Matrix.of(matrix)
         count = taken.shape[1]
@@ -90,7 +90,7 @@ class Matroid:
 
     @classmethod
     def from_sage(cls, text: str) -> Matroid:
-        """The matroid of a text as `to_sage` writes it, with any matrix that has a column for each element. Raises `BadInput` if it is none."""
+        """The matroid of a text as `to_sage` writes it, with a column for each element. Raises `BadInput` if the text has no such matrix."""
         found = _SAGE.fullmatch(text_given("no matroid", text))
         try:
             if found is None:
@@ -115,12 +115,12 @@ class Matroid:
 
     @property
     def basis(self) -> tuple[str, ...]:
-        """The elements of the basis for which the rows stand."""
+        """The elements of the basis, which the rows represent."""
         return self._names.rows
 
     @property
     def elements(self) -> tuple[str, ...]:
-        """The elements: those of the basis, and then the others."""
+        """The elements: first the basis, then the others."""
         return self._names.rows + self._names.columns
 
     @property
@@ -129,7 +129,7 @@ class Matroid:
         return self.matrix.shape[0]
 
     def dual(self) -> Matroid:
-        """The matroid whose bases are what the bases leave: that of `A` transposed, since signs of lines change no matroid."""
+        """The dual matroid, whose bases are the complements of the bases. `A` transposed represents it, up to signs of lines."""
         return Matroid(Matrix.of(self.matrix.T, row_names=self._names.columns, column_names=self._names.rows), self.field)
 
     def pivot(self, basic: str, other: str) -> Matroid:

@@ -1,4 +1,4 @@
-"""The separations that a decomposition tree has: two sides of the lines of a node, and the rank of what stands between them."""
+"""The separations of a decomposition tree: two sides of the lines of a node, and the rank between them."""
 
 from __future__ import annotations
 
@@ -13,9 +13,9 @@ __all__ = ["Separation", "separations_of"]
 
 @dataclass(frozen=True)
 class Separation:
-    """Two sides of the lines of a node, between which few lines make all entries.
+    """Two sides of the lines of a node, such that the entries between them have a low rank.
 
-    It separates the matroid of the node's submatrix. Lines are those of the whole matrix. Below a `pivoted` node they are lines of the
+    It separates the matroid of the node's submatrix. Lines are lines of the whole matrix. Below a `pivoted` node they are lines of the
     pivot, in which a row and a column have exchanged their elements; `Tree.submatrices` has the submatrix with the names of elements.
     """
 

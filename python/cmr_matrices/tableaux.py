@@ -41,7 +41,7 @@ class Tableau(Generic[Element]):
     row_elements: dict[int, Element]
     column_elements: dict[int, Element]
     places: dict[Element, Line]
-    """The line at which each element stands."""
+    """The line of each element."""
     pivots: list[tuple[int, int]]
 
     @classmethod
@@ -72,7 +72,7 @@ class Tableau(Generic[Element]):
 
     @property
     def elements(self) -> tuple[Element, ...]:
-        """The elements: those of the basis, and then the others."""
+        """The elements: first the basis, then the others."""
         return (*self.row_elements.values(), *self.column_elements.values())
 
     def entry(self, row: int, column: int) -> int:
@@ -151,7 +151,7 @@ class Tableau(Generic[Element]):
         self.pivots.append((row, column))
 
     def remove_lines(self, elements: Iterable[Element]) -> None:
-        """Takes the lines of elements away: those of the basis are contracted, and the others deleted."""
+        """Removes the lines of elements: elements of the basis are contracted, and the others deleted."""
         lines = [self.places[element] for element in elements]
         for line in lines:
             if line.kind == "row":

@@ -1,4 +1,4 @@
-"""What else the program does with matrices: sign rows, take sums apart and put them together, check evidence, make matrices.
+"""The other tools of the program: they sign rows, split and compose sums, check evidence, and generate matrices.
 
 All take `time_limit`, the seconds that the whole call may take, 0 to 2,000,000, and `program`, the program's path. They raise what the
 questions raise.
@@ -82,7 +82,7 @@ def check(
 
     * the chain of a no on regularity, and the tree of a yes on it, on the signed matrix;
     * the tree of other answers, or the violator, which for a no on balance also has two nonzeros in each line;
-    * the graph, whose matrix, that of `matrix_of`, has to be this one;
+    * the graph, whose matrix (`matrix_of`) has to be this one;
     * the signing, whose column sums have to be -1, 0 or 1;
     * the reductions, step by step, with what they leave;
     * the minimal submatrix, which has to lack the property, and to have it when any one of its lines is removed.

@@ -120,7 +120,7 @@ class _TreeReader:
         return found
 
     def _own_part(self, found: _Found) -> None:
-        """Reads what stands between the lines of a node and its children."""
+        """Reads what is between the lines of a node and its children."""
         lines = found.lines
         match found.kind:
             case "cycle" | "violator":

@@ -21,7 +21,7 @@ _VERDICTS = {YES: "yes", NO: "no", UNDECIDED: "undecided"}
 
 @contextmanager
 def held_text(text: bytes) -> Iterator[int]:
-    """A file with a text, as a number that runs read from, which has no name and is gone at the end."""
+    """An unnamed file with a text, as a descriptor that runs read from. It is removed at the end."""
     if hasattr(os, "memfd_create"):
         file = os.memfd_create("matrix")
         try:

@@ -26,7 +26,7 @@ class Progress:
         self._bar = _bar()
 
     def skip(self, size: int) -> None:
-        """A matrix whose row stands already."""
+        """A matrix that already has a row."""
         self._found += size
         self._before += 1
 

@@ -54,7 +54,7 @@ class Done:
 
 
 class Lines(Protocol):
-    """How rows stand in a file as bytes."""
+    """The format of rows in a file, as bytes."""
 
     def head(self, classes: Sequence[str]) -> bytes:
         """The bytes before all rows."""

@@ -97,7 +97,7 @@ def classify_block(items: Sequence[Item], settings: Settings) -> list[Row]:
 
 
 def classify(item: Item, settings: Settings) -> Row:
-    """The row of a matrix. It raises nothing: whatever is at fault stands in the row."""
+    """The row of a matrix. It raises nothing: the row contains every fault."""
     begun = time.perf_counter()
     try:
         row = _read_and_asked(item, settings)

@@ -17,7 +17,7 @@ from .command import command_parser, end, read_as, write_text
 
 
 def arguments() -> argparse.Namespace:
-    """What the words of the command line say."""
+    """The arguments of the command line."""
     parser = command_parser(__doc__)
     parser.add_argument(
         "edges", metavar="EDGES", nargs="?", default="-", help="the list of edges (standard input)"

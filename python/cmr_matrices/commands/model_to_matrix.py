@@ -33,7 +33,7 @@ def pattern(text: str) -> re.Pattern[str]:
 
 
 def arguments() -> argparse.Namespace:
-    """What the words of the command line say."""
+    """The arguments of the command line."""
     parser = command_parser(__doc__)
     parser.add_argument(
         "model", metavar="MODEL", help="the model: free or fixed MPS, GNU MathProg, or the LP format of CPLEX"

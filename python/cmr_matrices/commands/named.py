@@ -17,7 +17,7 @@ from .command import command_parser, end, write_text
 
 
 def arguments() -> argparse.Namespace:
-    """What the words of the command line say."""
+    """The arguments of the command line."""
     parser = command_parser(__doc__)
     parser.add_argument("name", metavar="NAME", help="for example R10, 'F7*', K5 or 'K3,3*'")
     parser.add_argument("--ternary", action="store_true", help="write a matrix over GF(3)")

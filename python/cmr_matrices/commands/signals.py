@@ -17,7 +17,7 @@ ENDING = (signal.SIGHUP, signal.SIGINT, signal.SIGTERM)
 
 
 class _Told:
-    """The signal that told the work to end, and whether the work goes on until it asks."""
+    """The signal that asked the work to end, and whether the work continues until it asks."""
 
     number: int | None = None
     waits = False

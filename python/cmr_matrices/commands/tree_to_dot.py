@@ -14,7 +14,7 @@ from .command import command_parser, end, read_as, write_text
 
 
 def arguments() -> argparse.Namespace:
-    """What the words of the command line say."""
+    """The arguments of the command line."""
     parser = command_parser(__doc__)
     parser.add_argument(
         "tree", metavar="TREE", nargs="?", default="-", help="the tree text (standard input)"

@@ -35,7 +35,7 @@ _BINARY = {
 
 @dataclass(frozen=True)
 class _Place:
-    """A word of a text: its line and its column, counted from 1, and how many words stand before it."""
+    """A word of a text: its line and its column, counted from 1, and the number of words before it."""
 
     line: int
     column: int
@@ -182,7 +182,7 @@ def _default(form: str) -> str:
 
 
 def _hint(order: Order, wanted: str, seems: Guess, other: Guess | None) -> str:
-    """What can be done with a text that is of another kind than the one that is wanted."""
+    """What can be done with a text of another kind than the expected one."""
     words = " ".join(order.tool.operands)
     if other is not None and order.tool.name != "compose":
         if {seems.kind, other.kind} & {*_MATRIX} and {seems.kind, other.kind} & {*_EVIDENCE} and seems.kind != wanted:

@@ -24,7 +24,7 @@ def written_inputs(order: Order) -> list[str]:
 
 
 def before_the_run(order: Order, *, at_terminal: bool) -> Iterator[str]:
-    """What may be a mistake and is none of the words."""
+    """What may be a mistake, apart from the arguments."""
     outputs = list(order.outputs.items())
     for place, (option, name) in enumerate(outputs):
         for other, same in outputs[:place]:
