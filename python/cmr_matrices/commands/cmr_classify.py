@@ -29,7 +29,7 @@ from ..classifying.tables import Done, Table, files_of, open_table, read_table
 from ..classifying.work import CONTRADICTION, Row, Settings
 from ..errors import BadInput, ProgramMissing
 from ..program import find_program
-from .command import command_parser, end, write_text
+from .command import command_parser, end, integer_between, write_text
 
 FAULTS, CONTRADICTIONS, INTERRUPTED = 3, 8, 130
 
@@ -42,15 +42,6 @@ def part(text: str) -> tuple[int, int]:
     if not found or int(found[1]) > int(found[2]):
         raise argparse.ArgumentTypeError(f"{text} is not K/N with K from 1 to N")
     return int(found[1]), int(found[2])
-
-
-def number(least: int, greatest: int) -> Callable[[str], int]:
-    def taken(text: str) -> int:
-        if not re.fullmatch("[0-9]{1,9}", text) or not least <= int(text) <= greatest:
-            raise argparse.ArgumentTypeError(f"{text} is no number from {least} to {greatest}")
-        return int(text)
-
-    return taken
 
 
 def classes(text: str) -> tuple[MatrixClass, ...]:
@@ -76,7 +67,7 @@ def arguments() -> argparse.Namespace:
     add(
         "--jobs",
         metavar="N",
-        type=number(1, 1024),
+        type=integer_between(1, 1024),
         default=os.cpu_count() or 1,
         help="how many processes (one a processor)",
     )
@@ -90,11 +81,28 @@ def arguments() -> argparse.Namespace:
     add("--part", metavar="K/N", type=part, default=(1, 1), help="take every N-th matrix from the K-th on")
     add("--evidence", metavar="DIR", help="keep evidence in DIR/CLASS/FILE/NUMBER.KIND")
     add("--minors", action="store_true", help="keep excluded minors too, for each no of a class that has some")
-    add("--lines", metavar="L", type=number(0, 24), help="the budget of the searches (14)")
-    add("--pivots", metavar="K", type=number(0, 100), default=20, help="make up to K pivots of an open part (20)")
-    add("--tries", metavar="N", type=number(0, 1000), default=0, help="ask again in N other orders of the lines (0)")
+    add("--lines", metavar="L", type=integer_between(0, 24), help="the budget of the searches (14)")
+    add(
+        "--pivots",
+        metavar="K",
+        type=integer_between(0, 100),
+        default=20,
+        help="make up to K pivots of an open part (20)",
+    )
+    add(
+        "--tries",
+        metavar="N",
+        type=integer_between(0, 1000),
+        default=0,
+        help="ask again in N other orders of the lines (0)",
+    )
     add("--support", action="store_true", help="ask regular of the support of a matrix with an entry -1")
-    add("--time-limit", metavar="S", type=number(1, 10**8), help="leave a class undecided after so many seconds")
+    add(
+        "--time-limit",
+        metavar="S",
+        type=integer_between(1, 10**8),
+        help="leave a class undecided after so many seconds",
+    )
     add(
         "--infer",
         action="store_true",
@@ -104,7 +112,13 @@ def arguments() -> argparse.Namespace:
     add("--tables", action="store_true", help="INPUT are tables, such as those of parts: only sum them up")
     add("--dask", metavar="ADDRESS", help="send blocks to a Dask cluster, with the package and the program")
     add("--worker-program", metavar="PATH", help="with --dask: the program on each worker, instead of sending it")
-    add("--block", metavar="N", type=number(1, 10**6), default=16, help="how many matrices are sent at once (16)")
+    add(
+        "--block",
+        metavar="N",
+        type=integer_between(1, 10**6),
+        default=16,
+        help="how many matrices are sent at once (16)",
+    )
     add("--program", metavar="PATH", help="the program cmr, where it is not to be looked for")
     chosen = parser.parse_args()
     if chosen.resume and chosen.output == "-":

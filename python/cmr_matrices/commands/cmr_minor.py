@@ -25,7 +25,7 @@ from ..matrix import Matrix
 from ..minors import excluded_minor
 from ..program import NO, REFUSED, UNDECIDED, YES
 from ..represented import Matroid
-from .command import command_parser, read_text, write_text
+from .command import command_parser, integer_between, read_text, write_text
 
 __all__ = ["main"]
 
@@ -48,9 +48,9 @@ def arguments() -> argparse.Namespace:
     add("-M", metavar="MINOR", dest="minor", help="the file that gets the minor, to be checked")
     add("--names", metavar="NAMES", help="print the names of this file, as model_to_matrix and named write it")
     add("--sage", action="store_true", help="print a last line with the minor, which Sage reads")
-    add("--lines", metavar="L", type=_number(0, 24), help="the budget of the searches (14)")
-    add("--pivots", metavar="K", type=_number(0, 100), default=20, help="go on behind so many pivots (20)")
-    add("--time-limit", metavar="S", type=_number(1, 10**8), help="end the runs of cmr after so many seconds")
+    add("--lines", metavar="L", type=integer_between(0, 24), help="the budget of the searches (14)")
+    add("--pivots", metavar="K", type=integer_between(0, 100), default=20, help="go on behind so many pivots (20)")
+    add("--time-limit", metavar="S", type=integer_between(1, 10**8), help="end the runs of cmr after so many seconds")
     add("--program", metavar="PATH", help="the program cmr, where it is not to be looked for")
     chosen = parser.parse_intermixed_args()
     if len(chosen.files) > 1 + (chosen.of == "check") or (chosen.of == "check" and len(chosen.files) < 2):
@@ -58,15 +58,6 @@ def arguments() -> argparse.Namespace:
     if chosen.of == "check" and chosen.minor:
         parser.error("-M does not go with check, which writes nothing")
     return chosen
-
-
-def _number(least: int, greatest: int) -> Callable[[str], int]:
-    def taken(text: str) -> int:
-        if not text.isascii() or not text.isdigit() or len(text) > 9 or not least <= int(text) <= greatest:
-            raise argparse.ArgumentTypeError(f"{text} is no number from {least} to {greatest}")
-        return int(text)
-
-    return taken
 
 
 def _asked(chosen: argparse.Namespace) -> int:
