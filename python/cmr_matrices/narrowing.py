@@ -22,7 +22,7 @@ from .matrix import Matrix
 from .minor_search import Outside, fewer_lines, line_tableau
 from .nodes import Node
 from .program import REFUSED, StrPath, run
-from .reading import Question, read_answer
+from .reading import GRAPH_QUESTIONS, Question, read_answer
 from .tableaux import Tableau
 from .tools import Evidence, check
 from .trees import Tree
@@ -31,16 +31,6 @@ __all__ = ["GRAPHS", "Narrowing"]
 
 GRAPHS = {"totally unimodular": ("network", "conetwork"), "regular": ("graphic", "cographic")}
 """For a property two classes of graphs that have it."""
-
-_WORDS = {
-    "regular": ("regular",),
-    "graphic": ("graphic",),
-    "cographic": ("graphic", "-t"),
-    "network": ("network",),
-    "conetwork": ("network", "-t"),
-    "series-parallel": ("series-parallel",),
-    "binary series-parallel": ("series-parallel", "-b"),
-}
 
 
 @dataclass(frozen=True)
@@ -73,7 +63,7 @@ class Narrowing:
 
     def outside(self, name: str) -> Outside:
         """The test whether the matrix of a tableau is outside of a class."""
-        words = (*_WORDS[name], *(self.budget if name == "regular" else ()))
+        words = ("regular", *self.budget) if name == "regular" else GRAPH_QUESTIONS[name]
 
         def test(tableau: Tableau[Line]) -> bool | None:
             ran = run(

@@ -38,9 +38,10 @@ YES, NO, UNDECIDED, REFUSED = 0, 1, 6, 7
 # The status by which a shell says that a file is no program.
 _NOT_RUN = 126
 
-_CLONE = Path(__file__).resolve().parents[2]
+# The `parent` of the root is the root. `parents` has no such entry.
+_CLONE = Path(__file__).resolve().parent.parent.parent
 # The prefix below which scripts/install has installed the package.
-_BESIDE = _CLONE.parents[1] / "bin" / "cmr"
+_BESIDE = _CLONE.parent.parent / "bin" / "cmr"
 _TEXT_FAULT = re.compile(r"cmr: (?P<name>.*): (?:(?P<kind>[A-Za-z]+) at byte (?P<byte>[0-9]+)|TooLong)", re.DOTALL)
 
 

@@ -19,7 +19,17 @@ from .reductions import Reductions
 from .submatrices import Submatrix
 from .trees import Tree
 
-__all__ = ["Question", "printed_part", "read_answer"]
+__all__ = ["GRAPH_QUESTIONS", "Question", "printed_part", "read_answer"]
+
+GRAPH_QUESTIONS = {
+    "graphic": ("graphic",),
+    "cographic": ("graphic", "-t"),
+    "network": ("network",),
+    "conetwork": ("network", "-t"),
+    "series-parallel": ("series-parallel",),
+    "binary series-parallel": ("series-parallel", "-b"),
+}
+"""For each property of graphs, the arguments of the program that ask for it. A no has a minimal submatrix without the property."""
 
 
 @dataclass(frozen=True)

@@ -23,7 +23,7 @@ from .lines import LineSet
 from .matrix import Matrix
 from .printed import line_sets
 from .program import REFUSED, YES, StrPath, run
-from .reading import Question, printed_part, read_answer
+from .reading import GRAPH_QUESTIONS, Question, printed_part, read_answer
 from .signings import Signing
 from .sources import MatrixLike
 from .submatrices import Submatrix
@@ -33,14 +33,6 @@ __all__ = ["Evidence", "SumKind", "check", "compose", "generate", "matrix_of", "
 
 SumKind = Literal["one", "two", "delta", "y", "mixed", "concentrated"]
 Evidence = Tree | Chain | Submatrix | str
-_WITH_MINIMAL = {
-    "graphic": ("graphic",),
-    "cographic": ("graphic", "-t"),
-    "network": ("network",),
-    "conetwork": ("network", "-t"),
-    "series-parallel": ("series-parallel",),
-    "binary series-parallel": ("series-parallel", "-b"),
-}
 
 
 def sign(
@@ -260,8 +252,8 @@ def _checked_here(matrix: Matrix, answer: Answer, call: Call) -> Iterator[Checke
     if answer.reductions is not None:
         rest = LineSet((), ()) if answer.rest is None else answer.rest.lines
         yield checked_reductions(matrix, answer.reductions, rest, binary=binary)
-    if answer.minimal is not None and answer.property_name in _WITH_MINIMAL:
-        question = Question(answer.property_name, _WITH_MINIMAL[answer.property_name])
+    if answer.minimal is not None and answer.property_name in GRAPH_QUESTIONS:
+        question = Question(answer.property_name, GRAPH_QUESTIONS[answer.property_name])
         yield checked_minimal(
             matrix, answer.minimal, lambda part: question.ask(part, call.program, call.clock).verdict == "yes"
         )

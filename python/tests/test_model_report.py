@@ -13,12 +13,11 @@ from html import unescape
 from itertools import combinations
 from pathlib import Path
 
-from cmr_matrices import BadInput, ModelReport, model_report
+from cmr_matrices import BadInput, Matrix, ModelReport, model_report
 from cmr_matrices.constraints import Choice, Constraints
 from cmr_matrices.lines import Names
 from cmr_matrices.model_texts import NONLINEAR_OBJECTIVE, SEMICONTINUOUS
 from cmr_matrices.modellers import constraints_of_file
-from cmr_matrices.reporting.minimal import determinant
 from cmr_matrices.reporting.repeating import row_pattern
 from cmr_matrices.reporting.rows import said_rows
 from cmr_matrices.reporting.sampling import near_lines
@@ -132,7 +131,7 @@ class Reports(ReportTest):
     def test_a_no_claims_nothing_of_equations(self) -> None:
         """The equations have the determinant 1, so all their solutions are integral, though the matrix has a violator."""
         rows = {"a": [1, 1, 0], "b": [1, -1, 1], "c": [0, 1, -1]}
-        self.assertEqual(determinant([*rows.values()]), 1)
+        self.assertEqual(Matrix.of([*rows.values()]).determinant(), 1)
         report = model_report(self.write("equations.lp", lp_text(rows).replace("<=", "=")))
         self.assertEqual(report.verdict, "no")
         self.assertIn("The vertices of this model may still be integral.", report.to_text())
@@ -362,13 +361,6 @@ class Words(unittest.TestCase):
         self.assertEqual(near_lines(constraints, 2), ((0, 1), (0, 1)))
         self.assertEqual(near_lines(constraints, 1), ((0,), (1,)))
         self.assertEqual(near_lines(Constraints(names, {}), 5), ((), ()))
-
-    def test_determinants(self) -> None:
-        self.assertEqual(determinant([[1, 1, 0], [0, 1, 1], [1, 0, 1]]), 2)
-        self.assertEqual(determinant([[0, 1], [1, 0]]), -1)
-        self.assertEqual(determinant([[1, 1], [1, 1]]), 0)
-        self.assertEqual(determinant([[0, 2, 1], [1, 0, 3], [4, 1, 0]]), 25)
-        self.assertEqual(determinant([]), 1)
 
 
 @needs_program

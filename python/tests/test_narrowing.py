@@ -9,6 +9,7 @@ import unittest
 import cmr_matrices as cmr
 from cmr_matrices import Answer, Matrix, ProgramFault
 from cmr_matrices.clock import Clock
+from cmr_matrices.determinants import determinant
 from cmr_matrices.narrowing import Narrowing
 from cmr_matrices.reading import Question
 from tests import independent
@@ -120,6 +121,9 @@ class Determinants(unittest.TestCase):
                 self.assertEqual(Matrix.of(rows).determinant() if rows else 1, by_permutations(rows))
         self.assertEqual(Matrix.of([]).determinant(), 1)
         self.assertEqual(Matrix.of(TRIANGLE).determinant(), 2)
+        self.assertEqual(Matrix.of([[0, 1], [1, 0]]).determinant(), -1)
+        self.assertEqual(Matrix.of([[1, 1], [1, 1]]).determinant(), 0)
+        self.assertEqual(determinant([[0, 2, 1], [1, 0, 3], [4, 1, 0]]), 25)
         with self.assertRaisesRegex(cmr.BadInput, "a square matrix has a determinant, and here the size is 1x2"):
             Matrix.of([[1, 0]]).determinant()
 

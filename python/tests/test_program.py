@@ -4,6 +4,7 @@ from __future__ import annotations
 
 import os
 import pickle
+import shutil
 import signal
 import subprocess
 import sys
@@ -86,6 +87,13 @@ class Finding(Folder):
         os.environ.pop("CMR_PROGRAM", None)
         os.environ["PATH"] = ""
         self.assertEqual(find_program(), built)
+
+    def test_a_package_in_a_folder_next_to_the_root(self) -> None:
+        """As `pip install --target /tmp/packages` makes it."""
+        shutil.copytree(TOP / "python" / "cmr_matrices", self.folder / "cmr_matrices")
+        words = [sys.executable, "-c", "import cmr_matrices; print(cmr_matrices.__file__)"]
+        ran = subprocess.run(words, cwd=self.folder, capture_output=True, text=True, check=False)
+        self.assertEqual((ran.stdout, ran.stderr), (f"{self.folder}/cmr_matrices/__init__.py\n", ""))
 
     def test_a_program_that_is_missing(self) -> None:
         with self.assertRaises(ProgramMissing) as missing:

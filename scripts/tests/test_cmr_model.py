@@ -145,7 +145,7 @@ class ModelTest(ScriptTest):
 
     def test_the_commands_of_a_model_of_many_parts(self):
         model = self.write("parts.mod", PARTS)
-        report, status = self.report(model)
+        report, status = self.report(model, "--time-limit", "600")
         self.assertEqual(status, 0)
         self.assertEqual([it["what"] for it in report["commands"]], ["the whole matrix, part by part"])
         self.assertEqual(self.repeats(report), 3)

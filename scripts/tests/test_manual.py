@@ -70,7 +70,8 @@ class ManualTest(ScriptTest):
 
     @needs_mandoc
     def test_mandoc_finds_nothing(self):
-        run = subprocess.run(["mandoc", "-Tlint", FILE], capture_output=True, text=True, check=False)
+        # The level below `style` is for pages of the base system, which name no version.
+        run = subprocess.run(["mandoc", "-Tlint", "-Wstyle", FILE], capture_output=True, text=True, check=False)
         self.assertEqual((run.returncode, run.stdout + run.stderr), (0, ""))
 
     @needs_man

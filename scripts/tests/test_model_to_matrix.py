@@ -442,7 +442,8 @@ class Refusals(ScriptTest):
     def test_tools_that_are_missing(self):
         model = self.write("model.lp", "")
         line = self.refused(model, env={"PATH": ""})
-        self.assertEqual(line, "model.lp: reading it needs glpsol of Debian's glpk-utils")
+        said = "reading model.lp needs the command glpsol: `apt-get install glpk-utils` on Debian; pip has no package of it"
+        self.assertEqual(line, said)
         self.write("swiglpk.py", "raise ImportError\n")
         model = self.write("model.mps", small_mps((1, 1)))
         line = self.refused(model, env=os.environ | {"PYTHONPATH": str(self.folder)})

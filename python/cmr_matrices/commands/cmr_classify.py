@@ -29,7 +29,7 @@ from ..classifying.tables import Done, Table, files_of, open_table, read_table
 from ..classifying.work import CONTRADICTION, Row, Settings
 from ..errors import BadInput, ProgramMissing
 from ..program import find_program
-from .command import command_parser, end, write_text
+from .command import command_parser, end, integer_between, write_text
 
 FAULTS, CONTRADICTIONS, INTERRUPTED = 3, 8, 130
 
@@ -42,15 +42,6 @@ def part(text: str) -> tuple[int, int]:
     if not found or int(found[1]) > int(found[2]):
         raise argparse.ArgumentTypeError(f"{text} is not K/N with K from 1 to N")
     return int(found[1]), int(found[2])
-
-
-def number(least: int, greatest: int) -> Callable[[str], int]:
-    def taken(text: str) -> int:
-        if not re.fullmatch("[0-9]{1,9}", text) or not least <= int(text) <= greatest:
-            raise argparse.ArgumentTypeError(f"{text} is no number from {least} to {greatest}")
-        return int(text)
-
-    return taken
 
 
 def classes(text: str) -> tuple[MatrixClass, ...]:
@@ -76,7 +67,7 @@ def arguments() -> argparse.Namespace:
     add(
         "--jobs",
         metavar="N",
-        type=number(1, 1024),
+        type=integer_between(1, 1024),
         default=os.cpu_count() or 1,
         help="the number of processes (one for each processor)",
     )
@@ -89,22 +80,45 @@ def arguments() -> argparse.Namespace:
     add("--resume", action="store_true", help="continue a table: skip the matrices that have a row in it")
     add("--part", metavar="K/N", type=part, default=(1, 1), help="take every N-th matrix, starting with the K-th")
     add("--evidence", metavar="DIR", help="keep evidence in DIR/CLASS/FILE/NUMBER.KIND")
-    add("--minors", action="store_true", help="also keep an excluded minor for each no of a class that has excluded minors")
-    add("--lines", metavar="L", type=number(0, 24), help="the budget of the searches (14)")
-    add("--pivots", metavar="K", type=number(0, 100), default=20, help="make up to K pivots of an open part (20)")
-    add("--tries", metavar="N", type=number(0, 1000), default=0, help="ask again in N other orders of the lines (0)")
+    add("--minors", action="store_true", help="also keep an excluded minor for each no, if the class has any")
+    add("--lines", metavar="L", type=integer_between(0, 24), help="the budget of the searches (14)")
+    add(
+        "--pivots",
+        metavar="K",
+        type=integer_between(0, 100),
+        default=20,
+        help="make up to K pivots of an open part (20)",
+    )
+    add(
+        "--tries",
+        metavar="N",
+        type=integer_between(0, 1000),
+        default=0,
+        help="ask again in N other orders of the lines (0)",
+    )
     add("--support", action="store_true", help="ask regular of the support of a matrix with an entry -1")
-    add("--time-limit", metavar="S", type=number(1, 10**8), help="leave a class undecided after S seconds")
+    add(
+        "--time-limit",
+        metavar="S",
+        type=integer_between(1, 10**8),
+        help="leave a class undecided after S seconds",
+    )
     add(
         "--infer",
         action="store_true",
         help="skip what the known inclusions settle; consistency is then not checked",
     )
     add("--picture", metavar="SVG", help="draw the number of matrices in each combination of classes")
-    add("--tables", action="store_true", help="each INPUT is a table, for example of a part: only combine and summarise them")
-    add("--dask", metavar="ADDRESS", help="send blocks of matrices to a Dask cluster, with the package and the program")
-    add("--worker-program", metavar="PATH", help="with --dask: the path of the program on each worker, instead of sending it")
-    add("--block", metavar="N", type=number(1, 10**6), default=16, help="the number of matrices that are sent at once (16)")
+    add("--tables", action="store_true", help="INPUT are tables, for example of parts: only summarise them")
+    add("--dask", metavar="ADDRESS", help="send blocks of matrices to a Dask cluster, with the package and program")
+    add("--worker-program", metavar="PATH", help="with --dask: the path of the program on each worker")
+    add(
+        "--block",
+        metavar="N",
+        type=integer_between(1, 10**6),
+        default=16,
+        help="the number of matrices sent at once (16)",
+    )
     add("--program", metavar="PATH", help="the path of the program cmr")
     chosen = parser.parse_args()
     if chosen.resume and chosen.output == "-":

@@ -26,7 +26,7 @@ from ..matrix import Matrix
 from ..minors import excluded_minor
 from ..program import NO, REFUSED, UNDECIDED, YES
 from ..represented import Matroid
-from .command import command_parser, read_text, write_text
+from .command import command_parser, integer_between, read_text, write_text
 
 __all__ = ["main"]
 
@@ -49,9 +49,15 @@ def arguments() -> argparse.Namespace:
     add("-M", metavar="MINOR", dest="minor", help="write the minor to this file, to be checked")
     add("--names", metavar="NAMES", help="print the names in this file, which model_to_matrix or named wrote")
     add("--sage", action="store_true", help="print a last line with the minor, which Sage reads")
-    add("--lines", metavar="L", type=_number(0, 24), help="the budget of the searches (14)")
-    add("--pivots", metavar="K", type=_number(0, 100), default=20, help="make up to K pivots of an open part (20)")
-    add("--time-limit", metavar="S", type=_number(1, 10**8), help="end the runs of cmr after S seconds")
+    add("--lines", metavar="L", type=integer_between(0, 24), help="the budget of the searches (14)")
+    add(
+        "--pivots",
+        metavar="K",
+        type=integer_between(0, 100),
+        default=20,
+        help="make up to K pivots of an open part (20)",
+    )
+    add("--time-limit", metavar="S", type=integer_between(1, 10**8), help="end the runs of cmr after S seconds")
     add("--program", metavar="PATH", help="the path of the program cmr")
     chosen = parser.parse_intermixed_args()
     if len(chosen.files) > 1 + (chosen.of == "check") or (chosen.of == "check" and len(chosen.files) < 2):
@@ -59,15 +65,6 @@ def arguments() -> argparse.Namespace:
     if chosen.of == "check" and chosen.minor:
         parser.error("-M does not go with check, which writes nothing")
     return chosen
-
-
-def _number(least: int, greatest: int) -> Callable[[str], int]:
-    def taken(text: str) -> int:
-        if not text.isascii() or not text.isdigit() or len(text) > 9 or not least <= int(text) <= greatest:
-            raise argparse.ArgumentTypeError(f"{text} is no number from {least} to {greatest}")
-        return int(text)
-
-    return taken
 
 
 def _asked(chosen: argparse.Namespace) -> int:

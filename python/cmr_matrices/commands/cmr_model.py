@@ -12,30 +12,19 @@ from __future__ import annotations
 
 import argparse
 import os
-import re
 import sys
-from collections.abc import Callable
 from typing import Any
 
 from ..errors import BadInput, CmrError, CommandMissing, LibraryMissing, OutOfMemory, Unreadable
 from ..program import NO, UNDECIDED, YES
 from ..reporting.report import QUESTIONS, ModelReport, model_report
-from .command import command_parser, end, write_text, write_whole
+from .command import command_parser, end, integer_between, write_text, write_whole
 from .signals import end_if_told, end_on_signals
 
 __all__ = ["main"]
 
 BAD_MODEL, BAD_FILE, NO_MEMORY, NO_PROGRAM = 3, 4, 5, 70
 _STATUSES = {"yes": YES, "no": NO, "undecided": UNDECIDED}
-
-
-def number(least: int, greatest: int) -> Callable[[str], int]:
-    def taken(text: str) -> int:
-        if not re.fullmatch("[0-9]{1,9}", text) or not least <= int(text) <= greatest:
-            raise argparse.ArgumentTypeError(f"{text} is no number from {least} to {greatest}")
-        return int(text)
-
-    return taken
 
 
 def arguments() -> argparse.Namespace:
@@ -51,19 +40,25 @@ def arguments() -> argparse.Namespace:
         help="the model's format (by default .mod is mathprog, .lp is lp, .mps is mps, and otherwise the content decides)",
     )
     add("--data", metavar="DATA", help="the file with the data of a MathProg model, if it has one")
-    add("--lines", metavar="L", type=number(0, 24), help="the budget of the searches, 0 to 24 (14)")
-    add("--pivots", metavar="K", type=number(0, 100), default=20, help="make up to K pivots of an open part, 0 to 100 (20)")
+    add("--lines", metavar="L", type=integer_between(0, 24), help="the budget of the searches, 0 to 24 (14)")
+    add(
+        "--pivots",
+        metavar="K",
+        type=integer_between(0, 100),
+        default=20,
+        help="make up to K pivots of an open part, 0 to 100 (20)",
+    )
     add(
         "--questions",
         metavar="N",
-        type=number(1, 100_000),
+        type=integer_between(1, 100_000),
         default=QUESTIONS,
         help=f"the most questions of each search for rows to keep ({QUESTIONS})",
     )
     add(
         "--time-limit",
         metavar="S",
-        type=number(1, 2_000_000),
+        type=integer_between(1, 2_000_000),
         default=8,
         help="end the search after S seconds of processor time, and say which steps it ended (8)",
     )

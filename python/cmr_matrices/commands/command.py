@@ -7,6 +7,7 @@ from __future__ import annotations
 
 import argparse
 import os
+import re
 import shutil
 import sys
 import warnings
@@ -17,7 +18,7 @@ from typing import TypeVar
 from ..errors import BadInput, Unreadable
 from ..version import __version__
 
-__all__ = ["command_parser", "end", "read_as", "read_text", "write_text", "write_whole"]
+__all__ = ["command_parser", "end", "integer_between", "read_as", "read_text", "words_of", "write_text", "write_whole"]
 
 _Value = TypeVar("_Value")
 
@@ -34,6 +35,17 @@ def command_parser(description: str | None) -> argparse.ArgumentParser:
 
 def _say_warning(message: Warning | str, *_: object, **__: object) -> None:
     print(f"{Path(sys.argv[0]).name}: {message}", file=sys.stderr)
+
+
+def integer_between(least: int, greatest: int) -> Callable[[str], int]:
+    """The type of an option whose values are the integers from `least` to `greatest`."""
+
+    def taken(text: str) -> int:
+        if not re.fullmatch("[0-9]{1,9}", text) or not least <= int(text) <= greatest:
+            raise argparse.ArgumentTypeError(f"{text} is no number from {least} to {greatest}")
+        return int(text)
+
+    return taken
 
 
 def end(work: Callable[[], None]) -> int:

@@ -2,13 +2,12 @@
 
 from __future__ import annotations
 
-from collections.abc import Sequence
 from dataclasses import dataclass, field
 
 from ..errors import TimeLimitReached
 from .asking import Asker, Cells
 
-__all__ = ["Minimal", "determinant", "minimal_violator"]
+__all__ = ["Minimal", "minimal_violator"]
 
 _QUESTIONS = 150
 
@@ -51,7 +50,7 @@ def minimal_violator(asker: Asker, violator: Cells, part: float) -> Minimal:
     is_square = len(found.rows) == len(found.columns)
     names = matrix.names
     assert names is not None
-    return Minimal(found, names.rows, names.columns, entries, is_minimal, determinant(entries) if is_square else None)
+    return Minimal(found, names.rows, names.columns, entries, is_minimal, matrix.determinant() if is_square else None)
 
 
 def _without(asker: Asker, found: Cells, kind: str, line: int) -> tuple[Cells | None, bool]:
@@ -66,22 +65,3 @@ def _without(asker: Asker, found: Cells, kind: str, line: int) -> tuple[Cells | 
     if answer.violator is None:
         return None, answer.verdict != "yes"
     return Cells(rows, columns).part(answer.violator), False
-
-
-def determinant(rows: Sequence[Sequence[int]]) -> int:
-    """The determinant of integers, by the elimination of Bareiss, whose divisions have no remainder."""
-    left = [list(row) for row in rows]
-    sign, before = 1, 1
-    for place in range(len(left)):
-        pivot = next((row for row in range(place, len(left)) if left[row][place]), None)
-        if pivot is None:
-            return 0
-        if pivot != place:
-            left[place], left[pivot] = left[pivot], left[place]
-            sign = -sign
-        for row in range(place + 1, len(left)):
-            for column in range(place + 1, len(left)):
-                cross = left[row][column] * left[place][place] - left[row][place] * left[place][column]
-                left[row][column] = cross // before
-        before = left[place][place]
-    return sign * before
