@@ -90,7 +90,7 @@ class Matroid:
 
     @classmethod
     def from_sage(cls, text: str) -> Matroid:
-        """The matroid of a text as `to_sage` writes it, with a column for each element. Raises `BadInput` if the text has no such matrix."""
+        """The matroid of a text as `to_sage` writes it, with a column for each element. Raises `BadInput` if it has no such matrix."""
         found = _SAGE.fullmatch(text_given("no matroid", text))
         try:
             if found is None:

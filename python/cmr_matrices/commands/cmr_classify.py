@@ -89,7 +89,7 @@ def arguments() -> argparse.Namespace:
     add("--resume", action="store_true", help="continue a table: skip the matrices that have a row in it")
     add("--part", metavar="K/N", type=part, default=(1, 1), help="take every N-th matrix, starting with the K-th")
     add("--evidence", metavar="DIR", help="keep evidence in DIR/CLASS/FILE/NUMBER.KIND")
-    add("--minors", action="store_true", help="also keep an excluded minor for each no of a class that has excluded minors")
+    add("--minors", action="store_true", help="also keep an excluded minor for each no, if the class has any")
     add("--lines", metavar="L", type=number(0, 24), help="the budget of the searches (14)")
     add("--pivots", metavar="K", type=number(0, 100), default=20, help="make up to K pivots of an open part (20)")
     add("--tries", metavar="N", type=number(0, 1000), default=0, help="ask again in N other orders of the lines (0)")
@@ -101,10 +101,10 @@ def arguments() -> argparse.Namespace:
         help="skip what the known inclusions settle; consistency is then not checked",
     )
     add("--picture", metavar="SVG", help="draw the number of matrices in each combination of classes")
-    add("--tables", action="store_true", help="each INPUT is a table, for example of a part: only combine and summarise them")
-    add("--dask", metavar="ADDRESS", help="send blocks of matrices to a Dask cluster, with the package and the program")
-    add("--worker-program", metavar="PATH", help="with --dask: the path of the program on each worker, instead of sending it")
-    add("--block", metavar="N", type=number(1, 10**6), default=16, help="the number of matrices that are sent at once (16)")
+    add("--tables", action="store_true", help="INPUT are tables, for example of parts: only summarise them")
+    add("--dask", metavar="ADDRESS", help="send blocks of matrices to a Dask cluster, with the package and program")
+    add("--worker-program", metavar="PATH", help="with --dask: the path of the program on each worker")
+    add("--block", metavar="N", type=number(1, 10**6), default=16, help="the number of matrices sent at once (16)")
     add("--program", metavar="PATH", help="the path of the program cmr")
     chosen = parser.parse_args()
     if chosen.resume and chosen.output == "-":

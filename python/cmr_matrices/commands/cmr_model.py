@@ -52,7 +52,13 @@ def arguments() -> argparse.Namespace:
     )
     add("--data", metavar="DATA", help="the file with the data of a MathProg model, if it has one")
     add("--lines", metavar="L", type=number(0, 24), help="the budget of the searches, 0 to 24 (14)")
-    add("--pivots", metavar="K", type=number(0, 100), default=20, help="make up to K pivots of an open part, 0 to 100 (20)")
+    add(
+        "--pivots",
+        metavar="K",
+        type=number(0, 100),
+        default=20,
+        help="make up to K pivots of an open part, 0 to 100 (20)",
+    )
     add(
         "--questions",
         metavar="N",

@@ -19,9 +19,7 @@ from .command import command_parser, end, read_as, write_text
 def arguments() -> argparse.Namespace:
     """The arguments of the command line."""
     parser = command_parser(__doc__)
-    parser.add_argument(
-        "edges", metavar="EDGES", nargs="?", default="-", help="the list of edges (standard input)"
-    )
+    parser.add_argument("edges", metavar="EDGES", nargs="?", default="-", help="the list of edges (standard input)")
     parser.add_argument("--names", metavar="NAMES", help="write the names of the edges, by rows and columns, to this file")
     return parser.parse_args()
 

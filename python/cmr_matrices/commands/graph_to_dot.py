@@ -19,9 +19,7 @@ from .command import command_parser, end, read_as, write_text
 def arguments() -> argparse.Namespace:
     """The arguments of the command line."""
     parser = command_parser(__doc__)
-    parser.add_argument(
-        "graph", metavar="GRAPH", nargs="?", default="-", help="the graph text (standard input)"
-    )
+    parser.add_argument("graph", metavar="GRAPH", nargs="?", default="-", help="the graph text (standard input)")
     parser.add_argument(
         "--names", metavar="NAMES", help="the names of model_to_matrix, in place of the numbers of rows and columns"
     )
