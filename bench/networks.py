@@ -21,23 +21,27 @@ The output for each text: its kind and size, its nonzeros, the shortest time of 
 command the output has only the nonzeros.
 """
 
+from __future__ import annotations
+
 import argparse
 import pathlib
 import random
 import shlex
 import tempfile
 
-from measuring import dense_text, measured, run
+from measuring import Matrix, dense_text, measured, run
+
+Path = dict[int, int]
 
 
-def recursive(size, draw):
+def recursive(size: int, draw: random.Random) -> list[Path]:
     parents = [0] + [draw.randrange(node) for node in range(1, size + 1)]
     return [path_between(parents, *draw.sample(range(size + 1), 2)) for _ in range(size)]
 
 
-def path_between(parents, tail, head):
+def path_between(parents: list[int], tail: int, head: int) -> Path:
     """The rows of a path with their entries. Each node except 0 has the arc from its parent, whose number is less."""
-    path = {}
+    path: Path = {}
     while tail != head:
         if tail > head:
             path[tail - 1] = -1
@@ -48,7 +52,7 @@ def path_between(parents, tail, head):
     return path
 
 
-def one_path(size, draw):
+def one_path(size: int, draw: random.Random) -> list[Path]:
     columns = []
     for _ in range(size):
         length = draw.randint(max(1, size // 10), max(1, size // 2))
@@ -60,7 +64,7 @@ def one_path(size, draw):
 KINDS = {"recursive": recursive, "path": one_path}
 
 
-def mixed(columns, size, draw):
+def mixed(columns: list[Path], size: int, draw: random.Random) -> Matrix:
     """The rows of the matrix, with lines negated and shuffled."""
     places = draw.sample(range(size), size)
     signs = [draw.choice((1, -1)) for _ in range(size)]
@@ -72,7 +76,7 @@ def mixed(columns, size, draw):
     return entries
 
 
-def with_entry(entries, changes, draw):
+def with_entry(entries: Matrix, changes: dict[int, int], draw: random.Random) -> Matrix:
     """The same with one entry changed to a new value, at a random position."""
     changed = [list(row) for row in entries]
     places = [(row, column) for row, line in enumerate(entries) for column, entry in enumerate(line) if entry in changes]
@@ -82,7 +86,7 @@ def with_entry(entries, changes, draw):
     return changed
 
 
-def main():
+def main() -> None:
     parser = argparse.ArgumentParser(description="Times a command on network matrices.")
     parser.add_argument("--cmd", help="the command, with {file}")
     parser.add_argument("--kinds", choices=KINDS, nargs="+", default=list(KINDS))

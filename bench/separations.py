@@ -17,13 +17,15 @@ The output for each text: its kind and size, its nonzeros, the shortest time of 
 command the output has only the nonzeros.
 """
 
+from __future__ import annotations
+
 import argparse
 import pathlib
 import random
 import shlex
 import tempfile
 
-from measuring import dense_text, measured
+from measuring import Matrix, dense_text, measured
 
 CIRCULANT = [
     [1, -1, 0, 0, -1],
@@ -34,22 +36,22 @@ CIRCULANT = [
 ]
 
 
-def parts(count):
-    entries = []
+def parts(count: int) -> Matrix:
+    entries: Matrix = []
     for block in range(count):
         before, after = [0] * (5 * block), [0] * (5 * (count - block - 1))
         entries.extend(before + row + after for row in CIRCULANT)
     return entries
 
 
-def two_sum(first, second):
+def two_sum(first: Matrix, second: Matrix) -> Matrix:
     """The rows [A ab] and [0 B] of [A a] and [b; B]."""
     left = [0] * (len(first[0]) - 1)
     upper = [row[:-1] + [row[-1] * value for value in second[0]] for row in first]
     return upper + [left + row for row in second[1:]]
 
 
-def sums(count):
+def sums(count: int) -> Matrix:
     entries = CIRCULANT
     for _ in range(count - 1):
         entries = two_sum(entries, CIRCULANT)
@@ -63,12 +65,12 @@ COUNTS = {"parts": (20, 60, 200), "sums": (5, 20, 80)}
 MOST = {"parts": 200, "sums": 249}
 
 
-def shuffled(entries, draw):
+def shuffled(entries: Matrix, draw: random.Random) -> Matrix:
     columns = draw.sample(range(len(entries[0])), len(entries[0]))
     return [[row[column] for column in columns] for row in draw.sample(entries, len(entries))]
 
 
-def main():
+def main() -> None:
     parser = argparse.ArgumentParser(description="Times a command on matrices that fall apart.")
     parser.add_argument("--cmd", help="the command, with {file}")
     parser.add_argument("--kinds", choices=KINDS, nargs="+", default=list(KINDS))
