@@ -30,7 +30,19 @@ from .errors import (
 )
 from .explained.texts import guess
 
-__all__ = ["NO", "REFUSED", "TEXT_FAULT", "UNDECIDED", "YES", "Ran", "StrPath", "fault_of", "find_program", "run", "unproved"]
+__all__ = [
+    "NO",
+    "REFUSED",
+    "TEXT_FAULT",
+    "UNDECIDED",
+    "YES",
+    "Ran",
+    "StrPath",
+    "fault_of",
+    "find_program",
+    "run",
+    "unproved",
+]
 
 StrPath = str | os.PathLike[str]
 
