@@ -30,7 +30,19 @@ from .errors import (
 )
 from .explained.texts import guess
 
-__all__ = ["NO", "REFUSED", "UNDECIDED", "YES", "Ran", "StrPath", "fault_of", "find_program", "run", "unproved"]
+__all__ = [
+    "NO",
+    "REFUSED",
+    "TEXT_FAULT",
+    "UNDECIDED",
+    "YES",
+    "Ran",
+    "StrPath",
+    "fault_of",
+    "find_program",
+    "run",
+    "unproved",
+]
 
 StrPath = str | os.PathLike[str]
 
@@ -42,7 +54,8 @@ _NOT_RUN = 126
 _CLONE = Path(__file__).resolve().parent.parent.parent
 # The prefix below which scripts/install has installed the package.
 _BESIDE = _CLONE.parent.parent / "bin" / "cmr"
-_TEXT_FAULT = re.compile(r"cmr: (?P<name>.*): (?:(?P<kind>[A-Za-z]+) at byte (?P<byte>[0-9]+)|TooLong)", re.DOTALL)
+TEXT_FAULT = re.compile(r"cmr: (?P<name>.*): (?:(?P<kind>[A-Za-z]+) at byte (?P<byte>[0-9]+)|TooLong)", re.DOTALL)
+"""The line of the program on the fault of a text."""
 
 
 @dataclass(frozen=True)
@@ -173,7 +186,7 @@ def fault_of(status: int, line: str, texts: Mapping[str, str] | None = None) -> 
         case 2:
             return BadCommandLine(status, line)
         case 3:
-            found = _TEXT_FAULT.fullmatch(line)
+            found = TEXT_FAULT.fullmatch(line)
             if found and found["kind"]:
                 byte, text = int(found["byte"]), (texts or {}).get(found["name"])
                 if text is None:

@@ -66,6 +66,8 @@ class Minors(ScriptTest):
         run = self.run_script("cmr-minor", "tu", FANO, env=settings)
         self.assertEqual((run.returncode, run.stdout), (70, ""))
         self.assertIn("the program cmr is not there", run.stderr)
+        run = self.run_script("cmr-minor", "tu", FANO, "--program", "/bin/false")
+        self.assertEqual((run.returncode, run.stdout, run.stderr.count("\n")), (70, "", 1), run.stderr)
 
     @needs_program
     def test_minors(self):

@@ -6,8 +6,8 @@
 CLASS is one of tu, regular, graphic, cographic, network, conetwork, series-parallel and binary-series-parallel.
 
 Status: 0 for a yes, 1 for a no and for a minor that is accepted, 2 if the arguments are refused, 3 if a text is refused, 4 if a file
-cannot be read or written, 5 if there is not enough memory, 6 for an undecided answer, 7 for a minor that check refuses, 70 if there is
-no program.
+cannot be read or written, 5 if there is not enough memory, 6 for an undecided answer, 7 for a minor that check refuses, 70 if the
+program is missing or fails.
 """
 
 from __future__ import annotations
@@ -17,26 +17,17 @@ import os
 import sys
 from collections.abc import Callable, Iterator
 from dataclasses import replace
-from typing import TypeVar
 
-from ..errors import BadInput, CannotRead, CannotWrite, OutOfMemory, ProgramMissing, TimeLimitReached, Undecided
+from ..errors import CmrError, TimeLimitReached, Undecided, Unreadable
 from ..excluded import CLASSES, ExcludedMinor, minor_class
 from ..lines import Line, LineSet, Names
 from ..matrix import Matrix
 from ..minors import excluded_minor
 from ..program import NO, REFUSED, UNDECIDED, YES
 from ..represented import Matroid
-from .command import command_parser, integer_between, read_text, write_text
+from .command import command_parser, integer_between, read_as, status_of, write_text
 
 __all__ = ["main"]
-
-BAD_TEXT, BAD_FILE, NO_MEMORY, NO_PROGRAM = 3, 4, 5, 70
-
-_Value = TypeVar("_Value")
-
-
-class _Unusable(Exception):
-    """A file that cannot be read or written, with the line that says so."""
 
 
 def arguments() -> argparse.Namespace:
@@ -88,8 +79,7 @@ def _asked(chosen: argparse.Namespace) -> int:
         _print([f"{kind.name}: yes"])
         return YES
     if chosen.minor:
-        text = minor.to_text()
-        _usable(lambda: write_text(chosen.minor, text))
+        write_text(chosen.minor, minor.to_text())
     _print([f"{kind.name}: no", *_lines(minor, matrix, chosen.sage)])
     return NO
 
@@ -97,7 +87,7 @@ def _asked(chosen: argparse.Namespace) -> int:
 def _checked(chosen: argparse.Namespace) -> int:
     """Checks a minor on a matrix."""
     matrix = _matrix(chosen, chosen.files[0])
-    minor = replace(_read(chosen.files[1], ExcludedMinor.from_text), names=matrix.names)
+    minor = replace(read_as(chosen.files[1], ExcludedMinor.from_text), names=matrix.names)
     fault = minor.fault(matrix)
     if fault is not None:
         _print([f"refused: {fault}"])
@@ -107,10 +97,10 @@ def _checked(chosen: argparse.Namespace) -> int:
 
 
 def _matrix(chosen: argparse.Namespace, name: str) -> Matrix:
-    matrix = _read(name, lambda text: Matrix.from_text(text, sparse=chosen.format == "sparse"))
+    matrix = read_as(name, lambda text: Matrix.from_text(text, sparse=chosen.format == "sparse"))
     if not chosen.names:
         return matrix
-    names = _read(chosen.names, Names.from_text)
+    names = read_as(chosen.names, Names.from_text)
     return Matrix.of(matrix, row_names=names.rows, column_names=names.columns)
 
 
@@ -135,29 +125,13 @@ def _numbers(lines: LineSet) -> str:
     return " ".join(["rows", *rows, "columns", *columns])
 
 
-def _read(name: str, reader: Callable[[str], _Value]) -> _Value:
-    text = _usable(lambda: read_text(name))
-    try:
-        return reader(text)
-    except BadInput as fault:
-        raise BadInput(f"{name}: {fault}") from fault
-
-
-def _usable(work: Callable[[], _Value]) -> _Value:
-    """The value of a work on a file. What is refused there is the file, and no text."""
-    try:
-        return work()
-    except BadInput as fault:
-        raise _Unusable(str(fault)) from fault
-
-
 def _print(lines: list[str]) -> None:
     try:
         write_text("-", "".join(f"{line}\n" for line in lines))
         sys.stdout.flush()
-    except (BadInput, OSError) as fault:
+    except (Unreadable, OSError) as fault:
         os.dup2(os.open(os.devnull, os.O_WRONLY), sys.stdout.fileno())
-        raise _Unusable("cannot write -") from fault
+        raise Unreadable("cannot write -") from fault
 
 
 def _say(line: str) -> None:
@@ -169,15 +143,8 @@ def main() -> int:
     chosen = arguments()
     try:
         return _checked(chosen) if chosen.of == "check" else _asked(chosen)
-    except ProgramMissing as fault:
-        status, line = NO_PROGRAM, str(fault)
-    except (_Unusable, CannotRead, CannotWrite) as fault:
-        status, line = BAD_FILE, str(fault)
-    except OutOfMemory as fault:
-        status, line = NO_MEMORY, str(fault)
-    except BadInput as fault:
-        status, line = BAD_TEXT, str(fault)
+    except CmrError as fault:
+        _say(str(fault))
+        return status_of(fault)
     except KeyboardInterrupt:
         return 130
-    _say(line)
-    return status

@@ -15,15 +15,14 @@ import os
 import sys
 from typing import Any
 
-from ..errors import BadInput, CmrError, CommandMissing, LibraryMissing, OutOfMemory, Unreadable
+from ..errors import BadInput, CmrError
 from ..program import NO, UNDECIDED, YES
 from ..reporting.report import QUESTIONS, ModelReport, model_report
-from .command import command_parser, end, integer_between, write_text, write_whole
+from .command import command_parser, end, integer_between, status_of, write_text, write_whole
 from .signals import end_if_told, end_on_signals
 
 __all__ = ["main"]
 
-BAD_MODEL, BAD_FILE, NO_MEMORY, NO_PROGRAM = 3, 4, 5, 70
 _STATUSES = {"yes": YES, "no": NO, "undecided": UNDECIDED}
 
 
@@ -135,17 +134,6 @@ def _work(chosen: argparse.Namespace, found: list[ModelReport]) -> None:
     found.append(report)
 
 
-def _status(fault: CmrError) -> int:
-    """The status of a run without an answer."""
-    if isinstance(fault, OutOfMemory):
-        return NO_MEMORY
-    if isinstance(fault, Unreadable):
-        return BAD_FILE
-    if isinstance(fault, BadInput) and not isinstance(fault, (LibraryMissing, CommandMissing)):
-        return BAD_MODEL
-    return NO_PROGRAM
-
-
 def main() -> int:
     """Runs the command, and gives its status."""
     chosen = arguments()
@@ -156,7 +144,7 @@ def main() -> int:
         try:
             _work(chosen, found)
         except CmrError as fault:
-            faults.append(_status(fault))
+            faults.append(status_of(fault))
             raise BadInput(str(fault)) from fault
 
     end_on_signals()

@@ -15,10 +15,37 @@ from collections.abc import Callable
 from pathlib import Path
 from typing import TypeVar
 
-from ..errors import BadInput, Unreadable
+from ..errors import (
+    BadInput,
+    CannotRead,
+    CannotWrite,
+    CmrError,
+    CommandMissing,
+    LibraryMissing,
+    OutOfMemory,
+    Unreadable,
+)
 from ..version import __version__
 
-__all__ = ["command_parser", "end", "integer_between", "read_as", "read_text", "words_of", "write_text", "write_whole"]
+__all__ = [
+    "BAD_FILE",
+    "BAD_TEXT",
+    "BAD_WORDS",
+    "NO_MEMORY",
+    "NO_PROGRAM",
+    "command_parser",
+    "end",
+    "integer_between",
+    "read_as",
+    "read_text",
+    "status_of",
+    "words_of",
+    "write_text",
+    "write_whole",
+]
+
+BAD_WORDS, BAD_TEXT, BAD_FILE, NO_MEMORY, NO_PROGRAM = 2, 3, 4, 5, 70
+"""The statuses of runs without an answer. The first four are those of cmr, and the last one is that of `./cmr`."""
 
 _Value = TypeVar("_Value")
 
@@ -61,6 +88,17 @@ def end(work: Callable[[], None]) -> int:
         os.dup2(os.open(os.devnull, os.O_WRONLY), sys.stdout.fileno())
         return 1
     return 0
+
+
+def status_of(fault: CmrError) -> int:
+    """The status of a run that ends without an answer because of a fault."""
+    if isinstance(fault, OutOfMemory):
+        return NO_MEMORY
+    if isinstance(fault, (Unreadable, CannotRead, CannotWrite)):
+        return BAD_FILE
+    if isinstance(fault, BadInput) and not isinstance(fault, (LibraryMissing, CommandMissing)):
+        return BAD_TEXT
+    return NO_PROGRAM
 
 
 def words_of(fault: OSError) -> str:

@@ -9,7 +9,6 @@ Files: why they cannot be read or written. A run that would overwrite a file tha
 from __future__ import annotations
 
 import os
-import re
 import subprocess
 import sys
 import warnings
@@ -21,13 +20,11 @@ from ..explained.answers import refused, undecided
 from ..explained.faults import text_fault
 from ..explained.files import before_the_run, cannot_read, cannot_write, written_inputs
 from ..explained.words import TOOLS, Order, Tool, WordFault, asks_for_help, asks_for_version, read_words
-from ..program import REFUSED, UNDECIDED, find_program, unproved
+from ..program import REFUSED, TEXT_FAULT, UNDECIDED, find_program, unproved
 from ..version import __version__
+from .command import BAD_FILE, BAD_TEXT, BAD_WORDS, NO_MEMORY, NO_PROGRAM
 
 __all__ = ["main"]
-
-_TEXT_FAULT = re.compile(r"cmr: (?P<name>.*): (?:(?P<kind>[A-Za-z]+) at byte (?P<byte>[0-9]+)|TooLong)", re.DOTALL)
-_BAD_WORDS, _BAD_TEXT, _BAD_FILE, _NO_MEMORY, _NO_PROGRAM = 2, 3, 4, 5, 70
 
 
 def _say(lines: Iterable[str]) -> None:
@@ -71,7 +68,7 @@ def _run(words: list[str]) -> int:
     if isinstance(order, Order):
         if over := written_inputs(order):
             _say([*over, "nothing was run"])
-            return _BAD_WORDS
+            return BAD_WORDS
         _say(before_the_run(order, at_terminal=sys.stdin is not None and sys.stdin.isatty()))
         if "-" in order.inputs.values() and sys.stdin is not None:
             data = sys.stdin.buffer.read()
@@ -91,28 +88,28 @@ def _run(words: list[str]) -> int:
     except OSError as fault:
         _say([f"standard output cannot be written: {fault.strerror}"])
         os.dup2(os.open(os.devnull, os.O_WRONLY), sys.stdout.fileno())
-        return _BAD_FILE
+        return BAD_FILE
     line = ran.stderr.decode("utf-8", "surrogateescape").rstrip("\n")
     _say(_explained(order, status, line, ran.stdout.decode("ascii", "replace").splitlines(), data))
     return status
 
 
 def _explained(order: Order | WordFault, status: int, line: str, lines: list[str], data: bytes) -> Iterator[str]:
-    if status == _BAD_WORDS:
+    if status == BAD_WORDS:
         yield from _of_words(order)
     elif status > 128:
         yield f"the program was ended by signal {status - 128}; use none of the files that it was to write"
-    elif status == _NO_MEMORY:
+    elif status == NO_MEMORY:
         yield "the system refused memory, and nothing was written: `ulimit -v` shows the limit"
     elif isinstance(order, WordFault):
         return
-    elif status == _BAD_TEXT and (found := _TEXT_FAULT.fullmatch(line)):
+    elif status == BAD_TEXT and (found := TEXT_FAULT.fullmatch(line)):
         byte = int(found["byte"]) if found["byte"] else None
         texts = _texts(order, data) | {found["name"]: _text(found["name"], data)}
         yield from text_fault(order, found["name"], texts, found["kind"] or "TooLong", byte)
-    elif status == _BAD_FILE and line.startswith("cmr: cannot read "):
+    elif status == BAD_FILE and line.startswith("cmr: cannot read "):
         yield from cannot_read(line.removeprefix("cmr: cannot read "))
-    elif status == _BAD_FILE and line.startswith("cmr: cannot write "):
+    elif status == BAD_FILE and line.startswith("cmr: cannot write "):
         yield from cannot_write(line.removeprefix("cmr: cannot write "))
     elif status == UNDECIDED:
         yield from undecided(order, lines)
@@ -151,6 +148,6 @@ def main() -> int:
         return _run(sys.argv[1:])
     except ProgramMissing as fault:
         _say([str(fault)])
-        return _NO_PROGRAM
+        return NO_PROGRAM
     except KeyboardInterrupt:
         return 130
