@@ -89,7 +89,7 @@ class Finding(Folder):
         self.assertEqual(find_program(), built)
 
     def test_a_package_in_a_folder_next_to_the_root(self) -> None:
-        """As `pip install --target /tmp/packages` makes it."""
+        """As `pip install --target FOLDER` makes it."""
         shutil.copytree(TOP / "python" / "cmr_matrices", self.folder / "cmr_matrices")
         words = [sys.executable, "-c", "import cmr_matrices; print(cmr_matrices.__file__)"]
         ran = subprocess.run(words, cwd=self.folder, capture_output=True, text=True, check=False)
