@@ -5,8 +5,8 @@ use Rattle.std.proofs.lemmas.Bool.{false≢true}
 use Rattle.cmr_base.specs.Members.{IsIn}
 use Rattle.cmr_base.specs.Sums.{sum_over}
 use Rattle.cmr_base.proofs.Integers.{sums}
-use Rattle.cmr_base.proofs.Members.{sum_over_members, rising_distinct}
-use Rattle.cmr_base.proofs.RisingLists.{RisesIn}
+use Rattle.cmr_base.proofs.Members.{sum_over_members, increasing_are_distinct}
+use Rattle.cmr_base.proofs.IncreasingLists.{RisesIn}
 use Rattle.cmr_base.proofs.RowLists.{eq_of, filter_in, in_filter, is_eq, is_ne, ne_of}
 use Rattle.balance.proofs.FilterSums.{sum_empty, rises-part}
 
@@ -48,8 +48,8 @@ pub not_added : (q : ℕ → Bool) (c j : ℕ) → q j ≡ false → j ≢ c →
 not_added q c j e f = ap (λ b. either b (nat_eq j c)) e ∙ is_ne j c f
 
 pub sum_added : (q : ℕ → Bool) (c high : ℕ) (xs : List ℕ) (f : ℕ → ℤ) → RisesIn 0 high xs → IsIn c xs → q c ≡ false → sum_over (filter (added q c) xs) f ≡ f c +ℤ sum_over (filter q xs) f
-sum_added q c high xs f rises there out = sum_over_members (filter (added q c) xs) (c ∷ filter q xs) f (rising_distinct 0 high (filter (added q c) xs) (rises-part (added q c) 0 high xs rises))
-    ((λ h. false≢true (sym out ∙ (in_filter q c xs h).1)), rising_distinct 0 high (filter q xs) (rises-part q 0 high xs rises)) to from
+sum_added q c high xs f rises there out = sum_over_members (filter (added q c) xs) (c ∷ filter q xs) f (increasing_are_distinct 0 high (filter (added q c) xs) (rises-part (added q c) 0 high xs rises))
+    ((λ h. false≢true (sym out ∙ (in_filter q c xs h).1)), increasing_are_distinct 0 high (filter q xs) (rises-part q 0 high xs rises)) to from
   where
     to : (x : ℕ) → IsIn x (filter (added q c) xs) → (x ≡ c) ⊎ IsIn x (filter q xs)
     to x h = let k = in_filter (added q c) x xs h in elim (added_true q c x k.1) [ inl e ↦ inr (filter_in q x xs k.0 e) | inr e ↦ inl e ]

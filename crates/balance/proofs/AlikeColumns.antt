@@ -12,7 +12,7 @@ use Rattle.ghouila.proofs.Cycles.{four_or_two}
 use Rattle.cmr_base.proofs.Lists.{all_of}
 use Rattle.cmr_base.proofs.Members.{all_in}
 use Rattle.cmr_base.proofs.Parity.{IsFour, even-add, four-double, two_mod_four_not_four}
-use Rattle.cmr_base.proofs.RisingLists.{row_set_rises, column_set_rises, rising_column_set, rising_below}
+use Rattle.cmr_base.proofs.IncreasingLists.{row_set_rises, column_set_rises, increasing_column_set, increasing_below}
 use Rattle.cmr_base.proofs.RowLists.{in_filter, search_rows}
 use Rattle.cmr_base.proofs.SumLaws.{sum_over_same, sum_over-add, sum_over-exchange}
 use Rattle.cmr_base.proofs.Booleans.{not_is, is_zero, zero_is}
@@ -176,13 +176,13 @@ module _ (m : Matrix) (small : (i j : ℕ) → IsEntry (entry m i j)) (R C : Lis
   -- two columns that are a fault on the rows that they join
   two_columns : (w c r : ℕ) → w < m.width → IsCandidate m R w → (j : Joins w) → IsIn c C → IsSign (entry m j.u c) → IsSign (entry m j.v c) → w ≢ c → IsTwoModFour (sum_over R (λ i. entry m i w) +ℤ sum_over R (λ i. entry m i c)) → IsIn r R → r ≢ j.u → r ≢ j.v → ⊥
   two_columns w c r w_in is j c_in s t apart two r_in r_u r_v = no_lesser m small R C row_set column_set f before (added (only j.u) j.v) (with_line w (c ∷ [])) r r_in (not_added (only j.u) j.v r (not_added (λ i. false) j.u r refl r_u) r_v)
-      (rising_column_set m (with_line w (c ∷ [])) (rises-with_line 0 m.width w (c ∷ []) out (omega arith) w_in (omega arith, below, tt))) rows
+      (increasing_column_set m (with_line w (c ∷ [])) (rises-with_line 0 m.width w (c ∷ []) out (omega arith) w_in (omega arith, below, tt))) rows
       (all_in (λ k. sum_over (filter (added (only j.u) j.v) R) (λ i. mark (entry m i k)) ≡ pos 2) (with_line w (c ∷ [])) (all-with_line (λ k. sum_over (filter (added (only j.u) j.v) R) (λ i. mark (entry m i k)) ≡ pos 2) w (c ∷ [])
       (column w is j.at_u j.at_v) (column c (fault_column c c_in) s t, tt)))
       (subst IsTwoModFour (sym total) two)
     where
       below : c < m.width
-      below = all_in (λ x. x < m.width) C (rising_below 0 m.width C (column_set_rises m C column_set)) c c_in
+      below = all_in (λ x. x < m.width) C (increasing_below 0 m.width C (column_set_rises m C column_set)) c c_in
 
       out : IsIn w (c ∷ []) → ⊥
       out (inl e) = apart e

@@ -5,8 +5,8 @@ use Rattle.cmr_base.specs.Matrix.{Matrix, height, entry, IsMatrix}
 use Rattle.cmr_base.specs.LineSets.{set_number, set_numbered}
 use Rattle.cmr_base.specs.Members.{IsIn}
 use Rattle.cmr_base.proofs.Integers.{sums}
-use Rattle.cmr_base.proofs.Members.{rising_distinct, sum_over_members}
-use Rattle.cmr_base.proofs.RisingLists.{RisesIn, column_set_rises}
+use Rattle.cmr_base.proofs.Members.{increasing_are_distinct, sum_over_members}
+use Rattle.cmr_base.proofs.IncreasingLists.{RisesIn, column_set_rises}
 use Rattle.cmr_base.proofs.SetNumbers.{number_of_numbered, numbered_same, row_set-numbered}
 use Rattle.first_hit.specs.First.{NoneBetween}
 use Rattle.balance.specs.BalanceFaults.{IsBalanced, IsBalanceFault, HasNoFaultColumns, IsLeastFaultByRows}
@@ -15,10 +15,10 @@ use Rattle.balance.specs.SearchedFaults.{HasNoFaultBelow}
 use Rattle.balance.proofs.FaultSets.{none_more, none_at_all, least_found}
 use Rattle.balance.proofs.KeptColumns.{kept_fault, kept_least, sum_number}
 
--- rising lists with the same members are one list
+-- increasing lists with the same members are one list
 same_set : (high : ℕ) (xs ys : List ℕ) → RisesIn 0 high xs → RisesIn 0 high ys → ((x : ℕ) → IsIn x xs ↔ IsIn x ys) → xs ≡ ys
 same_set high xs ys r s same =
-    let sum = sum_over_members xs ys (λ x. pos (2 ^ x)) (rising_distinct 0 high xs r) (rising_distinct 0 high ys s) (λ x. (same x).0) (λ x. (same x).1) in
+    let sum = sum_over_members xs ys (λ x. pos (2 ^ x)) (increasing_are_distinct 0 high xs r) (increasing_are_distinct 0 high ys s) (λ x. (same x).0) (λ x. (same x).1) in
     let number : set_number xs ≡ set_number ys = let a = sum_number xs in let b = sum_number ys in omega (arith, sums) in
     sym (numbered_same high xs r) ∙ ap (set_numbered high 0) number ∙ numbered_same high ys s
 

@@ -4,7 +4,7 @@ use Rattle.std.proofs.lemmas.Bool.{cases_lt}
 use Rattle.cmr_base.specs.Matrix.{Matrix, height, entry, transposed, IsMatrix}
 use Rattle.cmr_base.specs.LineSets.{set_number, set_numbered}
 use Rattle.cmr_base.specs.Sums.{IsTwoModFour}
-use Rattle.cmr_base.proofs.RisingLists.{row_set_rises}
+use Rattle.cmr_base.proofs.IncreasingLists.{row_set_rises}
 use Rattle.cmr_base.proofs.SetNumbers.{number_of_numbered, numbered_same, row_set-numbered, set_number-lt}
 use Rattle.cmr_base.proofs.SumLaws.{sum_over-exchange}
 use Rattle.cmr_base.proofs.TransposedLemmas.{entries-transposed, row_set-transposed, column_set_from_transposed, column_set-transposed, row_set_from_transposed}

@@ -9,7 +9,7 @@ use Rattle.cmr_base.specs.LineSets.{set_number}
 use Rattle.cmr_base.specs.Members.{IsIn}
 use Rattle.cmr_base.specs.Sums.{sum_over}
 use Rattle.cmr_base.proofs.Integers.{sums}
-use Rattle.cmr_base.proofs.RisingLists.{RisesIn, rises_from_lower}
+use Rattle.cmr_base.proofs.IncreasingLists.{RisesIn, rises_from_lower}
 
 split_one : (b : Bool) (x : ℕ) (ys zs : List ℕ) (f : ℕ → ℤ) (total : ℤ) → sum_over ys f +ℤ sum_over zs f ≡ total → sum_over (cond b (x ∷ ys) ys) f +ℤ sum_over (cond (not b) (x ∷ zs) zs) f ≡ f x +ℤ total
 split_one true x ys zs f total e = omega (arith, sums)

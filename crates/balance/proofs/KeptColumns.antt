@@ -8,10 +8,10 @@ use Rattle.cmr_base.specs.LineSets.{IsRowSet, IsColumnSet, set_number}
 use Rattle.cmr_base.specs.Members.{IsIn, IsDistinct}
 use Rattle.cmr_base.specs.Sums.{sum_over, IsEven, IsTwoModFour}
 use Rattle.cmr_base.proofs.Integers.{sums}
-use Rattle.cmr_base.proofs.Members.{all_in, all_of_members, rising_distinct}
+use Rattle.cmr_base.proofs.Members.{all_in, all_of_members, increasing_are_distinct}
 use Rattle.cmr_base.proofs.Parity.{IsFour, even-add, two_mod_four_not_four}
 use Rattle.ghouila.proofs.Cycles.{four_or_two}
-use Rattle.cmr_base.proofs.RisingLists.{RisesIn, column_set_rises, rising_below}
+use Rattle.cmr_base.proofs.IncreasingLists.{RisesIn, column_set_rises, increasing_below}
 use Rattle.cmr_base.proofs.RowLists.{filter_in, in_filter}
 use Rattle.cmr_base.proofs.SumLaws.{sum_over-exchange}
 use Rattle.cmr_base.proofs.Booleans.{not_is}
@@ -115,7 +115,7 @@ module _ (m : Matrix) (small : (i j : ℕ) → IsEntry (entry m i j)) (R C : Lis
   fault_candidate = fault_column m small R C row_set column_set f before
 
   inside : (c : ℕ) → IsIn c C → c < m.width
-  inside = all_in (λ x. x < m.width) C (rising_below 0 m.width C (column_set_rises m C column_set))
+  inside = all_in (λ x. x < m.width) C (increasing_below 0 m.width C (column_set_rises m C column_set))
 
   like_itself : (c : ℕ) → IsIn c C → Like c c
   like_itself c h = go (alike m small R C row_set column_set f before c (inside c h) (fault_candidate c h))
@@ -179,7 +179,7 @@ module _ (m : Matrix) (small : (i j : ℕ) → IsEntry (entry m i j)) (R C : Lis
   }
 
   distinct : IsDistinct K
-  distinct = rising_distinct 0 m.width K (column_set_rises m K kept.column_set)
+  distinct = increasing_are_distinct 0 m.width K (column_set_rises m K kept.column_set)
 
   -- the kept columns are a fault too
   pub kept_fault : IsBalanceFault (entry m) R K

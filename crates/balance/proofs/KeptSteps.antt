@@ -94,7 +94,7 @@ below_width m rows bound columns b k l = ((b.members (get_or columns k 0)).0 (in
 
 pub one_kept : (m : Matrix) (rows : List ℕ) (x : ℕ) (list list2 : List ℕ) → AreKeptBelow m rows x list → IsLeastAlike m rows x → list2 ≡ list ++ x ∷ [] → AreKeptBelow m rows (x + 1) list2
 one_kept m rows x list list2 b p e = rw e (record {
-  rising = increasing-append list x b.rising (λ y h. ((b.members y).0 h).0);
+  increasing = increasing-append list x b.increasing (λ y h. ((b.members y).0 h).0);
   members = λ y. (
     (λ h. elim ((in-append list x y).0 h) [ inl g ↦ let w = (b.members y).0 g in (let l = w.0 in omega arith, w.1) | inr q ↦ (omega arith, subst (IsLeastAlike m rows) (sym q) p) ]),
     (λ w. (in-append list x y).1 (elim (cases_eq y x) [ inl q ↦ inr q | inr d ↦ inl ((b.members y).1 (let l = w.0 in omega arith, w.1)) ])),
@@ -103,7 +103,7 @@ one_kept m rows x list list2 b p e = rw e (record {
 
 pub one_left_out : (m : Matrix) (rows : List ℕ) (x : ℕ) (list list2 : List ℕ) → AreKeptBelow m rows x list → (IsLeastAlike m rows x → ⊥) → list2 ≡ list → AreKeptBelow m rows (x + 1) list2
 one_left_out m rows x list list2 b p e = rw e (record {
-  rising = b.rising;
+  increasing = b.increasing;
   members = λ y. (
     (λ h. let w = (b.members y).0 h in (let l = w.0 in omega arith, w.1)),
     (λ w. (b.members y).1 (elim (cases_eq y x) [ inl q ↦ absurd (p (subst (IsLeastAlike m rows) q w.1)) | inr d ↦ (let l = w.0 in omega arith) ], w.1)),
@@ -112,7 +112,7 @@ one_left_out m rows x list list2 b p e = rw e (record {
 
 pub all_kept : (m : Matrix) (rows : List ℕ) (x : ℕ) (columns : List ℕ) → m.width ≤ x → AreKeptBelow m rows x columns → AreKept m rows columns
 all_kept m rows x columns l b = record {
-  column_set = record { rising = b.rising; in_range = below_width m rows x columns b };
+  column_set = record { increasing = b.increasing; in_range = below_width m rows x columns b };
   members = λ y. ((λ h. ((b.members y).0 h).1), (λ w. (b.members y).1 (let i = w.column_in in omega arith, w)));
 }
 

@@ -11,7 +11,7 @@ use Rattle.cmr_base.proofs.Integers.{sums}
 use Rattle.cmr_base.proofs.Lists.{all_of}
 use Rattle.cmr_base.proofs.Members.{all_in, all_of_members}
 use Rattle.cmr_base.proofs.Parity.{IsFour, even-sum_over, four-double, two_mod_four-add}
-use Rattle.cmr_base.proofs.RisingLists.{row_set_rises, column_set_rises, rising_row_set, rising_column_set}
+use Rattle.cmr_base.proofs.IncreasingLists.{row_set_rises, column_set_rises, increasing_row_set, increasing_column_set}
 use Rattle.cmr_base.proofs.RowLists.{filter_in, in_filter}
 use Rattle.cmr_base.proofs.SumLaws.{sum_over_same, sum_over-add, sum_over-exchange}
 use Rattle.cmr_base.proofs.Booleans.{not_is, not_false}
@@ -41,7 +41,7 @@ module _ (m : Matrix) (small : (i j : ℕ) → IsEntry (entry m i j)) (R C : Lis
   -- there is no fault on a part of the rows
   pub no_lesser : (p : ℕ → Bool) (D : List ℕ) (r : ℕ) → IsIn r R → p r ≡ false → IsColumnSet m D → ((i : ℕ) → IsIn i R → p i ≡ true → sum_over D (λ j. mark (entry m i j)) ≡ pos 2)
       → ((j : ℕ) → IsIn j D → sum_over (filter p R) (λ i. mark (entry m i j)) ≡ pos 2) → IsTwoModFour (sum_over (filter p R) (λ i. sum_over D (λ j. entry m i j))) → ⊥
-  no_lesser p D r there out is rows columns two = before (filter p R) (rising_row_set m (filter p R) (rises-part p 0 (height m) R (row_set_rises m R row_set))) (number_less p R r there out) D is (record {
+  no_lesser p D r there out is rows columns two = before (filter p R) (increasing_row_set m (filter p R) (rises-part p 0 (height m) R (row_set_rises m R row_set))) (number_less p R r there out) D is (record {
     two_in_rows = all_of_members (λ i. row_nonzeros (entry m) D i ≡ 2) (filter p R) (λ i h. let k = in_filter p i R h in two_from_sum (λ j. entry m i j) D (rows i k.0 k.1));
     two_in_columns = all_of_members (λ j. column_nonzeros (entry m) (filter p R) j ≡ 2) D (λ j h. two_from_sum (λ i. entry m i j) (filter p R) (columns j h));
     two_mod_four = two;
@@ -65,7 +65,7 @@ module _ (m : Matrix) (small : (i j : ℕ) → IsEntry (entry m i j)) (R C : Lis
 
   -- a part with its sum is a fault
   pub part_no_fault : (p q : ℕ → Bool) → IsClosed p q → (r : ℕ) → IsIn r R → p r ≡ false → IsTwoModFour (sum_over (filter p R) (λ i. sum_over (filter q C) (λ j. entry m i j))) → ⊥
-  part_no_fault p q c r there out two = no_lesser p (filter q C) r there out (rising_column_set m (filter q C) (rises-part q 0 m.width C (column_set_rises m C column_set)))
+  part_no_fault p q c r there out two = no_lesser p (filter q C) r there out (increasing_column_set m (filter q C) (rises-part q 0 m.width C (column_set_rises m C column_set)))
       (λ i h e. part_rows p q c mark mark_zero i h e ∙ rows_two i h)
       (λ j h. let k = in_filter q j C h in part_columns p q c j k.0 k.1) two
 
@@ -296,7 +296,7 @@ module _ (m : Matrix) (small : (i j : ℕ) → IsEntry (entry m i j)) (R C : Lis
 
   module _ (w : ℕ) (w_in : w < m.width) (w_out : ¬ (IsIn w C)) (two_w : sum_over R (λ i. mark (entry m i w)) ≡ pos 2) where
     arc_set : (q : ℕ → Bool) → IsColumnSet m (with_line w (filter q C))
-    arc_set q = rising_column_set m (with_line w (filter q C)) (rises-with_line 0 m.width w (filter q C) (λ h. w_out (in_filter q w C h).0) (omega arith) w_in (rises-part q 0 m.width C (column_set_rises m C column_set)))
+    arc_set q = increasing_column_set m (with_line w (filter q C)) (rises-with_line 0 m.width w (filter q C) (λ h. w_out (in_filter q w C h).0) (omega arith) w_in (rises-part q 0 m.width C (column_set_rises m C column_set)))
 
     record IsArc (p q : ℕ → Bool) : Type 0 where
       at_w : (i : ℕ) → IsIn i R → p i ≡ false → entry m i w ≡ pos 0

@@ -30,7 +30,7 @@ pub record AreKept (m : Matrix) (rows columns : List ℕ) : Type 0 where
 
 -- these are the least alike before a column
 pub record AreKeptBelow (m : Matrix) (rows : List ℕ) (bound : ℕ) (columns : List ℕ) : Type 0 where
-  pub rising : IsStrictlyIncreasing columns
+  pub increasing : IsStrictlyIncreasing columns
   pub members : (column : ℕ) → IsIn column columns ↔ ((column < bound) × IsLeastAlike m rows column)
 
 -- the columns that are kept make a fault with these rows

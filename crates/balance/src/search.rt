@@ -10,7 +10,7 @@ use std::alloc::Global;
 use std::thread::Threads;
 
 /// The least fault of a matrix whose shorter side has at most `limit` lines (Truemper's balanced matrices have none).
-/// The sets of the shorter side, rows in a tie, are asked by rising number; the least that makes a fault with some set
+/// The sets of the shorter side, rows in a tie, are asked by increasing number; the least that makes a fault with some set
 /// of the other side has its least one there. The answer is the same for every number of workers. The time doubles
 /// with each line of the shorter side.
 pub fn least_balance_fault<R: Threads + Sync>(

@@ -22,7 +22,7 @@ is_the_number : (a : ℕ) (o : Option ℕ) → is_number a o ≡ true → o ≡ 
 is_the_number a None e = cc
 is_the_number a (Some n) e = ap Some (eqb-true n a e)
 
--- the first of a rising list is its least
+-- the first of a increasing list is its least
 pub first_least : (xs : List ℕ) → IsStrictlyIncreasing xs → (x : ℕ) → IsIn x xs → get_or xs 0 0 ≤ x
 first_least xs rises x h = go (place_is x xs h)
   where
@@ -56,8 +56,8 @@ module _ (M : ℕ → ℕ → Bool) (S : List ℕ) (i : ℕ) (rises : IsStrictly
       let e = is_the_number a (number_at numbers k) r.1 in
       (r.0, (λ q. no_number (number_at numbers i) a n.own (ap (number_at numbers) (sym q) ∙ e)), e)
 
-  rising_part : (a : ℕ) → a < count → IsStrictlyIncreasing (get_or (numbered_parts numbers S count) a [])
-  rising_part a l = subst IsStrictlyIncreasing (sym (at_number a l)) (IsStrictlyIncreasing-filter (λ row. is_number a (number_at numbers row)) S rises)
+  increasing_part : (a : ℕ) → a < count → IsStrictlyIncreasing (get_or (numbered_parts numbers S count) a [])
+  increasing_part a l = subst IsStrictlyIncreasing (sym (at_number a l)) (IsStrictlyIncreasing-filter (λ row. is_number a (number_at numbers row)) S rises)
 
   filled_part : (a : ℕ) → a < count → 0 < length (get_or (numbered_parts numbers S count) a [])
   filled_part a l = let f = n.filled a l in some_in f.0 (get_or (numbered_parts numbers S count) a []) (in_part a f.0 l f.1 f.3)
@@ -72,13 +72,13 @@ module _ (M : ℕ → ℕ → Bool) (S : List ℕ) (i : ℕ) (rises : IsStrictly
         let q = part_in b k (low b lb) hk in
         ne (same_number (number_at numbers k) a b (sym (linked_number j k p.0 q.0 p.1 q.1 link) ∙ p.2) q.2);
     filled = λ a l. filled_part a (low a l);
-    rising = λ a l. rising_part a (low a l);
+    increasing = λ a l. increasing_part a (low a l);
     ordered = λ a b l lb.
         let B = get_or (numbered_parts numbers S count) b [] in
         let q = part_in b (get_or B 0 0) (low b lb) (in_at B 0 (filled_part b (low b lb))) in
         let r = n.ordered (get_or B 0 0) a b q.2 l in
         let la : a < count = let m = low b lb in omega arith in
-        let m = first_least (get_or (numbered_parts numbers S count) a []) (rising_part a la) r.0 (in_part a r.0 la r.1 r.3) in
+        let m = first_least (get_or (numbered_parts numbers S count) a []) (increasing_part a la) r.0 (in_part a r.0 la r.1 r.3) in
         let s = r.4 in omega arith;
   }
     where

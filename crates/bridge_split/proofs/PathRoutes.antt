@@ -22,8 +22,8 @@ module _ (D : ℕ → ℕ → Bool) (count : ℕ) where
         odd : (m n : ℕ) → n ≡ m → (1 + m + n) % 2 ≡ 1
         odd m n e = omega arith
 
-    pub route_front : (before mid after : List ℕ) (x k y : ℕ) → mid ≡ before ++ x ∷ [] → HasRoute D count depth mid after k y → x < count → D x k ≡ true → depth x ≡ suc (depth k) → HasRoute D count depth before after x y
-    route_front before mid after x k y e h l join deeper = record {
+    pub route_prefix : (before mid after : List ℕ) (x k y : ℕ) → mid ≡ before ++ x ∷ [] → HasRoute D count depth mid after k y → x < count → D x k ≡ true → depth x ≡ suc (depth k) → HasRoute D count depth before after x y
+    route_prefix before mid after x k y e h l join deeper = record {
       rest = x ∷ h.rest;
       appended = h.appended ∙ ap (λ (v : List ℕ). v ++ h.rest) e ∙ append_assoc before (x ∷ []) h.rest;
       route = route_begin x k y h.rest h.route l join (λ q. let f = ap depth q in omega arith);

@@ -35,7 +35,7 @@ impl PartWalk {
     /// Numbers the parts of the rows but `row`, by their first rows, and says how many there are.
     pub fn number_parts(&mut self, matrix: &Matrix, rows: &[u32], row: u32) -> u32
         requires rows { AllBelow (height matrix.now) rows.now }
-        requires rising { IsStrictlyIncreasing rows.now }
+        requires increasing { IsStrictlyIncreasing rows.now }
         requires row { IsIn row rows.now }
         requires room { HasPartRoom matrix.now self.old.part.items self.old.reached.items }
         ensures room { HasPartRoom matrix.now self.new.part.items self.new.reached.items }
@@ -72,7 +72,7 @@ impl PartWalk {
     // Meets all rows that are linked to the one at `place`.
     fn walk_from(&mut self, matrix: &Matrix, rows: &[u32], row: u32, place: usize, number: u32)
         requires rows { AllBelow (height matrix.now) rows.now }
-        requires rising { IsStrictlyIncreasing rows.now }
+        requires increasing { IsStrictlyIncreasing rows.now }
         requires row { row < height matrix.now }
         requires place { place < length rows.now }
         requires numbering { IsBetweenParts matrix.now rows.now row number place self.old.part.items

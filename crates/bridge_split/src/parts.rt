@@ -15,7 +15,7 @@ pub fn parts_of_numbers(
     count: u32,
 ) -> Result<PartList, Memory>
     requires rows { AllBelow (length part.now) rows.now }
-    requires rising { IsStrictlyIncreasing rows.now }
+    requires increasing { IsStrictlyIncreasing rows.now }
     ensures { IfOk result (λ parts. parts ≡ numbered_parts part.now rows.now count) }
 {
     let mut parts = PartList::new(alloc);
@@ -32,7 +32,7 @@ fn rows_of_part(
     number: u32,
 ) -> Result<Indices, Memory>
     requires rows { AllBelow (length part.now) rows.now }
-    requires rising { IsStrictlyIncreasing rows.now }
+    requires increasing { IsStrictlyIncreasing rows.now }
     ensures { IfOk result (λ of_part. of_part ≡ numbered_rows part.now rows.now number) }
 {
     let mut of_part = Indices::new(alloc);

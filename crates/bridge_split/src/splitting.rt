@@ -70,7 +70,7 @@ pub fn first_splitting_row(
     untested: u32,
 ) -> Result<Option<SplitRow>, Memory>
     requires rows { AllBelow (height matrix.now) rows.now }
-    requires rising { IsStrictlyIncreasing rows.now }
+    requires increasing { IsStrictlyIncreasing rows.now }
     requires tested { (row : ℕ) → row < untested → ¬ (Splits (support matrix.now) rows.now row) }
     ensures { IfOk result (λ found. MatchOption found
         ((row : ℕ) → ¬ (Splits (support matrix.now) rows.now row))

@@ -15,8 +15,8 @@ use Rattle.cmr_base.proofs.Integers.{sums, products}
 use Rattle.cmr_base.proofs.Lists.{get_or-replicated}
 use Rattle.cmr_base.proofs.Parity.{even-sum_over, even_by_difference}
 use Rattle.cmr_base.proofs.SumLaws.{sum_over-sub}
-use Rattle.cmr_base.proofs.Members.{all_in, all_of_members, rising_distinct}
-use Rattle.cmr_base.proofs.RisingLists.{row_set_rises, column_set_rises}
+use Rattle.cmr_base.proofs.Members.{all_in, all_of_members, increasing_are_distinct}
+use Rattle.cmr_base.proofs.IncreasingLists.{row_set_rises, column_set_rises}
 use Rattle.cmr_base.proofs.RowLists.{is_eq, is_ne}
 use Rattle.cmr_base.proofs.Entries.{no_minus}
 use Rattle.ghouila.proofs.SignedSums.{zero_or_sign}
@@ -233,7 +233,7 @@ module _ (a : Matrix) (is : IsTernary a) (binary : IsBinary a) (lines : LineSet)
       }
       go (inl four) again = again (more_matched a s (with_entry s r c v) N r c v (one_more a s is.rectangular f r c v rule.here.one)
           (sym (one_more a s is.rectangular f r c v rule.here.one).here ∙ sign_four (sum_over cycle.rows (λ i. sum_over cycle.columns (λ j. entry (with_entry s r c v) i j))) (sum_over cycle.rows (λ i. sum_over cycle.columns (λ j. N i j))) (entry (with_entry s r c v) r c) (N r c)
-          (one_entry (entry (with_entry s r c v)) N cycle.rows cycle.columns r c (rising_distinct 0 (height a) cycle.rows (row_set_rises a cycle.rows rule.row_set)) (rising_distinct 0 a.width cycle.columns (column_set_rises a cycle.columns rule.column_set)) rule.row_in rule.column_in equal)
+          (one_entry (entry (with_entry s r c v)) N cycle.rows cycle.columns r c (increasing_are_distinct 0 (height a) cycle.rows (row_set_rises a cycle.rows rule.row_set)) (increasing_are_distinct 0 a.width cycle.columns (column_set_rises a cycle.columns rule.column_set)) rule.row_in rule.column_in equal)
           rule.four four (subst IsSign (sym (one_more a s is.rectangular f r c v rule.here.one).here) rule.is_sign) (sign_of a s N m r c rule.here.one))
           m)
 
@@ -262,8 +262,8 @@ chains_mean_violators a m signs sized binary is sound small support free =
     (record { small = small.small; support = support.zeros_same; same = λ i j h. absurd (h (entry-unsigned a i j)) })
     (no_labels (unsigned a) (entry-unsigned a)) sound.steps sound.violator in
     free found.rows found.columns
-    (record { rising = found.row_set.rising; in_range = λ k h. let l = found.row_set.in_range k h in let e = support.height_same in omega arith })
-    (record { rising = found.column_set.rising; in_range = λ k h. let l = found.column_set.in_range k h in let e = support.width_same in omega arith })
+    (record { increasing = found.row_set.increasing; in_range = λ k h. let l = found.row_set.in_range k h in let e = support.height_same in omega arith })
+    (record { increasing = found.column_set.increasing; in_range = λ k h. let l = found.column_set.in_range k h in let e = support.width_same in omega arith })
     found.violator
 
 pub chains_refute_regularity : ChainsRefuteRegularity

@@ -1,4 +1,4 @@
--- The lines of a cycle as rising lists.
+-- The lines of a cycle as increasing lists.
 use Rattle.std.proofs.Common.{ℕ, suc, ◌+◌, ◌-◌, ◌∙◌, nat_lt, Bool, true, false, cond, None, ap, List, [], ◌∷◌, ◌++◌, ◌≡◌, ◌<◌, ◌≤◌, Option, Some, MatchOption, length, get_or, drop, ◌⊎◌, inl, inr, sym, arith, subst}
 use Rattle.std.proofs.lemmas.Bool.{cases_eq, cases_lt}
 use Rattle.std.proofs.lemmas.Bool.Decides.{nat_tests}
@@ -33,7 +33,7 @@ above P x list b k l = ((b.members (get_or list k 0)).0 (in_at list k l)).0
 
 pub pushed : (P : ℕ → Type 0) (x : ℕ) (list list2 : List ℕ) → IsBuilt P x list → P x → list2 ≡ list ++ x ∷ [] → IsBuilt P (x + 1) list2
 pushed P x list list2 b p e = rw e (record {
-  rising = increasing-append list x b.rising (λ y h. ((b.members y).0 h).0);
+  increasing = increasing-append list x b.increasing (λ y h. ((b.members y).0 h).0);
   members = λ y. (
     (λ h. elim ((in-append list x y).0 h) [ inl g ↦ let w = (b.members y).0 g in (let l = w.0 in omega arith, w.1) | inr q ↦ (omega arith, subst P (sym q) p) ]),
     (λ w. (in-append list x y).1 (elim (cases_eq y x) [ inl q ↦ inr q | inr d ↦ inl ((b.members y).1 (let l = w.0 in omega arith, w.1)) ])),
@@ -45,7 +45,7 @@ pushed P x list list2 b p e = rw e (record {
 -- up to the least line there is no other
 built_up : (lines found : List ℕ) (from to : ℕ) → from ≤ to → ((x : ℕ) → IsIn x lines → x < to → x < from) → IsBuilt (λ line. IsIn line lines) from found → IsBuilt (λ line. IsIn line lines) to found
 built_up lines found from to l none b = record {
-  rising = b.rising;
+  increasing = b.increasing;
   members = λ y. (
     (λ h. let w = (b.members y).0 h in (let k = w.0 in omega arith, w.1)),
     (λ w. (b.members y).1 (none y w.1 w.0, w.1)),
@@ -121,8 +121,8 @@ cycle_fault_is m t c d lines R C {high = high} {wide = wide} is f h w rows colum
   path = lines;
   fault = f.fault;
   first = λ t' c' d' path' g e. f.first t' c' d' e path' g;
-  row_set = record { rising = rows.rising; in_range = λ k l. let b = above (λ x. IsIn x (cycle_rows t lines)) high R rows k l in omega arith };
-  column_set = record { rising = columns.rising; in_range = λ k l. let b = above (λ x. IsIn x (cycle_columns c d lines)) wide C columns k l in omega arith };
+  row_set = record { increasing = rows.increasing; in_range = λ k l. let b = above (λ x. IsIn x (cycle_rows t lines)) high R rows k l in omega arith };
+  column_set = record { increasing = columns.increasing; in_range = λ k l. let b = above (λ x. IsIn x (cycle_columns c d lines)) wide C columns k l in omega arith };
   rows_are = λ i. ((λ g. ((rows.members i).0 g).1), (λ g. (rows.members i).1 (row_low i g, g)));
   columns_are = λ j. ((λ g. ((columns.members j).0 g).1), (λ g. (columns.members j).1 (column_low j g, g)));
 }
@@ -155,8 +155,8 @@ pub cycle_lines_are : (m : Matrix) (t c d : ℕ) (lines rows_of columns_of R C :
 cycle_lines_are m t c d lines rows_of columns_of R C {high = high} {wide = wide} is place a b h w built_rows built_columns = record {
   path = lines;
   place = inl place;
-  row_set = record { rising = rows.rising; in_range = λ k l. let b = above (λ x. IsIn x (cycle_rows t lines)) high R rows k l in omega arith };
-  column_set = record { rising = columns.rising; in_range = λ k l. let b = above (λ x. IsIn x (cycle_columns c d lines)) wide C columns k l in omega arith };
+  row_set = record { increasing = rows.increasing; in_range = λ k l. let b = above (λ x. IsIn x (cycle_rows t lines)) high R rows k l in omega arith };
+  column_set = record { increasing = columns.increasing; in_range = λ k l. let b = above (λ x. IsIn x (cycle_columns c d lines)) wide C columns k l in omega arith };
   rows_are = λ i. ((λ g. ((rows.members i).0 g).1), (λ g. (rows.members i).1 (row_low i g, g)));
   columns_are = λ j. ((λ g. ((columns.members j).0 g).1), (λ g. (columns.members j).1 (column_low j g, g)));
 }

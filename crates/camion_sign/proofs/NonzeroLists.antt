@@ -7,7 +7,7 @@ use Rattle.cmr_base.specs.Matrix.{Matrix, height, row_of, column_of, entry, IsMa
 use Rattle.cmr_base.specs.Members.{IsIn}
 use Rattle.cmr_base.proofs.Parts.{entry-transposed}
 use Rattle.cmr_base.proofs.Members.{in_at}
-use Rattle.cmr_base.proofs.RisingLists.{RisesIn, rises_from_lower, rising_at_least}
+use Rattle.cmr_base.proofs.IncreasingLists.{RisesIn, rises_from_lower, increasing_at_least}
 use Rattle.cmr_base.proofs.Places.{found_at}
 use Rattle.cmr_base.proofs.Booleans.{zero_is, nonzero_is}
 use Rattle.camion_sign.specs.Nonzeros.{AreNonzeros, nonzeros_from}
@@ -45,15 +45,15 @@ in_is place (z ∷ line) x h = go (is_nonzero z) refl (λ g. in_is (place + 1) l
     go true e k (inr g) = later (k g)
     go false e k g = later (k g)
 
-rising_pairs : (low high : ℕ) (xs : List ℕ) → RisesIn low high xs → (i j : ℕ) → i < j → j < length xs → get_or xs i 0 < get_or xs j 0
-rising_pairs low high [] h i j l m = absurd (omega arith)
-rising_pairs low high (x ∷ xs) h i zero l m = absurd (omega arith)
-rising_pairs low high (x ∷ xs) h zero (suc j) l m = let a = rising_at_least (x + 1) high xs h.2 j (omega arith) in omega arith
-rising_pairs low high (x ∷ xs) h (suc i) (suc j) l m = rising_pairs (x + 1) high xs h.2 i j (omega arith) (omega arith)
+increasing_pairs : (low high : ℕ) (xs : List ℕ) → RisesIn low high xs → (i j : ℕ) → i < j → j < length xs → get_or xs i 0 < get_or xs j 0
+increasing_pairs low high [] h i j l m = absurd (omega arith)
+increasing_pairs low high (x ∷ xs) h i zero l m = absurd (omega arith)
+increasing_pairs low high (x ∷ xs) h zero (suc j) l m = let a = increasing_at_least (x + 1) high xs h.2 j (omega arith) in omega arith
+increasing_pairs low high (x ∷ xs) h (suc i) (suc j) l m = increasing_pairs (x + 1) high xs h.2 i j (omega arith) (omega arith)
 
 are_nonzeros : (f : ℕ → ℤ) (line : List ℤ) → ((j : ℕ) → get_or line j (pos 0) ≡ f j) → AreNonzeros f (nonzeros_from 0 line)
 are_nonzeros f line same = record {
-  rising = rising_pairs 0 (length line) (nonzeros_from 0 line) (rises 0 (length line) line (omega arith));
+  increasing = increasing_pairs 0 (length line) (nonzeros_from 0 line) (rises 0 (length line) line (omega arith));
   nonzero = λ k l z.
       let v = in_is 0 line (get_or (nonzeros_from 0 line) k 0) (in_at (nonzeros_from 0 line) k l) in
       let e : v.0 ≡ get_or (nonzeros_from 0 line) k 0 = let q = v.1 in omega arith in

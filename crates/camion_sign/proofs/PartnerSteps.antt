@@ -22,7 +22,7 @@ module _ (a s : Matrix) (row column : ℕ) (columns : List ℕ) (signs : AreSign
         | inl before ↦ none i before (subst (IsForcedBy a s row column) (sym e) forced)
         | inr past ↦ elim (cases_eq i k) [
           | inl same ↦ let f : get_or columns i 0 ≡ get_or columns k 0 = ap (λ j. get_or columns j 0) same in omega arith
-          | inr apart ↦ let f : get_or columns k 0 < get_or columns i 0 = are.rising k i (omega arith) inside in omega arith
+          | inr apart ↦ let f : get_or columns k 0 < get_or columns i 0 = are.increasing k i (omega arith) inside in omega arith
         ]
       ]
 

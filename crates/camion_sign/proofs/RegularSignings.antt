@@ -33,8 +33,8 @@ no_violator a m steps is binary ternary support signed regular rows columns row_
       sizes = (refl, refl);
       steps = chain_steps a is binary steps (unsigned a) m (unsigned_signs a) signed.steps_are;
       violator = record {
-        row_set = record { rising = row_set.rising; in_range = λ k h. let l = row_set.in_range k h in let e = support.height_same in omega arith };
-        column_set = record { rising = column_set.rising; in_range = λ k h. let l = column_set.in_range k h in let e = support.width_same in omega arith };
+        row_set = record { increasing = row_set.increasing; in_range = λ k h. let l = row_set.in_range k h in let e = support.height_same in omega arith };
+        column_set = record { increasing = column_set.increasing; in_range = λ k h. let l = column_set.in_range k h in let e = support.width_same in omega arith };
         all_signed = λ i j _ _ one. signed.all_signed i j one;
         violator = violator;
       };

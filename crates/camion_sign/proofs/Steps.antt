@@ -10,7 +10,7 @@ use Rattle.camion_sign.specs.declared.walk.ReachedColumn.{ReachedColumn}
 use Rattle.camion_sign.specs.declared.walk.Walk.{Walk}
 use Rattle.camion_sign.specs.Nonzeros.{AreNonzeros}
 use Rattle.camion_sign.specs.Trails.{IsUpTo}
-use Rattle.camion_sign.specs.Walks.{Progress, IsQueue, Goes, IsMet, IsFront, IsSettled, TwoIf, flip, step_at, place_in, progress, HasPlacesAndMarks, IsWalking, IsReaching, IsOpen, GrowsFrom, IsUntouched, NoneWaits, IsSpreading, HasSettled, IsGoing, HasWalked}
+use Rattle.camion_sign.specs.Walks.{Progress, IsQueue, Goes, IsMet, IsPrefix, IsSettled, TwoIf, flip, step_at, place_in, progress, HasPlacesAndMarks, IsWalking, IsReaching, IsOpen, GrowsFrom, IsUntouched, NoneWaits, IsSpreading, HasSettled, IsGoing, HasWalked}
 use Rattle.camion_sign.proofs.Trails.{path_trail}
 use Rattle.camion_sign.proofs.Walks.{IsOneMore, few, fewer, met_before, next, settles, least, all_met, all_settled, begin, with_key, kept_here, reached, visit}
 
@@ -80,14 +80,14 @@ start_row m t c h r columns from walk w o e = record {
   within = o.within;
   from_is = step_is walk.steps.items h from o.within e;
   key = w.key;
-  front = fewer (entry m) t c m.width (progress walk.steps.items walk.places.items walk.used.items) w.key h (λ s x. r ≤ s) (λ s x. (r < s) ⊎ ((r ≡ s) × ((i : ℕ) → i < 0 → get_or columns i 0 < x))) w.front
+  prefix = fewer (entry m) t c m.width (progress walk.steps.items walk.places.items walk.used.items) w.key h (λ s x. r ≤ s) (λ s x. (r < s) ⊎ ((r ≡ s) × ((i : ℕ) → i < 0 → get_or columns i 0 < x))) w.prefix
       (λ s x q. elim q [ inl l ↦ omega arith | inr p ↦ let f = p.0 in omega arith ]);
   met = λ i l. absurd (omega arith);
 }
 
 module _ (m : Matrix) (t c h r : ℕ) (columns : List ℕ) (k : ℕ) (from : ReachedColumn) (old walk : Walk) (w : IsReaching m t c h r columns k from old walk) (nonzeros : AreNonzeros (entry m r) columns) (inside : k < length columns) where
   here : ((i : ℕ) → i < k → get_or columns i 0 < get_or columns k 0)
-  here i l = nonzeros.rising i k l inside
+  here i l = nonzeros.increasing i k l inside
 
   one_step : (s x : ℕ) → (r < s) ⊎ ((r ≡ s) × ((i : ℕ) → i < k + 1 → get_or columns i 0 < x)) → (r < s) ⊎ ((r ≡ s) × ((i : ℕ) → i < k → get_or columns i 0 < x))
   one_step s x (inl l) = inl l
@@ -102,12 +102,12 @@ module _ (m : Matrix) (t c h r : ℕ) (columns : List ℕ) (k : ℕ) (from : Rea
     within = w.within;
     from_is = w.from_is;
     key = w.key;
-    front = fewer (entry m) t c m.width (progress walk.steps.items walk.places.items walk.used.items) w.key h (λ s x. (r < s) ⊎ ((r ≡ s) × ((i : ℕ) → i < k → get_or columns i 0 < x))) (λ s x. (r < s) ⊎ ((r ≡ s) × ((i : ℕ) → i < k + 1 → get_or columns i 0 < x))) w.front one_step;
+    prefix = fewer (entry m) t c m.width (progress walk.steps.items walk.places.items walk.used.items) w.key h (λ s x. (r < s) ⊎ ((r ≡ s) × ((i : ℕ) → i < k → get_or columns i 0 < x))) (λ s x. (r < s) ⊎ ((r ≡ s) × ((i : ℕ) → i < k + 1 → get_or columns i 0 < x))) w.prefix one_step;
     met = λ i l. elim (cases_lt i k) [
       | inl lt ↦ w.met i lt
       | inr ge ↦ let q : k ≡ i = omega arith in
           subst (λ (j : ℕ). IsMet (entry m) t c m.width (progress walk.steps.items walk.places.items walk.used.items) w.key (get_or columns j 0) (w.key h ++ r ∷ get_or columns j 0 ∷ [])) q
-          (met_before (entry m) t c m.width (progress walk.steps.items walk.places.items walk.used.items) w.key h r (get_or columns k 0) (λ s x. (r < s) ⊎ ((r ≡ s) × ((i : ℕ) → i < k → get_or columns i 0 < x))) w.front w.within
+          (met_before (entry m) t c m.width (progress walk.steps.items walk.places.items walk.used.items) w.key h r (get_or columns k 0) (λ s x. (r < s) ⊎ ((r ≡ s) × ((i : ℕ) → i < k → get_or columns i 0 < x))) w.prefix w.within
           there (inr (refl, here)))
     ];
   })
@@ -129,12 +129,12 @@ module _ (m : Matrix) (t c h r : ℕ) (columns : List ℕ) (k : ℕ) (from : Rea
     within = let a = w.within in let b = more in omega arith;
     from_is = kept h w.within ∙ w.from_is;
     key = with_key M t c m.width s s' w.key h r x same;
-    front = subst (λ (v : Progress). IsFront M t c m.width v (with_key M t c m.width s s' w.key h r x same) h Q) (sym now) (visit M t c m.width s s' w.key h r x same P Q top_width w.front w.within one unmet' goes early leads' to low (inr (refl, here)) two' still);
+    prefix = subst (λ (v : Progress). IsPrefix M t c m.width v (with_key M t c m.width s s' w.key h r x same) h Q) (sym now) (visit M t c m.width s s' w.key h r x same P Q top_width w.prefix w.within one unmet' goes early leads' to low (inr (refl, here)) two' still);
     met = λ i l. subst (λ (v : Progress). IsMet M t c m.width v (with_key M t c m.width s s' w.key h r x same) (get_or columns i 0) (with_key M t c m.width s s' w.key h r x same h ++ r ∷ get_or columns i 0 ∷ [])) (sym now) (elim (cases_lt i k) [
-      | inl lt ↦ kept_here M t c m.width s s' w.key h r x same P Q top_width w.front w.within one unmet' (get_or columns i 0) r (get_or columns i 0) (w.met i lt)
+      | inl lt ↦ kept_here M t c m.width s s' w.key h r x same P Q top_width w.prefix w.within one unmet' (get_or columns i 0) r (get_or columns i 0) (w.met i lt)
       | inr ge ↦ let q : k ≡ i = omega arith in
           subst (λ (j : ℕ). IsMet M t c m.width s' (with_key M t c m.width s s' w.key h r x same) (get_or columns j 0) (with_key M t c m.width s s' w.key h r x same h ++ r ∷ get_or columns j 0 ∷ [])) q
-          (reached M t c m.width s s' w.key h r x same P Q top_width w.front w.within one unmet')
+          (reached M t c m.width s s' w.key h r x same P Q top_width w.prefix w.within one unmet')
     ]);
   }
     where
@@ -203,33 +203,33 @@ pub end_row : (m : Matrix) (t c h r : ℕ) (columns : List ℕ) (k : ℕ) (from 
 end_row m t c h r columns k from old walk walk2 w nonzeros l tall steps2 places2 used2 = record {
   fits = record { matrix = w.fits.matrix; places = ap length places2 ∙ w.fits.places; used = ap length used2 ∙ length-set walk.used.items r true ∙ w.fits.used };
   key = w.key;
-  front = subst (λ (v : Progress). IsFront (entry m) t c m.width v w.key h (λ s x. r + 1 ≤ s)) (sym (same_progress walk2 walk.steps.items walk.places.items (set walk.used.items r true) steps2 places2 used2)) (record {
+  prefix = subst (λ (v : Progress). IsPrefix (entry m) t c m.width v w.key h (λ s x. r + 1 ≤ s)) (sym (same_progress walk2 walk.steps.items walk.places.items (set walk.used.items r true) steps2 places2 used2)) (record {
     queue = record {
-      some = w.front.queue.some;
-      first = w.front.queue.first;
-      start = w.front.queue.start;
-      inside = w.front.queue.inside;
-      placed = w.front.queue.placed;
-      listed = w.front.queue.listed;
-      topped = w.front.queue.topped;
-      sorted = w.front.queue.sorted;
-      trail = w.front.queue.trail;
-      ends = w.front.queue.ends;
-      sums = w.front.queue.sums;
-      earlier = w.front.queue.earlier;
-      parent = w.front.queue.parent;
+      some = w.prefix.queue.some;
+      first = w.prefix.queue.first;
+      start = w.prefix.queue.start;
+      inside = w.prefix.queue.inside;
+      placed = w.prefix.queue.placed;
+      listed = w.prefix.queue.listed;
+      topped = w.prefix.queue.topped;
+      sorted = w.prefix.queue.sorted;
+      trail = w.prefix.queue.trail;
+      ends = w.prefix.queue.ends;
+      sums = w.prefix.queue.sums;
+      earlier = w.prefix.queue.earlier;
+      parent = w.prefix.queue.parent;
     };
-    fits = w.front.fits;
-    done = w.front.done;
+    fits = w.prefix.fits;
+    done = w.prefix.done;
     gone = λ s x u n. elim (cases_eq s r) [
       | inl q ↦
           let v = nonzeros.all x (subst (λ (y : ℕ). entry m y x ≢ pos 0) q n) in
           let met = w.met v.0 (let a = v.1 in omega arith) in
           let met' = subst (λ (y : ℕ). IsMet (entry m) t c m.width (progress walk.steps.items walk.places.items walk.used.items) w.key y (w.key h ++ r ∷ y ∷ [])) v.2 met in
           (met'.0, λ k. subst (λ (y : ℕ). IsUpTo (w.key (place_in walk.places.items x)) (w.key h ++ y ∷ x ∷ [])) (sym q) met'.1)
-      | inr q ↦ w.front.gone s x (sym (get_or-set_other walk.used.items r s true false q) ∙ u) n
+      | inr q ↦ w.prefix.gone s x (sym (get_or-set_other walk.used.items r s true false q) ∙ u) n
     ];
-    front = λ j s x a b q. w.front.front j s x a b (inl (omega arith));
+    prefix = λ j s x a b q. w.prefix.prefix j s x a b (inl (omega arith));
   });
 }
 
@@ -288,9 +288,9 @@ module _ (m : Matrix) (t c h : ℕ) (rows : List ℕ) (k column : ℕ) (old walk
         low = get_or rows k 0 + 1;
         walking = walking;
         low_in = omega arith;
-        ahead = λ i a b. let l = nonzeros.rising k i (omega arith) b in omega arith;
+        ahead = λ i a b. let l = nonzeros.increasing k i (omega arith) b in omega arith;
         gone = λ i a. ap (λ (v : List Bool). get_or v (get_or rows i 0) false) used ∙ (elim (cases_lt i k) [
-          | inl lt ↦ let l = nonzeros.rising i k lt inside in get_or-set_other walk.used.items (get_or rows k 0) (get_or rows i 0) true false (λ q. omega arith) ∙ w.gone i lt
+          | inl lt ↦ let l = nonzeros.increasing i k lt inside in get_or-set_other walk.used.items (get_or rows k 0) (get_or rows i 0) true false (λ q. omega arith) ∙ w.gone i lt
           | inr ge ↦ let q : k ≡ i = omega arith in
               subst (λ (j : ℕ). get_or (set walk.used.items (get_or rows k 0) true) (get_or rows j 0) false ≡ true) q (get_or-set_same walk.used.items (get_or rows k 0) true false (let s = w.walking.fits.used in omega arith))
         ]);
@@ -302,7 +302,7 @@ module _ (m : Matrix) (t c h : ℕ) (rows : List ℕ) (k column : ℕ) (old walk
         pending_in = wide;
         waits = λ d a b n. elim (cases_lt d pending) [
           | inl lt ↦ elim (w.waits d a lt n) [
-            | inl l ↦ inl (λ e. let g = grows.places d (let b = w.walking.front.queue.topped d in omega arith) in omega arith)
+            | inl l ↦ inl (λ e. let g = grows.places d (let b = w.walking.prefix.queue.topped d in omega arith) in omega arith)
             | inr u ↦ inr u
           ]
           | inr ge ↦ waits d ge b n
@@ -323,7 +323,7 @@ module _ (m : Matrix) (t c h : ℕ) (rows : List ℕ) (k column : ℕ) (old walk
   end_rows column_is end = subst (λ (n : ℕ). IsWalking m t c n 0 walk) (sym (add-one h)) (record {
     fits = w.walking.fits;
     key = w.walking.key;
-    front = next (entry m) t c m.width (progress walk.steps.items walk.places.items walk.used.items) w.walking.key h t 0 (λ s x. w.low ≤ s) (λ s x. 0 ≤ s) w.walking.front w.open_is.within w.low_in
+    prefix = next (entry m) t c m.width (progress walk.steps.items walk.places.items walk.used.items) w.walking.key h t 0 (λ s x. w.low ≤ s) (λ s x. 0 ≤ s) w.walking.prefix w.open_is.within w.low_in
         (λ r goes early leads. elim (gone_or_later (column_is ∙ sym w.column_is) r early leads) [
           | inl u ↦ u
           | inr v ↦ absurd (late v.0 v.1 v.2 (let e = v.3 in omega arith))
@@ -334,7 +334,7 @@ module _ (m : Matrix) (t c h : ℕ) (rows : List ℕ) (k column : ℕ) (old walk
       late i a b early = elim end [
         | inl l ↦ omega arith
         | inr l ↦ elim (cases_lt k i) [
-          | inl lt ↦ let u = nonzeros.rising k i lt b in let v = l.1 in omega arith
+          | inl lt ↦ let u = nonzeros.increasing k i lt b in let v = l.1 in omega arith
           | inr ge ↦ let q : i ≡ k = omega arith in let u = ap (λ (j : ℕ). get_or rows j 0) q in let v = l.1 in omega arith
         ]
       ]
@@ -344,8 +344,8 @@ module _ (m : Matrix) (t c h : ℕ) (rows : List ℕ) (k column : ℕ) (old walk
   settle_rows column_is = record {
     fits = w.walking.fits;
     key = w.walking.key;
-    queue = w.walking.front.queue;
-    settled = settles (entry m) t c m.width (progress walk.steps.items walk.places.items walk.used.items) w.walking.key h t 0 (λ s x. w.low ≤ s) w.walking.front w.open_is.within w.low_in
+    queue = w.walking.prefix.queue;
+    settled = settles (entry m) t c m.width (progress walk.steps.items walk.places.items walk.used.items) w.walking.key h t 0 (λ s x. w.low ≤ s) w.walking.prefix w.open_is.within w.low_in
         (λ r x early leads. elim (gone_or_later (column_is ∙ sym w.column_is) r early leads) [
           | inl u ↦ inl u
           | inr v ↦ inr (let a = w.ahead v.0 v.1 v.2 in let e = v.3 in omega arith)
@@ -360,7 +360,7 @@ untouched m t x rows nonzeros (inr h) r early n = later (nonzeros.all r n)
   where
     later : (k : ℕ) × (k < length rows) × (get_or rows k 0 ≡ r) → ⊥
     later (zero, l, e) = omega arith
-    later (suc k, l, e) = let d = nonzeros.rising 0 (suc k) (omega arith) l in omega arith
+    later (suc k, l, e) = let d = nonzeros.increasing 0 (suc k) (omega arith) l in omega arith
 
 pub one_more_settled : (m : Matrix) (t c from x : ℕ) (places : List ℕ) → ((d : ℕ) → from ≤ d → d < x → entry m t d ≢ pos 0 → (place_in places d ≢ 4294967295) ⊎ IsUntouched m t d)
     → (entry m t x ≢ pos 0 → (place_in places x ≢ 4294967295) ⊎ IsUntouched m t x) → (d : ℕ) → from ≤ d → d < x + 1 → entry m t d ≢ pos 0 → (place_in places d ≢ 4294967295) ⊎ IsUntouched m t d
@@ -381,7 +381,7 @@ begin_walk m t c walk walk2 f l steps2 places2 used2 = record {
       used = ap length used2 ∙ length-replicate (length walk.used.items) false ∙ f.used;
     };
     key = λ j. [];
-    front = subst (λ (v : Progress). IsFront (entry m) t c m.width v (λ j. []) 0 (λ r x. 0 ≤ r)) (sym (same_progress walk2 first (set (replicate (length walk.places.items) 4294967295) c 0) (replicate (length walk.used.items) false) steps2 places2 used2))
+    prefix = subst (λ (v : Progress). IsPrefix (entry m) t c m.width v (λ j. []) 0 (λ r x. 0 ≤ r)) (sym (same_progress walk2 first (set (replicate (length walk.places.items) 4294967295) c 0) (replicate (length walk.used.items) false) steps2 places2 used2))
         (begin (entry m) t c m.width (progress first (set (replicate (length walk.places.items) 4294967295) c 0) (replicate (length walk.used.items) false)) (λ r x. 0 ≤ r) l refl refl refl
         (get_or-set_same (replicate (length walk.places.items) 4294967295) c 0 4294967295 (let e = length-replicate {A = ℕ} (length walk.places.items) 4294967295 in let g = f.places in omega arith))
         (λ z q. get_or-set_other (replicate (length walk.places.items) 4294967295) c z 0 4294967295 q ∙ get_or-replicated (length walk.places.items) z 4294967295)
@@ -400,7 +400,7 @@ is_walking m t c h pending walk g l = elim g.state [ inl w ↦ w | inr s ↦ abs
 pub smaller : (m : Matrix) (t c h pending : ℕ) (walk : Walk) → IsGoing m t c h pending walk → pending < m.width → h < length walk.steps.items → m.width - (h + 1) < m.width - h
 smaller m t c h pending walk g l k =
     let w = is_walking m t c h pending walk g l in
-    let f = few (entry m) t c m.width (progress walk.steps.items walk.places.items walk.used.items) w.key w.front.queue in omega arith
+    let f = few (entry m) t c m.width (progress walk.steps.items walk.places.items walk.used.items) w.key w.prefix.queue in omega arith
 
 -- a column in which row t is not 0 leads nowhere
 pub skip_place : (m : Matrix) (t c h pending pending2 : ℕ) (walk walk2 : Walk) (step : ReachedColumn) → IsGoing m t c h pending walk → pending < m.width → h < length walk.steps.items → h ≢ 0 → step ≡ get_or walk.steps.items h step → entry m t step.column ≢ pos 0
@@ -410,7 +410,7 @@ skip_place m t c h pending pending2 walk walk2 step g l k other step_is' n e f =
       state = inl (subst (λ (v : ℕ). IsWalking m t c v 0 walk) (sym (add-one h)) (record {
         fits = w.fits;
         key = w.key;
-        front = next (entry m) t c m.width (progress walk.steps.items walk.places.items walk.used.items) w.key h 0 0 (λ r x. 0 ≤ r) (λ r x. 0 ≤ r) w.front k (omega arith)
+        prefix = next (entry m) t c m.width (progress walk.steps.items walk.places.items walk.used.items) w.key h 0 0 (λ r x. 0 ≤ r) (λ r x. 0 ≤ r) w.prefix k (omega arith)
             (λ r goes early leads. absurd (elim goes [ inl z ↦ other z | inr z ↦ n (ap (λ (v : ReachedColumn). entry m t v.column) (sym (step_is walk.steps.items h step k step_is')) ∙ z) ]));
       }));
       pending_in = g.pending_in;
@@ -432,10 +432,10 @@ path_touches m t c d (r ∷ j ∷ lines) h = path_touches m t j d lines h.4
 pub end_walk : (m : Matrix) (t c h pending : ℕ) (walk : Walk) → IsGoing m t c h pending walk → t < height m → (length walk.steps.items ≤ h) ⊎ (m.width ≤ pending) → HasWalked m t c walk
 end_walk m t c h pending walk g tall end = elim g.state [
   | inl w ↦ elim (cases_lt h (length walk.steps.items)) [
-    | inl lt ↦ from_settled w.fits w.key w.front.queue
-        (settles (entry m) t c m.width (progress walk.steps.items walk.places.items walk.used.items) w.key h 0 0 (λ r x. 0 ≤ r) w.front lt (omega arith) (λ r x early leads. inr (omega arith)))
+    | inl lt ↦ from_settled w.fits w.key w.prefix.queue
+        (settles (entry m) t c m.width (progress walk.steps.items walk.places.items walk.used.items) w.key h 0 0 (λ r x. 0 ≤ r) w.prefix lt (omega arith) (λ r x early leads. inr (omega arith)))
         (elim end [ inl l ↦ absurd (omega arith) | inr l ↦ l ])
-    | inr ge ↦ from_all w (let k = w.front.fits in omega arith)
+    | inr ge ↦ from_all w (let k = w.prefix.fits in omega arith)
   ]
   | inr s ↦ from_settled s.1.fits s.1.key s.1.queue s.1.settled (let e = s.0 in omega arith)
 ]
@@ -454,14 +454,14 @@ end_walk m t c h pending walk g tall end = elim g.state [
 
     from_all : IsWalking m t c h 0 walk → h ≡ length walk.steps.items → HasWalked m t c walk
     from_all w e =
-        let front = subst (λ (v : ℕ). IsFront (entry m) t c m.width (progress walk.steps.items walk.places.items walk.used.items) w.key v (λ r x. 0 ≤ r)) e w.front in
+        let prefix = subst (λ (v : ℕ). IsPrefix (entry m) t c m.width (progress walk.steps.items walk.places.items walk.used.items) w.key v (λ r x. 0 ≤ r)) e w.prefix in
         record {
           fits = w.fits;
           key = w.key;
-          queue = w.front.queue;
-          least = least (entry m) t c m.width (progress walk.steps.items walk.places.items walk.used.items) w.key w.front.queue (all_settled (entry m) t c m.width (progress walk.steps.items walk.places.items walk.used.items) w.key (λ r x. 0 ≤ r) front);
+          queue = w.prefix.queue;
+          least = least (entry m) t c m.width (progress walk.steps.items walk.places.items walk.used.items) w.key w.prefix.queue (all_settled (entry m) t c m.width (progress walk.steps.items walk.places.items walk.used.items) w.key (λ r x. 0 ≤ r) prefix);
           none = λ d lines order n unmet h.
               let v = path_trail (entry m) t c d lines h in
-              let met = all_met (entry m) t c m.width (progress walk.steps.items walk.places.items walk.used.items) w.key (λ r x. 0 ≤ r) front (lines ++ d ∷ []) v.0 in
+              let met = all_met (entry m) t c m.width (progress walk.steps.items walk.places.items walk.used.items) w.key (λ r x. 0 ≤ r) prefix (lines ++ d ∷ []) v.0 in
               let q = ap (place_in walk.places.items) v.1 in omega arith;
         }

@@ -120,30 +120,30 @@ module _ (M : ℕ → ℕ → ℤ) (t : ℕ) where
 
   -- a trail by its last step
   pub record HasLast (c : ℕ) (lines : List ℕ) : Type 0 where
-    pub front : List ℕ
+    pub prefix : List ℕ
     pub row : ℕ
     pub column : ℕ
-    pub lines_are : lines ≡ front ++ row ∷ column ∷ []
-    pub trail : IsTrail M t c front
-    pub goes : (front ≡ []) ⊎ (M t (trail_end c front) ≡ pos 0)
+    pub lines_are : lines ≡ prefix ++ row ∷ column ∷ []
+    pub trail : IsTrail M t c prefix
+    pub goes : (prefix ≡ []) ⊎ (M t (trail_end c prefix) ≡ pos 0)
     pub early : row < t
-    pub from : M row (trail_end c front) ≢ pos 0
+    pub from : M row (trail_end c prefix) ≢ pos 0
     pub to : M row column ≢ pos 0
 
   pub last_step : (c : ℕ) (lines : List ℕ) → IsTrail M t c lines → (lines ≡ []) ⊎ HasLast c lines
   last_step c [] h = inl refl
   last_step c (r ∷ []) h = absurd h
-  last_step c (r ∷ x ∷ []) (l, a, b, o, more) = inr (record { front = []; row = r; column = x; lines_are = refl; trail = tt; goes = inl refl; early = l; from = a; to = b })
+  last_step c (r ∷ x ∷ []) (l, a, b, o, more) = inr (record { prefix = []; row = r; column = x; lines_are = refl; trail = tt; goes = inl refl; early = l; from = a; to = b })
   last_step c (r ∷ x ∷ s ∷ lines) (l, a, b, o, more) = go (last_step x (s ∷ lines) more)
     where
       go : (s ∷ lines ≡ []) ⊎ HasLast x (s ∷ lines) → (r ∷ x ∷ s ∷ lines ≡ []) ⊎ HasLast c (r ∷ x ∷ s ∷ lines)
       go (inl e) = absurd (let n = ap length e in omega arith)
       go (inr h) = inr (record {
-        front = r ∷ x ∷ h.front;
+        prefix = r ∷ x ∷ h.prefix;
         row = h.row;
         column = h.column;
         lines_are = ap (λ (v : List ℕ). r ∷ x ∷ v) h.lines_are;
-        trail = (l, a, b, goes_on x h.front o, h.trail);
+        trail = (l, a, b, goes_on x h.prefix o, h.trail);
         goes = inr (elim h.goes [ inl e ↦ ap (λ (v : List ℕ). M t (trail_end x v)) e ∙ o | inr z ↦ z ]);
         early = h.early;
         from = h.from;

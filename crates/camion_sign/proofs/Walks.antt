@@ -6,7 +6,7 @@ use Rattle.cmr_base.proofs.Integers.{sums}
 use Rattle.cmr_base.proofs.Members.{distinct_few}
 use Rattle.cmr_base.proofs.Booleans.{is_ne, self_eq, true_is_false}
 use Rattle.camion_sign.specs.Trails.{IsShortlexBefore, IsUpTo, IsTrail, trail_end, trail_sum}
-use Rattle.camion_sign.specs.Walks.{Progress, IsQueue, Goes, IsMet, IsFront, IsSettled, TwoIf, flip}
+use Rattle.camion_sign.specs.Walks.{Progress, IsQueue, Goes, IsMet, IsPrefix, IsSettled, TwoIf, flip}
 use Rattle.camion_sign.proofs.Trails.{before_trans, up_to_before, before_up_to, up_to_trans, before_more, up_to_more, next_before, longer_before, length_more, trail_more, end_more, sum_more, last_step, HasLast}
 
 pub two_add : (a b : Bool) (x y : ℤ) → TwoIf a x → TwoIf b y → TwoIf (flip a b) (x +ℤ y)
@@ -61,21 +61,21 @@ module _ (M : ℕ → ℕ → ℤ) (t c n : ℕ) where
         )
 
     -- fewer lines are looked at again
-    pub fewer : (h : ℕ) (P Q : ℕ → ℕ → Type 0) → IsFront M t c n s key h P → ((r x : ℕ) → Q r x → P r x) → IsFront M t c n s key h Q
+    pub fewer : (h : ℕ) (P Q : ℕ → ℕ → Type 0) → IsPrefix M t c n s key h P → ((r x : ℕ) → Q r x → P r x) → IsPrefix M t c n s key h Q
     fewer h P Q w f = record {
       queue = w.queue;
       fits = w.fits;
       done = w.done;
       gone = w.gone;
-      front = λ j r x l m q. w.front j r x l m (f r x q);
+      prefix = λ j r x l m q. w.prefix j r x l m (f r x q);
     }
 
     -- a column that was met already was met no later
-    pub met_before : (h r x : ℕ) (P : ℕ → ℕ → Type 0) → IsFront M t c n s key h P → h < s.count → s.place x < 4294967295 → P r x → IsMet M t c n s key x (key h ++ r ∷ x ∷ [])
-    met_before h r x P w l met p = (met, inl (w.front (s.place x) r x (w.queue.listed x met).0 l p))
+    pub met_before : (h r x : ℕ) (P : ℕ → ℕ → Type 0) → IsPrefix M t c n s key h P → h < s.count → s.place x < 4294967295 → P r x → IsMet M t c n s key x (key h ++ r ∷ x ∷ [])
+    met_before h r x P w l met p = (met, inl (w.prefix (s.place x) r x (w.queue.listed x met).0 l p))
 
     -- place h is done: all rows before t that meet its column were gone through
-    pub next : (h r0 x0 : ℕ) (P Q : ℕ → ℕ → Type 0) → IsFront M t c n s key h P → h < s.count → P r0 x0 → ((r : ℕ) → Goes M t c n s key h → r < t → M r (s.column h) ≢ pos 0 → s.used r ≡ true) → IsFront M t c n s key (suc h) Q
+    pub next : (h r0 x0 : ℕ) (P Q : ℕ → ℕ → Type 0) → IsPrefix M t c n s key h P → h < s.count → P r0 x0 → ((r : ℕ) → Goes M t c n s key h → r < t → M r (s.column h) ≢ pos 0 → s.used r ≡ true) → IsPrefix M t c n s key (suc h) Q
     next h r0 x0 P Q w l p all = record {
       queue = w.queue;
       fits = omega arith;
@@ -84,19 +84,19 @@ module _ (M : ℕ → ℕ → ℤ) (t c n : ℕ) where
         | inr ge ↦ let q : h ≡ i = omega arith in here i q r x (all r (subst (Goes M t c n s key) (sym q) goes) early (subst (λ (v : ℕ). M r (s.column v) ≢ pos 0) (sym q) from)) to
       ];
       gone = λ r x u to. let v = w.gone r x u to in (v.0, λ m. inl (up_to_before (key (s.place x)) (key h ++ r ∷ x ∷ []) (key (suc h) ++ r ∷ x ∷ []) (v.1 l) (before_more (key h) (key (suc h)) r x r x (w.queue.sorted h (suc h) (omega arith) m))));
-      front = λ j r x m k q. before_trans (key j) (key h ++ r0 ∷ x0 ∷ []) (key (suc h) ++ r ∷ x ∷ []) (w.front j r0 x0 m l p) (before_more (key h) (key (suc h)) r0 x0 r x (w.queue.sorted h (suc h) (omega arith) k));
+      prefix = λ j r x m k q. before_trans (key j) (key h ++ r0 ∷ x0 ∷ []) (key (suc h) ++ r ∷ x ∷ []) (w.prefix j r0 x0 m l p) (before_more (key h) (key (suc h)) r0 x0 r x (w.queue.sorted h (suc h) (omega arith) k));
     }
       where
         here : (i : ℕ) → h ≡ i → (r x : ℕ) → s.used r ≡ true → M r x ≢ pos 0 → IsMet M t c n s key x (key i ++ r ∷ x ∷ [])
         here i q r x u to = let v = w.gone r x u to in (v.0, subst (λ (j : ℕ). IsUpTo (key (s.place x)) (key j ++ r ∷ x ∷ [])) q (v.1 l))
 
     -- in the middle of place h all is settled, where each row that meets its column was gone through or comes next
-    pub settles : (h r0 x0 : ℕ) (P : ℕ → ℕ → Type 0) → IsFront M t c n s key h P → h < s.count → P r0 x0
+    pub settles : (h r0 x0 : ℕ) (P : ℕ → ℕ → Type 0) → IsPrefix M t c n s key h P → h < s.count → P r0 x0
         → ((r x : ℕ) → r < t → M r (s.column h) ≢ pos 0 → (s.used r ≡ true) ⊎ P r x) → IsSettled M t c n s key
     settles h r0 x0 P w l p all i r x lines m goes early from to le = elim (cases_lt i h) [
       | inl lt ↦ let v = w.done i r x lt goes early from to in inl (v.0, up_to_trans (key (s.place x)) (key i ++ r ∷ x ∷ []) (lines ++ r ∷ x ∷ []) v.1 (up_to_more (key i) lines r x le))
       | inr ge ↦ elim (cases_lt h i) [
-        | inl lt ↦ inr (λ j k. before_trans (key j) (key h ++ r0 ∷ x0 ∷ []) (lines ++ r ∷ x ∷ []) (w.front j r0 x0 k l p)
+        | inl lt ↦ inr (λ j k. before_trans (key j) (key h ++ r0 ∷ x0 ∷ []) (lines ++ r ∷ x ∷ []) (w.prefix j r0 x0 k l p)
             (before_more (key h) lines r0 x0 r x (before_up_to (key h) (key i) lines (w.queue.sorted h i lt m) le)))
         | inr ge' ↦ let q : i ≡ h = omega arith in here (subst (λ (v : ℕ). IsUpTo (key v) lines) q le) (all r x early (subst (λ (v : ℕ). M r (s.column v) ≢ pos 0) q from))
       ]
@@ -104,31 +104,31 @@ module _ (M : ℕ → ℕ → ℤ) (t c n : ℕ) where
       where
         here : IsUpTo (key h) lines → (s.used r ≡ true) ⊎ P r x → IsMet M t c n s key x (lines ++ r ∷ x ∷ []) ⊎ ((j : ℕ) → j < s.count → IsShortlexBefore (key j) (lines ++ r ∷ x ∷ []))
         here e (inl u) = let v = w.gone r x u to in inl (v.0, up_to_trans (key (s.place x)) (key h ++ r ∷ x ∷ []) (lines ++ r ∷ x ∷ []) (v.1 l) (up_to_more (key h) lines r x e))
-        here e (inr q) = inr (λ j k. before_up_to (key j) (key h ++ r ∷ x ∷ []) (lines ++ r ∷ x ∷ []) (w.front j r x k l q) (up_to_more (key h) lines r x e))
+        here e (inr q) = inr (λ j k. before_up_to (key j) (key h ++ r ∷ x ∷ []) (lines ++ r ∷ x ∷ []) (w.prefix j r x k l q) (up_to_more (key h) lines r x e))
 
     -- each trail ends in a column that was met, by a trail that is not after it; or it is late
     compare : (Late : List ℕ → Type 0) → IsQueue M t c n s key → ((lines : List ℕ) (r x : ℕ) → Late lines → Late (lines ++ r ∷ x ∷ []))
         → ((i r x : ℕ) (lines : List ℕ) → i < s.count → Goes M t c n s key i → r < t → M r (s.column i) ≢ pos 0 → M r x ≢ pos 0 → IsUpTo (key i) lines → IsMet M t c n s key x (lines ++ r ∷ x ∷ []) ⊎ Late (lines ++ r ∷ x ∷ []))
         → (size : ℕ) (lines : List ℕ) → length lines < size → IsTrail M t c lines → IsMet M t c n s key (trail_end c lines) lines ⊎ Late lines
     compare Late w more settle zero lines l h = absurd (omega arith)
-    compare Late w more settle (suc size) lines l h = go (last_step M t c lines h) (λ front m g. compare Late w more settle size front m g)
+    compare Late w more settle (suc size) lines l h = go (last_step M t c lines h) (λ prefix m g. compare Late w more settle size prefix m g)
       where
         at_start : s.place c ≡ 0
         at_start = ap s.place (sym w.first) ∙ w.placed 0 w.some
 
-        go : (lines ≡ []) ⊎ HasLast M t c lines → ((front : List ℕ) → length front < size → IsTrail M t c front → IsMet M t c n s key (trail_end c front) front ⊎ Late front) → IsMet M t c n s key (trail_end c lines) lines ⊎ Late lines
+        go : (lines ≡ []) ⊎ HasLast M t c lines → ((prefix : List ℕ) → length prefix < size → IsTrail M t c prefix → IsMet M t c n s key (trail_end c prefix) prefix ⊎ Late prefix) → IsMet M t c n s key (trail_end c lines) lines ⊎ Late lines
         go (inl e) k = subst (λ (v : List ℕ). IsMet M t c n s key (trail_end c v) v ⊎ Late v) (sym e) (inl (let a = at_start in omega arith, inr (ap key at_start ∙ w.start)))
         go (inr p) k = subst (λ (v : List ℕ). IsMet M t c n s key (trail_end c v) v ⊎ Late v) (sym p.lines_are)
-            (subst (λ (x : ℕ). IsMet M t c n s key x (p.front ++ p.row ∷ p.column ∷ []) ⊎ Late (p.front ++ p.row ∷ p.column ∷ [])) (sym (end_more M t c p.front p.row p.column p.trail))
-            (elim (k p.front (let e = ap length p.lines_are in let f = length_more p.front p.row p.column in omega arith) p.trail) [
+            (subst (λ (x : ℕ). IsMet M t c n s key x (p.prefix ++ p.row ∷ p.column ∷ []) ⊎ Late (p.prefix ++ p.row ∷ p.column ∷ [])) (sym (end_more M t c p.prefix p.row p.column p.trail))
+            (elim (k p.prefix (let e = ap length p.lines_are in let f = length_more p.prefix p.row p.column in omega arith) p.trail) [
               | inl met ↦ step met
-              | inr late ↦ inr (more p.front p.row p.column late)
+              | inr late ↦ inr (more p.prefix p.row p.column late)
             ]))
           where
-            step : IsMet M t c n s key (trail_end c p.front) p.front → IsMet M t c n s key p.column (p.front ++ p.row ∷ p.column ∷ []) ⊎ Late (p.front ++ p.row ∷ p.column ∷ [])
+            step : IsMet M t c n s key (trail_end c p.prefix) p.prefix → IsMet M t c n s key p.column (p.prefix ++ p.row ∷ p.column ∷ []) ⊎ Late (p.prefix ++ p.row ∷ p.column ∷ [])
             step met =
-                let v = w.listed (trail_end c p.front) met.0 in
-                settle (s.place (trail_end c p.front)) p.row p.column p.front v.0
+                let v = w.listed (trail_end c p.prefix) met.0 in
+                settle (s.place (trail_end c p.prefix)) p.row p.column p.prefix v.0
                 (elim p.goes [ inl e ↦ inl (ap (λ (u : List ℕ). s.place (trail_end c u)) e ∙ at_start) | inr z ↦ inr (ap (M t) v.1 ∙ z) ])
                 p.early (subst (λ (y : ℕ). M p.row y ≢ pos 0) (sym v.1) p.from) p.to met.1
 
@@ -141,19 +141,19 @@ module _ (M : ℕ → ℕ → ℤ) (t c n : ℕ) where
         ]
 
     -- where all places are done, each trail ends in a column that was met
-    pub all_met : (P : ℕ → ℕ → Type 0) → IsFront M t c n s key s.count P → (lines : List ℕ) → IsTrail M t c lines → s.place (trail_end c lines) < 4294967295
+    pub all_met : (P : ℕ → ℕ → Type 0) → IsPrefix M t c n s key s.count P → (lines : List ℕ) → IsTrail M t c lines → s.place (trail_end c lines) < 4294967295
     all_met P w lines h =
         elim (compare (λ (ls : List ℕ). ⊥) w.queue (λ ls r x late. late)
         (λ i r x ls l goes early from to le. let v = w.done i r x l goes early from to in inl (v.0, up_to_trans (key (s.place x)) (key i ++ r ∷ x ∷ []) (ls ++ r ∷ x ∷ []) v.1 (up_to_more (key i) ls r x le)))
         (suc (length lines)) lines (omega arith) h) [ inl v ↦ v.0 | inr late ↦ absurd late ]
 
-    pub all_settled : (P : ℕ → ℕ → Type 0) → IsFront M t c n s key s.count P → IsSettled M t c n s key
+    pub all_settled : (P : ℕ → ℕ → Type 0) → IsPrefix M t c n s key s.count P → IsSettled M t c n s key
     all_settled P w i r x lines l goes early from to le =
         let v = w.done i r x l goes early from to in
         inl (v.0, up_to_trans (key (s.place x)) (key i ++ r ∷ x ∷ []) (lines ++ r ∷ x ∷ []) v.1 (up_to_more (key i) lines r x le))
 
   -- the walk begins
-  pub begin : (s : Progress) (P : ℕ → ℕ → Type 0) → c < n → s.count ≡ 1 → s.column 0 ≡ c → s.is_two 0 ≡ false → s.place c ≡ 0 → ((z : ℕ) → z ≢ c → s.place z ≡ 4294967295) → ((r : ℕ) → s.used r ≡ false) → IsFront M t c n s (λ j. []) 0 P
+  pub begin : (s : Progress) (P : ℕ → ℕ → Type 0) → c < n → s.count ≡ 1 → s.column 0 ≡ c → s.is_two 0 ≡ false → s.place c ≡ 0 → ((z : ℕ) → z ≢ c → s.place z ≡ 4294967295) → ((r : ℕ) → s.used r ≡ false) → IsPrefix M t c n s (λ j. []) 0 P
   begin s P inside one first even place places unused = record {
     queue = record {
       some = omega arith;
@@ -173,7 +173,7 @@ module _ (M : ℕ → ℕ → ℤ) (t c n : ℕ) where
     fits = omega arith;
     done = λ i r x l. absurd (omega arith);
     gone = λ r x u. true_is_false (sym u ∙ unused r);
-    front = λ j r x l m p. longer_before [] r x;
+    prefix = λ j r x l m p. longer_before [] r x;
   }
     where
       here : (x : ℕ) → s.place x < 4294967295 → x ≡ c
@@ -192,7 +192,7 @@ module _ (M : ℕ → ℕ → ℤ) (t c n : ℕ) where
     unfolding with_key
     new_key j e = ap (λ (i : ℕ). cond (nat_eq i s.count) (key h ++ r ∷ x ∷ []) (key i)) e ∙ ap (λ (b : Bool). cond b (key h ++ r ∷ x ∷ []) (key s.count)) (self_eq s.count)
 
-    module _ (P Q : ℕ → ℕ → Type 0) (low : n < 4294967295) (w : IsFront M t c n s key h P) (l : h < s.count) (o : IsOneMore s s' x r h (flip (s.is_two h) same)) (unmet : s.place x ≡ 4294967295) where
+    module _ (P Q : ℕ → ℕ → Type 0) (low : n < 4294967295) (w : IsPrefix M t c n s key h P) (l : h < s.count) (o : IsOneMore s s' x r h (flip (s.is_two h) same)) (unmet : s.place x ≡ 4294967295) where
       few_top : s.count < 4294967295
       few_top = let b = few s key w.queue in omega arith
 
@@ -253,7 +253,7 @@ module _ (M : ℕ → ℕ → ℤ) (t c n : ℕ) where
           ];
           sorted = λ i j k m. each (λ j. (i : ℕ) → i < j → IsShortlexBefore (with_key i) (with_key j))
               (λ j m i k. subst (λ (v : List ℕ). IsShortlexBefore v (with_key j)) (sym (old_key i (omega arith))) (subst (IsShortlexBefore (key i)) (sym (old_key j m)) (w.queue.sorted i j k m)))
-              (λ i k. subst (λ (v : List ℕ). IsShortlexBefore v (with_key s.count)) (sym (old_key i k)) (subst (IsShortlexBefore (key i)) (sym (new_key s.count refl)) (w.front i r x k l next_one)))
+              (λ i k. subst (λ (v : List ℕ). IsShortlexBefore v (with_key s.count)) (sym (old_key i k)) (subst (IsShortlexBefore (key i)) (sym (new_key s.count refl)) (w.prefix i r x k l next_one)))
               j m i k;
           trail = each (λ j. IsTrail M t c (with_key j)) (λ j m. subst (IsTrail M t c) (sym (old_key j m)) (w.queue.trail j m)) (subst (IsTrail M t c) (sym (new_key s.count refl)) new_trail);
           ends = each (λ j. trail_end c (with_key j) ≡ s'.column j) (λ j m. ap (trail_end c) (old_key j m) ∙ w.queue.ends j m ∙ sym (o.columns j m))
@@ -276,7 +276,7 @@ module _ (M : ℕ → ℕ → ℤ) (t c n : ℕ) where
               j m p;
         }
 
-        pub visit : IsFront M t c n s' with_key h Q
+        pub visit : IsPrefix M t c n s' with_key h Q
         visit = record {
           queue = queue;
           fits = let e = o.count in omega arith;
@@ -287,8 +287,8 @@ module _ (M : ℕ → ℕ → ℤ) (t c n : ℕ) where
           gone = λ q y u b.
               let v = w.gone q y (sym (o.used q) ∙ u) b in
               let k = kept_here y q y (v.0, v.1 l) in (k.0, λ m. k.1);
-          front = λ j q y m k a. each (λ j. IsShortlexBefore (with_key j) (with_key h ++ q ∷ y ∷ []))
-              (λ j m. subst (λ (u : List ℕ). IsShortlexBefore u (with_key h ++ q ∷ y ∷ [])) (sym (old_key j m)) (subst (λ (u : List ℕ). IsShortlexBefore (key j) (u ++ q ∷ y ∷ [])) (sym same_head) (w.front j q y m l (still q y a).0)))
+          prefix = λ j q y m k a. each (λ j. IsShortlexBefore (with_key j) (with_key h ++ q ∷ y ∷ []))
+              (λ j m. subst (λ (u : List ℕ). IsShortlexBefore u (with_key h ++ q ∷ y ∷ [])) (sym (old_key j m)) (subst (λ (u : List ℕ). IsShortlexBefore (key j) (u ++ q ∷ y ∷ [])) (sym same_head) (w.prefix j q y m l (still q y a).0)))
               (subst (λ (u : List ℕ). IsShortlexBefore u (with_key h ++ q ∷ y ∷ [])) (sym (new_key s.count refl)) (subst (λ (u : List ℕ). IsShortlexBefore (key h ++ r ∷ x ∷ []) (u ++ q ∷ y ∷ [])) (sym same_head) (next_before (key h) r x q y (still q y a).1)))
               j m;
         }

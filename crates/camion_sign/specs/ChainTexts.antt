@@ -29,8 +29,8 @@ abbrev pub line_in : ℕ → List ℕ → Result ℕ ChainKind
 line_in most word = renamed chain_kind (limits.line_in most word)
 
 -- a line's number above the one before it
-abbrev pub rising_line_in : ℕ → ℕ → List ℕ → Result ℕ ChainKind
-rising_line_in most before word = renamed chain_kind (limits.rising_line_in most before word)
+abbrev pub increasing_line_in : ℕ → ℕ → List ℕ → Result ℕ ChainKind
+increasing_line_in most before word = renamed chain_kind (limits.increasing_line_in most before word)
 
 -- this very word
 abbrev pub word_in : List ℕ → ChainKind → List ℕ → Result (Unit {0}) ChainKind
@@ -43,19 +43,19 @@ step_name_in word = if bytes_eq word (codes "free") then Ok names.Free else (if 
 -- one more line, above the one before it
 abbrev pub another_line : ℕ → List ℕ → Text → Result (List ℕ × Text) (Fault ChainKind)
 another_line most lines text = do
-  number ← field Short (rising_line_in most (last_number lines)) text
+  number ← field Short (increasing_line_in most (last_number lines)) text
   Ok (lines ++ (number.0 - 1) ∷ [], number.1)
 
-abbrev pub rising_lines : ℕ → ℕ → Text → Result (List ℕ × Text) (Fault ChainKind)
-rising_lines most n text = times (another_line most) n [] text
+abbrev pub increasing_lines : ℕ → ℕ → Text → Result (List ℕ × Text) (Fault ChainKind)
+increasing_lines most n text = times (another_line most) n [] text
 
 -- two counts, and then so many rows and so many columns
 abbrev pub line_set : ℕ → ℕ → Text → Result (LineSet × Text) (Fault ChainKind)
 line_set height width text = do
   row_count ← field Short (limited height) text
   column_count ← field Short (limited width) row_count.1
-  rows ← rising_lines height row_count.0 column_count.1
-  columns ← rising_lines width column_count.0 rows.1
+  rows ← increasing_lines height row_count.0 column_count.1
+  columns ← increasing_lines width column_count.0 rows.1
   Ok (record { rows = rows.0; columns = columns.0 }, columns.1)
 
 -- what stands behind the name, the row and the column of a step
@@ -118,9 +118,9 @@ IsStepIn height width (Free row column) = (row < height) × (column < width)
 IsStepIn height width (Forced row column cycle) = (row < height) × (column < width) × AreLinesIn height width cycle
 
 -- what every set of lines is
-abbrev pub AreRising : LineSet → Type 0
-AreRising lines = IsStrictlyIncreasing lines.rows × IsStrictlyIncreasing lines.columns
+abbrev pub AreIncreasing : LineSet → Type 0
+AreIncreasing lines = IsStrictlyIncreasing lines.rows × IsStrictlyIncreasing lines.columns
 
-abbrev pub IsRisingStep : SignStep → Type 0
-IsRisingStep (Free row column) = Unit {0}
-IsRisingStep (Forced row column cycle) = AreRising cycle
+abbrev pub IsIncreasingStep : SignStep → Type 0
+IsIncreasingStep (Free row column) = Unit {0}
+IsIncreasingStep (Forced row column cycle) = AreIncreasing cycle

@@ -1,4 +1,4 @@
--- The first fault, and its lines as rising lists.
+-- The first fault, and its lines as increasing lists.
 use Rattle.std.specs.Prelude.{ℕ, suc, ◌-◌, List, ◌↔◌, ◌<◌, ◌≤◌, nat_lt, if◌then◌else◌, Option, Some, None, MatchOption}
 use Rattle.std.specs.List.Sorted.{IsStrictlyIncreasing}
 use Rattle.cmr_base.specs.Matrix.{Matrix, entry}
@@ -19,9 +19,9 @@ pub record IsFirstFault (m : Matrix) (t c d : ℕ) (lines : List ℕ) : Type 0 w
   pub fault : IsFaultAt (entry m) t c d lines
   pub first : (t' c' d' : ℕ) → IsEarlierPlace t' c' d' t c d → HasNoFaultAt m t' c' d'
 
--- the numbers below x that have the property, rising
+-- the numbers below x that have the property, increasing
 pub record IsBuilt (P : ℕ → Type 0) (x : ℕ) (list : List ℕ) : Type 0 where
-  pub rising : IsStrictlyIncreasing list
+  pub increasing : IsStrictlyIncreasing list
   pub members : (y : ℕ) → IsIn y list ↔ ((y < x) × P y)
 
 -- the least of these lines that is at least a number, where there is one

@@ -2,9 +2,9 @@
 use Rattle.std.specs.Prelude.{◌≡◌, ◌≢◌, ◌<◌, ◌+◌, if◌then◌else◌, ℕ, ℤ, pos, List, [], ◌∷◌, length, slice_index}
 use Rattle.cmr_base.specs.Matrix.{is_nonzero}
 
--- rising, all places of nonzeros and no others
+-- increasing, all places of nonzeros and no others
 pub record AreNonzeros (line : ℕ → ℤ) (places : List ℕ) : Type 0 where
-  pub rising : (i j : ℕ) → i < j → j < length places → slice_index places i < slice_index places j
+  pub increasing : (i j : ℕ) → i < j → j < length places → slice_index places i < slice_index places j
   pub nonzero : (k : ℕ) → k < length places → line (slice_index places k) ≢ pos 0
   pub all : (x : ℕ) → line x ≢ pos 0 → (k : ℕ) × (k < length places) × (slice_index places k ≡ x)
 

@@ -74,12 +74,12 @@ module _ (M : ℕ → ℕ → ℤ) (t c n : ℕ) (s : Progress) (key : ℕ → L
   IsMet x lines = (s.place x < UNREACHED) × IsUpTo (key (s.place x)) lines
 
   -- those before place h are done; what comes next comes by this row or a later one, and this column or a later one
-  pub record IsFront (h : ℕ) (Next : ℕ → ℕ → Type 0) : Type 0 where
+  pub record IsPrefix (h : ℕ) (Next : ℕ → ℕ → Type 0) : Type 0 where
     pub queue : IsQueue
     pub fits : h ≤ s.count
     pub done : (i r x : ℕ) → i < h → Goes i → r < t → M r (s.column i) ≢ pos 0 → M r x ≢ pos 0 → IsMet x (key i ++ r ∷ x ∷ [])
     pub gone : (r x : ℕ) → s.used r ≡ true → M r x ≢ pos 0 → (s.place x < UNREACHED) × (h < s.count → IsUpTo (key (s.place x)) (key h ++ r ∷ x ∷ []))
-    pub front : (j r x : ℕ) → j < s.count → h < s.count → Next r x → IsShortlexBefore (key j) (key h ++ r ∷ x ∷ [])
+    pub prefix : (j r x : ℕ) → j < s.count → h < s.count → Next r x → IsShortlexBefore (key j) (key h ++ r ∷ x ∷ [])
 
   -- nothing that a trail can still reach comes before what was reached
   abbrev pub IsSettled : Type 0
@@ -96,7 +96,7 @@ pub record HasPlacesAndMarks (m : Matrix) (walk : Walk) : Type 0 where
 pub record IsWalking (m : Matrix) (t c h low : ℕ) (walk : Walk) : Type 0 where
   pub fits : HasPlacesAndMarks m walk
   pub key : ℕ → List ℕ
-  pub front : IsFront (entry m) t c m.width (progress walk.steps.items walk.places.items walk.used.items) key h (λ r x. low ≤ r)
+  pub prefix : IsPrefix (entry m) t c m.width (progress walk.steps.items walk.places.items walk.used.items) key h (λ r x. low ≤ r)
 
 -- place h is one of the walk, and a trail may go on from it
 pub record IsOpen (m : Matrix) (t h : ℕ) (walk : Walk) : Type 0 where
@@ -117,7 +117,7 @@ pub record IsReaching (m : Matrix) (t c h r : ℕ) (columns : List ℕ) (k : ℕ
   pub within : h < length walk.steps.items
   pub from_is : step_at walk.steps.items h ≡ from
   pub key : ℕ → List ℕ
-  pub front : IsFront (entry m) t c m.width (progress walk.steps.items walk.places.items walk.used.items) key h
+  pub prefix : IsPrefix (entry m) t c m.width (progress walk.steps.items walk.places.items walk.used.items) key h
       (λ s x. (r < s) ⊎ ((r ≡ s) × ((i : ℕ) → i < k → slice_index columns i < x)))
   pub met : (i : ℕ) → i < k → IsMet (entry m) t c m.width (progress walk.steps.items walk.places.items walk.used.items) key (slice_index columns i) (key h ++ r ∷ slice_index columns i ∷ [])
 

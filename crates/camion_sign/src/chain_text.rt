@@ -6,13 +6,13 @@ ghost use Rattle.text_fields.specs.Reading.{field, times, Gives, Reads};
 ghost use Rattle.text_fields.specs.Result.{renamed};
 ghost use Rattle.camion_sign.specs.declared.chain_error.ChainKind.TheVariants.{Short};
 ghost use Rattle.camion_sign.specs.ChainKinds.{chain_kind};
-ghost use Rattle.camion_sign.specs.ChainTexts.{limited, line_in, rising_line_in, word_in, step_name_in, rising_lines, line_set, step_of, next_step, another_step, chain};
+ghost use Rattle.camion_sign.specs.ChainTexts.{limited, line_in, increasing_line_in, word_in, step_name_in, increasing_lines, line_set, step_of, next_step, another_step, chain};
 
 use crate::chain_error::{ChainError, ChainKind};
 use crate::step::{Chain, SignStep, SignStepList, SizedChain};
 use cmr_base::{Indices, LineSet, MAX_COLUMNS, MAX_ROWS};
 use std::alloc::Global;
-use text_fields::{LimitFault, Words, at_place, limited, line_in, rising_line_in};
+use text_fields::{LimitFault, Words, at_place, increasing_line_in, limited, line_in};
 
 /// The name of a step.
 #[derive(Clone, Copy)]
@@ -108,23 +108,23 @@ fn line_set(
 {
     let row_count = size(words, rows)?;
     let column_count = size(words, columns)?;
-    let rows = rising_lines(alloc, words, rows, row_count)?;
-    let columns = rising_lines(alloc, words, columns, column_count)?;
+    let rows = increasing_lines(alloc, words, rows, row_count)?;
+    let columns = increasing_lines(alloc, words, columns, column_count)?;
     Ok(LineSet { rows, columns })
 }
 
-fn rising_lines(
+fn increasing_lines(
     alloc: Global,
     words: &mut Words<'_>,
     most: u32,
     count: u32,
 ) -> Result<Indices, ChainError>
-    ensures { Reads (λ lines. lines) words.new result (rising_lines most count words.old) }
+    ensures { Reads (λ lines. lines) words.new result (increasing_lines most count words.old) }
 {
     let mut lines = Indices::new(alloc);
     let mut before = 0;
     for _ in 0..count {
-        let number = rising_line(words, most, before)?;
+        let number = increasing_line(words, most, before)?;
         lines.push(number - 1)?;
         before = number;
     }
@@ -180,14 +180,14 @@ fn line(words: &mut Words<'_>, most: u32) -> Result<u32, ChainError>
     at_place(place, named(line_in(word, most)))
 }
 
-fn rising_line(words: &mut Words<'_>, most: u32, before: u32) -> Result<u32, ChainError>
+fn increasing_line(words: &mut Words<'_>, most: u32, before: u32) -> Result<u32, ChainError>
     ensures read { Reads (λ n. n) words.new result
-        (field Short (rising_line_in most before) words.old) }
+        (field Short (increasing_line_in most before) words.old) }
     ensures above { IfOk result (λ n. before < n) }
     ensures within { IfOk result (λ n. n ≤ most) }
 {
     let (place, word) = words.due(ChainKind::Short)?;
-    at_place(place, named(rising_line_in(word, most, before)))
+    at_place(place, named(increasing_line_in(word, most, before)))
 }
 
 // A number within limits, with its fault as chain texts name it.

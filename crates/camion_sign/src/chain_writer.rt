@@ -4,7 +4,7 @@ ghost use Rattle.std.specs.List.{AllByRecursion};
 ghost use Rattle.cmr_base.specs.LineSets.{AllBelow};
 ghost use Rattle.text_fields.specs.TextWords.{text_of};
 ghost use Rattle.text_fields.specs.Written.{with_word, with_line};
-ghost use Rattle.camion_sign.specs.ChainTexts.{AreLinesIn, AreRising, IsRisingStep, IsStepIn, chain as chain_in, chain_text, line_set_words, number_of_line, step_words};
+ghost use Rattle.camion_sign.specs.ChainTexts.{AreLinesIn, AreIncreasing, IsIncreasingStep, IsStepIn, chain as chain_in, chain_text, line_set_words, number_of_line, step_words};
 
 use crate::step::{Chain, SignStep};
 use cmr_base::{Indices, LineSet, MAX_COLUMNS, MAX_ROWS, Memory};
@@ -45,7 +45,7 @@ fn write_steps(text: &mut Writer, steps: &[SignStep], rows: u32, columns: u32) -
     requires at_start { text.old.is_begun ≡ false }
     ensures lines { OnOk result (text.new ≡ fold with_line text.old (map step_words steps.now)) }
     ensures at_start { OnOk result (text.new.is_begun ≡ false) }
-    ensures rising { OnOk result (AllByRecursion IsRisingStep steps.now) }
+    ensures increasing { OnOk result (AllByRecursion IsIncreasingStep steps.now) }
 {
     for step in steps {
         write_step(text, step, rows, columns)?;
@@ -59,7 +59,7 @@ fn write_step(text: &mut Writer, step: &SignStep, rows: u32, columns: u32) -> Re
     requires step { IsStepIn rows columns step.now }
     requires at_start { text.old.is_begun ≡ false }
     ensures line { OnOk result (text.new ≡ with_line text.old (step_words step.now)) }
-    ensures rising { OnOk result (IsRisingStep step.now) }
+    ensures increasing { OnOk result (IsIncreasingStep step.now) }
 {
     put_step(text, step, rows, columns)?;
     text.end_line()
@@ -70,7 +70,7 @@ fn put_step(text: &mut Writer, step: &SignStep, rows: u32, columns: u32) -> Resu
     requires columns { columns ≤ MAX_COLUMNS }
     requires step { IsStepIn rows columns step.now }
     ensures words { OnOk result (text.new ≡ fold with_word text.old (step_words step.now)) }
-    ensures rising { OnOk result (IsRisingStep step.now) }
+    ensures increasing { OnOk result (IsIncreasingStep step.now) }
 {
     match step {
         SignStep::Free { row, column } => put_place(text, b"free".as_slice(), *row, *column),
@@ -100,7 +100,7 @@ fn write_violator(text: &mut Writer, lines: &LineSet, rows: u32, columns: u32) -
     requires at_start { text.old.is_begun ≡ false }
     ensures line { OnOk result (text.new ≡ with_line text.old (codes "violator"
         ∷ line_set_words lines.now)) }
-    ensures rising { OnOk result (AreRising lines.now) }
+    ensures increasing { OnOk result (AreIncreasing lines.now) }
 {
     text.word(b"violator".as_slice())?;
     put_line_set(text, lines, rows, columns)?;
@@ -112,7 +112,7 @@ fn put_line_set(text: &mut Writer, lines: &LineSet, rows: u32, columns: u32) -> 
     requires columns { columns ≤ MAX_COLUMNS }
     requires lines { AreLinesIn rows columns lines.now }
     ensures words { OnOk result (text.new ≡ fold with_word text.old (line_set_words lines.now)) }
-    ensures rising { AreRising lines.now }
+    ensures increasing { AreIncreasing lines.now }
 {
     let row_count = lines.rows.len() as u32;
     let column_count = lines.columns.len() as u32;

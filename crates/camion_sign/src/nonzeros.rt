@@ -7,7 +7,7 @@ use cmr_base::{Matrix, Memory};
 use std::alloc::Global;
 use std::marker::Model;
 
-/// Rising lists of numbers, one behind the other. Contracts see the list of these lists.
+/// Increasing lists of numbers, one behind the other. Contracts see the list of these lists.
 #[derive(Drop)]
 pub struct Nonzeros {
     starts: Vec<usize>,

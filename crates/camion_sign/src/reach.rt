@@ -16,7 +16,7 @@ pub struct Start {
 }
 
 /// Walks until each last column is reached that can be: over the rows before the row of the places, through columns
-/// in which that row is 0, first come, first served, and by rising lines. So each column is reached by the least of
+/// in which that row is 0, first come, first served, and by increasing lines. So each column is reached by the least of
 /// its shortest paths.
 pub fn walk_from(matrix: &ListedMatrix<'_>, walk: &mut Walk, start: Start) -> Result<(), Memory>
     requires row { start.row < height matrix.now }

@@ -44,21 +44,21 @@ broken_here m path pivots due tree broken h = record {
 }
 
 -- the nodes before keep all rules
-pub answers_after : (m : Matrix) (front back : List Place) (answer : Option Refusal) → AllByRecursion (KeepsAll m) front → AnswersOn m back answer → AnswersOn m (front ++ back) answer
-answers_after m front back None sound h = all-append (KeepsAll m) front back sound h
-answers_after m front back (Some refusal) sound h = record {
-  before = front ++ h.before;
+pub answers_after : (m : Matrix) (prefix back : List Place) (answer : Option Refusal) → AllByRecursion (KeepsAll m) prefix → AnswersOn m back answer → AnswersOn m (prefix ++ back) answer
+answers_after m prefix back None sound h = all-append (KeepsAll m) prefix back sound h
+answers_after m prefix back (Some refusal) sound h = record {
+  before = prefix ++ h.before;
   place = h.place;
   after = h.after;
-  order = ap (λ nodes. front ++ nodes) h.order ∙ sym (append_assoc front h.before (h.place ∷ h.after));
-  sound = all-append (KeepsAll m) front h.before sound h.sound;
+  order = ap (λ nodes. prefix ++ nodes) h.order ∙ sym (append_assoc prefix h.before (h.place ∷ h.after));
+  sound = all-append (KeepsAll m) prefix h.before sound h.sound;
   breaks = h.breaks;
   path_is = h.path_is;
 }
 
 -- the answer stands before more nodes
-pub broken_before : (m : Matrix) (front back : List Place) (refusal : Refusal) → AnswersOn m front (Some refusal) → AnswersOn m (front ++ back) (Some refusal)
-broken_before m front back refusal h = record {
+pub broken_before : (m : Matrix) (prefix back : List Place) (refusal : Refusal) → AnswersOn m prefix (Some refusal) → AnswersOn m (prefix ++ back) (Some refusal)
+broken_before m prefix back refusal h = record {
   before = h.before;
   place = h.place;
   after = h.after ++ back;
@@ -232,8 +232,8 @@ root_stands m rows columns (Branch lines finding trees) within e f = (
   lines,
   2001,
   record {
-    rows = record { rising = within.nodes.1.rows_rise; in_range = subst (λ n. (k : ℕ) → k < length lines.rows → get_or lines.rows k 0 < n) e within.root_rows };
-    columns = record { rising = within.nodes.1.columns_rise; in_range = subst (λ n. (k : ℕ) → k < length lines.columns → get_or lines.columns k 0 < n) f within.root_columns };
+    rows = record { increasing = within.nodes.1.rows_rise; in_range = subst (λ n. (k : ℕ) → k < length lines.rows → get_or lines.rows k 0 < n) e within.root_rows };
+    columns = record { increasing = within.nodes.1.columns_rise; in_range = subst (λ n. (k : ℕ) → k < length lines.columns → get_or lines.columns k 0 < n) f within.root_columns };
   },
   within.nodes,
 )

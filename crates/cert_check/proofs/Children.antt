@@ -3,7 +3,7 @@ use Rattle.std.proofs.Common.{◌≡◌, ◌<◌, ◌≤◌, drop, get_or, ◌+�
 use Rattle.std.proofs.lemmas.List.{drop_more}
 use Rattle.cmr_base.specs.Matrix.{Matrix, height}
 use Rattle.cmr_base.specs.declared.line_set.LineSet.{LineSet}
-use Rattle.cmr_base.proofs.Parts.{length-rising}
+use Rattle.cmr_base.proofs.Parts.{length-increasing}
 use Rattle.tree_type.specs.declared.refusal.Refusal.{Refusal}
 use Rattle.tree_type.specs.declared.tree.Node.{Node}
 use Rattle.tree_type.specs.declared.tree.NodeList.{NodeList}
@@ -51,7 +51,7 @@ few_children m node children e stands = go (one_sum_stands m node children e sta
     go (parent, levels, are, within) =
         let own = lines_within m node.lines parent within.1 are in
         let few = within.2 in
-        omega (arith, few, count_of (nodes_in children), length-rising node.lines.rows (height m) own.rows.rising own.rows.in_range, length-rising node.lines.columns m.width own.columns.rising own.columns.in_range)
+        omega (arith, few, count_of (nodes_in children), length-increasing node.lines.rows (height m) own.rows.increasing own.rows.in_range, length-increasing node.lines.columns m.width own.columns.increasing own.columns.in_range)
 
 -- no lines are named for a child of a one-sum
 pub unnamed : (node : Node) (children : NodeList) (number : ℕ) → node.kind ≡ kind.OneSum children → due_child_of (tree_of node) number ≡ Unnamed

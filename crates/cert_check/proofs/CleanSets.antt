@@ -5,7 +5,7 @@ use Rattle.cmr_base.specs.Matrix.{Matrix, height, transposed, IsMatrix}
 use Rattle.cmr_base.proofs.TransposedLemmas.{violator_from_transposed, row_set_from_transposed, column_set_from_transposed, none_from_transposed}
 use Rattle.cmr_base.specs.LineSets.{IsRowSet, set_number, set_numbered}
 use Rattle.cmr_base.specs.Violator.{HasNoColumnSet, HasNoViolator, IsLeastColumnSet}
-use Rattle.cmr_base.proofs.RisingLists.{row_set_rises}
+use Rattle.cmr_base.proofs.IncreasingLists.{row_set_rises}
 use Rattle.cmr_base.proofs.SetNumbers.{numbered_same, row_set-numbered, set_number-lt}
 
 -- no row set with a lesser number has a column set

@@ -18,8 +18,8 @@ height-pivoted m lines place = height-filled (height m) m.width (replaced_entry 
 -- its lines are those before
 pub lines_pivoted : (m : Matrix) (lines : LineSet) (place : PlacedPivot) (set : LineSet) → AreLines m set → AreLines (pivoted_part m lines place) set
 lines_pivoted m lines place set are = record {
-  rows = record { rising = are.rows.rising; in_range = subst (λ n. (k : ℕ) → k < length set.rows → get_or set.rows k 0 < n) (sym (height-pivoted m lines place)) are.rows.in_range };
-  columns = record { rising = are.columns.rising; in_range = are.columns.in_range };
+  rows = record { increasing = are.rows.increasing; in_range = subst (λ n. (k : ℕ) → k < length set.rows → get_or set.rows k 0 < n) (sym (height-pivoted m lines place)) are.rows.in_range };
+  columns = record { increasing = are.columns.increasing; in_range = are.columns.in_range };
 }
 
 pub lines_after : (m : Matrix) (pivots : List MadePivot) (set : LineSet) → AreLines m set → AreLines (matrix_after m pivots) set

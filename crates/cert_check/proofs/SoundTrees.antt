@@ -7,7 +7,7 @@ use Rattle.cmr_base.specs.declared.line_set.LineSet.{LineSet}
 use Rattle.cmr_base.specs.Matrix.{Matrix, height, entry, IsMatrix}
 use Rattle.cmr_base.specs.LineSets.{first_lines}
 use Rattle.cmr_base.specs.Violator.{IsViolator, HasNoViolator}
-use Rattle.cmr_base.proofs.Lists.{all_front, all_back}
+use Rattle.cmr_base.proofs.Lists.{all_prefix, all_back}
 use Rattle.cmr_base.proofs.ListsWithout.{true_is_false}
 use Rattle.cmr_base.proofs.Options.{some_or, some_same}
 use Rattle.ghouila.proofs.CamionLaw.{camion, unsigned}
@@ -164,7 +164,7 @@ module _ (m : Matrix) where
   unfolding AreDue
   due_each path pivots lines finding k NoTrees keeps = tt
   due_each path pivots lines finding k (MoreTrees tree trees) keeps = (
-    due_here (path ++ k ∷ []) pivots (due_child lines finding k) tree (all_front (KeepsAll m) (places_from (path ++ k ∷ []) pivots (due_child lines finding k) tree) (places_below path pivots lines finding (suc k) trees) keeps),
+    due_here (path ++ k ∷ []) pivots (due_child lines finding k) tree (all_prefix (KeepsAll m) (places_from (path ++ k ∷ []) pivots (due_child lines finding k) tree) (places_below path pivots lines finding (suc k) trees) keeps),
     due_each path pivots lines finding (suc k) trees (all_back (KeepsAll m) (places_from (path ++ k ∷ []) pivots (due_child lines finding k) tree) (places_below path pivots lines finding (suc k) trees) keeps),
   )
 
@@ -187,7 +187,7 @@ module _ (m : Matrix) where
         let faults = none_or (first_in fault_at tree) (first_among fault_at trees) no_fault in
         let opens = none_or (first_in open_at tree) (first_among open_at trees) no_open in (
           free_tree (path ++ k ∷ []) pivots (due_child lines finding k) lines levels tree is are fits.0
-              (all_front (KeepsAll m) (places_from (path ++ k ∷ []) pivots (due_child lines finding k) tree) (places_below path pivots lines finding (suc k) trees) keeps) faults.0 opens.0,
+              (all_prefix (KeepsAll m) (places_from (path ++ k ∷ []) pivots (due_child lines finding k) tree) (places_below path pivots lines finding (suc k) trees) keeps) faults.0 opens.0,
           free_trees path pivots lines finding levels (suc k) trees is are fits.1
               (all_back (KeepsAll m) (places_from (path ++ k ∷ []) pivots (due_child lines finding k) tree) (places_below path pivots lines finding (suc k) trees) keeps) faults.1 opens.1,
         )
@@ -209,7 +209,7 @@ module _ (m : Matrix) where
     fault_trees path pivots lines finding levels k (MoreTrees tree trees) fault are fits keeps found =
         elim (some_or (first_in fault_at tree) (first_among fault_at trees) fault found) [
           | inl e ↦ fault_tree (path ++ k ∷ []) pivots (due_child lines finding k) lines levels tree fault are fits.0
-              (all_front (KeepsAll m) (places_from (path ++ k ∷ []) pivots (due_child lines finding k) tree) (places_below path pivots lines finding (suc k) trees) keeps) e
+              (all_prefix (KeepsAll m) (places_from (path ++ k ∷ []) pivots (due_child lines finding k) tree) (places_below path pivots lines finding (suc k) trees) keeps) e
           | inr e ↦ fault_trees path pivots lines finding levels (suc k) trees fault are fits.1
               (all_back (KeepsAll m) (places_from (path ++ k ∷ []) pivots (due_child lines finding k) tree) (places_below path pivots lines finding (suc k) trees) keeps) e
         ]
@@ -221,8 +221,8 @@ module _ (m : Matrix) (is : IsMatrix m) where
       let sizes = keeps.0 rule.Size in
       let all = keeps.0 rule.Lines in (
         record {
-          rows = record { rising = tree.nodes.1.rows_rise; in_range = subst (λ n. (k : ℕ) → k < length lines.rows → get_or lines.rows k 0 < n) sizes.0 tree.root_rows };
-          columns = record { rising = tree.nodes.1.columns_rise; in_range = subst (λ n. (k : ℕ) → k < length lines.columns → get_or lines.columns k 0 < n) sizes.1 tree.root_columns };
+          rows = record { increasing = tree.nodes.1.rows_rise; in_range = subst (λ n. (k : ℕ) → k < length lines.rows → get_or lines.rows k 0 < n) sizes.0 tree.root_rows };
+          columns = record { increasing = tree.nodes.1.columns_rise; in_range = subst (λ n. (k : ℕ) → k < length lines.columns → get_or lines.columns k 0 < n) sizes.1 tree.root_columns };
         },
         all.0 ∙ ap first_lines sizes.0,
         all.1 ∙ ap first_lines sizes.1,

@@ -89,8 +89,8 @@ kept_lines n test xs lower k l = contained_below n xs (get_or (filter test xs) k
 
 pub side_lines : (m : Matrix) (lines side : LineSet) (t u : ℕ → Bool) → AreLines m lines → side.rows ≡ filter t lines.rows → side.columns ≡ filter u lines.columns → AreLines m side
 side_lines m lines side t u are e f = record {
-  rows = record { rising = subst IsStrictlyIncreasing (sym e) (IsStrictlyIncreasing-filter t lines.rows are.rows.rising); in_range = subst (AllBelow (height m)) (sym e) (kept_lines (height m) t lines.rows are.rows.in_range) };
-  columns = record { rising = subst IsStrictlyIncreasing (sym f) (IsStrictlyIncreasing-filter u lines.columns are.columns.rising); in_range = subst (AllBelow m.width) (sym f) (kept_lines m.width u lines.columns are.columns.in_range) };
+  rows = record { increasing = subst IsStrictlyIncreasing (sym e) (IsStrictlyIncreasing-filter t lines.rows are.rows.increasing); in_range = subst (AllBelow (height m)) (sym e) (kept_lines (height m) t lines.rows are.rows.in_range) };
+  columns = record { increasing = subst IsStrictlyIncreasing (sym f) (IsStrictlyIncreasing-filter u lines.columns are.columns.increasing); in_range = subst (AllBelow m.width) (sym f) (kept_lines m.width u lines.columns are.columns.in_range) };
 }
 
 pub connector_in : (m : Matrix) (lines : LineSet) (flat : Bool) (c : Connector) → AreLines m lines → HasConnector flat lines.rows lines.columns c → IsConnectorIn m flat c
@@ -163,13 +163,13 @@ three_says m lines t s fine e enough connectors sign blocks =
 
 pub fewer_lines : (m : Matrix) (lines fewer : LineSet) (line : Line) → AreLines m lines → fewer.rows ≡ rows_without lines.rows line → fewer.columns ≡ columns_without lines.columns line → AreLines m fewer
 fewer_lines m lines fewer (Row row) are e f = record {
-  rows = record { rising = subst IsStrictlyIncreasing (sym e) (IsStrictlyIncreasing-filter (λ other. not (eqb other row)) lines.rows are.rows.rising); in_range = subst (AllBelow (height m)) (sym e) (kept_lines (height m) (λ other. not (eqb other row)) lines.rows are.rows.in_range) };
-  columns = record { rising = subst IsStrictlyIncreasing (sym f) are.columns.rising; in_range = subst (AllBelow m.width) (sym f) are.columns.in_range };
+  rows = record { increasing = subst IsStrictlyIncreasing (sym e) (IsStrictlyIncreasing-filter (λ other. not (eqb other row)) lines.rows are.rows.increasing); in_range = subst (AllBelow (height m)) (sym e) (kept_lines (height m) (λ other. not (eqb other row)) lines.rows are.rows.in_range) };
+  columns = record { increasing = subst IsStrictlyIncreasing (sym f) are.columns.increasing; in_range = subst (AllBelow m.width) (sym f) are.columns.in_range };
 }
 fewer_lines m lines fewer (Column column) are e f = record {
-  rows = record { rising = subst IsStrictlyIncreasing (sym e) are.rows.rising; in_range = subst (AllBelow (height m)) (sym e) are.rows.in_range };
+  rows = record { increasing = subst IsStrictlyIncreasing (sym e) are.rows.increasing; in_range = subst (AllBelow (height m)) (sym e) are.rows.in_range };
   columns = record {
-    rising = subst IsStrictlyIncreasing (sym f) (IsStrictlyIncreasing-filter (λ other. not (eqb other column)) lines.columns are.columns.rising);
+    increasing = subst IsStrictlyIncreasing (sym f) (IsStrictlyIncreasing-filter (λ other. not (eqb other column)) lines.columns are.columns.increasing);
     in_range = subst (AllBelow m.width) (sym f) (kept_lines m.width (λ other. not (eqb other column)) lines.columns are.columns.in_range);
   };
 }

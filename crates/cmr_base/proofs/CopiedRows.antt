@@ -9,7 +9,7 @@ use Rattle.cmr_base.specs.LineSets.{AllBelow, submatrix}
 use Rattle.cmr_base.specs.Trees.{support}
 use Rattle.cmr_base.proofs.Booleans.{zero_is}
 use Rattle.cmr_base.proofs.Entries.{height-with_entry, entry-with_entry_same, entry-with_entry_other_column, entry-with_entry_other_row, is_matrix-with_entry}
-use Rattle.cmr_base.proofs.Parts.{entry-submatrix, is_ternary-submatrix, length-rising}
+use Rattle.cmr_base.proofs.Parts.{entry-submatrix, is_ternary-submatrix, length-increasing}
 use Rattle.cmr_base.proofs.PlaneSteps.{zero_entry}
 use Rattle.cmr_base.proofs.Submatrices.{increasing_places}
 use Rattle.cmr_base.proofs.WholeMatrices.{is_ternary, same_matrix}
@@ -31,12 +31,12 @@ no_places width chosen places e = record {
 
 pub one_place : (width : ℕ) (chosen places : List ℕ) (count : ℕ) → IsStrictlyIncreasing chosen → AllBelow width chosen → count < length chosen → AreSomePlaces width chosen count places
     → AreSomePlaces width chosen (count + 1) (set places (get_or chosen count 0) count)
-one_place width chosen places count rising below inside are = record {
+one_place width chosen places count increasing below inside are = record {
   long = length-set places column count ∙ are.long;
   there = λ k l. elim (cases_eq k count) [
     | inl e ↦ ap (λ (j : ℕ). get_or (set places column count) (get_or chosen j 0) 0) e ∙ here ∙ sym e
     | inr d ↦
-        let lower = increasing_places chosen k count rising (omega (arith, l, d)) inside in
+        let lower = increasing_places chosen k count increasing (omega (arith, l, d)) inside in
         get_or-set_other places column (get_or chosen k 0) count 0 (λ q. omega (arith, lower, q)) ∙ are.there k (omega (arith, l, d))
   ];
   back = λ other in_width l. elim (cases_eq other column) [
@@ -54,10 +54,10 @@ one_place width chosen places count rising below inside are = record {
     here = get_or-set_same places column count 0 (let b = below count inside in let w = are.long in omega arith)
 
 pub all_places : (width : ℕ) (chosen places : List ℕ) (count : ℕ) → IsStrictlyIncreasing chosen → AllBelow width chosen → width ≤ 1000 → length chosen ≤ count → AreSomePlaces width chosen count places → ArePlaces width chosen places
-all_places width chosen places count rising below few all are = record {
+all_places width chosen places count increasing below few all are = record {
   long = are.long;
   there = λ k l. are.there k (omega arith);
-  back = λ column inside l. are.back column inside (let short = length-rising chosen width rising below in omega arith);
+  back = λ column inside l. are.back column inside (let short = length-increasing chosen width increasing below in omega arith);
 }
 
 -- ---- a row

@@ -145,7 +145,7 @@ module _ (m : Matrix) (rows columns : List ℕ) (row_set : IsRowSet m rows) (col
   inside r l = row_set.in_range r (omega (arith, l, height_is))
 
   apart : (r s : ℕ) → r < height (submatrix m rows columns) → s < height (submatrix m rows columns) → r ≢ s → get_or rows r 0 ≢ get_or rows s 0
-  apart r s lr ls n e = n (same_place rows r s (increasing_distinct rows row_set.rising) (omega (arith, lr, height_is)) (omega (arith, ls, height_is)) e)
+  apart r s lr ls n e = n (same_place rows r s (increasing_distinct rows row_set.increasing) (omega (arith, lr, height_is)) (omega (arith, ls, height_is)) e)
 
   same : (r c : ℕ) → r < height (submatrix m rows columns) → c < length columns → entry m (get_or rows r 0) (get_or columns c 0) ≡ entry (submatrix m rows columns) r c
   same r c lr lc = sym (entry-submatrix m rows columns r c (omega (arith, lr, height_is)) lc)

@@ -9,20 +9,20 @@ use Rattle.cmr_base.specs.Trees.{WalkStep, tail, head, from, to, IsWalk, arcs_of
 use Rattle.cmr_base.proofs.RowLists.{differ_self, same_bit, not_both, same_or_not, is_eq, is_ne}
 use Rattle.cmr_base.proofs.GrownNodes.{beyond_in, rows_of, beyond_in-absent}
 
-in_front : (r : ℕ) (steps : List WalkStep) (s : WalkStep) → IsIn r (arcs_of steps) → IsIn r (arcs_of (steps ++ s ∷ []))
-in_front r [] s h = absurd h
-in_front r (x ∷ steps) s (inl e) = inl e
-in_front r (x ∷ steps) s (inr h) = inr (in_front r steps s h)
+in_prefix : (r : ℕ) (steps : List WalkStep) (s : WalkStep) → IsIn r (arcs_of steps) → IsIn r (arcs_of (steps ++ s ∷ []))
+in_prefix r [] s h = absurd h
+in_prefix r (x ∷ steps) s (inl e) = inl e
+in_prefix r (x ∷ steps) s (inr h) = inr (in_prefix r steps s h)
 
 is_last : (r : ℕ) (steps : List WalkStep) (s : WalkStep) → r ≡ s.arc → IsIn r (arcs_of (steps ++ s ∷ []))
 is_last r [] s e = inl e
 is_last r (x ∷ steps) s e = inr (is_last r steps s e)
 
-pub in_front_or_last : (r : ℕ) (steps : List WalkStep) (s : WalkStep) → IsIn r (arcs_of (steps ++ s ∷ [])) → IsIn r (arcs_of steps) ⊎ (r ≡ s.arc)
-in_front_or_last r [] s (inl e) = inr e
-in_front_or_last r [] s (inr h) = absurd h
-in_front_or_last r (x ∷ steps) s (inl e) = inl (inl e)
-in_front_or_last r (x ∷ steps) s (inr h) = go (in_front_or_last r steps s h)
+pub in_prefix_or_last : (r : ℕ) (steps : List WalkStep) (s : WalkStep) → IsIn r (arcs_of (steps ++ s ∷ [])) → IsIn r (arcs_of steps) ⊎ (r ≡ s.arc)
+in_prefix_or_last r [] s (inl e) = inr e
+in_prefix_or_last r [] s (inr h) = absurd h
+in_prefix_or_last r (x ∷ steps) s (inl e) = inl (inl e)
+in_prefix_or_last r (x ∷ steps) s (inr h) = go (in_prefix_or_last r steps s h)
   where
     go : IsIn r (arcs_of steps) ⊎ (r ≡ s.arc) → ((r ≡ x.arc) ⊎ IsIn r (arcs_of steps)) ⊎ (r ≡ s.arc)
     go (inl k) = inl (inr k)
@@ -30,7 +30,7 @@ in_front_or_last r (x ∷ steps) s (inr h) = go (in_front_or_last r steps s h)
 
 pub distinct-append : (steps : List WalkStep) (s : WalkStep) → IsDistinct (arcs_of steps) → ¬ (IsIn s.arc (arcs_of steps)) → IsDistinct (arcs_of (steps ++ s ∷ []))
 distinct-append [] s o n = ((λ h. h), tt)
-distinct-append (x ∷ steps) s o n = ((λ h. go (in_front_or_last x.arc steps s h)), distinct-append steps s o.1 (λ h. n (inr h)))
+distinct-append (x ∷ steps) s o n = ((λ h. go (in_prefix_or_last x.arc steps s h)), distinct-append steps s o.1 (λ h. n (inr h)))
   where
     go : IsIn x.arc (arcs_of steps) ⊎ (x.arc ≡ s.arc) → ⊥
     go (inl k) = o.0 k
@@ -188,8 +188,8 @@ module _ (arcs : List Pair) (leads_away : ℕ → Bool) where
     steps = p.steps ++ away x ∷ [];
     walk = walk_to arcs a (p.steps ++ away x ∷ []) (to arcs (away x)) b (f.0.to_new ∙ sym eb) (walk-append arcs a p.steps x.node (away x) p.walk f.0.in_list f.0.from_node);
     once = distinct-append p.steps (away x) p.once (λ h. f.0.other (p.rows x.row h));
-    rows = λ r h. rows_at r (in_front_or_last r p.steps (away x) h);
-    has = λ r h. has_at r (in_front_or_last r p.steps (away x) h);
+    rows = λ r h. rows_at r (in_prefix_or_last r p.steps (away x) h);
+    has = λ r h. has_at r (in_prefix_or_last r p.steps (away x) h);
     all = λ r d. all_at r (same_or_not r x.row) d;
     sign = λ r. sign_at r (same_or_not r x.row);
   }
@@ -220,7 +220,7 @@ module _ (arcs : List Pair) (leads_away : ℕ → Bool) where
 
       all_at : (r : ℕ) → (r ≡ x.row) ⊎ (r ≢ x.row) → differ (beyond_in (x ∷ t) r a) (beyond_in (x ∷ t) r b) ≡ true → IsIn r (arcs_of (p.steps ++ away x ∷ []))
       all_at r (inl e) d = is_last r p.steps (away x) e
-      all_at r (inr n) d = in_front r p.steps (away x) (p.all r (sym (other r n) ∙ d))
+      all_at r (inr n) d = in_prefix r p.steps (away x) (p.all r (sym (other r n) ∙ d))
 
   pub grown_path : (t : List HungArc) → AreLaid t → (a b : ℕ) → a ≤ length t → b ≤ length t → HasPath t a b
   grown_path [] f a b la lb = no_steps [] a b (omega arith)

@@ -23,9 +23,9 @@ pub all-append : {A : Type 0} (P : A → Type 0) (xs ys : List A) → AllByRecur
 all-append P [] ys h k = k
 all-append P (x ∷ xs) ys h k = (h.0, all-append P xs ys h.1 k)
 
-pub all_front : {A : Type 0} (P : A → Type 0) (xs ys : List A) → AllByRecursion P (xs ++ ys) → AllByRecursion P xs
-all_front P [] ys h = tt
-all_front P (x ∷ xs) ys h = (h.0, all_front P xs ys h.1)
+pub all_prefix : {A : Type 0} (P : A → Type 0) (xs ys : List A) → AllByRecursion P (xs ++ ys) → AllByRecursion P xs
+all_prefix P [] ys h = tt
+all_prefix P (x ∷ xs) ys h = (h.0, all_prefix P xs ys h.1)
 
 pub all_back : {A : Type 0} (P : A → Type 0) (xs ys : List A) → AllByRecursion P (xs ++ ys) → AllByRecursion P ys
 all_back P [] ys h = h
@@ -33,17 +33,17 @@ all_back P (x ∷ xs) ys h = all_back P xs ys h.1
 
 -- the longer list is the shorter one with the item somewhere in it
 pub record HasOneMore {A : Type 0} (item : A) (fewer more : List A) : Type 0 where
-  pub front : List A
+  pub prefix : List A
   pub back : List A
-  pub fewer_is : fewer ≡ front ++ back
-  pub more_is : more ≡ front ++ item ∷ back
+  pub fewer_is : fewer ≡ prefix ++ back
+  pub more_is : more ≡ prefix ++ item ∷ back
 
 pub one_more_first : {A : Type 0} (item : A) (xs : List A) → HasOneMore item xs (item ∷ xs)
-one_more_first item xs = record { front = []; back = xs; fewer_is = refl; more_is = refl }
+one_more_first item xs = record { prefix = []; back = xs; fewer_is = refl; more_is = refl }
 
 pub one_more_later : {A : Type 0} (x item : A) (fewer more : List A) → HasOneMore item fewer more → HasOneMore item (x ∷ fewer) (x ∷ more)
 one_more_later x item fewer more h = record {
-  front = x ∷ h.front;
+  prefix = x ∷ h.prefix;
   back = h.back;
   fewer_is = ap (λ xs. x ∷ xs) h.fewer_is;
   more_is = ap (λ xs. x ∷ xs) h.more_is;
@@ -51,9 +51,9 @@ one_more_later x item fewer more h = record {
 
 pub sum_over-one_more : {A : Type 0} (item : A) (fewer more : List A) (f : A → ℤ) → HasOneMore item fewer more → sum_over more f ≡ f item +ℤ sum_over fewer f
 sum_over-one_more item fewer more f h =
-    ap (λ xs. sum_over xs f) h.more_is ∙ sum_over-append h.front (item ∷ h.back) f
-    ∙ moved (sum_over h.front f) (f item) (sum_over h.back f)
-    ∙ ap (λ z. f item +ℤ z) (sym (ap (λ xs. sum_over xs f) h.fewer_is ∙ sum_over-append h.front h.back f))
+    ap (λ xs. sum_over xs f) h.more_is ∙ sum_over-append h.prefix (item ∷ h.back) f
+    ∙ moved (sum_over h.prefix f) (f item) (sum_over h.back f)
+    ∙ ap (λ z. f item +ℤ z) (sym (ap (λ xs. sum_over xs f) h.fewer_is ∙ sum_over-append h.prefix h.back f))
   where
     moved : (a b c : ℤ) → a +ℤ (b +ℤ c) ≡ b +ℤ (a +ℤ c)
     moved a b c = omega (arith, sums)
@@ -61,15 +61,15 @@ sum_over-one_more item fewer more f h =
 pub all-one_more : {A : Type 0} (P : A → Type 0) (item : A) (fewer more : List A) → HasOneMore item fewer more → P item → AllByRecursion P fewer → AllByRecursion P more
 all-one_more P item fewer more h p all =
     let parts = subst (AllByRecursion P) h.fewer_is all in
-    subst (AllByRecursion P) (sym h.more_is) (all-append P h.front (item ∷ h.back) (all_front P h.front h.back parts) (p, all_back P h.front h.back parts))
+    subst (AllByRecursion P) (sym h.more_is) (all-append P h.prefix (item ∷ h.back) (all_prefix P h.prefix h.back parts) (p, all_back P h.prefix h.back parts))
 
 pub all_without : {A : Type 0} (P : A → Type 0) (item : A) (fewer more : List A) → HasOneMore item fewer more → AllByRecursion P more → AllByRecursion P fewer
 all_without P item fewer more h all =
     let parts = subst (AllByRecursion P) h.more_is all in
-    subst (AllByRecursion P) (sym h.fewer_is) (all-append P h.front h.back (all_front P h.front (item ∷ h.back) parts) (all_back P h.front (item ∷ h.back) parts).1)
+    subst (AllByRecursion P) (sym h.fewer_is) (all-append P h.prefix h.back (all_prefix P h.prefix (item ∷ h.back) parts) (all_back P h.prefix (item ∷ h.back) parts).1)
 
 pub item_of_one_more : {A : Type 0} (P : A → Type 0) (item : A) (fewer more : List A) → HasOneMore item fewer more → AllByRecursion P more → P item
-item_of_one_more P item fewer more h all = (all_back P h.front (item ∷ h.back) (subst (AllByRecursion P) h.more_is all)).0
+item_of_one_more P item fewer more h all = (all_back P h.prefix (item ∷ h.back) (subst (AllByRecursion P) h.more_is all)).0
 
 -- with the item where the answer is yes, and else the same
 abbrev pub IsJoined : {A : Type 0} → Bool → A → List A → List A → Type 0
@@ -124,11 +124,11 @@ contains_one_more item fewer more h x there =
     all_contained (Contains more) (item ∷ fewer) x (item_of_one_more (Contains more) item fewer more h (all_contain more), all_without (Contains more) item fewer more h (all_contain more)) there
 
 pub one_more_nil : {A : Type 0} (x : A) (xs : List A) → HasOneMore x [] xs → xs ≡ x ∷ []
-one_more_nil {A = A} x xs h = h.more_is ∙ go h.front h.back h.fewer_is
+one_more_nil {A = A} x xs h = h.more_is ∙ go h.prefix h.back h.fewer_is
   where
-    go : (front back : List A) → [] ≡ front ++ back → front ++ x ∷ back ≡ x ∷ []
+    go : (prefix back : List A) → [] ≡ prefix ++ back → prefix ++ x ∷ back ≡ x ∷ []
     go [] back e = ap (λ ys. x ∷ ys) (sym e)
-    go (y ∷ front) back e = absurd cc
+    go (y ∷ prefix) back e = absurd cc
 
 -- ---- lengths, and what passes a test
 

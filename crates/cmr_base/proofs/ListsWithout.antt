@@ -23,7 +23,7 @@ pub empty_from_none : (xs : List ℕ) → ((x : ℕ) → IsIn x xs → ⊥) → 
 empty_from_none [] h = refl
 empty_from_none (x ∷ xs) h = absurd (h x (inl refl))
 
--- ---- rising lists
+-- ---- increasing lists
 
 pub increasing_tail : (x : ℕ) (xs : List ℕ) → IsStrictlyIncreasing (x ∷ xs) → IsStrictlyIncreasing xs
 increasing_tail x xs rises k h = let next : suc k + 1 ≡ suc (k + 1) = omega arith in subst (λ n. get_or xs k 0 < get_or (x ∷ xs) n 0) next (rises (suc k) (omega arith))

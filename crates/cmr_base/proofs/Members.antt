@@ -1,11 +1,11 @@
--- Numbers that are in a list, lists in which no number stands twice, and rising lists of given numbers.
+-- Numbers that are in a list, lists in which no number stands twice, and increasing lists of given numbers.
 use Rattle.std.proofs.Common.{◌≡◌, ◌≢◌, ◌<◌, ◌≤◌, ◌+◌, ◌⊎◌, inl, inr, ◌∙◌, ◌++◌, ◌↔◌, ℕ, zero, suc, Bool, true, false, cond, nat_eq, ℤ, ◌+ℤ◌, List, [], ◌∷◌, length, get_or, refl, ap, sym, subst, arith}
 use Rattle.std.specs.List.{AllByRecursion}
 use Rattle.std.specs.List.Sorted.{IsStrictlyIncreasing}
 use Rattle.cmr_base.specs.Members.{IsIn, IsDistinct}
 use Rattle.cmr_base.specs.Sums.{sum_over}
 use Rattle.cmr_base.proofs.Integers.{sums}
-use Rattle.cmr_base.proofs.RisingLists.{RisesIn, rises_in, rising_increases}
+use Rattle.cmr_base.proofs.IncreasingLists.{RisesIn, rises_in, increases_along}
 use Rattle.cmr_base.proofs.Booleans.{eq_of, is_ne, ne_of}
 
 -- each number of the first is in the second
@@ -51,23 +51,23 @@ in_at [] k l = absurd (omega arith)
 in_at (x ∷ xs) zero l = inl refl
 in_at (x ∷ xs) (suc k) l = inr (in_at xs k (omega arith))
 
--- ---- rising lists
+-- ---- increasing lists
 
 rises_above : (low high x : ℕ) (xs : List ℕ) → RisesIn low high xs → IsIn x xs → low ≤ x
 rises_above low high x [] h g = absurd g
 rises_above low high x (y ∷ ys) h (inl e) = let l = h.0 in omega arith
 rises_above low high x (y ∷ ys) h (inr g) = let l = h.0 in let m = rises_above (y + 1) high x ys h.2 g in omega arith
 
-pub rising_distinct : (low high : ℕ) (xs : List ℕ) → RisesIn low high xs → IsDistinct xs
-rising_distinct low high [] h = tt
-rising_distinct low high (x ∷ xs) h = ((λ g. let l = rises_above (x + 1) high x xs h.2 g in omega arith), rising_distinct (x + 1) high xs h.2)
+pub increasing_are_distinct : (low high : ℕ) (xs : List ℕ) → RisesIn low high xs → IsDistinct xs
+increasing_are_distinct low high [] h = tt
+increasing_are_distinct low high (x ∷ xs) h = ((λ g. let l = rises_above (x + 1) high x xs h.2 g in omega arith), increasing_are_distinct (x + 1) high xs h.2)
 
 rises-append : (low x : ℕ) (xs : List ℕ) → RisesIn low x xs → low ≤ x → RisesIn low (x + 1) (xs ++ x ∷ [])
 rises-append low x [] h l = (l, omega arith, tt)
 rises-append low x (y ∷ ys) h l = (h.0, let m = h.1 in omega arith, rises-append (y + 1) x ys h.2 (let m = h.1 in omega arith))
 
 pub increasing-append : (xs : List ℕ) (x : ℕ) → IsStrictlyIncreasing xs → ((y : ℕ) → IsIn y xs → y < x) → IsStrictlyIncreasing (xs ++ x ∷ [])
-increasing-append xs x rising below = rising_increases 0 (x + 1) (xs ++ x ∷ []) (rises-append 0 x xs (rises_in 0 x xs rising (λ k l. below (get_or xs k 0) (in_at xs k l)) (λ l. omega arith)) (omega arith))
+increasing-append xs x increasing below = increases_along 0 (x + 1) (xs ++ x ∷ []) (rises-append 0 x xs (rises_in 0 x xs increasing (λ k l. below (get_or xs k 0) (in_at xs k l)) (λ l. omega arith)) (omega arith))
 
 -- ---- a list without a number
 

@@ -10,23 +10,23 @@ use Rattle.std.specs.List.Sorted.{IsStrictlyIncreasing}
 use Rattle.cmr_base.specs.declared.limits.TheConstants.{MAX_COLUMNS, MAX_ROWS}
 use Rattle.cmr_base.specs.Matrix.{Matrix, height, entry, column_of, transposed, IsMatrix, IsEntry, rows_of, IsRectangular, IsTernary}
 use Rattle.cmr_base.specs.LineSets.{AllBelow, submatrix}
-use Rattle.cmr_base.proofs.RisingLists.{rises_in, rising_short}
+use Rattle.cmr_base.proofs.IncreasingLists.{rises_in, increasing_short}
 use Rattle.cmr_base.proofs.SignEntries.{zero_is_entry}
 
 pub length-cells : {A : Type 0} (f : A → List ℤ) (w : ℕ) (xs : List A) → ((x : A) → length (f x) ≡ w) → length (flat_map f xs) ≡ length xs * w
 length-cells f w [] each = sym (zero-mul w)
 length-cells f w (x ∷ xs) each = omega (arith, length-append (f x) (flat_map f xs), each x, length-cells f w xs each, suc-mul (length xs) w)
 
-take_front : (xs ys : List ℤ) (w : ℕ) → length xs ≡ w → take w (xs ++ ys) ≡ xs
-take_front xs ys w e = subst (λ n. take n (xs ++ ys) ≡ xs) e (take-append_seam xs ys)
+take_prefix : (xs ys : List ℤ) (w : ℕ) → length xs ≡ w → take w (xs ++ ys) ≡ xs
+take_prefix xs ys w e = subst (λ n. take n (xs ++ ys) ≡ xs) e (take-append_seam xs ys)
 
-drop_front : (xs ys : List ℤ) (w : ℕ) → length xs ≡ w → drop w (xs ++ ys) ≡ ys
-drop_front xs ys w e = subst (λ n. drop n (xs ++ ys) ≡ ys) e (drop-append_seam xs ys)
+drop_prefix : (xs ys : List ℤ) (w : ℕ) → length xs ≡ w → drop w (xs ++ ys) ≡ ys
+drop_prefix xs ys w e = subst (λ n. drop n (xs ++ ys) ≡ ys) e (drop-append_seam xs ys)
 
 -- cells made row by row are those rows
 pub rows_of-flat_map : {A : Type 0} (f : A → List ℤ) (w : ℕ) (xs : List A) → ((x : A) → length (f x) ≡ w) → rows_of (length xs) w (flat_map f xs) ≡ map f xs
 rows_of-flat_map f w [] each = refl
-rows_of-flat_map f w (x ∷ xs) each = rw (take_front (f x) (flat_map f xs) w (each x), drop_front (f x) (flat_map f xs) w (each x)) (ap (λ rows. f x ∷ rows) (rows_of-flat_map f w xs each))
+rows_of-flat_map f w (x ∷ xs) each = rw (take_prefix (f x) (flat_map f xs) w (each x), drop_prefix (f x) (flat_map f xs) w (each x)) (ap (λ rows. f x ∷ rows) (rows_of-flat_map f w xs each))
 
 either_side : (P : ℤ → Type 0) (xs ys : List ℤ) (k : ℕ) → ((j : ℕ) → P (get_or xs j (pos 0))) → ((j : ℕ) → P (get_or ys j (pos 0))) → P (get_or (xs ++ ys) k (pos 0))
 either_side P [] ys k left right = right k
@@ -111,6 +111,6 @@ is_matrix-transposed m is = let of_transposed = is_ternary-transposed m (record 
   width_in = is.height_in;
 }
 
--- rising lines below a bound are at most so many
-pub length-rising : (lines : List ℕ) (bound : ℕ) → IsStrictlyIncreasing lines → AllBelow bound lines → length lines ≤ bound
-length-rising lines bound rising below = omega (arith, rising_short 0 bound lines (rises_in 0 bound lines rising below (λ h. omega arith)) (omega arith))
+-- increasing lines below a bound are at most so many
+pub length-increasing : (lines : List ℕ) (bound : ℕ) → IsStrictlyIncreasing lines → AllBelow bound lines → length lines ≤ bound
+length-increasing lines bound increasing below = omega (arith, increasing_short 0 bound lines (rises_in 0 bound lines increasing below (λ h. omega arith)) (omega arith))

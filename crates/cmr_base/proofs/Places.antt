@@ -35,15 +35,15 @@ more_placed P xs index = each_more (λ k. P (get_or xs k 0)) index
 pub not_placed : (xs : List ℕ) (x : ℕ) → ¬ (IsIn x xs) → (k : ℕ) → k < length xs → get_or xs k 0 ≢ x
 not_placed xs x n k l e = n (subst (λ (z : ℕ). IsIn z xs) e (in_at xs k l))
 
--- a number below the one at a place of a rising list stands before it
+-- a number below the one at a place of a increasing list stands before it
 pub placed_before : (P : ℕ → Type 0) (xs : List ℕ) (index : ℕ) → IsStrictlyIncreasing xs → ((k : ℕ) → k < index → P (get_or xs k 0)) → (x : ℕ) → IsIn x xs → x < get_or xs index 0 → P x
-placed_before P xs index rising so x h low = pick (found_at xs x h)
+placed_before P xs index increasing so x h low = pick (found_at xs x h)
   where
     pick : (k : ℕ) × (k < length xs) × (get_or xs k 0 ≡ x) → P x
     pick (k, l, e) = elim (cases_lt k index) [
       | inl m ↦ subst P e (so k m)
       | inr m ↦ elim (cases_lt index k) [
-        | inl n ↦ let above = increasing_places xs index k rising n l in absurd (omega (arith, above, e, low))
+        | inl n ↦ let above = increasing_places xs index k increasing n l in absurd (omega (arith, above, e, low))
         | inr n ↦ let same : k ≡ index = omega arith in let here = ap (λ (z : ℕ). get_or xs z 0) same in absurd (omega (arith, here, e, low))
       ]
     ]
@@ -70,13 +70,13 @@ fewer_distinct (x ∷ xs) ys d sub =
     let less = without_shorter x ys (sub x (inl refl)) in
     omega (arith, rest, less)
 
--- rising lists with the same numbers are the same
-pub rising_same : (xs ys : List ℕ) → IsStrictlyIncreasing xs → IsStrictlyIncreasing ys → ((x : ℕ) → IsIn x xs → IsIn x ys) → ((x : ℕ) → IsIn x ys → IsIn x xs) → xs ≡ ys
-rising_same [] [] rx ry f g = refl
-rising_same [] (y ∷ ys) rx ry f g = absurd (g y (inl refl))
-rising_same (x ∷ xs) [] rx ry f g = absurd (f x (inl refl))
-rising_same (x ∷ xs) (y ∷ ys) rx ry f g = ap₂ (λ (z : ℕ) (zs : List ℕ). z ∷ zs) heads
-    (rising_same xs ys (increasing_tail x xs rx) (increasing_tail y ys ry) (λ z h. left z h (f z (inr h))) (λ z h. right z h (g z (inr h))))
+-- increasing lists with the same numbers are the same
+pub increasing_same : (xs ys : List ℕ) → IsStrictlyIncreasing xs → IsStrictlyIncreasing ys → ((x : ℕ) → IsIn x xs → IsIn x ys) → ((x : ℕ) → IsIn x ys → IsIn x xs) → xs ≡ ys
+increasing_same [] [] rx ry f g = refl
+increasing_same [] (y ∷ ys) rx ry f g = absurd (g y (inl refl))
+increasing_same (x ∷ xs) [] rx ry f g = absurd (f x (inl refl))
+increasing_same (x ∷ xs) (y ∷ ys) rx ry f g = ap₂ (λ (z : ℕ) (zs : List ℕ). z ∷ zs) heads
+    (increasing_same xs ys (increasing_tail x xs rx) (increasing_tail y ys ry) (λ z h. left z h (f z (inr h))) (λ z h. right z h (g z (inr h))))
   where
     heads : x ≡ y
     heads = go (f x (inl refl)) (g y (inl refl))

@@ -10,7 +10,7 @@ use Rattle.cmr_base.specs.Trees.{WalkStep, tail, head, from, to, IsWalk, IsTree,
 use Rattle.cmr_base.specs.ReversedNetworks.{is_minus, reversed_pairs, reversed_network, IsMultiplied}
 use Rattle.cmr_base.proofs.Integers.{products}
 use Rattle.cmr_base.proofs.RowLists.{same_or_not, is_eq, is_ne}
-use Rattle.cmr_base.proofs.GrownPaths.{in_front_or_last, distinct-append, direction-append-other, direction-append-last, walk-append}
+use Rattle.cmr_base.proofs.GrownPaths.{in_prefix_or_last, distinct-append, direction-append-other, direction-append-last, walk-append}
 
 -- negated where b holds
 abbrev pub negated : Bool → ℤ → ℤ
@@ -145,7 +145,7 @@ way_back (s ∷ steps) = way_back steps ++ back_step s ∷ []
 
 in_way_back : (r : ℕ) (steps : List WalkStep) → IsIn r (arcs_of (way_back steps)) → IsIn r (arcs_of steps)
 in_way_back r [] h = h
-in_way_back r (s ∷ steps) h = go (in_front_or_last r (way_back steps) (back_step s) h) (in_way_back r steps)
+in_way_back r (s ∷ steps) h = go (in_prefix_or_last r (way_back steps) (back_step s) h) (in_way_back r steps)
   where
     go : IsIn r (arcs_of (way_back steps)) ⊎ (r ≡ s.arc) → (IsIn r (arcs_of (way_back steps)) → IsIn r (arcs_of steps)) → (r ≡ s.arc) ⊎ IsIn r (arcs_of steps)
     go (inl k) back = inr (back k)

@@ -26,8 +26,8 @@ length-row zero w cells r e h = absurd (omega arith)
 length-row (suc n) w cells zero e h = length-take-le w cells (omega (arith, suc-mul n w))
 length-row (suc n) w cells (suc r) e h = length-row n w (drop w cells) r (omega (arith, suc-mul n w, length-drop w cells)) (omega arith)
 
-in_front : (P : ℤ → Type 0) (w : ℕ) (cells : List ℤ) (c : ℕ) → P (pos 0) → P (get_or cells c (pos 0)) → P (get_or (take w cells) c (pos 0))
-in_front P w cells c z h = elim (cases_lt c w) [
+in_prefix : (P : ℤ → Type 0) (w : ℕ) (cells : List ℤ) (c : ℕ) → P (pos 0) → P (get_or cells c (pos 0)) → P (get_or (take w cells) c (pos 0))
+in_prefix P w cells c z h = elim (cases_lt c w) [
   | inl lt ↦ subst P (sym (get_or-take w cells c (pos 0) lt)) h
   | inr past ↦ subst P (sym (get_or_past (take w cells) c (pos 0) (omega (arith, length-take w cells)))) z
 ]
@@ -35,7 +35,7 @@ in_front P w cells c z h = elim (cases_lt c w) [
 -- what holds of each cell and of 0 holds of each entry
 pub each-rows_of : (P : ℤ → Type 0) (n w : ℕ) (cells : List ℤ) → P (pos 0) → ((k : ℕ) → P (get_or cells k (pos 0))) → (r c : ℕ) → P (get_or (get_or (rows_of n w cells) r []) c (pos 0))
 each-rows_of P zero w cells z h r c = z
-each-rows_of P (suc n) w cells z h zero c = in_front P w cells c z (h c)
+each-rows_of P (suc n) w cells z h zero c = in_prefix P w cells c z (h c)
 each-rows_of P (suc n) w cells z h (suc r) c = each-rows_of P n w (drop w cells) z (λ k. subst P (sym (get_or-drop w cells k (pos 0))) (h (w + k))) r c
 
 -- one cell is written

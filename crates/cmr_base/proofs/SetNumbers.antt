@@ -5,7 +5,7 @@ use Rattle.std.proofs.Math.Nat.{pow-suc, pow-le-pow_right, zero-mul, eq_of_mul-e
 use Rattle.std.proofs.Math.Pow.{pow_pos}
 use Rattle.cmr_base.specs.LineSets.{set_number, set_numbered, IsRowSet, IsColumnSet}
 use Rattle.cmr_base.specs.Matrix.{Matrix, height}
-use Rattle.cmr_base.proofs.RisingLists.{RisesIn, rises_from_lower, rising_row_set, rising_column_set}
+use Rattle.cmr_base.proofs.IncreasingLists.{RisesIn, rises_from_lower, increasing_row_set, increasing_column_set}
 
 two_more : (n : ℕ) → 2 ^ (n + 1) ≡ 2 ^ n * 2
 two_more n = ap (λ k. 2 ^ k) (add-one n) ∙ pow-suc 2 n
@@ -76,13 +76,13 @@ set_numbered-unique (suc count) first high (line ∷ lines) number end rises e =
 ]
 
 -- one more line of the set, or one that is left out
-pub numbered_more : (front : List ℕ) (count line number : ℕ) → line < count → number % 2 ≡ 1 → (front ++ line ∷ []) ++ set_numbered (count - (line + 1)) (line + 1) (number / 2) ≡ front ++ set_numbered (count - line) line number
-numbered_more front count line number h odd =
+pub numbered_more : (prefix : List ℕ) (count line number : ℕ) → line < count → number % 2 ≡ 1 → (prefix ++ line ∷ []) ++ set_numbered (count - (line + 1)) (line + 1) (number / 2) ≡ prefix ++ set_numbered (count - line) line number
+numbered_more prefix count line number h odd =
     let e : count - line ≡ suc (count - (line + 1)) = omega arith in
     rw (append_assoc, e) (rw odd refl)
 
-pub numbered_less : (front : List ℕ) (count line number : ℕ) → line < count → number % 2 ≢ 1 → front ++ set_numbered (count - (line + 1)) (line + 1) (number / 2) ≡ front ++ set_numbered (count - line) line number
-numbered_less front count line number h other =
+pub numbered_less : (prefix : List ℕ) (count line number : ℕ) → line < count → number % 2 ≢ 1 → prefix ++ set_numbered (count - (line + 1)) (line + 1) (number / 2) ≡ prefix ++ set_numbered (count - line) line number
+numbered_less prefix count line number h other =
     let e : count - line ≡ suc (count - (line + 1)) = omega arith in
     let even : number % 2 ≡ 0 = omega arith in
     rw e (rw even refl)
@@ -120,7 +120,7 @@ pub number_of_numbered : (count number : ℕ) → number < 2 ^ count → set_num
 number_of_numbered count number h = set_number-set_numbered count 0 number h ∙ omega arith
 
 pub row_set-numbered : (m : Matrix) (number : ℕ) → IsRowSet m (set_numbered (height m) 0 number)
-row_set-numbered m number = rising_row_set m (set_numbered (height m) 0 number) (numbered_rises (height m) 0 (height m) number (omega arith))
+row_set-numbered m number = increasing_row_set m (set_numbered (height m) 0 number) (numbered_rises (height m) 0 (height m) number (omega arith))
 
 pub column_set-numbered : (m : Matrix) (number : ℕ) → IsColumnSet m (set_numbered m.width 0 number)
-column_set-numbered m number = rising_column_set m (set_numbered m.width 0 number) (numbered_rises m.width 0 m.width number (omega arith))
+column_set-numbered m number = increasing_column_set m (set_numbered m.width 0 number) (numbered_rises m.width 0 m.width number (omega arith))

@@ -85,8 +85,8 @@ inherited_from_hereditary P hereditary m is rows columns rows' columns' r c r' c
     subst P (submatrix-submatrix m rows columns rows' columns' row_within column_within)
     (hereditary (submatrix m rows columns) (is_ternary-submatrix m rows columns is) (places_of rows' rows) (places_of columns' columns)
     (record {
-      rising = places_increase rows' rows r' r row_within;
+      increasing = places_increase rows' rows r' r row_within;
       in_range = λ k h. let l = places_in_range rows' rows row_within k h in omega (arith, l, length-map rows (λ row. map (entry m row) columns));
     })
-    (record { rising = places_increase columns' columns c' c column_within; in_range = places_in_range columns' columns column_within })
+    (record { increasing = places_increase columns' columns c' c column_within; in_range = places_in_range columns' columns column_within })
     p)

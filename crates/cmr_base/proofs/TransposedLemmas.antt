@@ -23,16 +23,16 @@ pub violator_of_transposed : (m : Matrix) (rows columns : List ℕ) → IsMatrix
 violator_of_transposed m rows columns is = violator_of_transposed_rectangular m rows columns is.rectangular
 
 pub row_set-transposed : (m : Matrix) (columns : List ℕ) → IsColumnSet m columns → IsRowSet (transposed m) columns
-row_set-transposed m columns is = record { rising = is.rising; in_range = subst (λ (bound : ℕ). (k : ℕ) → k < length columns → get_or columns k 0 < bound) (sym (height-transposed m)) is.in_range }
+row_set-transposed m columns is = record { increasing = is.increasing; in_range = subst (λ (bound : ℕ). (k : ℕ) → k < length columns → get_or columns k 0 < bound) (sym (height-transposed m)) is.in_range }
 
 pub column_set_from_transposed : (m : Matrix) (columns : List ℕ) → IsRowSet (transposed m) columns → IsColumnSet m columns
-column_set_from_transposed m columns is = record { rising = is.rising; in_range = subst (λ (bound : ℕ). (k : ℕ) → k < length columns → get_or columns k 0 < bound) (height-transposed m) is.in_range }
+column_set_from_transposed m columns is = record { increasing = is.increasing; in_range = subst (λ (bound : ℕ). (k : ℕ) → k < length columns → get_or columns k 0 < bound) (height-transposed m) is.in_range }
 
 pub column_set-transposed : (m : Matrix) (rows : List ℕ) → IsRowSet m rows → IsColumnSet (transposed m) rows
-column_set-transposed m rows is = record { rising = is.rising; in_range = is.in_range }
+column_set-transposed m rows is = record { increasing = is.increasing; in_range = is.in_range }
 
 pub row_set_from_transposed : (m : Matrix) (rows : List ℕ) → IsColumnSet (transposed m) rows → IsRowSet m rows
-row_set_from_transposed m rows is = record { rising = is.rising; in_range = is.in_range }
+row_set_from_transposed m rows is = record { increasing = is.increasing; in_range = is.in_range }
 
 pub none_from_transposed_rectangular : (m : Matrix) → IsRectangular m → HasNoViolator (transposed m) → HasNoViolator m
 none_from_transposed_rectangular m is none rows columns row_set column_set v =

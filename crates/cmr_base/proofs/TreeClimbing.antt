@@ -11,42 +11,42 @@ use Rattle.cmr_base.proofs.RootedTreeSteps.{one_place, place_of_node, all_have_p
 
 -- ---- a step between two parts of a walk
 
-in-between : (r : ℕ) (front back : List WalkStep) (step : WalkStep) → IsIn r (arcs_of (front ++ step ∷ back)) → (r ≡ step.arc) ⊎ IsIn r (arcs_of (front ++ back))
+in-between : (r : ℕ) (prefix back : List WalkStep) (step : WalkStep) → IsIn r (arcs_of (prefix ++ step ∷ back)) → (r ≡ step.arc) ⊎ IsIn r (arcs_of (prefix ++ back))
 in-between r [] back step h = h
-in-between r (x ∷ front) back step (inl e) = inr (inl e)
-in-between r (x ∷ front) back step (inr h) = go (in-between r front back step h)
+in-between r (x ∷ prefix) back step (inl e) = inr (inl e)
+in-between r (x ∷ prefix) back step (inr h) = go (in-between r prefix back step h)
   where
-    go : (r ≡ step.arc) ⊎ IsIn r (arcs_of (front ++ back)) → (r ≡ step.arc) ⊎ ((r ≡ x.arc) ⊎ IsIn r (arcs_of (front ++ back)))
+    go : (r ≡ step.arc) ⊎ IsIn r (arcs_of (prefix ++ back)) → (r ≡ step.arc) ⊎ ((r ≡ x.arc) ⊎ IsIn r (arcs_of (prefix ++ back)))
     go (inl e) = inl e
     go (inr k) = inr (inr k)
 
-distinct-between : (front back : List WalkStep) (step : WalkStep) → IsDistinct (arcs_of (front ++ back)) → ¬ (IsIn step.arc (arcs_of (front ++ back)))
-    → IsDistinct (arcs_of (front ++ step ∷ back))
+distinct-between : (prefix back : List WalkStep) (step : WalkStep) → IsDistinct (arcs_of (prefix ++ back)) → ¬ (IsIn step.arc (arcs_of (prefix ++ back)))
+    → IsDistinct (arcs_of (prefix ++ step ∷ back))
 distinct-between [] back step o n = (n, o)
-distinct-between (x ∷ front) back step o n = ((λ h. go (in-between x.arc front back step h)), distinct-between front back step o.1 (λ h. n (inr h)))
+distinct-between (x ∷ prefix) back step o n = ((λ h. go (in-between x.arc prefix back step h)), distinct-between prefix back step o.1 (λ h. n (inr h)))
   where
-    go : (x.arc ≡ step.arc) ⊎ IsIn x.arc (arcs_of (front ++ back)) → ⊥
+    go : (x.arc ≡ step.arc) ⊎ IsIn x.arc (arcs_of (prefix ++ back)) → ⊥
     go (inl e) = n (inl (sym e))
     go (inr k) = o.0 k
 
-direction-between : (r : ℕ) (front back : List WalkStep) (step : WalkStep) → ¬ (IsIn step.arc (arcs_of (front ++ back)))
-    → direction (front ++ step ∷ back) r ≡ cond (nat_eq r step.arc) (cond step.forwards (pos 1) (negsuc 0)) (direction (front ++ back) r)
+direction-between : (r : ℕ) (prefix back : List WalkStep) (step : WalkStep) → ¬ (IsIn step.arc (arcs_of (prefix ++ back)))
+    → direction (prefix ++ step ∷ back) r ≡ cond (nat_eq r step.arc) (cond step.forwards (pos 1) (negsuc 0)) (direction (prefix ++ back) r)
 direction-between r [] back step n = refl
-direction-between r (x ∷ front) back step n = go (same_or_not r x.arc) (direction-between r front back step (λ h. n (inr h)))
+direction-between r (x ∷ prefix) back step n = go (same_or_not r x.arc) (direction-between r prefix back step (λ h. n (inr h)))
   where
-    go : (r ≡ x.arc) ⊎ (r ≢ x.arc) → direction (front ++ step ∷ back) r ≡ cond (nat_eq r step.arc) (cond step.forwards (pos 1) (negsuc 0)) (direction (front ++ back) r)
-        → direction (x ∷ front ++ step ∷ back) r ≡ cond (nat_eq r step.arc) (cond step.forwards (pos 1) (negsuc 0)) (direction (x ∷ front ++ back) r)
+    go : (r ≡ x.arc) ⊎ (r ≢ x.arc) → direction (prefix ++ step ∷ back) r ≡ cond (nat_eq r step.arc) (cond step.forwards (pos 1) (negsuc 0)) (direction (prefix ++ back) r)
+        → direction (x ∷ prefix ++ step ∷ back) r ≡ cond (nat_eq r step.arc) (cond step.forwards (pos 1) (negsuc 0)) (direction (x ∷ prefix ++ back) r)
     go (inl e) k = rw (is_eq r x.arc e, is_ne r step.arc (λ q. n (inl (sym q ∙ e)))) refl
     go (inr m) k = rw (is_ne r x.arc m) k
 
 module _ (arcs : List Pair) where
-  walk-front : (x : ℕ) (front : List WalkStep) (y : ℕ) (step : WalkStep) (z : ℕ) → IsWalk arcs x front y → step.arc < length arcs → from arcs step ≡ y → to arcs step ≡ z → IsWalk arcs x (front ++ step ∷ []) z
-  walk-front x [] y step z w l e f = (l, e ∙ sym w, f)
-  walk-front x (a ∷ front) y step z w l e f = (w.0, w.1, walk-front (to arcs a) front y step z w.2 l e f)
+  walk-prefix : (x : ℕ) (prefix : List WalkStep) (y : ℕ) (step : WalkStep) (z : ℕ) → IsWalk arcs x prefix y → step.arc < length arcs → from arcs step ≡ y → to arcs step ≡ z → IsWalk arcs x (prefix ++ step ∷ []) z
+  walk-prefix x [] y step z w l e f = (l, e ∙ sym w, f)
+  walk-prefix x (a ∷ prefix) y step z w l e f = (w.0, w.1, walk-prefix (to arcs a) prefix y step z w.2 l e f)
 
-  walk-both : (x : ℕ) (front back : List WalkStep) (y z : ℕ) → IsWalk arcs x front y → IsWalk arcs y back z → IsWalk arcs x (front ++ back) z
+  walk-both : (x : ℕ) (prefix back : List WalkStep) (y z : ℕ) → IsWalk arcs x prefix y → IsWalk arcs y back z → IsWalk arcs x (prefix ++ back) z
   walk-both x [] back y z w v = subst (λ (a : ℕ). IsWalk arcs a back z) (sym w) v
-  walk-both x (a ∷ front) back y z w v = (w.0, w.1, walk-both (to arcs a) front back y z w.2 v)
+  walk-both x (a ∷ prefix) back y z w v = (w.0, w.1, walk-both (to arcs a) prefix back y z w.2 v)
 
   -- over the arc of a node to the one above it, and from there
   step_up : (arc x y : ℕ) → Joins arcs arc x y → x ≢ y
@@ -94,21 +94,21 @@ direction_byte false z e = ap (λ (v : ℤ). to_z w8 (of_z w8 v)) e
 -- Of the path from node x to node y both ends are told, up to the node at a first and the node at a last place. Their arcs
 -- lead to later places.
 pub record IsClimbing (arcs : List Pair) (links : List Link) (x y first last : ℕ) (directions : List ℤ) : Type 0 where
-  pub front : List WalkStep
+  pub prefix : List WalkStep
   pub back : List WalkStep
   pub first_in : first < length links
   pub last_in : last < length links
-  pub up : IsWalk arcs x front (node_at links first)
+  pub up : IsWalk arcs x prefix (node_at links first)
   pub down : IsWalk arcs (node_at links last) back y
-  pub once : IsDistinct (arcs_of (front ++ back))
-  pub later : (r : ℕ) → IsIn r (arcs_of (front ++ back)) → (place : ℕ) × (place < length links) × (first < place) × (last < place) × ((link_at links place).arc ≡ r)
+  pub once : IsDistinct (arcs_of (prefix ++ back))
+  pub later : (r : ℕ) → IsIn r (arcs_of (prefix ++ back)) → (place : ℕ) × (place < length links) × (first < place) × (last < place) × ((link_at links place).arc ≡ r)
   pub count : length directions ≡ length arcs
-  pub exact : (r : ℕ) → r < length arcs → get_or directions r (pos 0) ≡ direction (front ++ back) r
+  pub exact : (r : ℕ) → r < length arcs → get_or directions r (pos 0) ≡ direction (prefix ++ back) r
 
 pub climbing_starts : (arcs : List Pair) (links : List Link) (places : List ℕ) (x y first last : ℕ) (directions : List ℤ) → IsSpanning arcs links places → x ≤ length arcs → y ≤ length arcs
     → first ≡ get_or places x first → last ≡ get_or places y last → directions ≡ replicate (length arcs) (pos 0) → IsClimbing arcs links x y first last directions
 climbing_starts arcs links places x y first last directions H lx ly e f zeros = record {
-  front = [];
+  prefix = [];
   back = [];
   first_in = let r = H.rooted.in_range x lx in omega (arith, r, at_first);
   last_in = let r = H.rooted.in_range y ly in omega (arith, r, at_last);
@@ -132,7 +132,7 @@ climbing_starts arcs links places x y first last directions H lx ly e f zeros = 
 
 module _ (arcs : List Pair) (links : List Link) (places : List ℕ) (R : IsRooted arcs links places) (x y first last : ℕ) (directions : List ℤ) (C : IsClimbing arcs links x y first last directions) where
   -- an arc to a place that is not before the first and the last is not used yet
-  not_used : (place : ℕ) → 0 < place → first ≤ place → last ≤ place → (first ≡ place) ⊎ (last ≡ place) → ¬ (IsIn (link_at links place).arc (arcs_of (C.front ++ C.back)))
+  not_used : (place : ℕ) → 0 < place → first ≤ place → last ≤ place → (first ≡ place) ⊎ (last ≡ place) → ¬ (IsIn (link_at links place).arc (arcs_of (C.prefix ++ C.back)))
   not_used place low lf ll either h =
       let k = C.later (link_at links place).arc h in
       other_arc arcs links places R place k.0 low (before k.0 k.2 k.3 either) k.1 (sym k.4)
@@ -141,12 +141,12 @@ module _ (arcs : List Pair) (links : List Link) (places : List ℕ) (R : IsRoote
       before k a b (inl e) = omega (arith, a, e)
       before k a b (inr e) = omega (arith, b, e)
 
-  written : (step : WalkStep) → step.arc < length arcs → ¬ (IsIn step.arc (arcs_of (C.front ++ C.back))) → (r : ℕ) → r < length arcs
-      → get_or (set directions step.arc (cond step.forwards (pos 1) (negsuc 0))) r (pos 0) ≡ direction (C.front ++ step ∷ C.back) r
-  written step inside n r l = go (same_or_not r step.arc) ∙ sym (direction-between r C.front C.back step n)
+  written : (step : WalkStep) → step.arc < length arcs → ¬ (IsIn step.arc (arcs_of (C.prefix ++ C.back))) → (r : ℕ) → r < length arcs
+      → get_or (set directions step.arc (cond step.forwards (pos 1) (negsuc 0))) r (pos 0) ≡ direction (C.prefix ++ step ∷ C.back) r
+  written step inside n r l = go (same_or_not r step.arc) ∙ sym (direction-between r C.prefix C.back step n)
     where
       go : (r ≡ step.arc) ⊎ (r ≢ step.arc) → get_or (set directions step.arc (cond step.forwards (pos 1) (negsuc 0))) r (pos 0)
-          ≡ cond (nat_eq r step.arc) (cond step.forwards (pos 1) (negsuc 0)) (direction (C.front ++ C.back) r)
+          ≡ cond (nat_eq r step.arc) (cond step.forwards (pos 1) (negsuc 0)) (direction (C.prefix ++ C.back) r)
       go (inl e) = rw (is_eq r step.arc e) (ap (λ (k : ℕ). get_or (set directions step.arc (cond step.forwards (pos 1) (negsuc 0))) k (pos 0)) e
           ∙ get_or-set_same directions step.arc (cond step.forwards (pos 1) (negsuc 0)) (pos 0) (omega (arith, inside, C.count)))
       go (inr m) = rw (is_ne r step.arc m) (get_or-set_other directions step.arc r (cond step.forwards (pos 1) (negsuc 0)) (pos 0) m ∙ C.exact r l)
@@ -156,14 +156,14 @@ module _ (arcs : List Pair) (links : List Link) (places : List ℕ) (R : IsRoote
       → value ≡ cond (nat_eq link.node (tail arcs link.arc)) (pos 1) (negsuc 0) → directions' ≡ set directions link.arc value → IsClimbing arcs links x y link.above last directions'
   first_climbs link value directions' l at value_is written_is =
       subst (λ (k : Link). IsClimbing arcs links x y k.above last directions') (sym link_is) (subst (IsClimbing arcs links x y (link_at links first).above last) (sym new) (record {
-        front = C.front ++ step ∷ [];
+        prefix = C.prefix ++ step ∷ [];
         back = C.back;
         first_in = omega (arith, j.0, C.first_in);
         last_in = C.last_in;
-        up = walk-front arcs x C.front (node_at links first) step (node_at links (link_at links first).above) C.up j.1 ends.0 ends.1;
+        up = walk-prefix arcs x C.prefix (node_at links first) step (node_at links (link_at links first).above) C.up j.1 ends.0 ends.1;
         down = C.down;
-        once = subst (λ (s : List WalkStep). IsDistinct (arcs_of s)) seam (distinct-between C.front C.back step C.once unused);
-        later = λ r h. later r (in-between r C.front C.back step (subst (λ (s : List WalkStep). IsIn r (arcs_of s)) (sym seam) h));
+        once = subst (λ (s : List WalkStep). IsDistinct (arcs_of s)) seam (distinct-between C.prefix C.back step C.once unused);
+        later = λ r h. later r (in-between r C.prefix C.back step (subst (λ (s : List WalkStep). IsIn r (arcs_of s)) (sym seam) h));
         count = length-set directions step.arc (cond step.forwards (pos 1) (negsuc 0)) ∙ C.count;
         exact = λ r h. written step j.1 unused r h ∙ ap (λ (s : List WalkStep). direction s r) seam;
       }))
@@ -186,17 +186,17 @@ module _ (arcs : List Pair) (links : List Link) (places : List ℕ) (R : IsRoote
       new : directions' ≡ set directions step.arc (cond step.forwards (pos 1) (negsuc 0))
       new = written_is ∙ ap (set directions link.arc) value_is ∙ ap (λ (k : Link). set directions k.arc (cond (nat_eq k.node (tail arcs k.arc)) (pos 1) (negsuc 0))) link_is
 
-      unused : ¬ (IsIn step.arc (arcs_of (C.front ++ C.back)))
+      unused : ¬ (IsIn step.arc (arcs_of (C.prefix ++ C.back)))
       unused = not_used first low (omega arith) (omega (arith, l)) (inl refl)
 
-      seam : C.front ++ step ∷ C.back ≡ (C.front ++ step ∷ []) ++ C.back
-      seam = seam_of C.front
+      seam : C.prefix ++ step ∷ C.back ≡ (C.prefix ++ step ∷ []) ++ C.back
+      seam = seam_of C.prefix
         where
           seam_of : (steps : List WalkStep) → steps ++ step ∷ C.back ≡ (steps ++ step ∷ []) ++ C.back
           seam_of [] = refl
           seam_of (s ∷ steps) = ap (λ (rest : List WalkStep). s ∷ rest) (seam_of steps)
 
-      later : (r : ℕ) → (r ≡ step.arc) ⊎ IsIn r (arcs_of (C.front ++ C.back))
+      later : (r : ℕ) → (r ≡ step.arc) ⊎ IsIn r (arcs_of (C.prefix ++ C.back))
           → (place : ℕ) × (place < length links) × ((link_at links first).above < place) × (last < place) × ((link_at links place).arc ≡ r)
       later r (inl e) = (first, C.first_in, j.0, l, sym e)
       later r (inr h) = let k = C.later r h in (k.0, k.1, omega (arith, k.2, j.0), k.3, k.4)
@@ -206,14 +206,14 @@ module _ (arcs : List Pair) (links : List Link) (places : List ℕ) (R : IsRoote
       → value ≡ cond (not (nat_eq link.node (tail arcs link.arc))) (pos 1) (negsuc 0) → directions' ≡ set directions link.arc value → IsClimbing arcs links x y first link.above directions'
   last_climbs link value directions' l at value_is written_is =
       subst (λ (k : Link). IsClimbing arcs links x y first k.above directions') (sym link_is) (subst (IsClimbing arcs links x y first (link_at links last).above) (sym new) (record {
-        front = C.front;
+        prefix = C.prefix;
         back = step ∷ C.back;
         first_in = C.first_in;
         last_in = omega (arith, j.0, C.last_in);
         up = C.up;
         down = (j.1, ends.0, subst (λ (node : ℕ). IsWalk arcs node C.back y) (sym ends.1) C.down);
-        once = distinct-between C.front C.back step C.once unused;
-        later = λ r h. later r (in-between r C.front C.back step h);
+        once = distinct-between C.prefix C.back step C.once unused;
+        later = λ r h. later r (in-between r C.prefix C.back step h);
         count = length-set directions step.arc (cond step.forwards (pos 1) (negsuc 0)) ∙ C.count;
         exact = λ r h. written step j.1 unused r h;
       }))
@@ -236,18 +236,18 @@ module _ (arcs : List Pair) (links : List Link) (places : List ℕ) (R : IsRoote
       new : directions' ≡ set directions step.arc (cond step.forwards (pos 1) (negsuc 0))
       new = written_is ∙ ap (set directions link.arc) value_is ∙ ap (λ (k : Link). set directions k.arc (cond (not (nat_eq k.node (tail arcs k.arc))) (pos 1) (negsuc 0))) link_is
 
-      unused : ¬ (IsIn step.arc (arcs_of (C.front ++ C.back)))
+      unused : ¬ (IsIn step.arc (arcs_of (C.prefix ++ C.back)))
       unused = not_used last low (omega (arith, l)) (omega arith) (inr refl)
 
-      later : (r : ℕ) → (r ≡ step.arc) ⊎ IsIn r (arcs_of (C.front ++ C.back))
+      later : (r : ℕ) → (r ≡ step.arc) ⊎ IsIn r (arcs_of (C.prefix ++ C.back))
           → (place : ℕ) × (place < length links) × (first < place) × ((link_at links last).above < place) × ((link_at links place).arc ≡ r)
       later r (inl e) = (last, C.last_in, l, j.0, sym e)
       later r (inr h) = let k = C.later r h in (k.0, k.1, k.2, omega (arith, k.3, j.0), k.4)
 
   pub climbing_ends : first ≡ last → IsDirectedPathOf arcs (length arcs) (λ r. get_or directions r (pos 0)) x y
   climbing_ends e = record {
-    steps = C.front ++ C.back;
-    walk = walk-both arcs x C.front C.back (node_at links first) y C.up (subst (λ (place : ℕ). IsWalk arcs (node_at links place) C.back y) (sym e) C.down);
+    steps = C.prefix ++ C.back;
+    walk = walk-both arcs x C.prefix C.back (node_at links first) y C.up (subst (λ (place : ℕ). IsWalk arcs (node_at links place) C.back y) (sym e) C.down);
     once = C.once;
     exact = C.exact;
   }

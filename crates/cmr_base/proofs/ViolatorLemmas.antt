@@ -5,7 +5,7 @@ use Rattle.cmr_base.specs.Sums.{sum_over, IsEven, IsTwoModFour}
 use Rattle.cmr_base.specs.Violator.{IsViolator}
 use Rattle.cmr_base.proofs.SumLaws.{sum_over-exchange, sum_over_same, sum_over-map}
 use Rattle.cmr_base.proofs.Parity.{even_by_difference, two_mod_four_by_difference}
-use Rattle.cmr_base.proofs.RisingLists.{odd_times, all-odd_times, even_change-odd_times, four_change-odd_times}
+use Rattle.cmr_base.proofs.IncreasingLists.{odd_times, all-odd_times, even_change-odd_times, four_change-odd_times}
 use Rattle.cmr_base.proofs.Lists.{HasOneMore, all-map, all_weaker, all_both, all-one_more, all_without, item_of_one_more, sum_over-one_more}
 
 -- rows and columns change places
@@ -26,7 +26,7 @@ rows_once M rows columns v = record {
       (four_change-odd_times rows (λ row. sum_over columns (M row)) v.even_rows) v.two_mod_four;
 }
 
--- over rising lists, with the lines that stand an odd number of times
+-- over increasing lists, with the lines that stand an odd number of times
 pub violator-odd_times : (M : ℕ → ℕ → ℤ) (rows columns : List ℕ) → IsViolator M rows columns → IsViolator M (odd_times rows) (odd_times columns)
 violator-odd_times M rows columns v =
     violator-transposed (λ column row. M row column) (odd_times columns) (odd_times rows)

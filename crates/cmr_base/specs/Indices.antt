@@ -1,4 +1,4 @@
--- Sets of rows or of columns, as rising lists of their numbers.
+-- Sets of rows or of columns, as increasing lists of their numbers.
 use Rattle.std.specs.Prelude.{◌<◌, ℕ, List, slice_index, length}
 
 -- above each item

@@ -5,14 +5,14 @@ use Rattle.std.specs.List.Sorted.{IsStrictlyIncreasing}
 use Rattle.cmr_base.specs.Matrix.{Matrix, height, entry}
 use Rattle.cmr_base.specs.Sums.{sum_over}
 
--- a set of rows: their numbers, rising
+-- a set of rows: their numbers, increasing
 pub record IsRowSet (m : Matrix) (rows : List ℕ) : Type 0 where
-  pub rising : IsStrictlyIncreasing rows
+  pub increasing : IsStrictlyIncreasing rows
   pub in_range : (k : ℕ) → k < length rows → slice_index rows k < height m
 
--- a set of columns: their numbers, rising
+-- a set of columns: their numbers, increasing
 pub record IsColumnSet (m : Matrix) (columns : List ℕ) : Type 0 where
-  pub rising : IsStrictlyIncreasing columns
+  pub increasing : IsStrictlyIncreasing columns
   pub in_range : (k : ℕ) → k < length columns → slice_index columns k < m.width
 
 -- the number by which sets are ordered: line k, counted from 0, adds 2^k

@@ -94,14 +94,14 @@ IsGraphicBySplitting m = SplitsGraphically (support m) (height m) (first_lines (
 
 -- ---- the parts as lists
 
--- The parts of the rows but i, each a rising list, by their least rows: two rows are in one of them exactly where they are linked.
+-- The parts of the rows but i, each a increasing list, by their least rows: two rows are in one of them exactly where they are linked.
 pub record AreParts (M : ℕ → ℕ → Bool) (S : List ℕ) (i : ℕ) (parts : List (List ℕ)) : Type 0 where
   pub all : (k : ℕ) → IsIn k S → k ≢ i → (a : ℕ) × (a < length parts) × IsIn k (slice_index_or parts a [])
   pub only : (a k : ℕ) → a < length parts → IsIn k (slice_index_or parts a []) → IsIn k S × (k ≢ i)
   pub linked : (a j k : ℕ) → a < length parts → IsIn j (slice_index_or parts a []) → IsIn k (slice_index_or parts a []) → AreLinked M S i j k
   pub apart : (a b j k : ℕ) → a < length parts → b < length parts → a ≢ b → IsIn j (slice_index_or parts a []) → IsIn k (slice_index_or parts b []) → ¬ (AreLinked M S i j k)
   pub filled : (a : ℕ) → a < length parts → 0 < length (slice_index_or parts a [])
-  pub rising : (a : ℕ) → a < length parts → IsStrictlyIncreasing (slice_index_or parts a [])
+  pub increasing : (a : ℕ) → a < length parts → IsStrictlyIncreasing (slice_index_or parts a [])
   pub ordered : (a b : ℕ) → a < b → b < length parts → slice_index_or (slice_index_or parts a []) 0 0 < slice_index_or (slice_index_or parts b []) 0 0
 
 -- a side, 0 or 1, for each part, so that parts of one side agree

@@ -6,7 +6,7 @@ use crate::Memory;
 use std::alloc::Global;
 use std::marker::Model;
 
-/// A set of rows or of columns: a strictly rising list of their numbers.
+/// A set of rows or of columns: a strictly increasing list of their numbers.
 #[derive(Debug, Drop)]
 pub struct Indices {
     items: Vec<u32>,
@@ -56,7 +56,7 @@ impl Indices {
     /// How many numbers there are.
     pub fn len(&self) -> usize
         ensures len { result ≡ length self.now }
-        ensures rising { IsStrictlyIncreasing self.now }
+        ensures increasing { IsStrictlyIncreasing self.now }
     {
         self.items.len()
     }
@@ -72,7 +72,7 @@ impl Indices {
     /// All numbers.
     pub fn as_slice(&self) -> &[u32]
         ensures items { result.now ≡ self.now }
-        ensures rising { IsStrictlyIncreasing self.now }
+        ensures increasing { IsStrictlyIncreasing self.now }
     {
         self.items.as_slice()
     }

@@ -255,7 +255,7 @@ impl Matrix {
     ) -> Result<Matrix, Memory>
         requires rows { AllBelow (height self.now) rows.now }
         requires columns { AllBelow self.now.width columns.now }
-        requires rising { IsStrictlyIncreasing columns.now }
+        requires increasing { IsStrictlyIncreasing columns.now }
         requires few_rows { length rows.now ≤ MAX_ROWS }
         requires few_columns { length columns.now ≤ MAX_COLUMNS }
         ensures { IfOk result (λ part. part ≡ submatrix self.now rows.now columns.now) }
@@ -303,7 +303,7 @@ impl Matrix {
 
 // For each of so many columns its place among the chosen ones, and a number that is no place for the others.
 fn places_of(alloc: Global, chosen: &[u32], columns: u32) -> Result<Vec<u32>, Memory>
-    requires rising { IsStrictlyIncreasing chosen.now }
+    requires increasing { IsStrictlyIncreasing chosen.now }
     requires below { AllBelow columns chosen.now }
     requires columns { columns ≤ MAX_COLUMNS }
     ensures { IfOk result (λ places. ArePlaces columns chosen.now places.items) }

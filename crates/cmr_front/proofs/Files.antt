@@ -8,7 +8,7 @@ use Rattle.std.proofs.lemmas.Option.{slice_get-get_or, slice_get-map}
 use Rattle.std.proofs.lemmas.Slice.Eq.{bytes_eq-Decides}
 use Rattle.std.proofs.lemmas.Bool.{false≢true}
 use Rattle.cmr_io.specs.Log.{Log, log_with}
-use Rattle.cmr_io.specs.Whole.{StaysOrHoldsFront}
+use Rattle.cmr_io.specs.Whole.{StaysOrHoldsPrefix}
 use Rattle.cmr_front.specs.declared.outcome.OutputFile.{OutputFile}
 use Rattle.cmr_front.specs.Report.{Held, File, after_files, with_file, with_files}
 use Rattle.cmr_front.specs.Outcome.{file_of}
@@ -64,13 +64,13 @@ there files k file h is = slice_get-map file_of files k ∙ ap (option_map file_
 pub left_at : (held mid new : Held) (files : List OutputFile) (k : ℕ) (file : OutputFile)
     → ((name : List ℕ) → mid name ≡ with_files held (map file_of (take k files)) name)
     → ((other : List ℕ) → other ≢ (file_of file).name → new other ≡ mid other)
-    → StaysOrHoldsFront (mid (file_of file).name) (new (file_of file).name) (file_of file).bytes
+    → StaysOrHoldsPrefix (mid (file_of file).name) (new (file_of file).name) (file_of file).bytes
     → IsLeftAt (map file_of files) k (file_of file) held new
-left_at held mid new files k file before others front =
+left_at held mid new files k file before others prefix =
     let same = take-map files k in
     record {
       others = λ name other. others name other ∙ before name ∙ ap (λ fs. with_files held fs name) (sym same);
-      here = subst (λ o. StaysOrHoldsFront o (new (file_of file).name) (file_of file).bytes) (before (file_of file).name ∙ ap (λ fs. with_files held fs (file_of file).name) (sym same)) front;
+      here = subst (λ o. StaysOrHoldsPrefix o (new (file_of file).name) (file_of file).bytes) (before (file_of file).name ∙ ap (λ fs. with_files held fs (file_of file).name) (sym same)) prefix;
     }
 
 -- the write of the file at this place was begun after those before it

@@ -4,7 +4,7 @@ use Rattle.std.specs.List.{concat}
 use Rattle.std.proofs.lemmas.List.{append-nil, append_assoc, drop_more, length-append, map-append, take-append-drop, take-append-le, take_more}
 use Rattle.std.proofs.lemmas.List.Folds.{concat-append}
 use Rattle.std.proofs.Math.Seq.{take-append-add}
-use Rattle.cmr_io.specs.Whole.{AppendsFront}
+use Rattle.cmr_io.specs.Whole.{AppendsPrefix}
 
 pub one_more : {X : Type 0} (f : X → List ℕ) (xs : List X) (i : ℕ) (d : X) → i < length xs → concat (map f (take (i + 1) xs)) ≡ concat (map f (take i xs)) ++ f (get_or xs i d)
 one_more f xs i d h =
@@ -20,8 +20,8 @@ at f xs i d h =
     ∙ concat-append (map f (take i xs)) (f (get_or xs i d) ∷ map f (drop (i + 1) xs))
 
 -- a prefix of one part, after the parts before it, is a prefix of the whole
-pub front : (old done part rest new : List ℕ) → AppendsFront (old ++ done) new part → AppendsFront old new (done ++ (part ++ rest))
-front old done part rest new (n, less, e) = (
+pub prefix : (old done part rest new : List ℕ) → AppendsPrefix (old ++ done) new part → AppendsPrefix old new (done ++ (part ++ rest))
+prefix old done part rest new (n, less, e) = (
   length done + n,
   omega (arith, length-append done (part ++ rest), length-append part rest),
   e ∙ append_assoc old done (take n part)

@@ -4,7 +4,7 @@ use Rattle.std.specs.List.{AllByRecursion}
 use Rattle.cmr_io.specs.Causes.{Rose}
 use Rattle.cmr_io.specs.Log.{Log, log_with}
 use Rattle.cmr_io.specs.Reads.{Reads}
-use Rattle.cmr_io.specs.Whole.{AppendsFront, StaysOrHoldsFront}
+use Rattle.cmr_io.specs.Whole.{AppendsPrefix, StaysOrHoldsPrefix}
 use Rattle.cmr_io.specs.declared.device.Shelf as shelves
 use Rattle.cmr_io.specs.declared.device.Sink as sinks
 use Rattle.cmr_front.specs.Report.{Held, File, Report, after_files, with_files}
@@ -103,10 +103,10 @@ pub record IsDelivered (report : Report) (tells : Telling) (before after : Devic
   pub error : IsTrue tells.error → IsWritten before.error after.error before.error_faults after.error_faults report.error
   pub error_taken : IsWritten before.error_taken after.error_taken before.error_faults after.error_faults report.error
 
--- The file at a place could not be written: those before it are whole, and it is as before or holds a front of its bytes.
+-- The file at a place could not be written: those before it are whole, and it is as before or holds a prefix of its bytes.
 pub record IsLeftAt (files : List File) (place : ℕ) (file : File) (before after : Held) : Type 0 where
   pub others : (name : List ℕ) → name ≢ file.name → after name ≡ with_files before (take place files) name
-  pub here : StaysOrHoldsFront (with_files before (take place files) file.name) (after file.name) file.bytes
+  pub here : StaysOrHoldsPrefix (with_files before (take place files) file.name) (after file.name) file.bytes
 
 -- the write of the file at a place was begun last, after the writes of the files before it, and has taken a prefix of its bytes
 abbrev pub IsBegunLast : List File → ℕ → File → Log → Log → Type 0
@@ -127,12 +127,12 @@ pub record IsUnwritten (report : Report) (tells : Telling) (before after : Devic
   pub error_taken : IsWritten before.error_taken after.error_taken before.error_faults after.error_faults (cannot_write_line file.name)
   pub cause : Rose before.shelf_faults after.shelf_faults
 
--- Standard output failed: all files are whole, and a front of it was put.
+-- Standard output failed: all files are whole, and a prefix of it was put.
 pub record IsCutShort (report : Report) (tells : Telling) (before after : Devices) : Type 0 where
   pub files : IsTrue tells.shelf → (name : List ℕ) → after.held name ≡ with_files before.held report.files name
   pub writes : after.writes ≡ after_files before.writes report.files
-  pub output : IsTrue tells.output → AppendsFront before.output after.output report.output
-  pub output_taken : AppendsFront before.output_taken after.output_taken report.output
+  pub output : IsTrue tells.output → AppendsPrefix before.output after.output report.output
+  pub output_taken : AppendsPrefix before.output_taken after.output_taken report.output
   pub error : IsTrue tells.error → IsWritten before.error after.error before.error_faults after.error_faults (cannot_write_line (codes "-"))
   pub error_taken : IsWritten before.error_taken after.error_taken before.error_faults after.error_faults (cannot_write_line (codes "-"))
   pub cause : Rose before.output_faults after.output_faults

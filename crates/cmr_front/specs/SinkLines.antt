@@ -1,12 +1,12 @@
 -- What a sink got of a line.
 use Rattle.std.specs.Prelude.{◌≡◌, ◌⊎◌, ◌++◌, ℕ, IsTrue, List}
 use Rattle.cmr_io.specs.Causes.{Rose}
-use Rattle.cmr_io.specs.Whole.{AppendsFront}
+use Rattle.cmr_io.specs.Whole.{AppendsPrefix}
 use Rattle.cmr_io.specs.declared.device.Sink as sinks
 
--- the whole line was written, or a front of it where a write failed
+-- the whole line was written, or a prefix of it where a write failed
 abbrev pub IsWritten : List ℕ → List ℕ → ℕ → ℕ → List ℕ → Type 0
-IsWritten old new before now line = (new ≡ old ++ line) ⊎ (Rose before now × AppendsFront old new line)
+IsWritten old new before now line = (new ≡ old ++ line) ⊎ (Rose before now × AppendsPrefix old new line)
 
 -- a sink that tells its bytes got the line so, and every sink has taken it so
 pub record GetsLine {S : Type 0} (sink : sinks.Ghosts S) (old new : S) (line : List ℕ) : Type 0 where

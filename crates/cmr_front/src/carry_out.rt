@@ -3,7 +3,7 @@ ghost use Rattle.std.specs.Prelude.{◌≡◌, ◌≢◌, ◌≤◌, ◌<◌, �
 ghost use Rattle.cmr_io.specs.Causes.{HasCause, Rose};
 ghost use Rattle.cmr_io.specs.Kept.{IsFaultCounted, KeepsStanding};
 ghost use Rattle.cmr_io.specs.Log.{log_with};
-ghost use Rattle.cmr_io.specs.Whole.{StaysOrHoldsFront};
+ghost use Rattle.cmr_io.specs.Whole.{StaysOrHoldsPrefix};
 ghost use Rattle.cmr_front.specs.Report.{File, after_files, with_file, with_files};
 ghost use Rattle.cmr_front.specs.Status.{answer_status, failure_status};
 ghost use Rattle.cmr_front.specs.declared.status.Failure.TheVariants.{Device};
@@ -122,8 +122,8 @@ fn write_files<S: Shelf>(shelf: &mut S, files: &[OutputFile<'_>]) -> Result<(), 
 fn write_output_file<S: Shelf>(shelf: &mut S, file: &OutputFile<'_>) -> Result<(), WriteFault>
     ensures whole { OnOk result (IsTrue (S.tells shelf.old) → (name : List ℕ)
         → S.content shelf.new name ≡ with_file (S.content shelf.old) (file_of file.now) name) }
-    ensures front { OnErr result (IsTrue (S.tells shelf.old)
-        → StaysOrHoldsFront (S.content shelf.old file.now.name.now)
+    ensures prefix { OnErr result (IsTrue (S.tells shelf.old)
+        → StaysOrHoldsPrefix (S.content shelf.old file.now.name.now)
         (S.content shelf.new file.now.name.now) file.now.bytes.items) }
     ensures others { IsTrue (S.tells shelf.old) → (other : List ℕ) → other ≢ file.now.name.now
         → S.content shelf.new other ≡ S.content shelf.old other }

@@ -175,7 +175,7 @@ content_in-got files Nothing writing writable = absurd (cc)
 content_in-got files (Read file at) writing writable = absurd (cc)
 content_in-got files (Write file) writing writable = content_in-writable files file (writable file refl)
 
--- a front that was copied, and what is left
+-- a prefix that was copied, and what is left
 pub copied_and_left : (bytes copy : List ℕ) (at n : ℕ) → copy ≡ take n (drop at bytes) → drop at bytes ≡ copy ++ drop (at + n) bytes
 copied_and_left bytes copy at n same = rw (same, ← drop-drop n at bytes) (sym (take-append-drop n (drop at bytes)))
 

@@ -18,7 +18,7 @@ pub told_on : (content bytes left piece rest new : List ℕ) → content ≡ byt
 told_on content bytes left piece rest new told given is =
     told ∙ ap (λ (xs : List ℕ). bytes ++ xs) given ∙ sym (append_assoc bytes piece rest) ∙ ap (λ (xs : List ℕ). xs ++ rest) (sym is)
 
--- of a piece and what stands behind it, its front is taken
+-- of a piece and what stands behind it, its prefix is taken
 pub items_on : (bytes into behind new : List ℕ) (count : ℕ) → count ≤ length into → new ≡ bytes ++ take count (into ++ behind) → new ≡ bytes ++ take count into
 items_on bytes into behind new count within is = is ∙ ap (λ (xs : List ℕ). bytes ++ xs) (take-append-le count into behind within)
 

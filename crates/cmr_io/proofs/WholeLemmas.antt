@@ -9,7 +9,7 @@ use Rattle.cmr_io.specs.Reads.{with_more}
 abbrev pub rest : List ℕ → ℕ → List ℕ
 rest bytes done = take (length bytes - done) (drop done bytes)
 
--- a front, and more after it
+-- a prefix, and more after it
 pub take-more : (bytes : List ℕ) (done count : ℕ) → take done bytes ++ take count (rest bytes done) ≡ take (done + count) bytes
 take-more bytes done count =
     ap (λ (xs : List ℕ). take done bytes ++ take count xs) (take_rest bytes done) ∙ sym (take-add done count bytes)
@@ -22,7 +22,7 @@ more_of_last (first ∷ second ∷ texts) text bytes = ap (λ (others : List (Li
 abbrev log_of : List (List ℕ) → List (List ℕ) → Log
 log_of names texts = record { names = names; texts = texts }
 
--- a front was taken, and more after it
+-- a prefix was taken, and more after it
 pub log_on : (start mid after : Log) (name bytes : List ℕ) (done count : ℕ) → mid ≡ log_with start name (take done bytes) → after ≡ log_more mid (take count (rest bytes done))
     → after ≡ log_with start name (take (done + count) bytes)
 log_on start mid after name bytes done count before more =

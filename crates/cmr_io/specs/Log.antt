@@ -19,7 +19,7 @@ log_with log name bytes = record { names = log.names ++ name ∷ []; texts = log
 abbrev pub log_more : Log → List ℕ → Log
 log_more log bytes = record { names = log.names; texts = with_more log.texts bytes }
 
--- after a call that was to take bytes from the front of the piece
+-- after a call that was to take bytes from the prefix of the piece
 abbrev pub after_put : {E : Type 0} → Log → List ℕ → Result ℕ E → Log
 after_put log piece (Ok count) = log_more log (take count piece)
 after_put log piece (Err e) = log

@@ -1,13 +1,13 @@
 -- What one call reads or writes.
 use Rattle.std.specs.Prelude.{◌≡◌, ◌<◌, ◌≤◌, ◌++◌, ◌↔◌, ℕ, List, [], Option, Some, Result, Ok, Err, length, take}
 
--- so many bytes of what was left stand at the front of `into`, and where that has room they are none exactly at the end
-pub record GivesFront (left rest into : List ℕ) (count : ℕ) : Type 0 where
+-- so many bytes of what was left stand at the prefix of `into`, and where that has room they are none exactly at the end
+pub record GivesPrefix (left rest into : List ℕ) (count : ℕ) : Type 0 where
   pub given : left ≡ take count into ++ rest
   pub end : 0 < length into → (count ≡ 0) ↔ (left ≡ [])
 
--- so many bytes at the front of the piece are taken, and some where it is not empty
-pub record TakesFront (piece : List ℕ) (count : ℕ) : Type 0 where
+-- so many bytes at the prefix of the piece are taken, and some where it is not empty
+pub record TakesPrefix (piece : List ℕ) (count : ℕ) : Type 0 where
   pub within : count ≤ length piece
   pub some : 0 < length piece → 0 < count
 

@@ -23,7 +23,7 @@ with_more (text ∷ other ∷ texts) bytes = text ∷ with_more (other ∷ texts
 abbrev pub after_begun : Reads → List ℕ → Reads
 after_begun reads name = record { names = reads.names ++ name ∷ []; texts = reads.texts ++ [] ∷ []; bytes = reads.bytes; ends = reads.ends }
 
--- after so many bytes were given at the front of `into`: where that has room, none is the end
+-- after so many bytes were given at the prefix of `into`: where that has room, none is the end
 abbrev pub after_piece : Reads → List ℕ → ℕ → Reads
 after_piece reads into count = record {
   names = reads.names;
@@ -32,7 +32,7 @@ after_piece reads into count = record {
   ends = if nat_lt 0 (length into) && (count == 0) then next_number reads.ends else reads.ends;
 }
 
--- after a call that was to give bytes at the front of `into`
+-- after a call that was to give bytes at the prefix of `into`
 abbrev pub after_next : {E : Type 0} → Reads → List ℕ → Result ℕ E → Reads
 after_next reads into (Ok count) = after_piece reads into count
 after_next reads into (Err e) = reads

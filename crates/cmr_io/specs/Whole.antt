@@ -9,14 +9,14 @@ HasGivenAtMost most content left = (given : List ℕ) × (content ≡ Some (give
 abbrev pub HasGiven : ℕ → Option (List ℕ) → List ℕ → Type 0
 HasGiven count content left = (given : List ℕ) × (content ≡ Some (given ++ left)) × (length given ≡ count)
 
--- some of the bytes were appended, those at the front, and not all
-abbrev pub AppendsFront : List ℕ → List ℕ → List ℕ → Type 0
-AppendsFront old new bytes = (count : ℕ) × (count < length bytes) × (new ≡ old ++ take count bytes)
+-- some of the bytes were appended, those at the prefix, and not all
+abbrev pub AppendsPrefix : List ℕ → List ℕ → List ℕ → Type 0
+AppendsPrefix old new bytes = (count : ℕ) × (count < length bytes) × (new ≡ old ++ take count bytes)
 
 -- what a name holds is as before, or it holds nothing
 abbrev pub StaysOrEmptied : Option (List ℕ) → Option (List ℕ) → Type 0
 StaysOrEmptied old new = (new ≡ old) ⊎ (new ≡ Some [])
 
--- what a name holds is as before, or a front of the bytes
-abbrev pub StaysOrHoldsFront : Option (List ℕ) → Option (List ℕ) → List ℕ → Type 0
-StaysOrHoldsFront old new bytes = (new ≡ old) ⊎ ((count : ℕ) × (new ≡ Some (take count bytes)))
+-- what a name holds is as before, or a prefix of the bytes
+abbrev pub StaysOrHoldsPrefix : Option (List ℕ) → Option (List ℕ) → List ℕ → Type 0
+StaysOrHoldsPrefix old new bytes = (new ≡ old) ⊎ ((count : ℕ) × (new ≡ Some (take count bytes)))

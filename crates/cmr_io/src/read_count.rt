@@ -40,7 +40,7 @@ impl ReadCount {
         self.log.begin(name.as_bytes());
     }
 
-    /// So many bytes were given at the front of `into`.
+    /// So many bytes were given at the prefix of `into`.
     pub fn add(&mut self, into: &[u8], count: usize)
         requires { count ≤ length into.now }
         ensures { self.new ≡ after_piece self.old into.now count }

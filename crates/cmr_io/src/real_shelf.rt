@@ -4,7 +4,7 @@ ghost use Rattle.std.specs.Prelude.{◌≡◌, ◌≤◌, ◌<◌, [], false, tr
 ghost use Rattle.std.specs.Io.KnownBytes.{Appends, Consumes, IsAtEnd, Keeps};
 ghost use Rattle.cmr_io.specs.Causes.{HasCause, Rose};
 ghost use Rattle.cmr_io.specs.Calls.{counted, next_number};
-ghost use Rattle.cmr_io.specs.Pieces.{TakesFront};
+ghost use Rattle.cmr_io.specs.Pieces.{TakesPrefix};
 ghost use Rattle.cmr_io.specs.Log.{after_put, log_with};
 ghost use Rattle.cmr_io.specs.Reads.{after_begun, after_next};
 ghost use Rattle.cmr_io.specs.FileShelf.{new_shelf};
@@ -182,7 +182,7 @@ impl<R: Files + Input> Shelf for RealShelf<'_, R> {
     fn put(&mut self, piece: &[u8]) -> Result<usize, Failed>
         requires { IsTrue self.old.writing }
         ensures count { self.new.faults ≡ counted result self.old.faults }
-        ensures taken { IfOk result (TakesFront piece.now) }
+        ensures taken { IfOk result (TakesPrefix piece.now) }
         ensures written { IfOk result (λ count.
             Appends self.old.got self.new.got (take count piece.now)) }
         ensures err { OnErr result (Keeps self.old.got self.new.got) }

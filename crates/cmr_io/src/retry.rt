@@ -2,7 +2,7 @@ ghost use Rattle.std.specs.Prelude.{◌≡◌, ◌≤◌, ◌<◌, IfOk, OnErr, 
 ghost use Rattle.std.specs.Io.KnownBytes.{Keeps, Appends, Consumes, IsAtEnd};
 ghost use Rattle.cmr_io.specs.Causes.{HasCause};
 ghost use Rattle.cmr_io.specs.Calls.{counted};
-ghost use Rattle.cmr_io.specs.Pieces.{TakesFront};
+ghost use Rattle.cmr_io.specs.Pieces.{TakesPrefix};
 
 use crate::device::Failed;
 use crate::fault_count::FaultCount;
@@ -39,7 +39,7 @@ pub fn write_counted<W: Write>(
     piece: &[u8],
     faults: &mut FaultCount,
 ) -> Result<usize, Failed>
-    ensures front { IfOk result (TakesFront piece.now) }
+    ensures prefix { IfOk result (TakesPrefix piece.now) }
     ensures taken { IfOk result (λ count.
         Appends (W.contents writer.old) (W.contents writer.new) (take count piece.now)) }
     ensures err { OnErr result (Keeps (W.contents writer.old) (W.contents writer.new)) }

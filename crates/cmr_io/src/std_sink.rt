@@ -2,7 +2,7 @@ ghost use Rattle.std.specs.Prelude.{◌≡◌, [], false, IfOk, OnErr, take};
 ghost use Rattle.std.specs.Io.KnownBytes.{Appends, Keeps};
 ghost use Rattle.cmr_io.specs.Causes.{HasCause};
 ghost use Rattle.cmr_io.specs.Calls.{counted};
-ghost use Rattle.cmr_io.specs.Pieces.{TakesFront, got_after};
+ghost use Rattle.cmr_io.specs.Pieces.{TakesPrefix, got_after};
 
 use crate::byte_log::ByteLog;
 use crate::device::{Failed, Sink};
@@ -60,7 +60,7 @@ impl<W: Write + Drop> Sink for StdSink<W> {
 
     fn put(&mut self, piece: &[u8]) -> Result<usize, Failed>
         ensures count { self.new.faults ≡ counted result self.old.faults }
-        ensures front { IfOk result (TakesFront piece.now) }
+        ensures prefix { IfOk result (TakesPrefix piece.now) }
         ensures written { IfOk result (λ count.
             Appends self.old.contents self.new.contents (take count piece.now)) }
         ensures err { OnErr result (Keeps self.old.contents self.new.contents) }

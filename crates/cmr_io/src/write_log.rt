@@ -35,7 +35,7 @@ impl WriteLog {
         self.log.begin(name.as_bytes());
     }
 
-    /// So many bytes at the front of the piece were taken.
+    /// So many bytes at the prefix of the piece were taken.
     pub fn add(&mut self, piece: &[u8], count: usize)
         requires { count ≤ length piece.now }
         ensures { self.new ≡ log_more self.old (take count piece.now) }

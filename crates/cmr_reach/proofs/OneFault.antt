@@ -3,7 +3,7 @@ use Rattle.std.proofs.Common.{◌≡◌, ◌≤◌, ◌∙◌, ℕ, List, ap, sy
 use Rattle.std.proofs.lemmas.Bool.{cases_lt}
 use Rattle.cmr_base.specs.Matrix.{Matrix, height}
 use Rattle.cmr_base.specs.LineSets.{set_number, set_numbered}
-use Rattle.cmr_base.proofs.RisingLists.{RisesIn, row_set_rises, column_set_rises}
+use Rattle.cmr_base.proofs.IncreasingLists.{RisesIn, row_set_rises, column_set_rises}
 use Rattle.cmr_base.proofs.SetNumbers.{numbered_same}
 use Rattle.balance.specs.BalanceFaults.{IsLeastFault, IsLeastFaultByColumns, IsLeastFaultByRows, IsLeastFaultColumns, IsLeastFaultRows}
 

@@ -13,7 +13,7 @@ use Rattle.matrix_text.proofs.SubmatrixAgain.{submatrix_again}
 use Rattle.matrix_text.proofs.TextLengths.{dense_text_within}
 use Rattle.camion_sign.specs.declared.step.SignStep.{SignStep}
 use Rattle.camion_sign.specs.declared.step.SignStep.TheVariants.{Free, Forced}
-use Rattle.camion_sign.specs.ChainTexts.{IsRisingStep, chain, chain_text}
+use Rattle.camion_sign.specs.ChainTexts.{IsIncreasingStep, chain, chain_text}
 use Rattle.camion_sign.specs.SignOrder.{IsNextSign}
 use Rattle.camion_sign.specs.SignSteps.{LeadTo, signed_by}
 use Rattle.camion_sign.proofs.ChainAgain.{chain_again}
@@ -68,16 +68,16 @@ module _ (form : MatrixForm) (file evidence matrix_text : List ℕ) (m : Matrix)
       let bytes = submatrix_text (height m) m.width fault in
       let report = accepted_report m (verdicts.No fault) in
       let again : named_lines (height m) m.width (text_of bytes) ≡ Ok fault =
-      submatrix_again (height m) m.width fault is.height_in is.width_in refuted.row_set.rising refuted.column_set.rising refuted.row_set.in_range refuted.column_set.in_range in
+      submatrix_again (height m) m.width fault is.height_in is.width_in refuted.row_set.increasing refuted.column_set.increasing refuted.row_set.in_range refuted.column_set.in_range in
       subst (λ kind. CheckReportsBy (check_of form file evidence) kind matrix_text bytes report) (sym (kind_of_lines (height m) m.width bytes fault again))
       (read_reported faults.Matrix file (λ m. EvidenceReports evidence kinds.Violator m bytes) (matrix_in form false matrix_text) m report read
       (read_reported faults.Matrix evidence (ViolatorDecides m) (named_lines (height m) m.width (text_of bytes)) fault report again (accepted refuted refl)))
 
-rising_steps : (a s end : Matrix) (steps : List SignStep) → LeadTo (IsNextSign a) s steps end → AllByRecursion IsRisingStep steps
-rising_steps a s end [] e = tt
-rising_steps a s end (Free row column ∷ steps) (v, next, rest) = (tt, rising_steps a (signed_by s (Free row column) v) end steps rest)
-rising_steps a s end (Forced row column cycle ∷ steps) (v, (turn, next), rest) =
-    ((next.cycle_is.row_set.rising, next.cycle_is.column_set.rising), rising_steps a (signed_by s (Forced row column cycle) v) end steps rest)
+increasing_steps : (a s end : Matrix) (steps : List SignStep) → LeadTo (IsNextSign a) s steps end → AllByRecursion IsIncreasingStep steps
+increasing_steps a s end [] e = tt
+increasing_steps a s end (Free row column ∷ steps) (v, next, rest) = (tt, increasing_steps a (signed_by s (Free row column) v) end steps rest)
+increasing_steps a s end (Forced row column cycle ∷ steps) (v, (turn, next), rest) =
+    ((next.cycle_is.row_set.increasing, next.cycle_is.column_set.increasing), increasing_steps a (signed_by s (Forced row column cycle) v) end steps rest)
 
 chain_checked : (form : MatrixForm) (file evidence matrix_text : List ℕ) (a signed : Matrix) (steps : List SignStep) (fault : LineSet) → matrix_in form true matrix_text ≡ Ok a → IsSignedTo a steps signed → IsRefuted signed fault
     → CheckReports (check_of form file evidence) matrix_text (chain_text (chain_with a steps fault)) (irregular_report signed fault)
@@ -91,9 +91,9 @@ chain_checked form file evidence matrix_text a signed steps fault read signing r
       few_columns = is.width_in;
       few_steps = few_signed a steps signed is (chain_sign_matrix a c signed is good) leads;
       steps_in = steps_in a steps _ signed is leads;
-      steps_rise = rising_steps a _ signed steps leads;
+      steps_rise = increasing_steps a _ signed steps leads;
       violator_in = lines_in_matrix a signed steps (verdicts.No fault) signing refuted;
-      violator_rises = (refuted.row_set.rising, refuted.column_set.rising);
+      violator_rises = (refuted.row_set.increasing, refuted.column_set.increasing);
     }) in
     subst (λ kind. CheckReportsBy (check_of form file evidence) kind matrix_text (chain_text c) (irregular_report signed fault)) (sym (kind_of_chain (chain_text c) c again))
     (read_reported faults.Matrix file (λ m. EvidenceReports evidence kinds.Chain m (chain_text c)) (matrix_in form true matrix_text) a (irregular_report signed fault) read

@@ -33,12 +33,12 @@ one_cycle a row c d x y p q = ap₂ (λ rows columns. let lines : LineSet = reco
     path = one_place a row c d p.path q.path p.place q.place
 
     rows : x.rows ≡ y.rows
-    rows = same_numbers x.rows y.rows p.row_set.rising q.row_set.rising
+    rows = same_numbers x.rows y.rows p.row_set.increasing q.row_set.increasing
         (λ i h. (q.rows_are i).1 (subst (λ w. IsIn i (cycle_rows row w)) path ((p.rows_are i).0 h)))
         (λ i h. (p.rows_are i).1 (subst (λ w. IsIn i (cycle_rows row w)) (sym path) ((q.rows_are i).0 h)))
 
     columns : x.columns ≡ y.columns
-    columns = same_numbers x.columns y.columns p.column_set.rising q.column_set.rising
+    columns = same_numbers x.columns y.columns p.column_set.increasing q.column_set.increasing
         (λ j h. (q.columns_are j).1 (subst (λ w. IsIn j (cycle_columns c d w)) path ((p.columns_are j).0 h)))
         (λ j h. (p.columns_are j).1 (subst (λ w. IsIn j (cycle_columns c d w)) (sym path) ((q.columns_are j).0 h)))
 

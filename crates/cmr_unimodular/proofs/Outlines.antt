@@ -56,9 +56,9 @@ module _ (depth : ℕ) (nodes : List Node) (i : ℕ) (node : Node) (within : i <
 -- ---- one node
 
 -- the line of a node and the outlines of its children
-pub front_outlined : (depth : ℕ) (text after : List ℕ) (node : Node) (finding : Finding) (trees : Trees) → tree_of node ≡ Branch node.lines finding trees
+pub opening_outlined : (depth : ℕ) (text after : List ℕ) (node : Node) (finding : Finding) (trees : Trees) → tree_of node ≡ Branch node.lines finding trees
     → after ≡ text ++ outline_line depth node.lines (finding_of (tree_of node)) → after ++ outline_below (depth + 1) trees ≡ text ++ outline_from depth (tree_of node)
-front_outlined depth text after node finding trees e written =
+opening_outlined depth text after node finding trees e written =
     let rest = outline_below (depth + 1) trees in
     ap (λ t. t ++ rest) (written ∙ ap (λ tree. text ++ outline_line depth node.lines (finding_of tree)) e)
     ∙ append_assoc text (outline_line depth node.lines finding) rest ∙ ap (λ tree. text ++ outline_from depth tree) (sym e)
@@ -74,7 +74,7 @@ pub two_outlined : (depth : ℕ) (text begun first : List ℕ) (node : Node) (fi
     → begun ≡ text ++ outline_line depth node.lines (finding_of (tree_of node)) → first ≡ begun ++ outline_from (depth + 1) one
     → first ++ outline_from (depth + 1) two ≡ text ++ outline_from depth (tree_of node)
 two_outlined depth text begun first node finding one two e written outlined =
-    let front = outline_from (depth + 1) one in
+    let opening = outline_from (depth + 1) one in
     let back = outline_from (depth + 1) two in
-    ap (λ t. t ++ back) outlined ∙ append_assoc begun front back ∙ ap (λ t. begun ++ (front ++ t)) (sym (append-nil back))
-    ∙ front_outlined depth text begun node finding (two_trees one two) e written
+    ap (λ t. t ++ back) outlined ∙ append_assoc begun opening back ∙ ap (λ t. begun ++ (opening ++ t)) (sym (append-nil back))
+    ∙ opening_outlined depth text begun node finding (two_trees one two) e written

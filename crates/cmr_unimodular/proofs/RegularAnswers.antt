@@ -50,8 +50,8 @@ sound a signed steps fault is right = record {
   sizes = (refl, refl);
   steps = is.chain;
   violator = record {
-    row_set = record { rising = right.row_set.rising; in_range = (lines_in_matrix a signed steps (verdicts.No fault) is right).0 };
-    column_set = record { rising = right.column_set.rising; in_range = (lines_in_matrix a signed steps (verdicts.No fault) is right).1 };
+    row_set = record { increasing = right.row_set.increasing; in_range = (lines_in_matrix a signed steps (verdicts.No fault) is right).0 };
+    column_set = record { increasing = right.column_set.increasing; in_range = (lines_in_matrix a signed steps (verdicts.No fault) is right).1 };
     all_signed = λ i j h g one. is.by_camion.all_signed i j one;
     violator = right.violator;
   };

@@ -92,8 +92,8 @@ earlier r u l k = (r - 1, omega arith, omega arith)
 taken : (n c l : ℕ) → n ≡ l + c → n - c ≡ l
 taken n c l e = omega arith
 
-taken_front : (n c l : ℕ) → n ≡ c + l → n - c ≡ l
-taken_front n c l e = omega arith
+taken_prefix : (n c l : ℕ) → n ≡ c + l → n - c ≡ l
+taken_prefix n c l e = omega arith
 
 module _ (m : Matrix) (flat1 flat2 : Bool) (s : Sides) (f g : Connector) (t : AreCornered (entry m) flat1 flat2 s f g) (plus : corner_product (entry m) f g ≡ pos 1) where
   abbrev R1 : List ℕ
@@ -261,10 +261,10 @@ module _ (m : Matrix) (flat1 flat2 : Bool) (s : Sides) (f g : Connector) (t : Ar
   before_columns = taken F.width (connecting_columns flat2) (length C1) (length-lc flat2)
 
   after_rows : height S - connecting_rows flat1 ≡ length R2
-  after_rows = taken_front (height S) (connecting_rows flat1) (length R2) (second_height flat1)
+  after_rows = taken_prefix (height S) (connecting_rows flat1) (length R2) (second_height flat1)
 
   after_columns : S.width - connecting_columns flat1 ≡ length C2
-  after_columns = taken_front S.width (connecting_columns flat1) (length C2) (length-bc flat1)
+  after_columns = taken_prefix S.width (connecting_columns flat1) (length C2) (length-bc flat1)
 
   pub corner_connected : HaveCornerSum flat1 flat2 F S
   corner_connected = record {

@@ -26,9 +26,9 @@ IsSigned bound line = (line.line < bound) × IsSign line.sign
 
 framed_fit : (bound : ℕ) (first : List SignedLine) (lines : List ℕ) (last : List SignedLine) → length first + (length lines + length last) ≤ bound
     → AllByRecursion (IsSigned bound) first → ((x : ℕ) → IsIn x lines → x < bound) → AllByRecursion (IsSigned bound) last → AreSignedLines bound (framed first lines last)
-framed_fit bound first lines last few front below back = record {
+framed_fit bound first lines last few prefix below back = record {
   few = let e = length-framed first lines last in omega arith;
-  each = all-append (IsSigned bound) first (map plain lines ++ last) front
+  each = all-append (IsSigned bound) first (map plain lines ++ last) prefix
       (all-append (IsSigned bound) (map plain lines) last (all-map (IsSigned bound) plain lines (all_of_members (λ x. IsSigned bound (plain x)) lines (λ x h. (below x h, inl refl)))) back);
 }
 

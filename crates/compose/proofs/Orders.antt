@@ -102,8 +102,8 @@ module _ (list : List ℕ) (n : ℕ) where
 
   -- side one but for some of its lines, these, some lines of side two, and its others
   module _ (first second : List ℕ) (few_one : length first + length (others first one) ≤ length one) (few_two : length second + length (others second two) ≤ length two) where
-    abbrev front : List ℕ
-    front = others first one
+    abbrev prefix : List ℕ
+    prefix = others first one
 
     abbrev middle : List ℕ
     middle = first ++ second
@@ -112,25 +112,25 @@ module _ (list : List ℕ) (n : ℕ) where
     back = others second two
 
     abbrev order : List ℕ
-    order = front ++ (middle ++ back)
+    order = prefix ++ (middle ++ back)
 
     of_one : (x : ℕ) → IsIn x one → IsIn x order
     of_one x h = go (is_listed first x) refl
       where
         go : (t : Bool) → is_listed first x ≡ t → IsIn x order
-        go true e = in_right front (middle ++ back) x (in_left middle back x (in_left first second x (in_from_listed x first e)))
-        go false e = in_left front (middle ++ back) x (to_others first one x h e)
+        go true e = in_right prefix (middle ++ back) x (in_left middle back x (in_left first second x (in_from_listed x first e)))
+        go false e = in_left prefix (middle ++ back) x (to_others first one x h e)
 
     of_two : (x : ℕ) → IsIn x two → IsIn x order
     of_two x h = go (is_listed second x) refl
       where
         go : (t : Bool) → is_listed second x ≡ t → IsIn x order
-        go true e = in_right front (middle ++ back) x (in_left middle back x (in_right first second x (in_from_listed x second e)))
-        go false e = in_right front (middle ++ back) x (in_right middle back x (to_others second two x h e))
+        go true e = in_right prefix (middle ++ back) x (in_left middle back x (in_right first second x (in_from_listed x second e)))
+        go false e = in_right prefix (middle ++ back) x (in_right middle back x (to_others second two x h e))
 
     without : IsOrder n order
     without = all_lines n order
-        (let a = length-append front (middle ++ back) in let b = length-append middle back in let c = length-append first second in let s = sides_count in omega arith)
+        (let a = length-append prefix (middle ++ back) in let b = length-append middle back in let c = length-append first second in let s = sides_count in omega arith)
         (λ x l. by_side (λ x. IsIn x order) x l (of_one x) (of_two x))
 
   pub core_rows : (i k o : ℕ) → IsIn i one → IsIn k two → IsIn o two → k ≢ o → IsOrder n (others (i ∷ []) one ++ (i ∷ k ∷ o ∷ others (k ∷ o ∷ []) two))

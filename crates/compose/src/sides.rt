@@ -8,7 +8,7 @@ use crate::line_lists::lines_on;
 use cmr_base::{LineSet, Matrix, Memory};
 use std::alloc::Global;
 
-/// The rows and columns of both sides, rising.
+/// The rows and columns of both sides, increasing.
 #[derive(Debug, Drop)]
 pub struct Sides {
     pub rows_one: OrderList,

@@ -1,4 +1,4 @@
--- How many numbers of a rising list are 0 or equal to one, and how many lines beside a set have class 0 or another.
+-- How many numbers of a increasing list are 0 or equal to one, and how many lines beside a set have class 0 or another.
 use Rattle.std.proofs.Common.{ℕ, zero, suc, ◌+◌, ◌++◌, ◌&&◌, ◌||◌, Bool, true, false, not, cond, nat_eq, List, [], ◌∷◌, ◌≡◌, ◌≢◌, ◌<◌, ◌≤◌, ◌∙◌, sym, ap, refl, arith, subst, ◌⊎◌, inl, inr, length, get_or, take, count_by, IsPermutation, length-append}
 use Rattle.std.specs.List.Sorted.{IsNonDecreasing}
 use Rattle.std.proofs.lemmas.List.{take_all}
@@ -59,7 +59,7 @@ pub most_of_sorted : (own classes items sorted listed : List ℕ) (rows size mos
 most_of_sorted own classes items sorted listed rows size most ec es er so l =
     subst (λ (v : List ℕ). AreAtMostBeside own v size most) ec (subst (λ (n : ℕ). AreAtMostBeside own classes n most) er (most_beside own classes listed rows most so (subst (λ (v : List ℕ). AreAtMostListed v most) es l)))
 
--- ---- a rising list
+-- ---- a increasing list
 
 none_listed : (sorted : List ℕ) (class n : ℕ) → n ≤ length sorted → ((k : ℕ) → k < n → get_or sorted k 0 ≢ class) → count_by (λ c. nat_eq c class) (take n sorted) ≡ 0
 none_listed sorted class zero l h = refl

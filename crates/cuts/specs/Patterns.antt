@@ -25,7 +25,7 @@ pub record AreShort (runs : Runs) (most : ℕ) : Type 0 where
   pub longest : runs.longest ≤ most
   pub run : runs.run ≤ most
 
--- what is known of so many of the first numbers of a rising list
+-- what is known of so many of the first numbers of a increasing list
 pub record AreRunsCounted (sorted : List ℕ) (place : ℕ) (runs : Runs) : Type 0 where
   pub zeros : count_by (λ class. nat_eq class 0) (take place sorted) ≤ runs.zeros
   pub longest : (name : ℕ) → name ≢ 0 → count_by (λ class. nat_eq class name) (take place sorted) ≤ runs.longest

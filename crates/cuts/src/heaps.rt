@@ -19,7 +19,7 @@ fn zeros_of(sorted: &[u64]) -> usize {
     sorted.len()
 }
 
-/// Two heaps of classes, of which all numbers are given in rising order: those below and above the step that is nearest to the middle.
+/// Two heaps of classes, of which all numbers are given in increasing order: those below and above the step that is nearest to the middle.
 /// Number 0 is no class.
 pub fn middle_heaps(sorted: &[u64]) -> Heaps {
     let zeros = zeros_of(sorted);

@@ -91,7 +91,7 @@ fn have_two_classes(rows: u32, numbers: &[u64], own: &[u64]) -> bool
     false
 }
 
-// The classes of the rows that are not among some, in rising order.
+// The classes of the rows that are not among some, in increasing order.
 fn sorted_classes(
     alloc: Global,
     rows: u32,
@@ -101,7 +101,7 @@ fn sorted_classes(
     requires rows { rows ≤ MAX_ROWS }
     requires classes { length classes.now ≡ rows }
     requires own { length own.now ≡ words_for rows }
-    ensures rising { IfOk result (λ sorted. IsNonDecreasing sorted.items) }
+    ensures increasing { IfOk result (λ sorted. IsNonDecreasing sorted.items) }
     ensures few { IfOk result (λ sorted. length sorted.items ≤ MAX_ROWS) }
     ensures listed { IfOk result (λ sorted. AreOpen own.now classes.now rows sorted.items) }
 {
@@ -129,7 +129,7 @@ fn open_classes(alloc: Global, rows: u32, numbers: &[u64], own: &[u64]) -> Resul
 
 // How many numbers are at most 0 or equal to one.
 fn most_alike(sorted: &[u64]) -> u32
-    requires rising { IsNonDecreasing sorted.now }
+    requires increasing { IsNonDecreasing sorted.now }
     requires few { length sorted.now ≤ MAX_ROWS }
     ensures { AreAtMostListed sorted.now result }
 {
@@ -145,7 +145,7 @@ fn most_alike(sorted: &[u64]) -> u32
     runs.zeros + runs.longest
 }
 
-// Of the first of some numbers in rising order: how many are 0, how many are at most equal to another one, how many are
+// Of the first of some numbers in increasing order: how many are 0, how many are at most equal to another one, how many are
 // equal to the last one, and which that is.
 #[derive(Clone, Copy)]
 struct Runs {

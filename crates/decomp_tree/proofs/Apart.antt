@@ -141,11 +141,11 @@ module _ (m : Matrix) (lines : LineSet) (are : AreLines m lines) (parts : List L
 
   row_same : (k : ℕ) → k < length lines.rows → AllByRecursion (λ p. is_among (set_in lines p).rows (numbered lines.rows k) ≡ set_of p (Row k)) parts
   row_same k l = weaken (IsPartOf (part m lines)) (λ p. is_among (set_in lines p).rows (numbered lines.rows k) ≡ set_of p (Row k))
-      (λ p is. among_named lines.rows p.rows k are.rows.rising (rows_low p is) l) parts each
+      (λ p is. among_named lines.rows p.rows k are.rows.increasing (rows_low p is) l) parts each
 
   column_same : (k : ℕ) → k < length lines.columns → AllByRecursion (λ p. is_among (set_in lines p).columns (numbered lines.columns k) ≡ set_of p (Column k)) parts
   column_same k l = weaken (IsPartOf (part m lines)) (λ p. is_among (set_in lines p).columns (numbered lines.columns k) ≡ set_of p (Column k))
-      (λ p is. among_named lines.columns p.columns k are.columns.rising (columns_low p is) l) parts each
+      (λ p is. among_named lines.columns p.columns k are.columns.increasing (columns_low p is) l) parts each
 
   row_line : (k : ℕ) → k < length lines.rows → k < height (part m lines)
   row_line k l = omega (arith, l, height_in m lines)

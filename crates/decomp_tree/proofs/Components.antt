@@ -36,7 +36,7 @@ module _ (m : Matrix) (some others : Lines) where
       let both_have = a.least one (both_apart a.apart b.apart) (line, is, is_and (some line) (others line) x y) (λ l k e. (and_parts (some l) (others l) e).0) other is' h in
       (and_parts (some other) (others other) both_have).1
 
--- lists of parts by rising numbers, each of which is in the other list
+-- lists of parts by increasing numbers, each of which is in the other list
 module _ (key : LineSet → ℕ) where
   abbrev IsOrdered : List LineSet → Type 0
   IsOrdered parts = (a b : ℕ) → a < b → b < length parts → key (part_at parts a) < key (part_at parts b)

@@ -9,16 +9,16 @@ use Rattle.cmr_base.proofs.ThinLines.{and_is}
 use Rattle.tree_type.specs.Findings.{finding_shown}
 use Rattle.tree_type.specs.Invariant.{AreLines}
 use Rattle.decomp_tree.specs.declared.drafts.Draft.{Draft, fold_out-Draft}
-use Rattle.decomp_tree.specs.declared.drafts.Front.{Front}
+use Rattle.decomp_tree.specs.declared.drafts.Opening.{Opening}
 use Rattle.decomp_tree.specs.Seen.{HasNoneAmong, keeps_free}
-use Rattle.decomp_tree.specs.Fronts.{IsFrontOf}
-use Rattle.decomp_tree.specs.Sketches.{Sketch, Sketched, sketches_from, draft_step, sketch_of, front_in, is_free_in, drafts_in, lines_of_sketch, IsDrafted, AreDrafted, IsDraftedBehind}
+use Rattle.decomp_tree.specs.Openings.{IsOpeningOf}
+use Rattle.decomp_tree.specs.Sketches.{Sketch, Sketched, sketches_from, draft_step, sketch_of, opening_in, is_free_in, drafts_in, lines_of_sketch, IsDrafted, AreDrafted, IsDraftedBehind}
 use Rattle.decomp_tree.proofs.FreeNodes.{none_by_children}
 
-pub sketch_is : (draft : Draft) → sketch_of draft ≡ Sketched (front_in draft) (is_free_in draft) (sketches_from (map sketch_of (drafts_in draft)))
+pub sketch_is : (draft : Draft) → sketch_of draft ≡ Sketched (opening_in draft) (is_free_in draft) (sketches_from (map sketch_of (drafts_in draft)))
 sketch_is draft = fold_out-Draft Sketch draft_step draft
 
-pub lines_are : (draft : Draft) → lines_of_sketch (sketch_of draft) ≡ (front_in draft).lines
+pub lines_are : (draft : Draft) → lines_of_sketch (sketch_of draft) ≡ (opening_in draft).lines
 lines_are draft = ap lines_of_sketch (sketch_is draft)
 
 module _ (limit : ℕ) (m : Matrix) where
@@ -43,7 +43,7 @@ module _ (limit : ℕ) (m : Matrix) where
   drafted_all children i sketches e d = subst (λ some. AreDrafted limit m some (sketches_from sketches)) (ap (λ k. take k children) e ∙ take-length children) d
 
   -- what is known of a draft
-  pub parts_of : (draft : Draft) → IsDrafted limit m (sketch_of draft) → IsDrafted limit m (Sketched (front_in draft) (is_free_in draft) (sketches_from (map sketch_of (drafts_in draft))))
+  pub parts_of : (draft : Draft) → IsDrafted limit m (sketch_of draft) → IsDrafted limit m (Sketched (opening_in draft) (is_free_in draft) (sketches_from (map sketch_of (drafts_in draft))))
   parts_of draft d = subst (IsDrafted limit m) (sketch_is draft) d
 
   free_each : (children : List LineSet) (drafts : List Draft) → AreDrafted limit m children (sketches_from (map sketch_of drafts)) → list_all is_free_in drafts ≡ true → AllByRecursion (HasNoneAmong m) children
@@ -53,22 +53,22 @@ module _ (limit : ℕ) (m : Matrix) where
       let both = and_is (is_free_in draft) (list_all is_free_in drafts) e in
       (subst (HasNoneAmong m) (sym (lines_are draft) ∙ d.0) ((parts_of draft d.1).1 both.0), free_each children drafts d.2 both.1)
 
-  module _ (few : limit ≤ 24) (is : IsMatrix m) (lines : LineSet) (are : AreLines m lines) (front : Front) (is_front : IsFrontOf limit m lines front) (drafts : List Draft) (drafted : AreDrafted limit m front.children (sketches_from (map sketch_of drafts))) where
-    none_among : (keeps_free (finding_shown front.finding) && list_all is_free_in drafts) ≡ true → HasNoneAmong m lines
+  module _ (few : limit ≤ 24) (is : IsMatrix m) (lines : LineSet) (are : AreLines m lines) (opening : Opening) (is_opening : IsOpeningOf limit m lines opening) (drafts : List Draft) (drafted : AreDrafted limit m opening.children (sketches_from (map sketch_of drafts))) where
+    none_among : (keeps_free (finding_shown opening.finding) && list_all is_free_in drafts) ≡ true → HasNoneAmong m lines
     none_among e =
-        let both = and_is (keeps_free (finding_shown front.finding)) (list_all is_free_in drafts) e in
-        none_by_children limit few m is lines are (finding_shown front.finding) front.children is_front.said both.0 (free_each front.children drafts drafted both.1)
+        let both = and_is (keeps_free (finding_shown opening.finding)) (list_all is_free_in drafts) e in
+        none_by_children limit few m is lines are (finding_shown opening.finding) opening.children is_opening.said both.0 (free_each opening.children drafts drafted both.1)
 
     -- the node is drawn behind others
-    pub drafted_behind : (before after : List Sketch) → after ≡ before ++ Sketched front (keeps_free (finding_shown front.finding) && list_all is_free_in drafts) (sketches_from (map sketch_of drafts)) ∷ []
+    pub drafted_behind : (before after : List Sketch) → after ≡ before ++ Sketched opening (keeps_free (finding_shown opening.finding) && list_all is_free_in drafts) (sketches_from (map sketch_of drafts)) ∷ []
         → IsDraftedBehind limit m lines before after
     drafted_behind before after e = record {
-      sketch = Sketched front (keeps_free (finding_shown front.finding) && list_all is_free_in drafts) (sketches_from (map sketch_of drafts));
+      sketch = Sketched opening (keeps_free (finding_shown opening.finding) && list_all is_free_in drafts) (sketches_from (map sketch_of drafts));
       order = e;
-      lines_are = is_front.lines_are;
+      lines_are = is_opening.lines_are;
       drafted = (
-        subst (λ some. IsFrontOf limit m some front) (sym is_front.lines_are) is_front,
-        (λ yes. subst (HasNoneAmong m) (sym is_front.lines_are) (none_among yes)),
+        subst (λ some. IsOpeningOf limit m some opening) (sym is_opening.lines_are) is_opening,
+        (λ yes. subst (HasNoneAmong m) (sym is_opening.lines_are) (none_among yes)),
         drafted,
       );
     }

@@ -24,7 +24,7 @@ lines_of_lines_of lines parent are = record { rows_rise = are.rows_rise; columns
 
 -- all lines are among themselves
 pub lines_themselves : (m : Matrix) (lines : LineSet) → AreLines m lines → AreLinesOf lines lines
-lines_themselves m lines are = record { rows_rise = are.rows.rising; columns_rise = are.columns.rising; rows = λ row h. h; columns = λ column h. h }
+lines_themselves m lines are = record { rows_rise = are.rows.increasing; columns_rise = are.columns.increasing; rows = λ row h. h; columns = λ column h. h }
 
 fault_here : (lines : LineSet) (finding : Finding) (trees : Trees) (fault : LineSet) → FitsLines lines finding trees → fault_at lines finding ≡ Some fault → AreLinesOf fault lines
 fault_here lines (Cycle found) trees fault fits e = subst (λ f. AreLinesOf f lines) (some_same found fault e) fits

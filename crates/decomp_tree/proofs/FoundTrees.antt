@@ -98,11 +98,11 @@ undecided_within lines parent levels are l = (l, are, tt, refl, tt)
 violator_within : (lines fault parent : LineSet) (levels : ℕ) → AreLinesOf lines parent → AreLinesOf fault lines → 0 < levels → IsTreeWithin parent levels (Branch lines (Violator fault) NoTrees)
 violator_within lines fault parent levels are fits l = (l, are, fits, refl, tt)
 
--- rising lines among others are lines of them
+-- increasing lines among others are lines of them
 lines_among : (m : Matrix) (lines fault : LineSet) (rows_rise : IsRowSet m fault.rows) (columns_rise : IsColumnSet m fault.columns) → AreAmong lines fault.rows fault.columns → AreLinesOf fault lines
 lines_among m lines fault rows columns among = record {
-  rows_rise = rows.rising;
-  columns_rise = columns.rising;
+  rows_rise = rows.increasing;
+  columns_rise = columns.increasing;
   rows = λ row h. all_contained (Contains lines.rows) fault.rows row among.rows h;
   columns = λ column h. all_contained (Contains lines.columns) fault.columns column among.columns h;
 }

@@ -68,9 +68,9 @@ module _ (m : Matrix) (is : IsMatrix m) where
   no_network_with own lines o are rows columns =
       let inner = is_ternary-submatrix m lines.rows lines.columns ternary in (
         (λ net. o.none.0 (inherited_from_hereditary HasGraphicSupport graphic_support_hereditary m ternary lines.rows lines.columns own.rows own.columns
-            are.rows.rising are.columns.rising o.are_lines.rows.rising o.are_lines.columns.rising rows columns ((signed_graphic (part m lines) inner).0 net).0)),
+            are.rows.increasing are.columns.increasing o.are_lines.rows.increasing o.are_lines.columns.increasing rows columns ((signed_graphic (part m lines) inner).0 net).0)),
         (λ net. o.none.1 (inherited_from_hereditary (λ n. HasGraphicSupport (transposed n)) cographic_hereditary m ternary lines.rows lines.columns own.rows own.columns
-            are.rows.rising are.columns.rising o.are_lines.rows.rising o.are_lines.columns.rising rows columns ((signed_graphic (transposed (part m lines)) (is_ternary-transposed (part m lines) inner)).0 net).0)),
+            are.rows.increasing are.columns.increasing o.are_lines.rows.increasing o.are_lines.columns.increasing rows columns ((signed_graphic (transposed (part m lines)) (is_ternary-transposed (part m lines) inner)).0 net).0)),
       )
 
 pub within_all : (set xs : List ℕ) → AllByRecursion (λ line. is_among set line ≡ true) xs → IsWithin xs set
@@ -81,8 +81,8 @@ within_all set (y ∷ ys) all x (inr h) = within_all set ys all.1 x h
 -- some lines of a set, by where they stand in it
 pub some_are_lines : (m : Matrix) (lines some : LineSet) → AreLines m lines → IsSomeOf lines.rows some.rows → IsSomeOf lines.columns some.columns → AreLines m some
 some_are_lines m lines some are r c = lines_within m some lines (record {
-  rows_rise = r.rising;
-  columns_rise = c.rising;
+  rows_rise = r.increasing;
+  columns_rise = c.increasing;
   rows = λ x h. contains_from_in lines.rows x (r.among x (in_from_contains some.rows x h));
   columns = λ x h. contains_from_in lines.columns x (c.among x (in_from_contains some.columns x h));
 }) are
@@ -114,7 +114,7 @@ rises_taken n xs rises k h =
 -- a run of lines
 pub run_of : (xs : List ℕ) (from count : ℕ) → IsStrictlyIncreasing xs → IsSomeOf xs (take count (drop from xs))
 run_of xs from count rises = record {
-  rising = rises_taken count (drop from xs) (rises_dropped from xs rises);
+  increasing = rises_taken count (drop from xs) (rises_dropped from xs rises);
   among = λ x h. dropped_in from xs x (taken_in count (drop from xs) x h);
 }
 
@@ -123,4 +123,4 @@ run_among lines numbers run middle from count rises e f g =
     subst (IsSomeOf lines) (sym (g ∙ f ∙ ap (λ (xs : List ℕ). take count (drop from xs)) e)) (run_of lines from count rises)
 
 pub run_rises : (lines numbers run : List ℕ) (from count : ℕ) → IsStrictlyIncreasing lines → numbers ≡ lines → run ≡ take count (drop from numbers) → IsStrictlyIncreasing run
-run_rises lines numbers run from count rises e f = (run_among lines numbers run run from count rises e f refl).rising
+run_rises lines numbers run from count rises e f = (run_among lines numbers run run from count rises e f refl).increasing

@@ -54,7 +54,7 @@ map_in f [] y h = absurd h
 map_in f (x ∷ xs) y (inl e) = (x, inl refl, e)
 map_in f (x ∷ xs) y (inr h) = let w = map_in f xs y h in (w.0, inr w.1, w.2)
 
--- the lines of a side by their numbers in a rising list
+-- the lines of a side by their numbers in a increasing list
 module _ (xs : List ℕ) (rises : IsStrictlyIncreasing xs) (s : ℕ → Bool) where
   abbrev pub named : List ℕ
   named = map (numbered xs) (filter s (first_lines (length xs)))

@@ -23,10 +23,10 @@ same_path M t c d t' c' d' p q row first last place place' =
 
 pub one_cycle_fault : (m : Matrix) (rows columns rows' columns' : List ℕ) → IsCycleFault m rows columns → IsCycleFault m rows' columns' → (rows ≡ rows') × (columns ≡ columns')
 one_cycle_fault m rows columns rows' columns' f g = (
-  same_numbers rows rows' f.row_set.rising g.row_set.rising
+  same_numbers rows rows' f.row_set.increasing g.row_set.increasing
       (λ x h. (g.rows_are x).1 (subst (IsIn x) cycle_row (((f.rows_are x).0) h)))
       (λ x h. (f.rows_are x).1 (subst (IsIn x) (sym cycle_row) (((g.rows_are x).0) h))),
-  same_numbers columns columns' f.column_set.rising g.column_set.rising
+  same_numbers columns columns' f.column_set.increasing g.column_set.increasing
       (λ x h. (g.columns_are x).1 (subst (IsIn x) cycle_column (((f.columns_are x).0) h)))
       (λ x h. (f.columns_are x).1 (subst (IsIn x) (sym cycle_column) (((g.columns_are x).0) h))),
 )

@@ -4,7 +4,7 @@ use Rattle.std.proofs.lemmas.Bool.{cases_lt}
 use Rattle.cmr_base.specs.Matrix.{Matrix, height, entry}
 use Rattle.cmr_base.specs.LineSets.{IsRowSet, IsColumnSet, set_number, set_numbered}
 use Rattle.cmr_base.specs.Violator.{IsViolator, IsLeastByColumns, IsLeastByRows, IsLeastColumnSet, IsLeastRowSet, IsLeastViolator}
-use Rattle.cmr_base.proofs.RisingLists.{RisesIn, row_set_rises, column_set_rises}
+use Rattle.cmr_base.proofs.IncreasingLists.{RisesIn, row_set_rises, column_set_rises}
 use Rattle.cmr_base.proofs.SetNumbers.{numbered_same}
 
 -- a violator on sets of lines

@@ -5,7 +5,7 @@ use Rattle.cmr_base.specs.Matrix.{Matrix, entry, IsEntry}
 use Rattle.ghouila.specs.PivotLaws.{pivot_entry}
 use Rattle.cmr_base.specs.Members.{IsIn}
 use Rattle.cmr_base.proofs.Booleans.{neither, same_or_not, true_is_false}
-use Rattle.cmr_base.proofs.Places.{rising_same}
+use Rattle.cmr_base.proofs.Places.{increasing_same}
 use Rattle.pivots.specs.declared.drawn.DrawnPlace.{DrawnPlace}
 use Rattle.pivots.specs.declared.place.PlacedPivot.{PlacedPivot}
 use Rattle.pivots.specs.DrawnPlaces.{drawn_place}
@@ -99,8 +99,8 @@ one_two m lines place fault other a b =
 before_same : (m : Matrix) (place : PlacedPivot) (fault before other : LineSet) → AreBefore m place fault before → AreBefore m place fault other → before ≡ other
 before_same m place fault before other a b =
     line_set_same before other
-    (rising_same before.rows other.rows a.row_set.rising b.row_set.rising (λ x h. rows_in a b x h) (λ x h. rows_in b a x h))
-    (rising_same before.columns other.columns a.column_set.rising b.column_set.rising (λ x h. columns_in a b x h) (λ x h. columns_in b a x h))
+    (increasing_same before.rows other.rows a.row_set.increasing b.row_set.increasing (λ x h. rows_in a b x h) (λ x h. rows_in b a x h))
+    (increasing_same before.columns other.columns a.column_set.increasing b.column_set.increasing (λ x h. columns_in a b x h) (λ x h. columns_in b a x h))
   where
     rows_in : {one another : LineSet} → AreBefore m place fault one → AreBefore m place fault another → (x : ℕ) → IsIn x one.rows → IsIn x another.rows
     rows_in {one} {another} a b x h = elim (same_or_not x place.row) [

@@ -3,7 +3,7 @@ use Rattle.std.proofs.Common.{◌≡◌, ◌∙◌, ◌++◌, ℕ, zero, suc, Li
 use Rattle.std.specs.List.{AllByRecursion}
 use Rattle.cmr_base.specs.declared.line_set.LineSet.{LineSet}
 use Rattle.cmr_base.specs.Matrix.{Matrix, height}
-use Rattle.cmr_base.proofs.Lists.{all_front, all_back}
+use Rattle.cmr_base.proofs.Lists.{all_prefix, all_back}
 use Rattle.cmr_base.proofs.Booleans.{neither}
 use Rattle.tree_type.specs.DecompositionTrees.{Finding, Empty, Cycle, Reduced, OneSum, Network, Conetwork, R10, TwoSum, ThreeSum, Enumerated, Violator, Undecided, Pivoted, Tree, Trees, Branch, NoTrees, MoreTrees, count_trees, lines_at_root}
 use Rattle.tree_type.specs.Invariant.{HasChildren}
@@ -212,7 +212,7 @@ module _ (limit : ℕ) (m : Matrix) where
   due_each path pivots lines finding k (MoreTrees tree trees) shaped =
       let first = places_from (path ++ k ∷ []) pivots (due_child lines finding k) tree in
       let rest = places_below path pivots lines finding (suc k) trees in (
-        due_here (path ++ k ∷ []) pivots (due_child lines finding k) tree (all_front (IsShapedAt limit m) first rest shaped),
+        due_here (path ++ k ∷ []) pivots (due_child lines finding k) tree (all_prefix (IsShapedAt limit m) first rest shaped),
         due_each path pivots lines finding (suc k) trees (all_back (IsShapedAt limit m) first rest shaped),
       )
 
@@ -285,7 +285,7 @@ module _ (limit : ℕ) (m : Matrix) where
         let tail : lines_of_each trees ≡ lines_of_each trees' = cc in
         ap₂ (λ (t : Tree) (ts : Trees). MoreTrees t ts)
         (one_tree (path ++ k ∷ []) (path' ++ k' ∷ []) pivots pivots' (due_child lines finding k) (due_child lines' finding' k') tree tree' head
-        (all_front (IsShapedAt limit m) first rest shaped) (all_front (IsShapedAt limit m) first' rest' shaped'))
+        (all_prefix (IsShapedAt limit m) first rest shaped) (all_prefix (IsShapedAt limit m) first' rest' shaped'))
         (one_trees path path' pivots pivots' lines lines' finding finding' (suc k) (suc k') trees trees' tail
         (all_back (IsShapedAt limit m) first rest shaped) (all_back (IsShapedAt limit m) first' rest' shaped'))
 

@@ -4,7 +4,7 @@ use Rattle.std.specs.List.{AllByRecursion}
 use Rattle.std.specs.Option.{option_or}
 use Rattle.cmr_base.specs.declared.line_set.LineSet.{LineSet}
 use Rattle.cmr_base.specs.Matrix.{Matrix}
-use Rattle.cmr_base.proofs.Lists.{all_front, all_back}
+use Rattle.cmr_base.proofs.Lists.{all_prefix, all_back}
 use Rattle.cmr_base.proofs.Options.{some_or, some_same}
 use Rattle.pivots.specs.declared.drawn.DrawnPlace.{DrawnPlace}
 use Rattle.pivots.specs.declared.place.PlacedPivot.{PlacedPivot}
@@ -138,7 +138,7 @@ module _ (limit : ℕ) (m : Matrix) (Stands : LineSet → Tree → Type 0) (stan
         let now = places_from (path ++ k ∷ []) [] (due_child lines finding k) tree in
         let later = places_below path [] lines finding (suc k) trees in
         elim (some_or (first_in open_at one) (first_among open_at rest) found (sym (ap (first_among open_at) e) ∙ first)) [
-          | inl h ↦ open_refined (path ++ k ∷ []) (due_child lines finding k) lines levels tree one found are within.0 (all_front (IsShapedAt limit m) now later shaped) r h
+          | inl h ↦ open_refined (path ++ k ∷ []) (due_child lines finding k) lines levels tree one found are within.0 (all_prefix (IsShapedAt limit m) now later shaped) r h
           | inr h ↦ open_each path lines finding levels (suc k) trees rest found are within.1 (all_back (IsShapedAt limit m) now later shaped) all h
         ]
 

@@ -3,7 +3,7 @@ use Rattle.std.proofs.Common.{◌≡◌, ◌≤◌, ◌-◌, ◌++◌, ℕ, suc,
 use Rattle.std.specs.List.{AllByRecursion}
 use Rattle.cmr_base.specs.declared.line_set.LineSet.{LineSet}
 use Rattle.cmr_base.specs.Matrix.{Matrix, IsMatrix}
-use Rattle.cmr_base.proofs.Lists.{all-append, all_front, all_back}
+use Rattle.cmr_base.proofs.Lists.{all-append, all_prefix, all_back}
 use Rattle.tree_type.specs.DecompositionTrees.{Finding, Tree, Trees, Branch, NoTrees, MoreTrees, lines_at_root}
 use Rattle.tree_type.specs.Invariant.{AreLines, IsTreeWithin, AreTreesWithin}
 use Rattle.tree_type.specs.Places.{Due, MadePivot, Place, matrix_after, places_from, places_below, due_child, lines_of_each}
@@ -63,5 +63,5 @@ module _ (limit : ℕ) (few : limit ≤ 24) (m : Matrix) (pivots : List MadePivo
         let later = places_below path [] lines finding (suc k) trees in
         subst (λ t. AllByRecursion (KeepsAll m) (places_below path pivots lines finding k t)) (sym e)
         (all-append (KeepsAll m) (places_from (path ++ k ∷ []) pivots (due_child lines finding k) first) (places_below path pivots lines finding (suc k) rest)
-        (refined_sound (path ++ k ∷ []) (due_child lines finding k) lines levels tree first r are within.0 (sizes_child m lines finding k) (all_front (IsShapedAt limit after) here later shaped) both.0)
+        (refined_sound (path ++ k ∷ []) (due_child lines finding k) lines levels tree first r are within.0 (sizes_child m lines finding k) (all_prefix (IsShapedAt limit after) here later shaped) both.0)
         (each_sound path lines finding levels (suc k) trees rest all are within.1 (all_back (IsShapedAt limit after) here later shaped, both.1)))

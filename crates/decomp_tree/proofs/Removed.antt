@@ -85,17 +85,17 @@ module _ (m : Matrix) (lines : LineSet) (are : AreLines m lines) where
       → IsSome (line_reason false (entry m) (map (numbered lines.rows) R) (map (numbered lines.columns) C) (numbered_line lines line))
   reason_named R C (Row r) left h some =
       reason_from_reducible false (entry m) Row Column (map (numbered lines.rows) R) (map (numbered lines.columns) C) (numbered lines.rows r)
-      (increasing_named lines.columns C are.columns.rising left.columns_rise left.columns_low)
+      (increasing_named lines.columns C are.columns.increasing left.columns_rise left.columns_low)
       (named_reducible (entry (part m lines)) (entry m) (numbered lines.rows) (numbered lines.columns) R C r (in_from_contains R r h)
       (λ i j x y. entry_in m lines i j (left.rows_low i x) (left.columns_low j y))
-      (λ i j x y e. once lines.rows are.rows.rising (λ _. true) i j (left.rows_low i x) (left.rows_low j y) e)
+      (λ i j x y e. once lines.rows are.rows.increasing (λ _. true) i j (left.rows_low i x) (left.rows_low j y) e)
       (reducible_from_reason false (entry (part m lines)) Row Column R C r some))
   reason_named R C (Column c) left h some =
       reason_from_reducible false (λ j i. entry m i j) Column Row (map (numbered lines.columns) C) (map (numbered lines.rows) R) (numbered lines.columns c)
-      (increasing_named lines.rows R are.rows.rising left.rows_rise left.rows_low)
+      (increasing_named lines.rows R are.rows.increasing left.rows_rise left.rows_low)
       (named_reducible (λ j i. entry (part m lines) i j) (λ j i. entry m i j) (numbered lines.columns) (numbered lines.rows) C R c (in_from_contains C c h)
       (λ j i y x. entry_in m lines i j (left.rows_low i x) (left.columns_low j y))
-      (λ i j x y e. once lines.columns are.columns.rising (λ _. true) i j (left.columns_low i x) (left.columns_low j y) e)
+      (λ i j x y e. once lines.columns are.columns.increasing (λ _. true) i j (left.columns_low i x) (left.columns_low j y) e)
       (reducible_from_reason false (λ j i. entry (part m lines) i j) Column Row C R c some))
 
   pub has_line_named : (R C : List ℕ) (line : Line) → HasLine R C line → HasLine (map (numbered lines.rows) R) (map (numbered lines.columns) C) (numbered_line lines line)
@@ -103,12 +103,12 @@ module _ (m : Matrix) (lines : LineSet) (are : AreLines m lines) where
   has_line_named R C (Column c) h = contains_from_in (map (numbered lines.columns) C) (numbered lines.columns c) (in_map (numbered lines.columns) C c (in_from_contains C c h))
 
   pub rows_named : (R C : List ℕ) (line : Line) → AreLeft R C → HasLine R C line → rows_without (map (numbered lines.rows) R) (numbered_line lines line) ≡ map (numbered lines.rows) (rows_without R line)
-  rows_named R C (Row r) left h = without_named (numbered lines.rows) R r (λ s x e. once lines.rows are.rows.rising (λ _. true) s r (left.rows_low s x) (left.rows_low r (in_from_contains R r h)) e)
+  rows_named R C (Row r) left h = without_named (numbered lines.rows) R r (λ s x e. once lines.rows are.rows.increasing (λ _. true) s r (left.rows_low s x) (left.rows_low r (in_from_contains R r h)) e)
   rows_named R C (Column c) left h = refl
 
   pub columns_named : (R C : List ℕ) (line : Line) → AreLeft R C → HasLine R C line → columns_without (map (numbered lines.columns) C) (numbered_line lines line) ≡ map (numbered lines.columns) (columns_without C line)
   columns_named R C (Row r) left h = refl
-  columns_named R C (Column c) left h = without_named (numbered lines.columns) C c (λ s x e. once lines.columns are.columns.rising (λ _. true) s c (left.columns_low s x) (left.columns_low c (in_from_contains C c h)) e)
+  columns_named R C (Column c) left h = without_named (numbered lines.columns) C c (λ s x e. once lines.columns are.columns.increasing (λ _. true) s c (left.columns_low s x) (left.columns_low c (in_from_contains C c h)) e)
 
   pub fewer_left : (R C : List ℕ) (line : Line) → AreLeft R C → AreLeft (rows_without R line) (columns_without C line)
   fewer_left R C line left = record {

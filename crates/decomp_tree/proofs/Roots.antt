@@ -10,6 +10,6 @@ use Rattle.tree_type.specs.Invariant.{AreLines}
 module _ (m : Matrix) (is : IsMatrix m) (lines : LineSet) (rows : lines.rows ≡ first_lines (height m)) (columns : lines.columns ≡ first_lines m.width) where
   pub root_lines : AreLines m lines
   root_lines = record {
-    rows = subst (IsRowSet m) (sym rows) (record { rising = first_lines_increase (height m); in_range = λ k l. first_lines_in (height m) (get_or (first_lines (height m)) k 0) (in-get_or (first_lines (height m)) k l) });
-    columns = subst (IsColumnSet m) (sym columns) (record { rising = first_lines_increase m.width; in_range = λ k l. first_lines_in m.width (get_or (first_lines m.width) k 0) (in-get_or (first_lines m.width) k l) });
+    rows = subst (IsRowSet m) (sym rows) (record { increasing = first_lines_increase (height m); in_range = λ k l. first_lines_in (height m) (get_or (first_lines (height m)) k 0) (in-get_or (first_lines (height m)) k l) });
+    columns = subst (IsColumnSet m) (sym columns) (record { increasing = first_lines_increase m.width; in_range = λ k l. first_lines_in m.width (get_or (first_lines m.width) k 0) (in-get_or (first_lines m.width) k l) });
   }

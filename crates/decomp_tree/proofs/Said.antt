@@ -24,7 +24,7 @@ use Rattle.cmr_base.specs.Violator.{HasNoViolator, IsLeastViolator}
 use Rattle.cmr_base.proofs.Lists.{all_by_places, all_at, all-map, all_weaker}
 use Rattle.cmr_base.proofs.ListsWithout.{contains_from_in, in_from_contains, in-get_or, increasing_distinct}
 use Rattle.cmr_base.proofs.Members.{distinct_few}
-use Rattle.cmr_base.proofs.Parts.{height-transposed, length-rising}
+use Rattle.cmr_base.proofs.Parts.{height-transposed, length-increasing}
 use Rattle.cmr_base.proofs.ListedLines.{has_line_from_listed, listed_from_has_line}
 use Rattle.sp_reduce.specs.RowDigests.{HasNoReducibleLine}
 use Rattle.tree_type.specs.DecompositionTrees.{Empty, Cycle, Reduced, OneSum, Network, Conetwork, R10, Enumerated, Violator, Undecided}
@@ -133,7 +133,7 @@ module _ (limit : ℕ) (m : Matrix) (is : IsMatrix m) (lines : LineSet) (are : A
   placed R C rows columns = record { rows = subst (λ k. AllBelow k R) (height_in m lines) rows.in_range; columns = columns.in_range }
 
   named : (R C : List ℕ) → IsRowSet (part m lines) R → IsColumnSet (part m lines) C → AreLinesOf (set_in lines (record { rows = R; columns = C })) lines
-  named R C rows columns = named_lines lines (record { rows = R; columns = C }) are.rows.rising are.columns.rising (placed R C rows columns) rows.rising columns.rising
+  named R C rows columns = named_lines lines (record { rows = R; columns = C }) are.rows.increasing are.columns.increasing (placed R C rows columns) rows.increasing columns.increasing
 
   pub seen_empty : height (part m lines) ≡ 0 → (part m lines).width ≡ 0 → IsSaid limit m lines Empty []
   seen_empty e f = record {
@@ -349,7 +349,7 @@ module _ (limit : ℕ) (m : Matrix) (is : IsMatrix m) (lines : LineSet) (are : A
         count = refl;
         fewer = (
           record {
-            among = named_lines lines rest are.rows.rising are.columns.rising placed_rest (subst IsStrictlyIncreasing (sym f) left.left.rows_rise) (subst IsStrictlyIncreasing (sym g) left.left.columns_rise);
+            among = named_lines lines rest are.rows.increasing are.columns.increasing placed_rest (subst IsStrictlyIncreasing (sym f) left.left.rows_rise) (subst IsStrictlyIncreasing (sym g) left.left.columns_rise);
             fewer = let a = counted left in let b = length-map rest.rows (numbered lines.rows) in let c = length-map rest.columns (numbered lines.columns) in
                 omega (arith, a, b, c, ap length f, ap length g, ap length e, some);
           },
@@ -403,12 +403,12 @@ module _ (n : Matrix) where
 
   fewer_in_part : (p : LineSet) → IsPartOf n p → (x : Line) → IsLine (height n) n.width x → (HasLine p.rows p.columns x → ⊥) → length p.rows + length p.columns < height n + n.width
   fewer_in_part p is (line.Row r) low d =
-      let a = few_lines p.rows (height n) r is.rows.rising is.rows.in_range low (λ h. d (contains_from_in p.rows r h)) in
-      let b = length-rising p.columns n.width is.columns.rising is.columns.in_range in
+      let a = few_lines p.rows (height n) r is.rows.increasing is.rows.in_range low (λ h. d (contains_from_in p.rows r h)) in
+      let b = length-increasing p.columns n.width is.columns.increasing is.columns.in_range in
       omega (arith, a, b)
   fewer_in_part p is (line.Column c) low d =
-      let a = few_lines p.columns n.width c is.columns.rising is.columns.in_range low (λ h. d (contains_from_in p.columns c h)) in
-      let b = length-rising p.rows (height n) is.rows.rising is.rows.in_range in
+      let a = few_lines p.columns n.width c is.columns.increasing is.columns.in_range low (λ h. d (contains_from_in p.columns c h)) in
+      let b = length-increasing p.rows (height n) is.rows.increasing is.rows.in_range in
       omega (arith, a, b)
 
   first_low : (p : LineSet) → IsPartOf n p → first_number (height n) p < height n + n.width
@@ -430,7 +430,7 @@ module _ (n : Matrix) where
 
   few_parts : (parts : List LineSet) → AreComponents n parts → length parts ≤ height n + n.width
   few_parts parts are =
-      let a = length-rising (map (first_number (height n)) parts) (height n + n.width) rises (λ k l. all_at (λ y. y < height n + n.width) (map (first_number (height n)) parts) k 0 lows l) in
+      let a = length-increasing (map (first_number (height n)) parts) (height n + n.width) rises (λ k l. all_at (λ y. y < height n + n.width) (map (first_number (height n)) parts) k 0 lows l) in
       let b = length-map parts (first_number (height n)) in
       omega (arith, a, b)
     where
@@ -487,7 +487,7 @@ module _ (limit : ℕ) (m : Matrix) (is : IsMatrix m) (lines : LineSet) (are : A
       let b = length-map p.rows (numbered lines.rows) in
       let c = length-map p.columns (numbered lines.columns) in
       record {
-        among = named_lines lines p are.rows.rising are.columns.rising (placed limit m is lines are p.rows p.columns is_p.rows is_p.columns) is_p.rows.rising is_p.columns.rising;
+        among = named_lines lines p are.rows.increasing are.columns.increasing (placed limit m is lines are p.rows p.columns is_p.rows is_p.columns) is_p.rows.increasing is_p.columns.increasing;
         fewer = omega (arith, f, b, c, height_in m lines);
       }
 

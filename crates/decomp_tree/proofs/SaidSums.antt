@@ -28,7 +28,7 @@ module _ (limit : ℕ) (m : Matrix) (is : IsMatrix m) (lines : LineSet) (are : A
   row_low row l = subst (λ k. row < k) (height_in m lines) l
 
   side_among : (side : LineSet) → IsRowSet (part m lines) side.rows → IsColumnSet (part m lines) side.columns → AreLinesOf (set_in lines side) lines
-  side_among side rows columns = named_lines lines side are.rows.rising are.columns.rising (placed limit m is lines are side.rows side.columns rows columns) rows.rising columns.rising
+  side_among side rows columns = named_lines lines side are.rows.increasing are.columns.increasing (placed limit m is lines are side.rows side.columns rows columns) rows.increasing columns.increasing
 
   module _ (two : Two) (found : IsFirstTwoSeparation (part m lines) two) where
     pub two_side_placed : IsPlacedSet lines two.side
@@ -42,7 +42,7 @@ module _ (limit : ℕ) (m : Matrix) (is : IsMatrix m) (lines : LineSet) (are : A
 
     pub said_two : HasNoneBefore limit (part m lines) 8 → IsSaid limit m lines (TwoSum (two_in lines two)) (two_one lines (two_in lines two) ∷ two_two lines (two_in lines two) ∷ [])
     said_two none =
-        let children = children_two lines are.rows.rising are.columns.rising (two_in lines two) (short_two 0 (omega arith) m is lines are two found) in
+        let children = children_two lines are.rows.increasing are.columns.increasing (two_in lines two) (short_two 0 (omega arith) m is lines are two found) in
         record {
           case = IsTwoSum;
           applies = (two.row, two.column, listed two.side.rows two.side.columns, found.separates);
@@ -88,7 +88,7 @@ module _ (limit : ℕ) (m : Matrix) (is : IsMatrix m) (lines : LineSet) (are : A
     pub said_three : HasNoneBefore limit (part m lines) 9 → HasNoCycleFault (entry (part m lines)) → IsSaid limit m lines (ThreeSum (three_in lines t)) (three_one lines (three_in lines t) ∷ three_two lines (three_in lines t) ∷ [])
     said_three none no_fault =
         let keeps = keeps_three 0 (omega arith) m is lines are t no_fault found in
-        let children = children_three lines are.rows.rising are.columns.rising (three_in lines t) keeps.short in
+        let children = children_three lines are.rows.increasing are.columns.increasing (three_in lines t) keeps.short in
         record {
           case = IsThreeSum;
           applies = (t.form, t.first, t.second, listed t.side.rows t.side.columns, found.separates);

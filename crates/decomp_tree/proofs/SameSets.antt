@@ -11,9 +11,9 @@ use Rattle.cmr_base.specs.Seeds.{IsLine}
 use Rattle.cmr_base.proofs.Members.{IsWithin, all_in}
 use Rattle.cmr_base.proofs.ListsWithout.{head_below, increasing_tail}
 use Rattle.cmr_base.proofs.ListedLines.{in_from_listed, listed_from_in}
-use Rattle.cmr_base.proofs.RisingLists.{rising_below, row_set_rises, column_set_rises}
+use Rattle.cmr_base.proofs.IncreasingLists.{increasing_below, row_set_rises, column_set_rises}
 
--- rising lists of the same numbers
+-- increasing lists of the same numbers
 pub same_numbers : (xs ys : List ℕ) → IsStrictlyIncreasing xs → IsStrictlyIncreasing ys → IsWithin xs ys → IsWithin ys xs → xs ≡ ys
 same_numbers [] [] rises rises' up down = refl
 same_numbers [] (y ∷ ys) rises rises' up down = absurd (down y (inl refl))
@@ -55,14 +55,14 @@ pub record IsSet (m : Matrix) (set : LineSet) : Type 0 where
 
 rows_within : (m : Matrix) (s t : LineSet) → IsSet m s → HasAllOf m (lines_in s) (lines_in t) → IsWithin s.rows t.rows
 rows_within m s t is has x h =
-    in_from_listed x t.rows (has (Row x) (all_in (λ row. row < height m) s.rows (rising_below 0 (height m) s.rows (row_set_rises m s.rows is.rows)) x h) (listed_from_in x s.rows h))
+    in_from_listed x t.rows (has (Row x) (all_in (λ row. row < height m) s.rows (increasing_below 0 (height m) s.rows (row_set_rises m s.rows is.rows)) x h) (listed_from_in x s.rows h))
 
 columns_within : (m : Matrix) (s t : LineSet) → IsSet m s → HasAllOf m (lines_in s) (lines_in t) → IsWithin s.columns t.columns
 columns_within m s t is has x h =
-    in_from_listed x t.columns (has (Column x) (all_in (λ column. column < m.width) s.columns (rising_below 0 m.width s.columns (column_set_rises m s.columns is.columns)) x h) (listed_from_in x s.columns h))
+    in_from_listed x t.columns (has (Column x) (all_in (λ column. column < m.width) s.columns (increasing_below 0 m.width s.columns (column_set_rises m s.columns is.columns)) x h) (listed_from_in x s.columns h))
 
 pub same_sets : (m : Matrix) (s t : LineSet) → IsSet m s → IsSet m t → HasAllOf m (lines_in s) (lines_in t) → HasAllOf m (lines_in t) (lines_in s) → s ≡ t
 same_sets m s t is is' up down =
     ap₂ (λ (rows columns : List ℕ). let set : LineSet = record { rows = rows; columns = columns } in set)
-    (same_numbers s.rows t.rows is.rows.rising is'.rows.rising (rows_within m s t is up) (rows_within m t s is' down))
-    (same_numbers s.columns t.columns is.columns.rising is'.columns.rising (columns_within m s t is up) (columns_within m t s is' down))
+    (same_numbers s.rows t.rows is.rows.increasing is'.rows.increasing (rows_within m s t is up) (rows_within m t s is' down))
+    (same_numbers s.columns t.columns is.columns.increasing is'.columns.increasing (columns_within m s t is up) (columns_within m t s is' down))

@@ -21,7 +21,7 @@ use Rattle.cmr_base.proofs.ListsWithout.{place_of, place_is}
 use Rattle.cmr_base.proofs.RemovedLines.{first_lines_increase, in_first_lines}
 use Rattle.cmr_base.proofs.RowLists.{filter_in, in_filter}
 use Rattle.cmr_base.proofs.Submatrices.{increasing_places}
-use Rattle.cmr_base.proofs.Places.{rising_same}
+use Rattle.cmr_base.proofs.Places.{increasing_same}
 use Rattle.camion_sign.proofs.FullSquares.{full_squares}
 use Rattle.tree_type.specs.Invariant.{AreLines}
 use Rattle.tree_type.specs.Sides.{is_among, inside, outside, sides, HaveLines, IsReference, AreTwoBlocks, HasConnector, AreConnectorsOfSides, HasCornerSign, AreThreeBlocks}
@@ -29,9 +29,9 @@ use Rattle.tree_type.specs.Soundness.{part}
 use Rattle.decomp_tree.specs.Shapes.{numbered, set_in, connector_in, three_in}
 use Rattle.decomp_tree.proofs.Numbered.{entry_in, height_in, among_named, from_inside, from_outside, to_inside, to_outside, counted_all}
 
--- a rising list lower a bound has the lines that it lists
+-- a increasing list lower a bound has the lines that it lists
 listed_lines : (xs : List ℕ) (bound : ℕ) → IsStrictlyIncreasing xs → ((k : ℕ) → k < length xs → numbered xs k < bound) → xs ≡ filter (λ x. list_any (λ y. nat_eq y x) xs) (first_lines bound)
-listed_lines xs bound rises low = rising_same xs (filter (λ x. list_any (λ y. nat_eq y x) xs) (first_lines bound)) rises
+listed_lines xs bound rises low = increasing_same xs (filter (λ x. list_any (λ y. nat_eq y x) xs) (first_lines bound)) rises
     (IsStrictlyIncreasing-filter (λ x. list_any (λ y. nat_eq y x) xs) (first_lines bound) (first_lines_increase bound))
     (λ x h. let w = place_is x xs h in
     filter_in (λ z. list_any (λ y. nat_eq y z) xs) x (first_lines bound) (in_first_lines bound x (subst (λ z. z < bound) w.there (low (place_of x xs) w.in_range))) (listed_from_in x xs h))
@@ -48,8 +48,8 @@ module _ (m : Matrix) (lines : LineSet) (are : AreLines m lines) (S : Lines) whe
       → ((r c : ℕ) → r < length lines.rows → c < length lines.columns → rule r c ≡ to_be (numbered lines.rows r) (numbered lines.columns c))
       → (r c : ℕ) → Contains (inside side.rows lines.rows) r → Contains (outside side.columns lines.columns) c → entry m r c ≡ to_be r c
   right_entries to_be rule closed same r c h k =
-      let a = from_inside lines.rows are.rows.rising (λ r. S (Row r)) r h in
-      let b = from_outside lines.columns are.columns.rising (λ c. S (Column c)) c k in
+      let a = from_inside lines.rows are.rows.increasing (λ r. S (Row r)) r h in
+      let b = from_outside lines.columns are.columns.increasing (λ c. S (Column c)) c k in
       ap₂ (entry m) a.2 b.2 ∙ sym (entry_in m lines a.0 b.0 a.1 b.1) ∙ closed a.0 b.0 a.1 b.1 a.3 b.3 ∙ same a.0 b.0 a.1 b.1 ∙ ap₂ to_be (sym a.2) (sym b.2)
 
   pub below_entries : (to_be : ℕ → ℕ → ℤ) (rule : ℕ → ℕ → ℤ)
@@ -57,17 +57,17 @@ module _ (m : Matrix) (lines : LineSet) (are : AreLines m lines) (S : Lines) whe
       → ((r c : ℕ) → r < length lines.rows → c < length lines.columns → rule r c ≡ to_be (numbered lines.rows r) (numbered lines.columns c))
       → (r c : ℕ) → Contains (outside side.rows lines.rows) r → Contains (inside side.columns lines.columns) c → entry m r c ≡ to_be r c
   below_entries to_be rule closed same r c h k =
-      let a = from_outside lines.rows are.rows.rising (λ r. S (Row r)) r h in
-      let b = from_inside lines.columns are.columns.rising (λ c. S (Column c)) c k in
+      let a = from_outside lines.rows are.rows.increasing (λ r. S (Row r)) r h in
+      let b = from_inside lines.columns are.columns.increasing (λ c. S (Column c)) c k in
       ap₂ (entry m) a.2 b.2 ∙ sym (entry_in m lines a.0 b.0 a.1 b.1) ∙ closed a.0 b.0 a.1 b.1 a.3 b.3 ∙ same a.0 b.0 a.1 b.1 ∙ ap₂ to_be (sym a.2) (sym b.2)
 
   -- the numbers of lines
   pub enough : (low : ℕ) → AreEnough (first_lines (length lines.rows)) (first_lines (length lines.columns)) S low → HaveLines low (sides lines side)
   enough low both =
-      let a = counted_all (is_among side.rows) (λ r. S (Row r)) lines.rows (among_named lines.rows are.rows.rising (λ r. S (Row r))) in
-      let b = counted_all (is_among side.columns) (λ c. S (Column c)) lines.columns (among_named lines.columns are.columns.rising (λ c. S (Column c))) in
-      let c = counted_all (λ x. not (is_among side.rows x)) (λ r. not (S (Row r))) lines.rows (λ k l. ap not (among_named lines.rows are.rows.rising (λ r. S (Row r)) k l)) in
-      let d = counted_all (λ x. not (is_among side.columns x)) (λ c. not (S (Column c))) lines.columns (λ k l. ap not (among_named lines.columns are.columns.rising (λ c. S (Column c)) k l)) in
+      let a = counted_all (is_among side.rows) (λ r. S (Row r)) lines.rows (among_named lines.rows are.rows.increasing (λ r. S (Row r))) in
+      let b = counted_all (is_among side.columns) (λ c. S (Column c)) lines.columns (among_named lines.columns are.columns.increasing (λ c. S (Column c))) in
+      let c = counted_all (λ x. not (is_among side.rows x)) (λ r. not (S (Row r))) lines.rows (λ k l. ap not (among_named lines.rows are.rows.increasing (λ r. S (Row r)) k l)) in
+      let d = counted_all (λ x. not (is_among side.columns x)) (λ c. not (S (Column c))) lines.columns (λ k l. ap not (among_named lines.columns are.columns.increasing (λ c. S (Column c)) k l)) in
       let one = both.one in
       let two = both.two in
       let one_is = inside_is (length lines.rows) (length lines.columns) S in
@@ -82,8 +82,8 @@ module _ (m : Matrix) (lines : LineSet) (are : AreLines m lines) (S : Lines) whe
 -- the side of a separation that was found, by its numbers in the whole matrix
 pub named_side : (m : Matrix) (lines : LineSet) (are : AreLines m lines) (one : LineSet) → IsRowSet (part m lines) one.rows → IsColumnSet (part m lines) one.columns → set_in lines one ≡ side m lines are (listed one.rows one.columns)
 named_side m lines are one rows columns = ap (set_in lines) (ap₂ (λ (a b : List ℕ). both a b)
-    (listed_lines one.rows (length lines.rows) rows.rising (subst (λ n. (k : ℕ) → k < length one.rows → numbered one.rows k < n) (height_in m lines) rows.in_range))
-    (listed_lines one.columns (length lines.columns) columns.rising columns.in_range))
+    (listed_lines one.rows (length lines.rows) rows.increasing (subst (λ n. (k : ℕ) → k < length one.rows → numbered one.rows k < n) (height_in m lines) rows.in_range))
+    (listed_lines one.columns (length lines.columns) columns.increasing columns.in_range))
   where
     both : List ℕ → List ℕ → LineSet
     both a b = record { rows = a; columns = b }
@@ -102,8 +102,8 @@ module _ (m : Matrix) (lines : LineSet) (are : AreLines m lines) (i j : ℕ) (S 
 
   pub two_reference : IsReference (entry m) (sides lines (side m lines are S)) (numbered lines.rows i) (numbered lines.columns j)
   two_reference = record {
-    row = to_outside lines.rows are.rows.rising (λ r. S (Row r)) i row_in separated.two.0.1;
-    column = to_inside lines.columns are.columns.rising (λ c. S (Column c)) j column_in separated.one.0.1;
+    row = to_outside lines.rows are.rows.increasing (λ r. S (Row r)) i row_in separated.two.0.1;
+    column = to_inside lines.columns are.columns.increasing (λ c. S (Column c)) j column_in separated.one.0.1;
     nonzero = λ z. separated.nonzero (entry_in m lines i j row_in column_in ∙ z);
   }
 
@@ -127,26 +127,26 @@ module _ (m : Matrix) (lines : LineSet) (are : AreLines m lines) (S : Lines) whe
 
   connector_one : (flat : Bool) (c : Connector) → AreOn rows columns S true (connector_lines flat c) → HasConnector flat (inside (side m lines are S).rows lines.rows) (inside (side m lines are S).columns lines.columns) (connector_in flat lines c)
   connector_one true c h = (
-    to_inside lines.rows are.rows.rising (λ r. S (Row r)) c.row (first_lines_contain (length lines.rows) c.row h.0.0) h.0.1,
-    to_inside lines.columns are.columns.rising (λ x. S (Column x)) c.column (first_lines_contain (length lines.columns) c.column h.1.0.0) h.1.0.1,
-    to_inside lines.columns are.columns.rising (λ x. S (Column x)) c.other (first_lines_contain (length lines.columns) c.other h.1.1.0.0) h.1.1.0.1,
+    to_inside lines.rows are.rows.increasing (λ r. S (Row r)) c.row (first_lines_contain (length lines.rows) c.row h.0.0) h.0.1,
+    to_inside lines.columns are.columns.increasing (λ x. S (Column x)) c.column (first_lines_contain (length lines.columns) c.column h.1.0.0) h.1.0.1,
+    to_inside lines.columns are.columns.increasing (λ x. S (Column x)) c.other (first_lines_contain (length lines.columns) c.other h.1.1.0.0) h.1.1.0.1,
   )
   connector_one false c h = (
-    to_inside lines.rows are.rows.rising (λ r. S (Row r)) c.row (first_lines_contain (length lines.rows) c.row h.0.0) h.0.1,
-    to_inside lines.columns are.columns.rising (λ x. S (Column x)) c.column (first_lines_contain (length lines.columns) c.column h.1.0.0) h.1.0.1,
-    to_inside lines.rows are.rows.rising (λ r. S (Row r)) c.other (first_lines_contain (length lines.rows) c.other h.1.1.0.0) h.1.1.0.1,
+    to_inside lines.rows are.rows.increasing (λ r. S (Row r)) c.row (first_lines_contain (length lines.rows) c.row h.0.0) h.0.1,
+    to_inside lines.columns are.columns.increasing (λ x. S (Column x)) c.column (first_lines_contain (length lines.columns) c.column h.1.0.0) h.1.0.1,
+    to_inside lines.rows are.rows.increasing (λ r. S (Row r)) c.other (first_lines_contain (length lines.rows) c.other h.1.1.0.0) h.1.1.0.1,
   )
 
   connector_two : (flat : Bool) (c : Connector) → AreOn rows columns S false (connector_lines flat c) → HasConnector flat (outside (side m lines are S).rows lines.rows) (outside (side m lines are S).columns lines.columns) (connector_in flat lines c)
   connector_two true c h = (
-    to_outside lines.rows are.rows.rising (λ r. S (Row r)) c.row (first_lines_contain (length lines.rows) c.row h.0.0) h.0.1,
-    to_outside lines.columns are.columns.rising (λ x. S (Column x)) c.column (first_lines_contain (length lines.columns) c.column h.1.0.0) h.1.0.1,
-    to_outside lines.columns are.columns.rising (λ x. S (Column x)) c.other (first_lines_contain (length lines.columns) c.other h.1.1.0.0) h.1.1.0.1,
+    to_outside lines.rows are.rows.increasing (λ r. S (Row r)) c.row (first_lines_contain (length lines.rows) c.row h.0.0) h.0.1,
+    to_outside lines.columns are.columns.increasing (λ x. S (Column x)) c.column (first_lines_contain (length lines.columns) c.column h.1.0.0) h.1.0.1,
+    to_outside lines.columns are.columns.increasing (λ x. S (Column x)) c.other (first_lines_contain (length lines.columns) c.other h.1.1.0.0) h.1.1.0.1,
   )
   connector_two false c h = (
-    to_outside lines.rows are.rows.rising (λ r. S (Row r)) c.row (first_lines_contain (length lines.rows) c.row h.0.0) h.0.1,
-    to_outside lines.columns are.columns.rising (λ x. S (Column x)) c.column (first_lines_contain (length lines.columns) c.column h.1.0.0) h.1.0.1,
-    to_outside lines.rows are.rows.rising (λ r. S (Row r)) c.other (first_lines_contain (length lines.rows) c.other h.1.1.0.0) h.1.1.0.1,
+    to_outside lines.rows are.rows.increasing (λ r. S (Row r)) c.row (first_lines_contain (length lines.rows) c.row h.0.0) h.0.1,
+    to_outside lines.columns are.columns.increasing (λ x. S (Column x)) c.column (first_lines_contain (length lines.columns) c.column h.1.0.0) h.1.0.1,
+    to_outside lines.rows are.rows.increasing (λ r. S (Row r)) c.other (first_lines_contain (length lines.rows) c.other h.1.1.0.0) h.1.1.0.1,
   )
 
   corner_row : (b flat : Bool) (c : Connector) → AreOn rows columns S b (connector_lines flat c) → c.row < length lines.rows
@@ -252,8 +252,8 @@ module _ (m : Matrix) (lines : LineSet) (are : AreLines m lines) (S : Lines) whe
     concentrated_in c = record {
       first_other = nonzero_in first.row first.other first_row first_other c.first_other;
       second_other = nonzero_in second.other second.column second_other second_column c.second_other;
-      columns_rise = increasing_places lines.columns first.column first.other are.columns.rising c.columns_rise first_other;
-      rows_rise = increasing_places lines.rows second.row second.other are.rows.rising c.rows_rise second_other;
+      columns_rise = increasing_places lines.columns first.column first.other are.columns.increasing c.columns_rise first_other;
+      rows_rise = increasing_places lines.rows second.row second.other are.rows.increasing c.rows_rise second_other;
       determinant = subst IsSign core_in c.determinant;
     }
 

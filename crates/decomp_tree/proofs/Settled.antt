@@ -11,13 +11,13 @@ use Rattle.tree_type.specs.Soundness.{part}
 use Rattle.tree_type.specs.DecompositionTrees.{Finding, Empty, Cycle, Reduced, OneSum, Network, Conetwork, R10, TwoSum, ThreeSum, Enumerated, Violator, Undecided, Pivoted, Tree, NoTrees, Branch, tree_of, trees_from}
 use Rattle.tree_type.proofs.Forests.{count_list, count_of}
 use Rattle.decomp_tree.specs.declared.drafts.Draft.{Draft}
-use Rattle.decomp_tree.specs.declared.drafts.Front.{Front}
+use Rattle.decomp_tree.specs.declared.drafts.Opening.{Opening}
 use Rattle.decomp_tree.specs.Shapes.{HasFault, case_number, IsShapeOn}
 use Rattle.decomp_tree.specs.Seen.{HasNoneAmong, AreFewer, IsNamedFault, IsSaid, is_unsearched}
 use Rattle.decomp_tree.specs.Refined.{is_undecided, AllRefine}
 use Rattle.decomp_tree.specs.PivotedShapes.{IsBehind, IsFound, IsDrawnWith}
-use Rattle.decomp_tree.specs.Fronts.{IsFrontOf}
-use Rattle.decomp_tree.specs.Sketches.{sketches_from, sketch_of, front_in, is_free_in, drafts_in, lines_of_sketch, IsDrafted, AreDrafted, HasNoLateFault}
+use Rattle.decomp_tree.specs.Openings.{IsOpeningOf}
+use Rattle.decomp_tree.specs.Sketches.{sketches_from, sketch_of, opening_in, is_free_in, drafts_in, lines_of_sketch, IsDrafted, AreDrafted, HasNoLateFault}
 use Rattle.decomp_tree.proofs.Children.{has_children}
 use Rattle.decomp_tree.proofs.DraftLemmas.{lines_are, parts_of}
 use Rattle.decomp_tree.proofs.Drawn.{AreDrawn, drawn as drawn_node, drawn_more}
@@ -80,11 +80,11 @@ module _ (limit : ℕ) (m : Matrix) where
   settled_all children drafts trees d all = subst (λ some. AreDrawn limit m some trees) (lines_each children drafts d) all
 
   -- a node without late cycle fault
-  node_drawn : (front : Front) → IsFrontOf limit m front.lines front → HasNoLateFault m front.lines (finding_shown front.finding) → (trees : List Tree) → AreDrawn limit m front.children trees
-      → IsShapeOn limit m front.lines (Branch front.lines (finding_shown front.finding) (trees_from trees))
-  node_drawn front is late trees children = drawn_node limit m front.lines (finding_shown front.finding) front.children trees is.said (λ l. go (is_unsearched (finding_shown front.finding)) refl l) children
+  node_drawn : (opening : Opening) → IsOpeningOf limit m opening.lines opening → HasNoLateFault m opening.lines (finding_shown opening.finding) → (trees : List Tree) → AreDrawn limit m opening.children trees
+      → IsShapeOn limit m opening.lines (Branch opening.lines (finding_shown opening.finding) (trees_from trees))
+  node_drawn opening is late trees children = drawn_node limit m opening.lines (finding_shown opening.finding) opening.children trees is.said (λ l. go (is_unsearched (finding_shown opening.finding)) refl l) children
     where
-      go : (b : Bool) → is_unsearched (finding_shown front.finding) ≡ b → case_number HasFault < case_number is.said.case → HasNoCycleFault (entry (part m front.lines))
+      go : (b : Bool) → is_unsearched (finding_shown opening.finding) ≡ b → case_number HasFault < case_number is.said.case → HasNoCycleFault (entry (part m opening.lines))
       go true e l = late e
       go false e l = is.said.searched e l
 
@@ -95,10 +95,10 @@ module _ (limit : ℕ) (m : Matrix) where
       drawn_node limit m lines (Cycle fault) [] [] said (said.searched refl) tt
 
   module _ (draft : Draft) (drafted : IsDrafted limit m (sketch_of draft)) where
-    pub lines_in : AreLines m (lines_of_sketch (sketch_of draft)) → AreLines m (front_in draft).lines
+    pub lines_in : AreLines m (lines_of_sketch (sketch_of draft)) → AreLines m (opening_in draft).lines
     lines_in are = subst (AreLines m) (lines_are draft) are
 
-    pub none_if_free : (is_free_in draft) ≡ true → HasNoneAmong m (front_in draft).lines
+    pub none_if_free : (is_free_in draft) ≡ true → HasNoneAmong m (opening_in draft).lines
     none_if_free e = (parts_of limit m draft drafted).1 e
 
     -- a child has fewer lines
@@ -106,47 +106,47 @@ module _ (limit : ℕ) (m : Matrix) where
         → IsDrafted limit m (sketch_of child) × AreFewer (lines_of_sketch (sketch_of draft)) (lines_of_sketch (sketch_of child))
     child_at before child after e =
         let parts = parts_of limit m draft drafted in
-        let front = front_in draft in
-        let each = each_drafted (AreFewer front.lines) front.children before child after (subst (λ (drafts : List Draft). AreDrafted limit m front.children (sketches_from (map sketch_of drafts))) (sym e) parts.2) parts.0.said.fewer in
+        let opening = opening_in draft in
+        let each = each_drafted (AreFewer opening.lines) opening.children before child after (subst (λ (drafts : List Draft). AreDrafted limit m opening.children (sketches_from (map sketch_of drafts))) (sym e) parts.2) parts.0.said.fewer in
         (each.0, subst (λ (lines : LineSet). AreFewer lines (lines_of_sketch (sketch_of child))) (sym (lines_are draft)) each.1)
 
     module _ (pivots state : ℕ) where
       abbrev Settles : Tree → Type 0
       Settles = IsDrawnWith limit pivots state m (lines_of_sketch (sketch_of draft))
 
-      settles : (tree : Tree) → IsDrawnWith limit pivots state m (front_in draft).lines tree → Settles tree
+      settles : (tree : Tree) → IsDrawnWith limit pivots state m (opening_in draft).lines tree → Settles tree
       settles tree d = subst (λ (lines : LineSet). IsDrawnWith limit pivots state m lines tree) (sym (lines_are draft)) d
 
       module _ (nodes : List Node) (settled : AreSettled limit pivots state m (map (λ child. lines_of_sketch (sketch_of child)) (drafts_in draft)) (map tree_of nodes)) where
-        all_settled : AreDrawn limit m (front_in draft).children settled.0
-        all_settled = settled_all (front_in draft).children (drafts_in draft) settled.0 (parts_of limit m draft drafted).2 settled.1
+        all_settled : AreDrawn limit m (opening_in draft).children settled.0
+        all_settled = settled_all (opening_in draft).children (drafts_in draft) settled.0 (parts_of limit m draft drafted).2 settled.1
 
         as_many_nodes : length nodes ≡ length settled.0
         as_many_nodes =
             sym (count_of nodes) ∙ count_refined (IsFound limit pivots state m) (trees_from settled.0) (trees_from (map tree_of nodes)) settled.2 ∙ count_list settled.0
 
-        pub count_settled : HasChildren (finding_shown (front_in draft).finding) (length nodes)
-        count_settled = subst (HasChildren (finding_shown (front_in draft).finding)) (sym as_many_nodes) (has_children limit m (finding_shown (front_in draft).finding) (front_in draft).children settled.0 (parts_of limit m draft drafted).0.said.count all_settled)
+        pub count_settled : HasChildren (finding_shown (opening_in draft).finding) (length nodes)
+        count_settled = subst (HasChildren (finding_shown (opening_in draft).finding)) (sym as_many_nodes) (has_children limit m (finding_shown (opening_in draft).finding) (opening_in draft).children settled.0 (parts_of limit m draft drafted).0.said.count all_settled)
 
-        pub whole_settled : is_undecided (finding_shown (front_in draft).finding) ≡ false → HasNoLateFault m (front_in draft).lines (finding_shown (front_in draft).finding) → (before after : List Tree)
-            → after ≡ before ++ Branch (front_in draft).lines (finding_shown (front_in draft).finding) (trees_from (map tree_of nodes)) ∷ [] → IsBehind Settles before after
+        pub whole_settled : is_undecided (finding_shown (opening_in draft).finding) ≡ false → HasNoLateFault m (opening_in draft).lines (finding_shown (opening_in draft).finding) → (before after : List Tree)
+            → after ≡ before ++ Branch (opening_in draft).lines (finding_shown (opening_in draft).finding) (trees_from (map tree_of nodes)) ∷ [] → IsBehind Settles before after
         whole_settled decided late before after e =
-            let front = front_in draft in
-            let tree = Branch front.lines (finding_shown front.finding) (trees_from (map tree_of nodes)) in
+            let opening = opening_in draft in
+            let tree = Branch opening.lines (finding_shown opening.finding) (trees_from (map tree_of nodes)) in
             record {
               tree = tree;
               order = e;
               stands = settles tree (record {
-                shape = Branch front.lines (finding_shown front.finding) (trees_from settled.0);
-                drawn = node_drawn front (parts_of limit m draft drafted).0 late settled.0 all_settled;
-                refines = refined_kept (IsFound limit pivots state m) front.lines (finding_shown front.finding) (trees_from settled.0) (trees_from (map tree_of nodes)) decided settled.2;
+                shape = Branch opening.lines (finding_shown opening.finding) (trees_from settled.0);
+                drawn = node_drawn opening (parts_of limit m draft drafted).0 late settled.0 all_settled;
+                refines = refined_kept (IsFound limit pivots state m) opening.lines (finding_shown opening.finding) (trees_from settled.0) (trees_from (map tree_of nodes)) decided settled.2;
               });
             }
 
-      pub fault_settled : IsMatrix m → AreLines m (front_in draft).lines → (fault : LineSet) → IsNamedFault m (front_in draft).lines fault → (before after : List Tree) → after ≡ before ++ Branch (front_in draft).lines (Cycle fault) NoTrees ∷ []
+      pub fault_settled : IsMatrix m → AreLines m (opening_in draft).lines → (fault : LineSet) → IsNamedFault m (opening_in draft).lines fault → (before after : List Tree) → after ≡ before ++ Branch (opening_in draft).lines (Cycle fault) NoTrees ∷ []
           → IsBehind Settles before after
       fault_settled is are fault found before after e =
-          let lines = (front_in draft).lines in
+          let lines = (opening_in draft).lines in
           let tree = Branch lines (Cycle fault) NoTrees in
           record {
             tree = tree;
@@ -159,18 +159,18 @@ module _ (limit : ℕ) (m : Matrix) where
           }
 
       -- an undecided node, of which something is found
-      pub found_settled : is_undecided (finding_shown (front_in draft).finding) ≡ true → (found : Tree) → IsFound limit pivots state m (front_in draft).lines found → (before after : List Tree) → after ≡ before ++ found ∷ [] → IsBehind Settles before after
+      pub found_settled : is_undecided (finding_shown (opening_in draft).finding) ≡ true → (found : Tree) → IsFound limit pivots state m (opening_in draft).lines found → (before after : List Tree) → after ≡ before ++ found ∷ [] → IsBehind Settles before after
       found_settled open_node found is before after e =
-          let front = front_in draft in
+          let opening = opening_in draft in
           let known = (parts_of limit m draft drafted).0 in
-          let undecided_is = only_undecided_is (finding_shown front.finding) open_node in
-          let said = subst (λ f. IsSaid limit m front.lines f front.children) undecided_is known.said in
+          let undecided_is = only_undecided_is (finding_shown opening.finding) open_node in
+          let said = subst (λ f. IsSaid limit m opening.lines f opening.children) undecided_is known.said in
           record {
             tree = found;
             order = e;
             stands = settles found (record {
-              shape = Branch front.lines Undecided NoTrees;
-              drawn = drawn_node limit m front.lines Undecided front.children [] said (said.searched refl) (none_drawn front.children said.count);
+              shape = Branch opening.lines Undecided NoTrees;
+              drawn = drawn_node limit m opening.lines Undecided opening.children [] said (said.searched refl) (none_drawn opening.children said.count);
               refines = is;
             });
           }

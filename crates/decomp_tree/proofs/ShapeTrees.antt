@@ -3,7 +3,7 @@ use Rattle.std.proofs.Common.{◌≡◌, ◌++◌, ℕ, suc, List, [], ◌∷◌
 use Rattle.std.specs.List.{AllByRecursion}
 use Rattle.cmr_base.specs.declared.line_set.LineSet.{LineSet}
 use Rattle.cmr_base.specs.Matrix.{Matrix}
-use Rattle.cmr_base.proofs.Lists.{all-append, all_front, all_back}
+use Rattle.cmr_base.proofs.Lists.{all-append, all_prefix, all_back}
 use Rattle.tree_type.specs.DecompositionTrees.{Finding, Tree, Trees, Branch, NoTrees, MoreTrees, count_trees, lines_at_root}
 use Rattle.tree_type.specs.Invariant.{HasChildren}
 use Rattle.tree_type.specs.Places.{Due, These, MadePivot, pivots_below, due_child, places_from, places_below}
@@ -51,7 +51,7 @@ module _ (limit : ℕ) (m : Matrix) where
         let due = due_child lines finding k in
         let here = places_from (path ++ k ∷ []) pivots due tree in
         let later = places_below path pivots lines finding (suc k) trees in
-        let first = all_front (IsShapedAt limit m) here later shaped in
+        let first = all_prefix (IsShapedAt limit m) here later shaped in
         all-append (IsShapedAt limit m) (places_from (path' ++ k ∷ []) pivots due tree) (places_below path' pivots lines finding (suc k) trees)
         (moved (path ++ k ∷ []) (path' ++ k ∷ []) pivots due due tree (due_here limit m (path ++ k ∷ []) pivots due tree first) first)
         (moved_below path path' pivots lines finding (suc k) trees (all_back (IsShapedAt limit m) here later shaped))
@@ -74,6 +74,6 @@ module _ (limit : ℕ) (m : Matrix) where
     counts_below path pivots lines finding k (MoreTrees tree trees) shaped =
         let here = places_from (path ++ k ∷ []) pivots (due_child lines finding k) tree in
         let later = places_below path pivots lines finding (suc k) trees in (
-          counts (path ++ k ∷ []) pivots (due_child lines finding k) tree (all_front (IsShapedAt limit m) here later shaped),
+          counts (path ++ k ∷ []) pivots (due_child lines finding k) tree (all_prefix (IsShapedAt limit m) here later shaped),
           counts_below path pivots lines finding (suc k) trees (all_back (IsShapedAt limit m) here later shaped),
         )

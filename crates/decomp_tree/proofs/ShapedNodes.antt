@@ -6,7 +6,7 @@ use Rattle.cmr_base.specs.declared.line_set.LineSet.{LineSet}
 use Rattle.cmr_base.specs.CyclePlaces.{HasNoCycleFault}
 use Rattle.cmr_base.specs.Matrix.{Matrix, height, entry, IsMatrix}
 use Rattle.cmr_base.specs.Reductions.{removal}
-use Rattle.cmr_base.proofs.Lists.{all_front, all_back}
+use Rattle.cmr_base.proofs.Lists.{all_prefix, all_back}
 use Rattle.tree_type.specs.DecompositionTrees.{Finding, Empty, Cycle, Reduced, OneSum, Network, Conetwork, R10, TwoSum, ThreeSum, Enumerated, Violator, Undecided, Tree, Trees, Branch, NoTrees, MoreTrees, lines_at_root}
 use Rattle.tree_type.specs.Invariant.{AreLines, AreLinesOf, size_of, HasChildren, IsTreeWithin, AreTreesWithin}
 use Rattle.tree_type.specs.Places.{Due, MadePivot, Place, pivots_below, due_child, lines_of_each, places_from, places_below}
@@ -128,7 +128,7 @@ module _ (limit : ℕ) (m : Matrix) (is : IsMatrix m) where
     each_fits path pivots lines finding levels k (MoreTrees tree trees) shaped are fewer l =
         let first = places_from (path ++ k ∷ []) pivots (due_child lines finding k) tree in
         let later = places_below path pivots lines finding (suc k) trees in
-        let one = shape_fits (path ++ k ∷ []) pivots (due_child lines finding k) lines levels tree (all_front (IsShapedAt limit m) first later shaped) are fewer.0.among (let n = fewer.0.fewer in omega (arith, n, l)) in
+        let one = shape_fits (path ++ k ∷ []) pivots (due_child lines finding k) lines levels tree (all_prefix (IsShapedAt limit m) first later shaped) are fewer.0.among (let n = fewer.0.fewer in omega (arith, n, l)) in
         let rest = each_fits path pivots lines finding levels (suc k) trees (all_back (IsShapedAt limit m) first later shaped) are fewer.1 l in
         ((one.0, rest.0), (fewer.0, one.1, rest.1))
 

@@ -2,7 +2,7 @@ pub mod Shapes
 pub mod Laws
 pub mod Seen
 pub mod Nodes
-pub mod Fronts
+pub mod Openings
 pub mod Sketches
 pub mod PlainTrees
 pub mod Refined

@@ -25,7 +25,7 @@ pub record IsObstruction (m : Matrix) (lines : LineSet) : Type 0 where
 abbrev pub IsKnown : Matrix → Obstruction → Type 0
 IsKnown m obstruction = IfSome obstruction.lines (IsObstruction m)
 
--- some of these lines, rising
+-- some of these lines, increasing
 pub record IsSomeOf (lines some : List ℕ) : Type 0 where
-  pub rising : IsStrictlyIncreasing some
+  pub increasing : IsStrictlyIncreasing some
   pub among : (x : ℕ) → IsIn x some → IsIn x lines

@@ -5,17 +5,17 @@ use Rattle.cmr_base.specs.CyclePlaces.{HasNoCycleFault}
 use Rattle.cmr_base.specs.Matrix.{Matrix, entry}
 use Rattle.tree_type.specs.DecompositionTrees.{Finding}
 use Rattle.tree_type.specs.Soundness.{part}
-use Rattle.decomp_tree.specs.declared.drafts.Front.{Front}
+use Rattle.decomp_tree.specs.declared.drafts.Opening.{Opening}
 use Rattle.decomp_tree.specs.declared.drafts.Draft.{Draft, out-Draft}
 use Rattle.decomp_tree.specs.declared.drafts.Draft.TheOpen as open'
 use Rattle.decomp_tree.specs.declared.drafts.Draft.TheFolds.{fold-Draft}
 use Rattle.decomp_tree.specs.Seen.{HasNoneAmong, is_unsearched}
-use Rattle.decomp_tree.specs.Fronts.{IsFrontOf}
+use Rattle.decomp_tree.specs.Openings.{IsOpeningOf}
 
 mutual
   -- what a node says, whether it is known that no violator stands among its lines, and its children
   pub data Sketch : Type 0 where
-    Sketched : Front → Bool → Sketches → Sketch
+    Sketched : Opening → Bool → Sketches → Sketch
 
   pub data Sketches : Type 0 where
     NoSketches : Sketches
@@ -26,15 +26,15 @@ sketches_from [] = NoSketches
 sketches_from (sketch ∷ sketches) = MoreSketches sketch (sketches_from sketches)
 
 abbrev pub draft_step : open'.Draft-F Sketch → Sketch
-draft_step draft = Sketched draft.front.value draft.is_free (sketches_from draft.children.items)
+draft_step draft = Sketched draft.opening.value draft.is_free (sketches_from draft.children.items)
 
 -- a draft as a plain value
 abbrev pub sketch_of : Draft → Sketch
 sketch_of = fold-Draft Sketch draft_step
 
 -- what stands in a draft
-abbrev pub front_in : Draft → Front
-front_in draft = (out-Draft draft).front.value
+abbrev pub opening_in : Draft → Opening
+opening_in draft = (out-Draft draft).opening.value
 
 abbrev pub is_free_in : Draft → Bool
 is_free_in draft = (out-Draft draft).is_free
@@ -43,13 +43,13 @@ abbrev pub drafts_in : Draft → List Draft
 drafts_in draft = (out-Draft draft).children.items
 
 abbrev pub lines_of_sketch : Sketch → LineSet
-lines_of_sketch (Sketched front is_free below) = front.lines
+lines_of_sketch (Sketched opening is_free below) = opening.lines
 
 abbrev mutual
   -- each node says what it is to say but for late cycle faults, and no violator stands where none is said to
   pub IsDrafted : ℕ → Matrix → Sketch → Type 0
-  IsDrafted limit m (Sketched front is_free below) =
-      IsFrontOf limit m front.lines front × (IsTrue is_free → HasNoneAmong m front.lines) × AreDrafted limit m front.children below
+  IsDrafted limit m (Sketched opening is_free below) =
+      IsOpeningOf limit m opening.lines opening × (IsTrue is_free → HasNoneAmong m opening.lines) × AreDrafted limit m opening.children below
 
   pub AreDrafted : ℕ → Matrix → List LineSet → Sketches → Type 0
   AreDrafted limit m [] NoSketches = Unit {0}

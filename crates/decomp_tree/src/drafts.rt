@@ -5,7 +5,7 @@ ghost use Rattle.cmr_base.specs.Matrix.{IsMatrix};
 ghost use Rattle.tree_type.specs.Invariant.{AreLines};
 ghost use Rattle.tree_type.specs.Findings.{finding_shown};
 ghost use Rattle.decomp_tree.specs.Seen.{keeps_free};
-ghost use Rattle.decomp_tree.specs.Fronts.{IsFrontOf};
+ghost use Rattle.decomp_tree.specs.Openings.{IsOpeningOf};
 ghost use Rattle.decomp_tree.specs.Obstructions.{IsKnown};
 ghost use Rattle.decomp_tree.specs.Sketches.{Sketched, sketch_of, sketches_from, is_free_in, lines_of_sketch, IsDrafted, IsDraftedBehind};
 
@@ -21,7 +21,7 @@ use tree_type::{Finding, copy_of};
 
 /// What a node says, before its children are drawn.
 #[derive(Drop)]
-pub struct Front {
+pub struct Opening {
     pub lines: LineSet,
     pub finding: Finding,
     pub children: LineSetList,
@@ -31,7 +31,7 @@ pub struct Front {
 #[derive(Drop)]
 #[cycle(tree)]
 pub struct Draft {
-    pub front: Box<Front>,
+    pub opening: Box<Opening>,
     pub children: Vec<Draft>,
     /// Whether it is known that no violator stands among its lines.
     pub is_free: bool,
@@ -77,57 +77,57 @@ pub fn draw<R: Threads + Sync>(
     ensures { OnOk result (IsDraftedBehind limits.lines matrix.now lines.now
         (map sketch_of drafts.old.items) (map sketch_of drafts.new.items)) }
 {
-    let front = front_of(rt, alloc, matrix, lines, obstruction, limits)?;
+    let opening = opening_of(rt, alloc, matrix, lines, obstruction, limits)?;
     let mut children = Vec::new(alloc);
-    for child in front.children.as_slice() {
-        let known = obstruction.in_child(alloc, matrix.by_rows(), &front.finding, child)?;
+    for child in opening.children.as_slice() {
+        let known = obstruction.in_child(alloc, matrix.by_rows(), &opening.finding, child)?;
         draw(rt, alloc, matrix, child, &known, limits, &mut children)?;
     }
-    push_draft(alloc, front, children, drafts)?;
+    push_draft(alloc, opening, children, drafts)?;
     Ok(())
 }
 
 #[inline(never)]
-fn front_of<R: Threads + Sync>(
+fn opening_of<R: Threads + Sync>(
     rt: &R,
     alloc: Global,
     matrix: &RowsAndColumns<'_>,
     lines: &LineSet,
     obstruction: &Obstruction,
     limits: SearchLimits,
-) -> Result<Box<Front>, Memory>
+) -> Result<Box<Opening>, Memory>
     requires shape { IsMatrix matrix.now }
     requires lines { AreLines matrix.now lines.now }
     requires known { IsKnown matrix.now obstruction.now }
-    ensures { IfOk result (λ front. IsFrontOf limits.lines matrix.now lines.now front.value) }
+    ensures { IfOk result (λ opening. IsOpeningOf limits.lines matrix.now lines.now opening.value) }
 {
     let Seen { finding, children } = look(rt, alloc, matrix, lines, obstruction, limits)?;
-    let front = Front {
+    let opening = Opening {
         lines: copy_of(alloc, lines)?,
         finding,
         children,
     };
-    Ok(Box::new(alloc, front)?)
+    Ok(Box::new(alloc, opening)?)
 }
 
 // A node that keeps free is free where all its children are.
 #[inline(never)]
 fn push_draft(
     alloc: Global,
-    front: Box<Front>,
+    opening: Box<Opening>,
     children: Vec<Draft>,
     drafts: &mut Vec<Draft>,
 ) -> Result<(), Memory>
     ensures { OnOk result (map sketch_of drafts.new.items
         ≡ map sketch_of drafts.old.items
-        ++ Sketched front.value
-        (keeps_free (finding_shown front.value.finding) && list_all is_free_in children.items)
+        ++ Sketched opening.value
+        (keeps_free (finding_shown opening.value.finding) && list_all is_free_in children.items)
         (sketches_from (map sketch_of children.items))
         ∷ []) }
 {
-    let is_free = keeps_free(&front.finding) && are_free(children.as_slice());
+    let is_free = keeps_free(&opening.finding) && are_free(children.as_slice());
     drafts.push(Draft {
-        front,
+        opening,
         children,
         is_free,
     })?;

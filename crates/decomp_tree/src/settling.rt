@@ -8,7 +8,7 @@ ghost use Rattle.decomp_tree.specs.PivotedShapes.{IsBehind, IsDrawnWith, IsFound
 ghost use Rattle.decomp_tree.specs.Refined.{is_undecided};
 ghost use Rattle.decomp_tree.specs.Sketches.{IsDrafted, lines_of_sketch, sketch_of};
 
-use crate::drafts::{Draft, Front, draft_root};
+use crate::drafts::{Draft, Opening, draft_root};
 use crate::faults::late_fault;
 use crate::search_limits::SearchLimits;
 use crate::taking_back::{leaf, taken_back};
@@ -70,14 +70,20 @@ fn settle<R: Threads + Sync>(
         (map tree_of nodes.old.items)
         (map tree_of nodes.new.items)) }
 {
-    let front = drawn.front;
-    if let Some(fault) = late_fault(alloc, matrix, &front.lines, &front.finding, drawn.is_free)? {
-        push_fault(alloc, lines_of(front), fault, nodes)?;
+    let opening = drawn.opening;
+    if let Some(fault) = late_fault(
+        alloc,
+        matrix,
+        &opening.lines,
+        &opening.finding,
+        drawn.is_free,
+    )? {
+        push_fault(alloc, lines_of(opening), fault, nodes)?;
         return Ok(());
     }
-    if is_undecided(&front.finding) {
+    if is_undecided(&opening.finding) {
         let whole = matrix.by_rows();
-        let found = find(rt, alloc, whole, &front.lines, limits, pivots, state)?;
+        let found = find(rt, alloc, whole, &opening.lines, limits, pivots, state)?;
         nodes.push(found)?;
         return Ok(());
     }
@@ -94,7 +100,7 @@ fn settle<R: Threads + Sync>(
             &mut children,
         )?;
     }
-    push_node(alloc, front, children, nodes)?;
+    push_node(alloc, opening, children, nodes)?;
     Ok(())
 }
 
@@ -140,27 +146,27 @@ fn find<R: Threads + Sync>(
 #[inline(never)]
 fn push_node(
     alloc: Global,
-    front: Box<Front>,
+    opening: Box<Opening>,
     children: Vec<Node>,
     nodes: &mut Vec<Node>,
 ) -> Result<(), Memory>
-    requires { HasChildren (finding_shown front.value.finding) (length children.items) }
+    requires { HasChildren (finding_shown opening.value.finding) (length children.items) }
     ensures { OnOk result (map tree_of nodes.new.items
         ≡ map tree_of nodes.old.items
-        ++ Branch front.value.lines (finding_shown front.value.finding)
+        ++ Branch opening.value.lines (finding_shown opening.value.finding)
         (trees_from (map tree_of children.items))
         ∷ []) }
 {
-    let Front { lines, finding, .. } = Box::into_inner(front);
+    let Opening { lines, finding, .. } = Box::into_inner(opening);
     nodes.push(join_node(alloc, lines, finding, children)?)?;
     Ok(())
 }
 
-// The lines of a front alone.
-fn lines_of(front: Box<Front>) -> LineSet
-    ensures { result ≡ front.value.lines }
+// The lines of a opening alone.
+fn lines_of(opening: Box<Opening>) -> LineSet
+    ensures { result ≡ opening.value.lines }
 {
-    let Front { lines, .. } = Box::into_inner(front);
+    let Opening { lines, .. } = Box::into_inner(opening);
     lines
 }
 

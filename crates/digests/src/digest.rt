@@ -19,11 +19,11 @@ pub fn are_different(numbers: &mut [u64]) -> bool
     ensures sorted { IsNonDecreasing numbers.new }
 {
     numbers.sort_unstable();
-    are_rising(numbers)
+    are_increasing(numbers)
 }
 
 // Whether each number is below the next.
-fn are_rising(numbers: &[u64]) -> bool
+fn are_increasing(numbers: &[u64]) -> bool
     ensures { IsTrue result ↔ IsStrictlyIncreasing numbers.now }
 {
     for place in 1..numbers.len() {

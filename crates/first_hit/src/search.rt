@@ -11,7 +11,7 @@ use cmr_base::Memory;
 use std::alloc::Global;
 use std::thread::{Threads, join};
 
-/// The most rows of a round, so that a find in its front is not long waited for.
+/// The most rows of a round, so that a find in its prefix is not long waited for.
 const MOST_ROWS: u64 = 256;
 
 /// The least number below `total` that holds, and `None` exactly where none holds. The number of workers changes
@@ -71,7 +71,7 @@ fn first_of_workers<R: Threads + Sync, P: Probe>(
         return round.first_of_worker(alloc, low, probe);
     }
     let middle = low + (high - low) / 2;
-    let (front, back) = join(
+    let (prefix, back) = join(
         rt,
         || -> Result<Option<u64>, Memory>
             requires shared { IsSync R.row }
@@ -86,9 +86,9 @@ fn first_of_workers<R: Threads + Sync, P: Probe>(
             ensures { IfOk result (IsFirstInRuns (P.holds probe.entry.now) round middle high) }
         { first_of_workers(rt, alloc, round, middle, high, probe) },
     );
-    let front = front?;
+    let prefix = prefix?;
     let back = back?;
-    Ok(lesser(front, back))
+    Ok(lesser(prefix, back))
 }
 
 fn lesser(one: Option<u64>, two: Option<u64>) -> Option<u64>

@@ -52,9 +52,9 @@ whole_joined width (row ∷ rows) all = let e = all.0.long in omega (arith, leng
 cut_joined : (width : ℕ) (rows : List (List ℤ)) → AllByRecursion (IsRow width) rows → rows_of (length rows) width (joined rows) ≡ rows
 cut_joined width [] all = refl
 cut_joined width (row ∷ rows) all =
-    let front : take width (row ++ joined rows) ≡ row = subst (λ n. take n (row ++ joined rows) ≡ row) all.0.long (take-append_seam row (joined rows)) in
+    let prefix : take width (row ++ joined rows) ≡ row = subst (λ n. take n (row ++ joined rows) ≡ row) all.0.long (take-append_seam row (joined rows)) in
     let back : drop width (row ++ joined rows) ≡ joined rows = subst (λ n. drop n (row ++ joined rows) ≡ joined rows) all.0.long (drop-append_seam row (joined rows)) in
-    rw (front, back) (ap (λ others. row ∷ others) (cut_joined width rows all.1))
+    rw (prefix, back) (ap (λ others. row ∷ others) (cut_joined width rows all.1))
 
 pub are_cells : (width : ℕ) (rows : List (List ℤ)) → AllByRecursion (IsRow width) rows → AreCells rows width (joined rows)
 are_cells width rows all = record { whole = whole_joined width rows all; small = entry_at (joined rows) (small_joined width rows all); cut = cut_joined width rows all }

@@ -10,7 +10,7 @@ use Rattle.cmr_base.proofs.Integers.{sums, products}
 use Rattle.cmr_base.proofs.Parity.{even_or_odd}
 use Rattle.cmr_base.proofs.SumLaws.{sum_over-map}
 use Rattle.cmr_base.proofs.Lists.{IsJoined, one_more_first, all_without}
-use Rattle.cmr_base.proofs.RisingLists.{IsSplitAt, split_at, odd_times, all-odd_times, rises-odd_times}
+use Rattle.cmr_base.proofs.IncreasingLists.{IsSplitAt, split_at, odd_times, all-odd_times, rises-odd_times}
 use Rattle.cmr_base.proofs.ViolatorLemmas.{violator-odd_times}
 use Rattle.ghouila.specs.Pivot.{reduced, pivoted, IsTernaryRow}
 use Rattle.ghouila.specs.Found.{HasParity}

@@ -8,7 +8,7 @@ use Rattle.cmr_base.specs.Violator.{HasNoViolator}
 use Rattle.cmr_base.specs.Determinants.{HasUnimodularMinors}
 use Rattle.cmr_base.proofs.Integers.{sums}
 use Rattle.cmr_base.proofs.Lists.{all_weaker}
-use Rattle.cmr_base.proofs.RisingLists.{rising_below, row_set_rises, column_set_rises, rising_row_set, rising_column_set}
+use Rattle.cmr_base.proofs.IncreasingLists.{increasing_below, row_set_rises, column_set_rises, increasing_row_set, increasing_column_set}
 use Rattle.ghouila.specs.Pivot.{IsTernaryRow}
 use Rattle.ghouila.specs.DeterminantLaws.{GhouilaHouriEquivalence}
 use Rattle.ghouila.proofs.Camion.{signed_or_violated}
@@ -19,14 +19,14 @@ use Rattle.ghouila.proofs.Minors.{HasMinorsOn, one_minor, entry_without_sign, no
 
 pub minors_on : (m : Matrix) → HasUnimodularMinors m → (R C : List ℕ) → IsRowSet m R → IsColumnSet m C → HasMinorsOn (entry m) R C
 minors_on m minors R C row_set column_set P Q h k e = subst IsEntry (determinant_is (entry m) Q P e) (minors P Q
-    (rising_row_set m P (sublist_rises 0 (height m) R P (row_set_rises m R row_set) h))
-    (rising_column_set m Q (sublist_rises 0 m.width C Q (column_set_rises m C column_set) k)) e)
+    (increasing_row_set m P (sublist_rises 0 (height m) R P (row_set_rises m R row_set) h))
+    (increasing_column_set m Q (sublist_rises 0 m.width C Q (column_set_rises m C column_set) k)) e)
 
 one_row : (m : Matrix) (row : ℕ) → row < height m → IsRowSet m (row ∷ [])
-one_row m row l = rising_row_set m (row ∷ []) (omega arith, l, tt)
+one_row m row l = increasing_row_set m (row ∷ []) (omega arith, l, tt)
 
 one_column : (m : Matrix) (column : ℕ) → column < m.width → IsColumnSet m (column ∷ [])
-one_column m column l = rising_column_set m (column ∷ []) (omega arith, l, tt)
+one_column m column l = increasing_column_set m (column ∷ []) (omega arith, l, tt)
 
 -- entries are -1, 0 or 1 where rows alone have a signing, and where submatrices of one entry have these determinants
 signed_entry : (m : Matrix) (row : ℕ) → (signs : List ℤ) × IsSigning m (row ∷ []) signs → IsTernaryRow m.width (entry m row)
@@ -51,7 +51,7 @@ minors_of_signings m signings rows columns row_set column_set e = subst IsEntry 
     ])
   where
     inside : AllByRecursion (λ row. row < height m) rows
-    inside = rising_below 0 (height m) rows (row_set_rises m rows row_set)
+    inside = increasing_below 0 (height m) rows (row_set_rises m rows row_set)
 
     free : HasNoViolator m
     free rows columns row_set column_set v = let s = signings rows row_set in unsigned m rows columns column_set v s.0 s.1
@@ -64,7 +64,7 @@ signings_of_minors m minors rows row_set =
     ]
   where
     inside : AllByRecursion (λ row. row < height m) rows
-    inside = rising_below 0 (height m) rows (row_set_rises m rows row_set)
+    inside = increasing_below 0 (height m) rows (row_set_rises m rows row_set)
 
     free : HasNoViolator m
     free rows columns row_set column_set v = no_violator_by_minors columns rows (entry m) (minors_on m minors rows columns row_set column_set) v

@@ -6,7 +6,7 @@ use Rattle.cmr_base.specs.Sums.{sum_over}
 use Rattle.cmr_base.proofs.Integers.{sums, products}
 use Rattle.cmr_base.proofs.SumLaws.{sum_over_same, sum_over-zero}
 use Rattle.cmr_base.proofs.Lists.{all_of, all_weaker, all_both, all_without, all-one_more, item_of_one_more}
-use Rattle.cmr_base.proofs.RisingLists.{RisesIn, rising_apart}
+use Rattle.cmr_base.proofs.IncreasingLists.{RisesIn, increasing_apart}
 use Rattle.cmr_base.proofs.RowLists.{self_eq, is_ne}
 use Rattle.ghouila.specs.Pivot.{reduced}
 use Rattle.ghouila.specs.IntegralLaws.{IsMultiple}
@@ -128,7 +128,7 @@ eliminated_independent (c ∷ C) R low high M rises minors free = elim (zeros_or
 ]
   where
     apart : AllByRecursion (λ j. j ≢ c) C
-    apart = rising_apart (c + 1) high c C (omega arith) rises.2
+    apart = increasing_apart (c + 1) high c C (omega arith) rises.2
 
     no_zeros : AllByRecursion (λ i. M i c ≡ pos 0) R → ⊥
     no_zeros zeros = clash (placed c (pos 1) (λ j. pos 0) c) (placed_at c (pos 1) (λ j. pos 0)) (free (placed c (pos 1) (λ j. pos 0))

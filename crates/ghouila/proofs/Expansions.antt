@@ -91,9 +91,9 @@ expansion_zero_row v r e F h [] there = absurd there
 expansion_zero_row v r e F h (i ∷ R) (inl here) = zero_term (v i) (F R) (expansion v (λ Q. F (i ∷ Q)) R) (ap v (sym here) ∙ e) (expansion_zero v (λ Q. F (i ∷ Q)) R (λ Q. h (i ∷ Q) (inl here)))
 expansion_zero_row v r e F h (i ∷ R) (inr there) = zero_factor (v i) (F R) (expansion v (λ Q. F (i ∷ Q)) R) (h R there) (expansion_zero_row v r e (λ Q. F (i ∷ Q)) (λ Q k. h (i ∷ Q) (inr k)) R there)
 
-in_middle : (r : ℕ) (front back : List ℕ) → IsIn r (front ++ r ∷ back)
+in_middle : (r : ℕ) (prefix back : List ℕ) → IsIn r (prefix ++ r ∷ back)
 in_middle r [] back = inl refl
-in_middle r (x ∷ front) back = inr (in_middle r front back)
+in_middle r (x ∷ prefix) back = inr (in_middle r prefix back)
 
 -- equal up to a sign
 pub record IsUpToSign (x y : ℤ) : Type 0 where
@@ -106,7 +106,7 @@ turned_sign s (inl e) = inr (ap neg_ℤ e)
 turned_sign s (inr e) = inl (ap neg_ℤ e)
 
 -- only the term of this row is left
-expansion_at : (v : ℕ → ℤ) (r : ℕ) (front back : List ℕ) (F : List ℕ → ℤ) → VanishesWith r F → IsUpToSign (expansion v F (front ++ r ∷ back)) (v r *ℤ F (front ++ back))
+expansion_at : (v : ℕ → ℤ) (r : ℕ) (prefix back : List ℕ) (F : List ℕ → ℤ) → VanishesWith r F → IsUpToSign (expansion v F (prefix ++ r ∷ back)) (v r *ℤ F (prefix ++ back))
 expansion_at v r [] back F h = record {
   sign = pos 1;
   is_sign = inl refl;
@@ -115,12 +115,12 @@ expansion_at v r [] back F h = record {
   where
     plain : (z x : ℤ) → x ≡ pos 0 → z -ℤ x ≡ pos 1 *ℤ z
     plain z x e = let one : pos 1 *ℤ z ≡ z = one-mul z in omega (arith, sums)
-expansion_at v r (i ∷ front) back F h =
-    let s = expansion_at v r front back (λ Q. F (i ∷ Q)) (λ Q k. h (i ∷ Q) (inr k)) in
+expansion_at v r (i ∷ prefix) back F h =
+    let s = expansion_at v r prefix back (λ Q. F (i ∷ Q)) (λ Q k. h (i ∷ Q) (inr k)) in
     record {
       sign = neg_ℤ s.sign;
       is_sign = turned_sign s.sign s.is_sign;
-      equal = plain (v i) (F (front ++ r ∷ back)) (expansion v (λ Q. F (i ∷ Q)) (front ++ r ∷ back)) s.sign (v r *ℤ F (i ∷ (front ++ back))) (h (front ++ r ∷ back) (in_middle r front back)) s.equal;
+      equal = plain (v i) (F (prefix ++ r ∷ back)) (expansion v (λ Q. F (i ∷ Q)) (prefix ++ r ∷ back)) s.sign (v r *ℤ F (i ∷ (prefix ++ back))) (h (prefix ++ r ∷ back) (in_middle r prefix back)) s.equal;
     }
   where
     plain : (a p x s z : ℤ) → p ≡ pos 0 → x ≡ s *ℤ z → a *ℤ p -ℤ x ≡ neg_ℤ s *ℤ z
@@ -184,7 +184,7 @@ minor_zero_row N r zeros (c ∷ C) R there = expansion_zero_row (λ i. N i c) r 
 -- the row and column of a sign taken away by a pivot: the determinant is its Schur complement's, up to sign
 pub schur : (M : ℕ → ℕ → ℤ) (r c : ℕ) (C fewer R : List ℕ) → IsSign (M r c) → HasOneMore r fewer R → IsUpToSign (minor M (c ∷ C) R) (M r c *ℤ minor (reduced M r c) C fewer)
 schur M r c C fewer R u more =
-    let s = expansion_at (λ i. M i c) r more.front more.back (minor (reduced M r c) C) (minor_zero_row (reduced M r c) r (zeros (M r c) u) C) in
+    let s = expansion_at (λ i. M i c) r more.prefix more.back (minor (reduced M r c) C) (minor_zero_row (reduced M r c) r (zeros (M r c) u) C) in
     record {
       sign = s.sign;
       is_sign = s.is_sign;

@@ -7,7 +7,7 @@ use Rattle.cmr_base.specs.Sums.{sum_over}
 use Rattle.cmr_base.proofs.Integers.{sums, products, mul_assoc}
 use Rattle.cmr_base.proofs.SumLaws.{sum_over_same, sum_over-zero}
 use Rattle.cmr_base.proofs.Lists.{HasOneMore, all_weaker, all_both, all_without, all-one_more, item_of_one_more}
-use Rattle.cmr_base.proofs.RisingLists.{RisesIn, rising_apart}
+use Rattle.cmr_base.proofs.IncreasingLists.{RisesIn, increasing_apart}
 use Rattle.ghouila.specs.Pivot.{reduced}
 use Rattle.ghouila.specs.IntegralLaws.{IsMultiple}
 use Rattle.ghouila.proofs.SignedSums.{entry_zero, sign_is_entry}
@@ -116,7 +116,7 @@ fraction_alone M r c h = record {
 -- back through a pivot: the column's number solves the pivot's row
 module _ (M : ℕ → ℕ → ℤ) (r c high : ℕ) (R' R C : List ℕ) (u : IsSign (M r c)) (more : HasOneMore r R' R) (rises : RisesIn (c + 1) high C) where
   apart : AllByRecursion (λ j. j ≢ c) C
-  apart = rising_apart (c + 1) high c C (omega arith) rises
+  apart = increasing_apart (c + 1) high c C (omega arith) rises
 
   independent_before : IsIndependent (reduced M r c) R' C → IsIndependent M R (c ∷ C)
   independent_before free z h = (first (M r c) (z c) (sum_over C (λ j. M r j *ℤ z j)) u top (vanished C others), others)

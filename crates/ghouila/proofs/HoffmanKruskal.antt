@@ -10,7 +10,7 @@ use Rattle.cmr_base.proofs.Integers.{sums, products}
 use Rattle.cmr_base.proofs.SumLaws.{sum_over-add, sum_over-sub, sum_over-scale, sum_over_same}
 use Rattle.cmr_base.proofs.Lists.{all_of}
 use Rattle.cmr_base.proofs.Members.{all_in, all_of_members}
-use Rattle.cmr_base.proofs.RisingLists.{RisesIn, rises-range, rising_below, rising_apart, row_set_rises, column_set_rises}
+use Rattle.cmr_base.proofs.IncreasingLists.{RisesIn, rises-range, increasing_below, increasing_apart, row_set_rises, column_set_rises}
 use Rattle.cmr_base.proofs.RowLists.{same_or_not, in_or_not}
 use Rattle.ghouila.specs.IntegralLaws.{IsMultiple, row_value, IsFeasible, IsMidpoint, IsVertex, HasIntegralVertices, HoffmanKruskalEquivalence}
 use Rattle.ghouila.proofs.Expansions.{determinant_is, minor}
@@ -32,7 +32,7 @@ sum_over_range from (suc count) (c ∷ C) f rises zeros = elim (same_or_not from
   | inl e ↦ both (f from) (f c) (sum_over (range_with_len (from + 1) count) f) (sum_over C f) (ap f e)
       (sum_over_range (from + 1) count C f (higher C (subst (λ k. RisesIn (k + 1) (from + suc count) C) (sym e) rises.2))
       (λ j l k n. zeros j (omega arith) (omega arith) (λ g. elim g [ inl h ↦ clash j l (h ∙ sym e) | inr h ↦ n h ])))
-  | inr d ↦ less (f from) (sum_over (range_with_len (from + 1) count) f) (f c +ℤ sum_over C f) (zeros from (omega arith) (omega arith) (λ g. all_in (λ x. x ≢ from) (c ∷ C) (rising_apart (from + 1) (from + suc count) from (c ∷ C) (omega arith) (later d)) from g refl))
+  | inr d ↦ less (f from) (sum_over (range_with_len (from + 1) count) f) (f c +ℤ sum_over C f) (zeros from (omega arith) (omega arith) (λ g. all_in (λ x. x ≢ from) (c ∷ C) (increasing_apart (from + 1) (from + suc count) from (c ∷ C) (omega arith) (later d)) from g refl))
       (sum_over_range (from + 1) count (c ∷ C) f (higher (c ∷ C) (later d)) (λ j l k n. zeros j (omega arith) (omega arith) n))
 ]
   where
@@ -79,10 +79,10 @@ module _ (m : Matrix) (R C : List ℕ) (rows_rise : RisesIn 0 (height m) R) (col
   y j = (raised j).value
 
   column_in : (j : ℕ) → IsIn j C → j < m.width
-  column_in j g = all_in (λ j. j < m.width) C (rising_below 0 m.width C columns_rise) j g
+  column_in j g = all_in (λ j. j < m.width) C (increasing_below 0 m.width C columns_rise) j g
 
   row_in : (i : ℕ) → IsIn i R → i < height m
-  row_in i g = all_in (λ i. i < height m) R (rising_below 0 (height m) R rows_rise) i g
+  row_in i g = all_in (λ i. i < height m) R (increasing_below 0 (height m) R rows_rise) i g
 
   -- what is 0 outside the columns
   value_is : (i : ℕ) (z : ℕ → ℤ) → ((j : ℕ) → j < m.width → (IsIn j C → ⊥) → z j ≡ pos 0) → row_value m (first_lines m.width) z i ≡ sum_over C (λ j. entry m i j *ℤ z j)
@@ -186,7 +186,7 @@ module _ (m : Matrix) (R C : List ℕ) (rows_rise : RisesIn 0 (height m) R) (col
 
     -- in a row that is met they meet it too
     both_values : (i : ℕ) → f.d *ℤ (row_value m (first_lines m.width) u i +ℤ row_value m (first_lines m.width) v i) ≡ pos 2 *ℤ (e *ℤ row_value m (first_lines m.width) y i)
-    both_values i = go (first_lines m.width) (rising_below 0 m.width (first_lines m.width) (rises-range 0 m.width m.width (omega arith)))
+    both_values i = go (first_lines m.width) (increasing_below 0 m.width (first_lines m.width) (rises-range 0 m.width m.width (omega arith)))
       where
         plain : (d e a u v y s t w : ℤ) → pos 2 *ℤ (e *ℤ y) ≡ d *ℤ (u +ℤ v) → d *ℤ (s +ℤ t) ≡ pos 2 *ℤ (e *ℤ w) → d *ℤ ((a *ℤ u +ℤ s) +ℤ (a *ℤ v +ℤ t)) ≡ pos 2 *ℤ (e *ℤ (a *ℤ y +ℤ w))
         plain d e a u v y s t w f g = apart ∙ together (a *ℤ (d *ℤ (u +ℤ v))) (a *ℤ (pos 2 *ℤ (e *ℤ y))) (d *ℤ (s +ℤ t)) (pos 2 *ℤ (e *ℤ w)) (ap (λ (x : ℤ). a *ℤ x) (sym f)) g ∙ back

@@ -9,13 +9,13 @@ use Rattle.cmr_base.specs.Signing.{IsSign}
 use Rattle.cmr_base.specs.Sums.{sum_over, IsEven, IsOdd}
 use Rattle.cmr_base.proofs.Integers.{sums}
 use Rattle.cmr_base.proofs.Lists.{HasOneMore, sum_over-one_more, item_of_one_more}
-use Rattle.cmr_base.proofs.RisingLists.{RisesIn, rises_from_lower, rising_apart, rising_at_least, row_set_rises, rising_row_set}
+use Rattle.cmr_base.proofs.IncreasingLists.{RisesIn, rises_from_lower, increasing_apart, increasing_at_least, row_set_rises, increasing_row_set}
 use Rattle.ghouila.specs.Pivot.{IsOutside, HasNoPivot}
 use Rattle.ghouila.proofs.SignedSums.{zero_or_sign}
 
 pub one_more-remove : (xs : List ℕ) (k : ℕ) → k < length xs → HasOneMore (get_or xs k 0) (remove xs k) xs
 one_more-remove xs k h = record {
-  front = take k xs;
+  prefix = take k xs;
   back = drop (suc k) xs;
   fewer_is = refl;
   more_is = sym (take-append-drop k xs) ∙ ap (λ ys. take k xs ++ ys) (drop-cons xs k 0 h);
@@ -28,14 +28,14 @@ rises-remove low high (x ∷ xs) (suc k) h rises = (rises.0, rises.1, rises-remo
 
 apart-remove : (low high : ℕ) (xs : List ℕ) (k : ℕ) → k < length xs → RisesIn low high xs → IsOutside (get_or xs k 0) (remove xs k)
 apart-remove low high [] k h rises = absurd (omega arith)
-apart-remove low high (x ∷ xs) zero h rises = rising_apart (x + 1) high x xs (omega arith) rises.2
+apart-remove low high (x ∷ xs) zero h rises = increasing_apart (x + 1) high x xs (omega arith) rises.2
 apart-remove low high (x ∷ xs) (suc k) h rises = (
-  let from = rising_at_least (x + 1) high xs rises.2 k (omega arith) in omega arith,
+  let from = increasing_at_least (x + 1) high xs rises.2 k (omega arith) in omega arith,
   apart-remove (x + 1) high xs k (omega arith) rises.2,
 )
 
 pub row_set-remove : (m : Matrix) (rows : List ℕ) (k : ℕ) → k < length rows → IsRowSet m rows → IsRowSet m (remove rows k)
-row_set-remove m rows k h is = rising_row_set m (remove rows k) (rises-remove 0 (height m) rows k h (row_set_rises m rows is))
+row_set-remove m rows k h is = increasing_row_set m (remove rows k) (rises-remove 0 (height m) rows k h (row_set_rises m rows is))
 
 pub outside-remove : (m : Matrix) (rows : List ℕ) (k : ℕ) → k < length rows → IsRowSet m rows → IsOutside (get_or rows k 0) (remove rows k)
 outside-remove m rows k h is = apart-remove 0 (height m) rows k h (row_set_rises m rows is)

@@ -8,7 +8,7 @@ use Rattle.cmr_base.specs.Sums.{sum_over}
 use Rattle.cmr_base.proofs.Integers.{sums}
 use Rattle.cmr_base.proofs.SumLaws.{sum_over-append}
 use Rattle.cmr_base.proofs.Lists.{HasOneMore, IsJoined, one_more_first, joined_later}
-use Rattle.cmr_base.proofs.RisingLists.{RisesIn, rises_from_lower, rising_below}
+use Rattle.cmr_base.proofs.IncreasingLists.{RisesIn, rises_from_lower, increasing_below}
 use Rattle.ghouila.specs.Found.{HasParity, marked_from, marked}
 use Rattle.ghouila.proofs.PivotSearch.{parity-add_sign, parity-add_zero}
 
@@ -72,9 +72,9 @@ pub unmarked_there : (marks : List Bool) (k : ℕ) → k < length marks → get_
 unmarked_there marks k inside e = marked_more marks k false inside ∙ ap (λ b. marked (take k marks) ++ cond b (k ∷ []) []) e ∙ append-nil (marked (take k marks))
 
 pub marked_below : (marks : List Bool) (k : ℕ) → k ≤ length marks → AllByRecursion (λ n. n < k) (marked (take k marks))
-marked_below marks k h = rising_below 0 k (marked (take k marks)) (marked_rises 0 k (take k marks) (omega (arith, length-take k marks)))
+marked_below marks k h = increasing_below 0 k (marked (take k marks)) (marked_rises 0 k (take k marks) (omega (arith, length-take k marks)))
 
--- ---- the parity of a sum over the marked places of a front
+-- ---- the parity of a sum over the marked places of a prefix
 
 module _ (marks : List Bool) (k : ℕ) (f : ℕ → ℤ) (inside : k < length marks) where
   sum_there : get_or marks k false ≡ true → sum_over (marked (take (k + 1) marks)) f ≡ sum_over (marked (take k marks)) f +ℤ f k

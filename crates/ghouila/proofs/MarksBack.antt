@@ -15,7 +15,7 @@ use Rattle.cmr_base.specs.Violator.{IsViolator}
 use Rattle.cmr_base.proofs.Integers.{sums, products}
 use Rattle.cmr_base.proofs.SumLaws.{sum_over_same}
 use Rattle.cmr_base.proofs.Lists.{IsJoined, all_weaker, all_contained, contains_first, contains_later, sum_over-one_more}
-use Rattle.cmr_base.proofs.RisingLists.{rising_below, rising_increases}
+use Rattle.cmr_base.proofs.IncreasingLists.{increasing_below, increases_along}
 use Rattle.cmr_base.proofs.ViolatorLemmas.{violator_same}
 use Rattle.ghouila.specs.Pivot.{IsOutside, pivoted, PivotsRows}
 use Rattle.ghouila.specs.Found.{HasParity, marked, MarksViolator, MarksAnew}
@@ -122,7 +122,7 @@ module _ (before after : Matrix) (row column : ℕ) (left : List ℕ) (row_in : 
       (λ k n e is. all_contained (λ r. (j : ℕ) → j < before.width → entry after r j ≡ pivoted (entry before) row column r j) left n pivots (v.among n (subst (λ i. get_or rows i false ≡ true) (let i : k ≡ n = omega arith in i) is)))
 
   columns_inside : AllByRecursion (λ j. j < before.width) (marked columns)
-  columns_inside = rising_below 0 before.width (marked columns) (marked_rises 0 before.width columns (let w = v.column_each in omega arith))
+  columns_inside = increasing_below 0 before.width (marked columns) (marked_rises 0 before.width columns (let w = v.column_each in omega arith))
 
   column_sum : (j : ℕ) → j < before.width → sum_over (marked rows) (λ r. entry after r j) ≡ sum_over (marked rows) (λ r. pivoted (entry before) row column r j)
   column_sum j h = sum_over_same (marked rows) (λ r. entry after r j) (λ r. pivoted (entry before) row column r j)
@@ -190,8 +190,8 @@ module _ (before after : Matrix) (row column : ℕ) (left : List ℕ) (row_in : 
 
   pub taken_back : IsTakenBack before row column (marked rows) (marked columns) (marked (set rows row g_odd)) (marked columns')
   taken_back = record {
-    row_set = rising_increases 0 (height after) (marked rows) (marked_rises 0 (height after) rows (let h = v.row_each in omega arith));
-    column_set = rising_increases 0 after.width (marked columns) (marked_rises 0 after.width columns (let w = v.column_each in omega arith));
+    row_set = increases_along 0 (height after) (marked rows) (marked_rises 0 (height after) rows (let h = v.row_each in omega arith));
+    column_set = increases_along 0 after.width (marked columns) (marked_rises 0 after.width columns (let w = v.column_each in omega arith));
     row_there = iff_then (in_set_same rows row g_odd (let h = v.row_each in omega arith)) (parity_odd g_odd (sum_over (marked rows) (λ r. entry before r column)) g_parity);
     other_rows = λ i apart. in_set_other rows row i g_odd apart;
     column_there = subst (λ marks. IsIn column (marked marks) ↔ IsOdd (sum_over (marked columns) (λ j. if j == column then pos 1 else entry before row j))) (sym anew.new_is)

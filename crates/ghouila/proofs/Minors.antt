@@ -9,7 +9,7 @@ use Rattle.cmr_base.proofs.Integers.{sums, products, mul_assoc, one-mul}
 use Rattle.cmr_base.proofs.Parity.{two_mod_four_not_four, two_mod_four_by_difference}
 use Rattle.cmr_base.proofs.SumLaws.{sum_over-add, sum_over-sub, sum_over-scale, sum_over-scale_right, sum_over-zero, sum_over_same}
 use Rattle.cmr_base.proofs.Lists.{HasOneMore, all_weaker, all_both, all_without, item_of_one_more, sum_over-one_more}
-use Rattle.cmr_base.proofs.RisingLists.{RisesIn, rising_apart}
+use Rattle.cmr_base.proofs.IncreasingLists.{RisesIn, increasing_apart}
 use Rattle.ghouila.specs.Pivot.{reduced, pivoted, IsTernaryRow}
 use Rattle.ghouila.proofs.PivotSums.{pivoted_apart}
 use Rattle.ghouila.proofs.SignedSums.{entry_zero, sign_is_entry}
@@ -179,7 +179,7 @@ minor_or_violator height width (c ∷ C) R low M rises inside ternary =
 
     kept : (s : HasSignIn (λ i. M i c) R) → minor (pivoted M s.row c) C s.others ≡ minor (reduced M s.row c) C s.others
     kept s = minor_same (pivoted M s.row c) (reduced M s.row c) C
-        (all_weaker (λ j. j ≢ c) (λ j. (i : ℕ) → pivoted M s.row c i j ≡ reduced M s.row c i j) (λ j other i. pivoted_apart M s.row c i j other) C (rising_apart (c + 1) width c C (omega arith) rises.2)) s.others
+        (all_weaker (λ j. j ≢ c) (λ j. (i : ℕ) → pivoted M s.row c i j ≡ reduced M s.row c i j) (λ j other i. pivoted_apart M s.row c i j other) C (increasing_apart (c + 1) width c C (omega arith) rises.2)) s.others
 
     back : (s : HasSignIn (λ i. M i c) R) → IsEntry (minor (pivoted M s.row c) C s.others) → IsEntry (minor M (c ∷ C) R)
     back s h = entry_before M s.row c C s.others R s.sign s.more (subst IsEntry (kept s) h)

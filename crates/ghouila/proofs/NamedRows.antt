@@ -7,7 +7,7 @@ use Rattle.cmr_base.specs.Matrix.{Matrix, height, entry, IsEntry}
 use Rattle.cmr_base.specs.Signing.{IsSign, signed_sum, IsSigning}
 use Rattle.cmr_base.specs.Sums.{sum_over}
 use Rattle.cmr_base.proofs.Lists.{all-map}
-use Rattle.cmr_base.proofs.RisingLists.{rising_row_set, rising_column_set}
+use Rattle.cmr_base.proofs.IncreasingLists.{increasing_row_set, increasing_column_set}
 use Rattle.ghouila.specs.declared.by_pivots.MarkedSigning.{MarkedSigning}
 use Rattle.ghouila.specs.declared.by_pivots.MarkedSigning.TheVariants.{Signed, Violated}
 use Rattle.ghouila.specs.declared.by_pivots.SigningOrViolator.{SigningOrViolator}
@@ -30,8 +30,8 @@ named_right m rows (Signed s) (signings.Signed signs) is e = subst (IsSigning m 
 named_right m rows (Signed s) (signings.Violated lines) is e = absurd e
 named_right m rows (Violated v) (signings.Signed signs) is e = absurd e
 named_right m rows (Violated v) (signings.Violated lines) is e = rw (e.0, e.1) (record {
-  row_set = rising_row_set m (marked v.rows.items) (marked_rises 0 (height m) v.rows.items (let h = is.row_each in omega arith));
-  column_set = rising_column_set m (marked v.columns.items) (marked_rises 0 m.width v.columns.items (let h = is.column_each in omega arith));
+  row_set = increasing_row_set m (marked v.rows.items) (marked_rises 0 (height m) v.rows.items (let h = is.row_each in omega arith));
+  column_set = increasing_column_set m (marked v.columns.items) (marked_rises 0 m.width v.columns.items (let h = is.column_each in omega arith));
   among = All-from_recursion (Contains rows) (marked v.rows.items) (all_marked (Contains rows) 0 v.rows.items (λ k n same mark. is.among n (subst (λ i. get_or v.rows.items i false ≡ true) (let i : k ≡ n = omega arith in i) mark)));
   violator = is.violator;
 })

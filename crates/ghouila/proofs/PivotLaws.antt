@@ -21,8 +21,8 @@ use Rattle.cmr_base.proofs.Lists.{HasOneMore, one_more_first, IsJoined, joined_l
 use Rattle.cmr_base.proofs.ListsWithout.{in_without, without_in, without_increases, increasing_distinct}
 use Rattle.cmr_base.proofs.Members.{all_of_members}
 use Rattle.cmr_base.proofs.Parity.{even_or_odd}
-use Rattle.cmr_base.proofs.Places.{rising_same}
-use Rattle.cmr_base.proofs.RisingLists.{RisesIn, IsSplitAt, split_at, rising_below, row_set_rises, column_set_rises}
+use Rattle.cmr_base.proofs.Places.{increasing_same}
+use Rattle.cmr_base.proofs.IncreasingLists.{RisesIn, IsSplitAt, split_at, increasing_below, row_set_rises, column_set_rises}
 use Rattle.cmr_base.proofs.SignEntries.{zero_is_entry, negative_is_entry, product_is_entry, sign_square}
 use Rattle.cmr_base.proofs.ViolatorLemmas.{violator_same}
 use Rattle.ghouila.specs.Found.{HasParity}
@@ -108,8 +108,8 @@ module _ (height width : ℕ) (M : ℕ → ℕ → ℤ) (r c : ℕ) (u : IsSign 
       go s t =
           let row_in = parity (sum_over P (λ i. M i c)) in
           let column_in = parity (sum_over D (M r)) in
-          let rows = below height r row_in.0 s.there P s.others r_in s.joined (rising_below 0 height P rises) in
-          let columns = below width c column_in.0 t.there D t.others c_in t.joined (rising_below 0 width D rises') in
+          let rows = below height r row_in.0 s.there P s.others r_in s.joined (increasing_below 0 height P rises) in
+          let columns = below width c column_in.0 t.there D t.others c_in t.joined (increasing_below 0 width D rises') in
           record {
             rows = rows.0;
             columns = columns.0;
@@ -134,7 +134,7 @@ pivots_keep_violators m r c place = (forth, back)
         let rises = subst (λ n. RisesIn 0 n P) high (row_set_rises (pivot_at m r c) P row_set) in
         let rises' = column_set_rises (pivot_at m r c) D column_set in
         no_violator m free (violator_of_pivot (height m) m.width (entry m) r c place.nonzero place.row_in place.column_in P D rises rises'
-        (violator_within (height m) m.width (entry (pivot_at m r c)) (pivot_entry (entry m) r c) P D (rising_below 0 (height m) P rises) (rising_below 0 m.width D rises') (entry_after m r c place) v))
+        (violator_within (height m) m.width (entry (pivot_at m r c)) (pivot_entry (entry m) r c) P D (increasing_below 0 (height m) P rises) (increasing_below 0 m.width D rises') (entry_after m r c place) v))
 
     sign_after : IsSign (entry (pivot_at m r c) r c)
     sign_after = subst IsSign (sym (entry_after m r c place r c place.row_in place.column_in ∙ entry_there (entry m) r c)) place.nonzero
@@ -145,7 +145,7 @@ pivots_keep_violators m r c place = (forth, back)
         let rises' = column_set_rises m D column_set in
         no_violator (pivot_at m r c) free (subst (λ n. HasViolatorIn n m.width (entry (pivot_at m r c))) (sym high)
         (violator_of_pivot (height m) m.width (entry (pivot_at m r c)) r c sign_after place.row_in place.column_in P D rises rises'
-        (violator_within (height m) m.width (entry m) (pivot_entry (entry (pivot_at m r c)) r c) P D (rising_below 0 (height m) P rises) (rising_below 0 m.width D rises') (λ i j hi hj. sym (entry_twice m r c place i j hi hj)) v)))
+        (violator_within (height m) m.width (entry m) (pivot_entry (entry (pivot_at m r c)) r c) P D (increasing_below 0 (height m) P rises) (increasing_below 0 m.width D rises') (λ i j hi hj. sym (entry_twice m r c place i j hi hj)) v)))
 
 -- ---- the matrix again
 
@@ -237,7 +237,7 @@ with_or_without n (x ∷ xs) d = go (eqb x n) refl (with_or_without n xs d.1)
 
 same_without : (n : ℕ) (xs ys : List ℕ) → IsStrictlyIncreasing xs → IsStrictlyIncreasing ys → ((x : ℕ) → x ≢ n → IsIn x xs ↔ IsIn x ys) → without xs n ≡ without ys n
 same_without n xs ys rises rises' same =
-    rising_same (without xs n) (without ys n) (without_increases n xs rises) (without_increases n ys rises')
+    increasing_same (without xs n) (without ys n) (without_increases n xs rises) (without_increases n ys rises')
     (λ x h. let w = without_in n x xs h in in_without n x ys ((same x w.1).0 w.0) w.1)
     (λ x h. let w = without_in n x ys h in in_without n x xs ((same x w.1).1 w.0) w.1)
 
@@ -255,12 +255,12 @@ joined_by_parity n xs fewer z d same odd = go (with_or_without n xs d)
 
 pub pivots_take_violators_back : PivotsTakeViolatorsBack
 pivots_take_violators_back m r c P D R' C' place p_set d_set r_set c_set lines v =
-    let inside = rising_below 0 (height m) P (row_set_rises m P p_set) in
-    let inside' = rising_below 0 m.width D (column_set_rises m D d_set) in
-    let s = with_or_without r P (increasing_distinct P p_set.rising) in
-    let t = with_or_without c D (increasing_distinct D d_set.rising) in
-    let row = joined_by_parity r R' (without P r) (sum_over P (λ i. entry m i c)) (increasing_distinct R' r_set.rising) (same_without r R' P r_set.rising p_set.rising lines.other_rows) lines.row_there in
-    let column = joined_by_parity c C' (without D c) (sum_over D (entry m r)) (increasing_distinct C' c_set.rising) (same_without c C' D c_set.rising d_set.rising lines.other_columns) lines.column_there in
+    let inside = increasing_below 0 (height m) P (row_set_rises m P p_set) in
+    let inside' = increasing_below 0 m.width D (column_set_rises m D d_set) in
+    let s = with_or_without r P (increasing_distinct P p_set.increasing) in
+    let t = with_or_without c D (increasing_distinct D d_set.increasing) in
+    let row = joined_by_parity r R' (without P r) (sum_over P (λ i. entry m i c)) (increasing_distinct R' r_set.increasing) (same_without r R' P r_set.increasing p_set.increasing lines.other_rows) lines.row_there in
+    let column = joined_by_parity c C' (without D c) (sum_over D (entry m r)) (increasing_distinct C' c_set.increasing) (same_without c C' D c_set.increasing d_set.increasing lines.other_columns) lines.column_there in
     whole_before (entry m) r c s.0 t.0 row.0 column.0 (without P r) P (without D c) D R' C' place.nonzero s.1 (apart r P) t.1 (apart c D) row.1 column.1 row.2 column.2
     (violator_within (height m) m.width (entry (pivot_at m r c)) (pivot_entry (entry m) r c) P D inside inside' (entry_after m r c place) v)
   where

@@ -6,7 +6,7 @@ use Rattle.cmr_base.specs.Trees.{support}
 use Rattle.cmr_base.proofs.Booleans.{zero_is}
 use Rattle.cmr_base.proofs.Entries.{height-with_entry, entry-with_entry_same, entry-with_entry_other_column, entry-with_entry_other_row, is_matrix-with_entry}
 use Rattle.cmr_base.proofs.Integers.{sums, products}
-use Rattle.cmr_base.proofs.Lists.{all-append, all_both, all_front, all_back}
+use Rattle.cmr_base.proofs.Lists.{all-append, all_both, all_prefix, all_back}
 use Rattle.ghouila.specs.Pivot.{IsOutside, IsTernaryRow, reduced, pivoted, KeepsRowsElsewhere, PivotsRows}
 use Rattle.ghouila.proofs.PivotSums.{pivoted_apart, pivoted_at}
 
@@ -96,7 +96,7 @@ module _ (before now after : Matrix) (row column other : ℕ) (rows : List ℕ) 
   keeps_more keeps step = record {
     same_height = step.same_height ∙ keeps.same_height;
     same_width = step.same_width ∙ keeps.same_width;
-    others = λ i j out. step.others i j (all_back (λ x. x ≢ i) rows (other ∷ []) out) ∙ keeps.others i j (all_front (λ x. x ≢ i) rows (other ∷ []) out);
+    others = λ i j out. step.others i j (all_back (λ x. x ≢ i) rows (other ∷ []) out) ∙ keeps.others i j (all_prefix (λ x. x ≢ i) rows (other ∷ []) out);
   }
 
   pub pivots_more : column < before.width → PivotsRows before now row column rows → KeepsRowsElsewhere before now rows → PivotsRows now after row column (other ∷ []) → KeepsRowsElsewhere now after (other ∷ []) → PivotsRows before after row column (rows ++ other ∷ [])

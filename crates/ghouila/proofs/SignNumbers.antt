@@ -47,8 +47,8 @@ signs_numbered-sign_number (sign ∷ signs) all =
     let half : (sign_bit sign + 2 * sign_number signs) / 2 ≡ sign_number signs = omega (arith, sign_bit_in sign all.0) in
     rw (half, low_bit_back sign (sign_number signs) all.0) (ap (λ ss. sign ∷ ss) (signs_numbered-sign_number signs all.1))
 
-pub signs_numbered_step : (front : List ℤ) (n k number : ℕ) → k < n → (front ++ low_sign number ∷ []) ++ signs_numbered (n - (k + 1)) (number / 2) ≡ front ++ signs_numbered (n - k) number
-signs_numbered_step front n k number h =
+pub signs_numbered_step : (prefix : List ℤ) (n k number : ℕ) → k < n → (prefix ++ low_sign number ∷ []) ++ signs_numbered (n - (k + 1)) (number / 2) ≡ prefix ++ signs_numbered (n - k) number
+signs_numbered_step prefix n k number h =
     let e : n - k ≡ suc (n - (k + 1)) = omega arith in
     rw (append_assoc, e) refl
 

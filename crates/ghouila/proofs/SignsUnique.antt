@@ -11,7 +11,7 @@ use Rattle.cmr_base.specs.Violator.{IsViolator, HasNoViolator}
 use Rattle.cmr_base.proofs.Parity.{even-mul_right, even_by_difference, two_mod_four_by_difference}
 use Rattle.cmr_base.proofs.SumLaws.{sum_over-scale, sum_over_same}
 use Rattle.cmr_base.proofs.Lists.{all_of, all_weaker}
-use Rattle.cmr_base.proofs.RisingLists.{rising_row_set, rising_column_set, odd_times, rises-odd_times}
+use Rattle.cmr_base.proofs.IncreasingLists.{increasing_row_set, increasing_column_set, odd_times, rises-odd_times}
 use Rattle.cmr_base.proofs.ViolatorLemmas.{violator-odd_times, violator-transposed}
 use Rattle.ghouila.proofs.SignedSums.{even_change-signed}
 use Rattle.ghouila.proofs.SignProducts.{sign_nonzero}
@@ -79,8 +79,8 @@ no_violator_no_fault m rectangular small free t c d path f = go (route (entry m)
   where
     go : Route (entry m) small t c d path → ⊥
     go q = free (odd_times rows) (odd_times columns)
-        (rising_row_set m (odd_times rows) (rises-odd_times (height m) rows rows_in))
-        (rising_column_set m (odd_times columns) (rises-odd_times m.width columns columns_in))
+        (increasing_row_set m (odd_times rows) (rises-odd_times (height m) rows rows_in))
+        (increasing_column_set m (odd_times columns) (rises-odd_times m.width columns columns_in))
         (violator-odd_times (entry m) rows columns
         (cycle_violates (entry m) t q.k q.way.row q.way.col (place_cycle (entry m) small t c d path f.place q) (subst IsTwoModFour (sum_by_places (entry m) small t c d path q (entry m)) f.two_mod_four)))
       where
@@ -121,6 +121,6 @@ signs_are_unique m n rectangular_m rectangular_n small_m small_n support free_m 
 pub fault_free_has_no_violator : (m n : Matrix) → IsRectangular m → IsRectangular n → HasTernaryEntries m → HasTernaryEntries n → HaveOneSupport m n → HasNoCycleFault (entry m) → HasNoViolator n → HasNoViolator m
 fault_free_has_no_violator m n rectangular_m rectangular_n small_m small_n support clean free rows columns row_set column_set v =
     free rows columns
-    (record { rising = row_set.rising; in_range = λ k h. let l = row_set.in_range k h in let e = support.height_same in omega arith })
-    (record { rising = column_set.rising; in_range = λ k h. let l = column_set.in_range k h in let e = support.width_same in omega arith })
+    (record { increasing = row_set.increasing; in_range = λ k h. let l = row_set.in_range k h in let e = support.height_same in omega arith })
+    (record { increasing = column_set.increasing; in_range = λ k h. let l = column_set.in_range k h in let e = support.width_same in omega arith })
     (violator_up_to_signs (entry m) (entry n) rows columns (fault_free_agree m n rectangular_m small_m small_n support clean (no_violator_no_fault n rectangular_n small_n free)) v)

@@ -4,7 +4,7 @@ use Rattle.std.specs.List.{AllByRecursion}
 use Rattle.cmr_base.specs.Matrix.{IsEntry}
 use Rattle.cmr_base.specs.Signing.{IsSign}
 use Rattle.cmr_base.proofs.Lists.{HasOneMore, one_more_first, one_more_later, all_weaker}
-use Rattle.cmr_base.proofs.RisingLists.{RisesIn, rises_from_lower}
+use Rattle.cmr_base.proofs.IncreasingLists.{RisesIn, rises_from_lower}
 use Rattle.ghouila.proofs.SignedSums.{zero_or_sign}
 
 -- the first list is the second with some items left out
@@ -33,13 +33,13 @@ pub record IsSublistWith (item : ℕ) (fewer R : List ℕ) : Type 0 where
   pub sublist : IsSublist list R
 
 pub sublist_with : (item : ℕ) (R' R P : List ℕ) → HasOneMore item R' R → IsSublist P R' → IsSublistWith item P R
-sublist_with item R' R P more h = subst (IsSublistWith item P) (sym more.more_is) (go more.front more.back P (subst (IsSublist P) more.fewer_is h))
+sublist_with item R' R P more h = subst (IsSublistWith item P) (sym more.more_is) (go more.prefix more.back P (subst (IsSublist P) more.fewer_is h))
   where
-    go : (front back P : List ℕ) → IsSublist P (front ++ back) → IsSublistWith item P (front ++ item ∷ back)
+    go : (prefix back P : List ℕ) → IsSublist P (prefix ++ back) → IsSublistWith item P (prefix ++ item ∷ back)
     go [] back P h = record { list = item ∷ P; more = one_more_first item P; sublist = inr (P, refl, h) }
-    go (x ∷ front) back P (inl h) = let s = go front back P h in record { list = s.list; more = s.more; sublist = inl s.sublist }
-    go (x ∷ front) back P (inr h) =
-        let s = go front back h.0 h.2 in
+    go (x ∷ prefix) back P (inl h) = let s = go prefix back P h in record { list = s.list; more = s.more; sublist = inl s.sublist }
+    go (x ∷ prefix) back P (inr h) =
+        let s = go prefix back h.0 h.2 in
         record {
           list = x ∷ s.list;
           more = subst (λ (xs : List ℕ). HasOneMore item xs (x ∷ s.list)) (sym h.1) (one_more_later x item h.0 s.list s.more);
@@ -47,11 +47,11 @@ sublist_with item R' R P more h = subst (IsSublistWith item P) (sym more.more_is
         }
 
 pub length-one_more : (item : ℕ) (fewer more : List ℕ) → HasOneMore item fewer more → length more ≡ suc (length fewer)
-length-one_more item fewer more h = ap length h.more_is ∙ go h.front h.back ∙ ap (λ xs. suc (length xs)) (sym h.fewer_is)
+length-one_more item fewer more h = ap length h.more_is ∙ go h.prefix h.back ∙ ap (λ xs. suc (length xs)) (sym h.fewer_is)
   where
-    go : (front back : List ℕ) → length (front ++ item ∷ back) ≡ suc (length (front ++ back))
+    go : (prefix back : List ℕ) → length (prefix ++ item ∷ back) ≡ suc (length (prefix ++ back))
     go [] back = refl
-    go (x ∷ front) back = ap suc (go front back)
+    go (x ∷ prefix) back = ap suc (go prefix back)
 
 -- a row in which the column has a sign
 pub record HasSignIn (f : ℕ → ℤ) (R : List ℕ) : Type 0 where

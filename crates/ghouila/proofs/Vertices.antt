@@ -10,7 +10,7 @@ use Rattle.cmr_base.proofs.Integers.{sums, products}
 use Rattle.cmr_base.proofs.SumLaws.{sum_over-add, sum_over-scale, sum_over_same}
 use Rattle.cmr_base.proofs.Lists.{all_of, all_weaker}
 use Rattle.cmr_base.proofs.Members.{all_in}
-use Rattle.cmr_base.proofs.RisingLists.{RisesIn, rises_from_lower, rises-range, rising_below, rising_row_set, rising_column_set}
+use Rattle.cmr_base.proofs.IncreasingLists.{RisesIn, rises_from_lower, rises-range, increasing_below, increasing_row_set, increasing_column_set}
 use Rattle.cmr_base.proofs.RemovedLines.{in_first_lines}
 use Rattle.cmr_base.proofs.RowLists.{two_cases}
 use Rattle.ghouila.specs.IntegralLaws.{IsMultiple, row_value, BasicSolutionsAreIntegral, IsFeasible, IsVertex, HasIntegralVertices}
@@ -301,7 +301,7 @@ module _ (m : Matrix) (unimodular : IsTotallyUnimodular m) (b y : ℕ → ℤ) (
   independent : IsIndependent (entry m) R C
   independent z h = all_chosen (λ j. z j ≡ pos 0) (λ j. is_nonzero (y j)) (first_lines m.width)
       (all_weaker (λ j. j < m.width) (λ j. is_nonzero (y j) ≡ true → z j ≡ pos 0) (λ j l t. sym (kept z h j t) ∙ still z h j l) (first_lines m.width)
-      (rising_below 0 m.width (first_lines m.width) (rises-range 0 m.width m.width (omega arith))))
+      (increasing_below 0 m.width (first_lines m.width) (rises-range 0 m.width m.width (omega arith))))
 
   solves : AllByRecursion (λ i. sum_over C (λ j. entry m i j *ℤ y j) ≡ d *ℤ b i) R
   solves = all_chosen (λ i. sum_over C (λ j. entry m i j *ℤ y j) ≡ d *ℤ b i) is_tight (first_lines (height m))
@@ -335,7 +335,7 @@ module _ (m : Matrix) (unimodular : IsTotallyUnimodular m) (b y : ℕ → ℤ) (
       all : AllByRecursion (λ j. IsMultiple d (y j)) C
       all = multiples C R (entry m) b y d
           (eliminated_independent C R 0 m.width (entry m) columns_rise
-          (minors_on m ((ghouila_houri m).0 unimodular) R C (rising_row_set m R rows_rise) (rising_column_set m C columns_rise)) independent) solves
+          (minors_on m ((ghouila_houri m).0 unimodular) R C (increasing_row_set m R rows_rise) (increasing_column_set m C columns_rise)) independent) solves
 
 pub integral_vertices : (m : Matrix) → IsTotallyUnimodular m → HasIntegralVertices m
 integral_vertices m unimodular b y d v = vertex_is_integral m unimodular b y d v

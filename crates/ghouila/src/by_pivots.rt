@@ -67,7 +67,7 @@ pub fn sign_by_steps(alloc: Global, matrix: &Matrix, rows: &Indices) -> Result<S
     requires { AllBelow (height matrix.now) rows.now }
     ensures right { IfOk result (λ run. SignsOrViolates matrix.now rows.now run.signing) }
     ensures run { IfOk result (λ run. IsAnswerOfRun matrix.now rows.now run.steps run.signing) }
-    ensures rising { OnOk result (IsStrictlyIncreasing rows.now) }
+    ensures increasing { OnOk result (IsStrictlyIncreasing rows.now) }
 {
     let mut work = matrix.copy(alloc)?;
     let left = copy_of_rows(alloc, rows)?;
@@ -79,7 +79,7 @@ pub fn sign_by_steps(alloc: Global, matrix: &Matrix, rows: &Indices) -> Result<S
 
 fn copy_of_rows(alloc: Global, rows: &Indices) -> Result<Vec<u32>, Memory>
     ensures items { IfOk result (λ left. left.items ≡ rows.now) }
-    ensures rising { IsStrictlyIncreasing rows.now }
+    ensures increasing { IsStrictlyIncreasing rows.now }
 {
     let mut left = Vec::new(alloc);
     for row in rows.as_slice() {

@@ -23,19 +23,19 @@ chunks_none values table row chunks = record {
 -- the chunk at a place was not filled before
 pub not_filled : (values : ℕ → Bool) (old now : Grid) (row : ℕ) (chunks : List ℕ) (place k : ℕ) → IsStrictlyIncreasing chunks → place < length chunks → AreChunksFilled values old now row chunks place → k < 64
     → cell now row (64 * get_or chunks place 0 + k) ≡ cell old row (64 * get_or chunks place 0 + k)
-not_filled values old now row chunks place k rising l so small =
-    so.left (64 * get_or chunks place 0 + k) (λ p m e. not_before chunks place rising l p m (sym e ∙ chunk_of (get_or chunks place 0) k small))
+not_filled values old now row chunks place k increasing l so small =
+    so.left (64 * get_or chunks place 0 + k) (λ p m e. not_before chunks place increasing l p m (sym e ∙ chunk_of (get_or chunks place 0) k small))
 
 pub chunks_more : (values : ℕ → Bool) (old now new : Grid) (row : ℕ) (chunks : List ℕ) (place word : ℕ) → IsStrictlyIncreasing chunks → place < length chunks → AreChunksFilled values old now row chunks place
     → IsWordSet now new row (get_or chunks place 0) word → ((k : ℕ) → k < 64 → 64 * get_or chunks place 0 + k < old.width → has_bit word k ≡ values (64 * get_or chunks place 0 + k)) → AreChunksFilled values old new row chunks (place + 1)
-chunks_more values old now new row chunks place word rising here so s bits = record {
+chunks_more values old now new row chunks place word increasing here so s bits = record {
   rows = keeps_rows_trans old now new row so.rows s.rows;
   done = λ k column l e w. pick k column e w (cases_lt k place) l;
   left = λ column n. s.others column (n place (omega arith)) ∙ so.left column (λ k l. n k (omega arith));
 }
   where
     pick : (k column : ℕ) → column / 64 ≡ get_or chunks k 0 → column < old.width → (k < place) ⊎ (place ≤ k) → k < place + 1 → cell new row column ≡ values column
-    pick k column e w (inl l) m = s.others column (λ q. not_before chunks place rising here k l (sym e ∙ q)) ∙ so.done k column l e w
+    pick k column e w (inl l) m = s.others column (λ q. not_before chunks place increasing here k l (sym e ∙ q)) ∙ so.done k column l e w
     pick k column e w (inr l) m =
         let same : k ≡ place = omega arith in
         let chunk : column / 64 ≡ get_or chunks place 0 = e ∙ ap (λ (z : ℕ). get_or chunks z 0) same in
@@ -83,21 +83,21 @@ chunks_row values old new row chunks count many so same = record {
 
 -- the chunks below one of the columns of a set
 pub record AreChunksTo (columns : ℕ → Bool) (width : ℕ) (chunks : List ℕ) (upto : ℕ) : Type 0 where
-  pub rising : IsStrictlyIncreasing chunks
+  pub increasing : IsStrictlyIncreasing chunks
   pub below : (x : ℕ) → IsIn x chunks → (x < upto) × (64 * x < width)
   pub all : (column : ℕ) → column / 64 < upto → columns column ≡ true → IsIn (column / 64) chunks
 
 module _ (columns : ℕ → Bool) (width : ℕ) where
   pub no_chunks : AreChunksTo columns width [] 0
   no_chunks = record {
-    rising = λ k l. absurd (omega arith);
+    increasing = λ k l. absurd (omega arith);
     below = λ x h. absurd h;
     all = λ column l. absurd (omega arith);
   }
 
   pub chunk_more : (chunks : List ℕ) (chunk : ℕ) → AreChunksTo columns width chunks chunk → 64 * chunk < width → AreChunksTo columns width (chunks ++ chunk ∷ []) (chunk + 1)
   chunk_more chunks chunk so l = record {
-    rising = increasing-append chunks chunk so.rising (λ y h. (so.below y h).0);
+    increasing = increasing-append chunks chunk so.increasing (λ y h. (so.below y h).0);
     below = λ x h. low x ((in-append chunks chunk x).0 h);
     all = λ column m e. (in-append chunks chunk (column / 64)).1 (here column e (cases_lt (column / 64) chunk) m);
   }
@@ -112,7 +112,7 @@ module _ (columns : ℕ → Bool) (width : ℕ) where
 
   pub chunk_empty : (chunks : List ℕ) (chunk : ℕ) → AreChunksTo columns width chunks chunk → ((k : ℕ) → k < 64 → columns (64 * chunk + k) ≡ false) → AreChunksTo columns width chunks (chunk + 1)
   chunk_empty chunks chunk so none = record {
-    rising = so.rising;
+    increasing = so.increasing;
     below = λ x h. let q = so.below x h in let k = q.0 in (omega arith, q.1);
     all = λ column m e. here column e (cases_lt (column / 64) chunk) m;
   }
@@ -125,7 +125,7 @@ module _ (columns : ℕ → Bool) (width : ℕ) where
 
   pub all_chunks : (chunks : List ℕ) (upto : ℕ) → AreChunksTo columns width chunks upto → width ≤ 64 * upto → ((column : ℕ) → columns column ≡ true → column < width) → AreChunksOf columns width chunks
   all_chunks chunks upto so many short = record {
-    rising = so.rising;
+    increasing = so.increasing;
     inside = λ k l. (so.below (get_or chunks k 0) (in_at chunks k l)).1;
     all = λ column e. let l = short column e in so.all column (omega arith) e;
   }

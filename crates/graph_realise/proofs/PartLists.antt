@@ -4,7 +4,7 @@ use Rattle.std.proofs.lemmas.Bool.Decides.{nat_tests}
 use Rattle.std.specs.List.Sorted.{IsStrictlyIncreasing}
 use Rattle.cmr_base.specs.Members.{IsIn}
 use Rattle.cmr_base.specs.Splits.{AreLinked, IsUncut, IsUncutBy, Agree, IsNaming, AreParts, AreSides, IsPart, part_rows}
-use Rattle.cmr_base.proofs.Places.{rising_same}
+use Rattle.cmr_base.proofs.Places.{increasing_same}
 use Rattle.cmr_base.proofs.ListsWithout.{in-get_or}
 use Rattle.cmr_base.proofs.RowLists.{same_or_not}
 use Rattle.graph_realise.specs.Merging.{IsNumbering}
@@ -16,7 +16,7 @@ pub record IsWholePart (M : ℕ → ℕ → Bool) (S : List ℕ) (i : ℕ) (P : 
   pub linked : (j k : ℕ) → IsIn j P → IsIn k P → AreLinked M S i j k
   pub closed : (j k : ℕ) → IsIn j P → IsIn k S → k ≢ i → AreLinked M S i j k → IsIn k P
   pub first : IsIn (slice_index_or P 0 0) P
-  pub rising : IsStrictlyIncreasing P
+  pub increasing : IsStrictlyIncreasing P
 
 pub whole_part : (M : ℕ → ℕ → Bool) (S : List ℕ) (i : ℕ) (parts : List (List ℕ)) → AreParts M S i parts → (a : ℕ) → a < length parts → IsWholePart M S i (slice_index_or parts a [])
 whole_part M S i parts all a l = record {
@@ -24,7 +24,7 @@ whole_part M S i parts all a l = record {
   linked = λ j k hj hk. all.linked a j k l hj hk;
   closed = λ j k hj hk n link. go j k hj link (all.all k hk n);
   first = in-get_or (slice_index_or parts a []) 0 (all.filled a l);
-  rising = all.rising a l;
+  increasing = all.increasing a l;
 }
   where
     go : (j k : ℕ) → IsIn j (slice_index_or parts a []) → AreLinked M S i j k → (b : ℕ) × (b < length parts) × IsIn k (slice_index_or parts b []) → IsIn k (slice_index_or parts a [])
@@ -39,7 +39,7 @@ is_whole M S i P (parts, all, (a, l, e)) = subst (IsWholePart M S i) e (whole_pa
 
 -- parts with linked rows are the same
 pub linked_same : (M : ℕ → ℕ → Bool) (S : List ℕ) (i : ℕ) (P Q : List ℕ) → IsWholePart M S i P → IsWholePart M S i Q → (j k : ℕ) → IsIn j P → IsIn k Q → AreLinked M S i j k → P ≡ Q
-linked_same M S i P Q p q j k hj hk link = rising_same P Q p.rising q.rising
+linked_same M S i P Q p q j k hj hk link = increasing_same P Q p.increasing q.increasing
     (λ x h. let s = p.inside x h in q.closed k x hk s.0 s.1 (p.linked k x both h))
     (λ x h. let s = q.inside x h in p.closed k x both s.0 s.1 (q.linked k x hk h))
   where

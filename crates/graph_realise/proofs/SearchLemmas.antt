@@ -37,7 +37,7 @@ use Rattle.bridge_split.proofs.PartWalks.{no_number}
 
 -- some row is left out
 pub fewer_rows : (xs ys : List ℕ) (x : ℕ) → IsStrictlyIncreasing xs → ((y : ℕ) → IsIn y xs → IsIn y ys) → IsIn x ys → ¬ (IsIn x xs) → length xs < length ys
-fewer_rows xs ys x rising sub here gone = let l = fewer_distinct (x ∷ xs) ys (gone, increasing_distinct xs rising) into in omega arith
+fewer_rows xs ys x increasing sub here gone = let l = fewer_distinct (x ∷ xs) ys (gone, increasing_distinct xs increasing) into in omega arith
   where
     into : (y : ℕ) → (y ≡ x) ⊎ IsIn y xs → IsIn y ys
     into y (inl e) = subst (λ (z : ℕ). IsIn z ys) (sym e) here
@@ -54,7 +54,7 @@ one_part_whole M S i parts all few s =
     let e : b.0 ≡ a.0 = omega arith in
     s.apart (all.linked a.0 s.one s.two a.1 a.2 (subst (λ (z : ℕ). IsIn s.two (slice_index_or parts z [])) e b.2))
 
--- a row before another one of a rising list
+-- a row before another one of a increasing list
 in_before : (before after : List ℕ) (i row : ℕ) → IsStrictlyIncreasing (before ++ i ∷ after) → IsIn row (before ++ i ∷ after) → row < i → IsIn row before
 in_before [] after i row rises (inl e) low = absurd (omega arith)
 in_before [] after i row rises (inr h) low = let l = head_below i row after rises h in absurd (omega arith)
@@ -203,13 +203,13 @@ module _ (M : ℕ → ℕ → Bool) (m n : ℕ) (short : (r c : ℕ) → M r c �
 
     -- a row of another part
     pub with_fewer : 2 ≤ length parts → IsStrictlyIncreasing T → length T < length S
-    with_fewer two rising = go (same_or_not a 0)
+    with_fewer two increasing = go (same_or_not a 0)
       where
         other : (b : ℕ) → b < length parts → b ≢ a → length T < length S
         other b k n =
             let x = get_or (slice_index_or parts b []) 0 0 in
             let h = in_at (slice_index_or parts b []) 0 (all.filled b k) in
-            fewer_rows T S x rising with_in_rows (all.only b x k h).0 (λ g. none x h (with_list x g))
+            fewer_rows T S x increasing with_in_rows (all.only b x k h).0 (λ g. none x h (with_list x g))
           where
             none : (x : ℕ) → IsIn x (slice_index_or parts b []) → (x ≡ i) ⊎ IsIn x (slice_index_or parts a []) → ⊥
             none x h (inl e) = (all.only b x k h).1 e

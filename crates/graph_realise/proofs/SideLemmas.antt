@@ -40,4 +40,4 @@ redrawn_others P rows count old new le so r h = so.kept r (λ k l e. h (subst (�
 
 -- the row at a place is not one before
 pub not_before : (rows : List ℕ) (count : ℕ) → IsStrictlyIncreasing rows → count < length rows → (k : ℕ) → k < count → get_or rows k 0 ≢ get_or rows count 0
-not_before rows count rising l k m e = let q = increasing_places rows k count rising m l in absurd (omega arith)
+not_before rows count increasing l k m e = let q = increasing_places rows k count increasing m l in absurd (omega arith)

@@ -32,9 +32,9 @@ pub record IsWordSet (old new : Grid) (row chunk word : ℕ) : Type 0 where
   pub here : (k : ℕ) → k < 64 → 64 * chunk + k < old.width → cell new row (64 * chunk + k) ≡ has_bit word k
   pub others : (c : ℕ) → c / 64 ≢ chunk → cell new row c ≡ cell old row c
 
--- a rising list of chunks of columns that has those of all columns of a set
+-- a increasing list of chunks of columns that has those of all columns of a set
 pub record AreChunksOf (columns : ℕ → Bool) (width : ℕ) (chunks : List ℕ) : Type 0 where
-  pub rising : IsStrictlyIncreasing chunks
+  pub increasing : IsStrictlyIncreasing chunks
   pub inside : (k : ℕ) → k < length chunks → 64 * slice_index chunks k < width
   pub all : (column : ℕ) → columns column ≡ true → IsIn (column / 64) chunks
 

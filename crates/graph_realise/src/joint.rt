@@ -70,7 +70,7 @@ impl Joint {
     pub fn rows_with(&self, alloc: Global, part: usize) -> Result<Indices, Memory>
         requires few { length self.now.part_of.items ≤ MAX_ROWS }
         requires row { self.now.row < length self.now.part_of.items }
-        ensures rising { IfOk result IsStrictlyIncreasing }
+        ensures increasing { IfOk result IsStrictlyIncreasing }
         ensures rows { IfOk result (λ rows. (x : ℕ) → IsIn x rows
             ↔ ((x ≡ self.now.row) ⊎ (number_at self.now.part_of.items x ≡ Some part))) }
     {

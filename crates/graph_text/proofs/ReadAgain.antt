@@ -122,7 +122,7 @@ graph_again size words net g =
     let arcs = net.net.arcs in
     let walks = net.net.walks in
     let tree = g.network.tree in
-    let rows = spelled_read Row size no_edges arcs s.first s.second refl (let c = tree.count in let l = g.rows_in in omega (arith, c, l)) (subst (λ (ws : List (List ℕ)). SpellEdges row_letter 0 ws arcs) (sym s.front_is) g.rows_are) in
+    let rows = spelled_read Row size no_edges arcs s.first s.second refl (let c = tree.count in let l = g.rows_in in omega (arith, c, l)) (subst (λ (ws : List (List ℕ)). SpellEdges row_letter 0 ws arcs) (sym s.prefix_is) g.rows_are) in
     let columns = spelled_read Column size (with_edges no_edges Row rows.more) walks s.second [] tt (let c = g.network.count in let l = g.columns_in in omega (arith, c, l)) (subst (λ (ws : List (List ℕ)). SpellEdges column_letter 0 ws walks) (sym s.back_is) g.columns_are) in
     let all : Edges = record { rows = rows.more; columns = columns.more } in
     let read : edges_from size no_edges words ≡ Ok all =

@@ -4,7 +4,7 @@ use Rattle.std.proofs.lemmas.Bool.{cases_lt}
 use Rattle.cmr_base.specs.Matrix.{Matrix, height, entry}
 use Rattle.cmr_base.specs.LineSets.{IsRowSet, IsColumnSet, set_number, set_numbered}
 use Rattle.cmr_base.specs.Violator.{HasNoColumnSet, HasNoViolator, IsLeastByRows, IsLeastColumnSet, IsViolator}
-use Rattle.cmr_base.proofs.RisingLists.{row_set_rises}
+use Rattle.cmr_base.proofs.IncreasingLists.{row_set_rises}
 use Rattle.cmr_base.proofs.SetNumbers.{number_of_numbered, numbered_same, row_set-numbered, set_number-lt}
 use Rattle.first_hit.specs.First.{NoneBetween}
 use Rattle.leaf_enumerate.specs.RowSets.{HasColumnSet}

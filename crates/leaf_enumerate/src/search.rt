@@ -24,7 +24,7 @@ pub enum LeastSubmatrix {
 }
 
 /// The least violator of a matrix whose shorter side has at most `limit` lines. The sets of the shorter side, rows in
-/// a tie, are gone through by rising number, and for each the least set of the other side is found. The answer is the
+/// a tie, are gone through by increasing number, and for each the least set of the other side is found. The answer is the
 /// same for every number of workers.
 pub fn least_violator<R: Threads + Sync>(
     rt: &R,
@@ -57,7 +57,7 @@ pub fn least_violator_of<R: Threads + Sync>(
 }
 
 /// The least submatrix of a kind in a matrix whose shorter side has at most `limit` lines. The sets of the shorter side,
-/// rows in a tie, are asked by rising number. The answer is the same for every number of workers. The time doubles with
+/// rows in a tie, are asked by increasing number. The answer is the same for every number of workers. The time doubles with
 /// each line of the shorter side.
 pub fn least_submatrix<R: Threads + Sync, S: Sought>(
     rt: &R,

@@ -26,8 +26,8 @@ entries_found binary height width text m h =
     let b = bind_ok (fields Short (entry_in binary) (height * width) text) (λ (cells : List ℤ × Text). ended Extra (record { rows = rows_of height width cells.0; width = width }) cells.1) m h in
     let all = fields_ok Short (entry_in binary) (height * width) [] text b.0.0 b.0.1 b.1 in
     let end = ended_ok Extra (record { rows = rows_of height width b.0.0; width = width }) b.0.1 m b.2 in
-    let words : text.words ≡ all.front = all.words_are ∙ ap (λ ws. all.front ++ ws) end.0 ∙ append-nil all.front in
-    (b.0.0, subst (λ ws. Spell (entry_in binary) (texts_of ws) b.0.0) (sym words) (subst (Spell (entry_in binary) (texts_of all.front)) (sym all.values_are) all.spell), ap length all.values_are ∙ all.count, sym end.1)
+    let words : text.words ≡ all.prefix = all.words_are ∙ ap (λ ws. all.prefix ++ ws) end.0 ∙ append-nil all.prefix in
+    (b.0.0, subst (λ ws. Spell (entry_in binary) (texts_of ws) b.0.0) (sym words) (subst (Spell (entry_in binary) (texts_of all.prefix)) (sym all.values_are) all.spell), ap length all.values_are ∙ all.count, sym end.1)
 
 two_words : (first second : ℕ × List ℕ) (words later rest : List (ℕ × List ℕ)) → words ≡ first ∷ later → later ≡ second ∷ rest → texts_of words ≡ first.1 ∷ second.1 ∷ texts_of rest
 two_words first second words later rest e h = rw (e, h) refl

@@ -27,9 +27,9 @@ kept_all : (b : Bool) (P : Triple → Type 0) (t : Triple) (triples : List Tripl
 kept_all true P t triples here later = (here, later)
 kept_all false P t triples here later = later
 
-all_append : (P : Triple → Type 0) (front back : List Triple) → AllByRecursion P front → AllByRecursion P back → AllByRecursion P (front ++ back)
+all_append : (P : Triple → Type 0) (prefix back : List Triple) → AllByRecursion P prefix → AllByRecursion P back → AllByRecursion P (prefix ++ back)
 all_append P [] back here later = later
-all_append P (t ∷ front) back here later = (here.0, all_append P front back here.1 later)
+all_append P (t ∷ prefix) back here later = (here.0, all_append P prefix back here.1 later)
 
 row_placed : (height width row column : ℕ) (entries : List ℤ) → 0 < row → row ≤ height → 0 < column → column + length entries ≤ width + 1 → AllByRecursion (IsPlaced height width) (row_triples row column entries)
 row_placed height width row column [] row_above row_in column_above fits = tt
@@ -72,8 +72,8 @@ row_unnamed_other : (row column : ℕ) (entries : List ℤ) (r c : ℕ) → row 
 row_unnamed_other row column [] r c ne = refl
 row_unnamed_other row column (z ∷ entries) r c ne = unnamed_kept (is_nonzero z) (record { row = row; column = column; value = z }) (row_triples row (column + 1) entries) r c (differ_left row r column c ne) (row_unnamed_other row (column + 1) entries r c ne)
 
-unnamed_append : (front back : List Triple) (r c : ℕ) → is_place_named front r c ≡ false → is_place_named back r c ≡ false → is_place_named (front ++ back) r c ≡ false
-unnamed_append front back r c here later = list_any-append (names r c) front back ∙ rw (here, later) refl
+unnamed_append : (prefix back : List Triple) (r c : ℕ) → is_place_named prefix r c ≡ false → is_place_named back r c ≡ false → is_place_named (prefix ++ back) r c ≡ false
+unnamed_append prefix back r c here later = list_any-append (names r c) prefix back ∙ rw (here, later) refl
 
 rows_unnamed_before : (row : ℕ) (rows : List (List ℤ)) (r c : ℕ) → r < row → is_place_named (triples_from row rows) r c ≡ false
 rows_unnamed_before row [] r c lt = refl
@@ -87,9 +87,9 @@ row_once : (row column : ℕ) (entries : List ℤ) → NameOnce (row_triples row
 row_once row column [] = tt
 row_once row column (z ∷ entries) = once_kept (is_nonzero z) (record { row = row; column = column; value = z }) (row_triples row (column + 1) entries) (row_unnamed_before row (column + 1) entries row column (omega arith)) (row_once row (column + 1) entries)
 
-once_append : (front back : List Triple) → NameOnce front → AllByRecursion (λ t. is_place_named back t.row t.column ≡ false) front → NameOnce back → NameOnce (front ++ back)
+once_append : (prefix back : List Triple) → NameOnce prefix → AllByRecursion (λ t. is_place_named back t.row t.column ≡ false) prefix → NameOnce back → NameOnce (prefix ++ back)
 once_append [] back here apart later = later
-once_append (t ∷ front) back here apart later = (unnamed_append front back t.row t.column here.0 apart.0, once_append front back here.1 apart.1 later)
+once_append (t ∷ prefix) back here apart later = (unnamed_append prefix back t.row t.column here.0 apart.0, once_append prefix back here.1 apart.1 later)
 
 row_apart : (row column : ℕ) (entries : List ℤ) (back : List Triple) → ((c : ℕ) → is_place_named back row c ≡ false) → AllByRecursion (λ t. is_place_named back t.row t.column ≡ false) (row_triples row column entries)
 row_apart row column [] back apart = tt
@@ -117,16 +117,16 @@ few_nonzeros width [] wide = omega (arith, zero-mul width)
 few_nonzeros width (entries ∷ rows) wide = omega (arith, count_by-le-length is_nonzero entries, wide.0, few_nonzeros width rows wide.1, suc-mul (length rows) width)
 
 -- the values are the entries
-value_front : (front back : List Triple) (r c : ℕ) → is_place_named back r c ≡ false → value_at (front ++ back) r c ≡ value_at front r c
-value_front [] back r c none = value_unnamed back r c none
-value_front (t ∷ front) back r c none = ap (λ (z : ℤ). cond (names r c t) t.value z) (value_front front back r c none)
+value_prefix : (prefix back : List Triple) (r c : ℕ) → is_place_named back r c ≡ false → value_at (prefix ++ back) r c ≡ value_at prefix r c
+value_prefix [] back r c none = value_unnamed back r c none
+value_prefix (t ∷ prefix) back r c none = ap (λ (z : ℤ). cond (names r c t) t.value z) (value_prefix prefix back r c none)
 
-value_back : (front back : List Triple) (r c : ℕ) → is_place_named front r c ≡ false → value_at (front ++ back) r c ≡ value_at back r c
+value_back : (prefix back : List Triple) (r c : ℕ) → is_place_named prefix r c ≡ false → value_at (prefix ++ back) r c ≡ value_at back r c
 value_back [] back r c none = refl
-value_back (t ∷ front) back r c none =
+value_back (t ∷ prefix) back r c none =
     let first : names r c t ≡ false = grind (arith, none) in
-    let others : is_place_named front r c ≡ false = grind (arith, none) in
-    rw first (value_back front back r c others)
+    let others : is_place_named prefix r c ≡ false = grind (arith, none) in
+    rw first (value_back prefix back r c others)
 
 kept_skip : (b : Bool) (t : Triple) (triples : List Triple) (r c : ℕ) → names r c t ≡ false → value_at (cond b (t ∷ triples) triples) r c ≡ value_at triples r c
 kept_skip true t triples r c other = rw other refl
@@ -152,7 +152,7 @@ all_value : (row : ℕ) (rows : List (List ℤ)) (r c : ℕ) → value_at (tripl
 all_value row [] r c = refl
 all_value row (entries ∷ rows) zero c =
     let here : row + 0 ≡ row = omega arith in
-    value_front (row_triples row 1 entries) (triples_from (row + 1) rows) (row + 0) (1 + c) (rows_unnamed_before (row + 1) rows (row + 0) (1 + c) (omega arith))
+    value_prefix (row_triples row 1 entries) (triples_from (row + 1) rows) (row + 0) (1 + c) (rows_unnamed_before (row + 1) rows (row + 0) (1 + c) (omega arith))
     ∙ ap (λ r. value_at (row_triples row 1 entries) r (1 + c)) here
     ∙ row_value row 1 entries c
 all_value row (entries ∷ rows) (suc r) c =

@@ -86,11 +86,11 @@ another_triple_ok binary height width before text next h =
 
 -- so many triples were read, behind those before them
 record AreTriples (binary : Bool) (height width n : ℕ) (text : Text) (before triples : List Triple) (rest : Text) : Type 0 where
-  front : List (ℕ × List ℕ)
+  prefix : List (ℕ × List ℕ)
   read : List Triple
-  words_are : text.words ≡ front ++ rest.words
+  words_are : text.words ≡ prefix ++ rest.words
   triples_are : triples ≡ before ++ read
-  spell : SpellTriples binary (texts_of front) read
+  spell : SpellTriples binary (texts_of prefix) read
   count : length read ≡ n
   placed : AllByRecursion (IsPlaced height width) read
   once : NameOnce before → NameOnce triples
@@ -100,7 +100,7 @@ triples_ok binary height width zero before text triples rest h =
     let e = ok_same (before, text) (triples, rest) h in
     let same : before ≡ triples = ap (λ (p : List Triple × Text). p.0) e in
     record {
-      front = [];
+      prefix = [];
       read = [];
       words_are = ap (λ (p : List Triple × Text). (p.1).words) e;
       triples_are = sym same ∙ sym (append-nil before);
@@ -114,10 +114,10 @@ triples_ok binary height width (suc n) before text triples rest h =
     let one = another_triple_ok binary height width before text b.0 b.1 in
     let later = triples_ok binary height width n b.0.0 b.0.1 triples rest b.2 in
     record {
-      front = one.row_word ∷ one.column_word ∷ one.value_word ∷ later.front;
+      prefix = one.row_word ∷ one.column_word ∷ one.value_word ∷ later.prefix;
       read = one.triple ∷ later.read;
       words_are = one.words_are ∙ ap (λ words. one.row_word ∷ one.column_word ∷ one.value_word ∷ words) later.words_are;
-      triples_are = later.triples_are ∙ ap (λ front. front ++ later.read) one.triples_are ∙ append_assoc before (one.triple ∷ []) later.read;
+      triples_are = later.triples_are ∙ ap (λ prefix. prefix ++ later.read) one.triples_are ∙ append_assoc before (one.triple ∷ []) later.read;
       spell = (one.row_is, one.column_is, one.value_is, later.spell);
       count = ap suc later.count;
       placed = (one.placed, later.placed);
@@ -164,10 +164,10 @@ list_found binary height width n text m h =
         let end = ended_ok Extra made.0 made.1 m he in
         let all = triples_ok binary height width n [] text read.0 read.1 hr in
         let none : (read.1).words ≡ [] = ap (λ (p : Matrix × Text). (p.1).words) e ∙ end.0 in
-        let words : text.words ≡ all.front = all.words_are ∙ ap (λ ws. all.front ++ ws) none ∙ append-nil all.front in
+        let words : text.words ≡ all.prefix = all.words_are ∙ ap (λ ws. all.prefix ++ ws) none ∙ append-nil all.prefix in
         record {
           triples = read.0;
-          spell = subst (λ ws. SpellTriples binary (texts_of ws) read.0) (sym words) (subst (SpellTriples binary (texts_of all.front)) (sym all.triples_are) all.spell);
+          spell = subst (λ ws. SpellTriples binary (texts_of ws) read.0) (sym words) (subst (SpellTriples binary (texts_of all.prefix)) (sym all.triples_are) all.spell);
           count = ap length all.triples_are ∙ all.count;
           placed = subst (AllByRecursion (IsPlaced height width)) (sym all.triples_are) all.placed;
           once = all.once tt;

@@ -7,7 +7,7 @@ use Rattle.std.proofs.lemmas.List.{append-nil}
 use Rattle.cmr_base.specs.declared.limits.TheConstants.{MAX_COLUMNS, MAX_ROWS}
 use Rattle.cmr_base.specs.LineSets.{AllBelow}
 use Rattle.cmr_base.specs.declared.line_set.LineSet.{LineSet}
-use Rattle.cmr_base.proofs.RisingLists.{rising_count}
+use Rattle.cmr_base.proofs.IncreasingLists.{increasing_count}
 use Rattle.text_fields.specs.TextWords.{text_of, words_from}
 use Rattle.text_fields.specs.Numbers.{count_in}
 use Rattle.text_fields.specs.Spelling.{Spell}
@@ -29,8 +29,8 @@ lines_spelled bound (line ∷ lines) few below = (count_of_decimal (line + 1) (l
 pub submatrix_again : (height width : ℕ) (lines : LineSet) → height ≤ MAX_ROWS → width ≤ MAX_COLUMNS → IsStrictlyIncreasing lines.rows → IsStrictlyIncreasing lines.columns → AllBelow height lines.rows → AllBelow width lines.columns
     → named_lines height width (text_of (submatrix_text height width lines)) ≡ Ok lines
 submatrix_again height width lines few_rows few_columns rows_rise columns_rise rows_in columns_in =
-    let row_count = rising_count height lines.rows rows_rise rows_in in
-    let column_count = rising_count width lines.columns columns_rise columns_in in
+    let row_count = increasing_count height lines.rows rows_rise rows_in in
+    let column_count = increasing_count width lines.columns columns_rise columns_in in
     submatrix_only height width (length (submatrix_text height width lines)) (words_from 0 (submatrix_text height width lines)) lines (record {
       height_word = decimal height;
       width_word = decimal width;

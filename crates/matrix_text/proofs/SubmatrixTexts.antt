@@ -4,7 +4,7 @@ use Rattle.std.specs.Prelude.{IfOk}
 use Rattle.std.proofs.lemmas.List.{append-nil, map-append}
 use Rattle.std.proofs.lemmas.Bool.Decides.{nat_tests}
 use Rattle.cmr_base.specs.declared.line_set.LineSet.{LineSet}
-use Rattle.cmr_base.proofs.RisingLists.{rising_count, RisesIn, rises_in, rising_in_range, rising_increases}
+use Rattle.cmr_base.proofs.IncreasingLists.{increasing_count, RisesIn, rises_in, increasing_in_range, increases_along}
 use Rattle.text_fields.specs.TextWords.{Text}
 use Rattle.text_fields.specs.Result.{◌>>=◌}
 use Rattle.text_fields.specs.Numbers.{count_in}
@@ -19,9 +19,9 @@ use Rattle.matrix_text.specs.declared.error.TextKind.{TextKind}
 use Rattle.matrix_text.specs.declared.error.TextKind.TheVariants.{Short, Extra, RowOutOfRange, ColumnOutOfRange, OtherSize}
 use Rattle.matrix_text.specs.TextKinds.{text_kind, limit_kind}
 use Rattle.matrix_text.specs.Values.{count, limited, own_size}
-use Rattle.matrix_text.specs.Submatrix.{IsSubmatrix, numbers_of, rising_lines, named_lines}
+use Rattle.matrix_text.specs.Submatrix.{IsSubmatrix, numbers_of, increasing_lines, named_lines}
 use Rattle.matrix_text.proofs.Lines.{size_found}
-use Rattle.matrix_text.proofs.Rising.{lines_ok, lines_again}
+use Rattle.matrix_text.proofs.Increasing.{lines_ok, lines_again}
 
 own_size_found : (size : ℕ) (text : Text) (n : ℕ) (rest : Text) → field Short (own_size size) text ≡ Ok (n, rest) → (word : ℕ × List ℕ) × (text.words ≡ word ∷ rest.words) × (count_in word.1 ≡ Ok size)
 own_size_found size text n rest h =
@@ -33,7 +33,7 @@ own_size_found size text n rest h =
 
 -- the two lists and the end
 abbrev lines_behind : ℕ → ℕ → ℕ → ℕ → Text → Result LineSet (Fault TextKind)
-lines_behind height width p q text = rising_lines height RowOutOfRange p text >>= λ rows. rising_lines width ColumnOutOfRange q rows.1 >>= λ columns. ended Extra (record { rows = rows.0; columns = columns.0 }) columns.1
+lines_behind height width p q text = increasing_lines height RowOutOfRange p text >>= λ rows. increasing_lines width ColumnOutOfRange q rows.1 >>= λ columns. ended Extra (record { rows = rows.0; columns = columns.0 }) columns.1
 
 abbrev counts_behind : ℕ → ℕ → Text → Result LineSet (Fault TextKind)
 counts_behind height width text = field Short (limited height RowOutOfRange) text >>= λ p. field Short (limited width ColumnOutOfRange) p.1 >>= λ q. lines_behind height width p.0 q.0 q.1
@@ -51,14 +51,14 @@ record AreLists (height width p q : ℕ) (words : List (List ℕ)) (lines : Line
 
 lists_found : (height width p q : ℕ) (text : Text) (lines : LineSet) → lines_behind height width p q text ≡ Ok lines → AreLists height width p q (texts_of text.words) lines
 lists_found height width p q text lines h =
-    let a = bind_ok (rising_lines height RowOutOfRange p text) (λ (rows : List ℕ × Text). rising_lines width ColumnOutOfRange q rows.1 >>= λ columns. ended Extra (record { rows = rows.0; columns = columns.0 }) columns.1) lines h in
-    let b = bind_ok (rising_lines width ColumnOutOfRange q a.0.1) (λ (columns : List ℕ × Text). ended Extra (record { rows = a.0.0; columns = columns.0 }) columns.1) lines a.2 in
+    let a = bind_ok (increasing_lines height RowOutOfRange p text) (λ (rows : List ℕ × Text). increasing_lines width ColumnOutOfRange q rows.1 >>= λ columns. ended Extra (record { rows = rows.0; columns = columns.0 }) columns.1) lines h in
+    let b = bind_ok (increasing_lines width ColumnOutOfRange q a.0.1) (λ (columns : List ℕ × Text). ended Extra (record { rows = a.0.0; columns = columns.0 }) columns.1) lines a.2 in
     go a.0 b.0 a.1 b.1 b.2
   where
-    both : (front next words later rest : List (ℕ × List ℕ)) → words ≡ front ++ later → later ≡ next ++ rest → rest ≡ [] → texts_of words ≡ texts_of front ++ texts_of next
-    both front next words later rest e g none = ap texts_of (e ∙ ap (λ ws. front ++ ws) (g ∙ ap (λ ws. next ++ ws) none ∙ append-nil next)) ∙ map-append (λ (word : ℕ × List ℕ). word.1) front next
+    both : (prefix next words later rest : List (ℕ × List ℕ)) → words ≡ prefix ++ later → later ≡ next ++ rest → rest ≡ [] → texts_of words ≡ texts_of prefix ++ texts_of next
+    both prefix next words later rest e g none = ap texts_of (e ∙ ap (λ ws. prefix ++ ws) (g ∙ ap (λ ws. next ++ ws) none ∙ append-nil next)) ∙ map-append (λ (word : ℕ × List ℕ). word.1) prefix next
 
-    go : (a b : List ℕ × Text) → rising_lines height RowOutOfRange p text ≡ Ok a → rising_lines width ColumnOutOfRange q a.1 ≡ Ok b → ended Extra (record { rows = a.0; columns = b.0 }) b.1 ≡ Ok lines → AreLists height width p q (texts_of text.words) lines
+    go : (a b : List ℕ × Text) → increasing_lines height RowOutOfRange p text ≡ Ok a → increasing_lines width ColumnOutOfRange q a.1 ≡ Ok b → ended Extra (record { rows = a.0; columns = b.0 }) b.1 ≡ Ok lines → AreLists height width p q (texts_of text.words) lines
     go a b ha hb he =
         let rows = lines_ok height RowOutOfRange p [] text a.0 a.1 ha in
         let columns = lines_ok width ColumnOutOfRange q [] a.1 b.0 b.1 hb in
@@ -66,11 +66,11 @@ lists_found height width p q text lines h =
         let rows_are : rows.read ≡ lines.rows = sym rows.lines_are ∙ ap (λ (l : LineSet). l.rows) end.1 in
         let columns_are : columns.read ≡ lines.columns = sym columns.lines_are ∙ ap (λ (l : LineSet). l.columns) end.1 in
         record {
-          row_words = texts_of rows.front;
-          column_words = texts_of columns.front;
-          words_are = both rows.front columns.front text.words (a.1).words (b.1).words rows.words_are columns.words_are end.0;
-          rows_are = subst (λ ls. Spell count_in (texts_of rows.front) (numbers_of ls)) rows_are rows.spell;
-          columns_are = subst (λ ls. Spell count_in (texts_of columns.front) (numbers_of ls)) columns_are columns.spell;
+          row_words = texts_of rows.prefix;
+          column_words = texts_of columns.prefix;
+          words_are = both rows.prefix columns.prefix text.words (a.1).words (b.1).words rows.words_are columns.words_are end.0;
+          rows_are = subst (λ ls. Spell count_in (texts_of rows.prefix) (numbers_of ls)) rows_are rows.spell;
+          columns_are = subst (λ ls. Spell count_in (texts_of columns.prefix) (numbers_of ls)) columns_are columns.spell;
           row_count = ap length (sym rows_are) ∙ rows.count;
           column_count = ap length (sym columns_are) ∙ columns.count;
           rows_rise = subst (RisesIn 0 height) rows_are rows.rises;
@@ -110,10 +110,10 @@ submatrix_found height width text lines h =
           column_count = columns.2 ∙ ap Ok (sym lists.column_count);
           rows_are = lists.rows_are;
           columns_are = lists.columns_are;
-          rows_rise = rising_increases 0 height lines.rows lists.rows_rise;
-          columns_rise = rising_increases 0 width lines.columns lists.columns_rise;
-          rows_in = rising_in_range 0 height lines.rows lists.rows_rise;
-          columns_in = rising_in_range 0 width lines.columns lists.columns_rise;
+          rows_rise = increases_along 0 height lines.rows lists.rows_rise;
+          columns_rise = increases_along 0 width lines.columns lists.columns_rise;
+          rows_in = increasing_in_range 0 height lines.rows lists.rows_rise;
+          columns_in = increasing_in_range 0 width lines.columns lists.columns_rise;
         }
 
 own_size_again : (size : ℕ) (word : List ℕ) → count_in word ≡ Ok size → own_size size word ≡ Ok size
@@ -123,11 +123,11 @@ lists_again : (height width size : ℕ) (words : List (ℕ × List ℕ)) (lines 
     → lines_behind height width (length lines.rows) (length lines.columns) (record { size = size; words = words }) ≡ Ok lines
 lists_again height width size words lines are =
     let s = split_texts words are.row_words are.column_words are.words_are in
-    let rows : rising_lines height RowOutOfRange (length lines.rows) (record { size = size; words = words }) ≡ Ok (lines.rows, record { size = size; words = s.second }) =
-    ap (λ ws. rising_lines height RowOutOfRange (length lines.rows) (record { size = size; words = ws })) s.words_are
-    ∙ lines_again height RowOutOfRange size s.first s.second [] lines.rows (subst (λ ws. Spell count_in ws (numbers_of lines.rows)) (sym s.front_is) are.rows_are) are.rows_rise in
-    let columns : rising_lines width ColumnOutOfRange (length lines.columns) (record { size = size; words = s.second }) ≡ Ok (lines.columns, record { size = size; words = [] }) =
-    ap (λ ws. rising_lines width ColumnOutOfRange (length lines.columns) (record { size = size; words = ws })) (sym (append-nil s.second))
+    let rows : increasing_lines height RowOutOfRange (length lines.rows) (record { size = size; words = words }) ≡ Ok (lines.rows, record { size = size; words = s.second }) =
+    ap (λ ws. increasing_lines height RowOutOfRange (length lines.rows) (record { size = size; words = ws })) s.words_are
+    ∙ lines_again height RowOutOfRange size s.first s.second [] lines.rows (subst (λ ws. Spell count_in ws (numbers_of lines.rows)) (sym s.prefix_is) are.rows_are) are.rows_rise in
+    let columns : increasing_lines width ColumnOutOfRange (length lines.columns) (record { size = size; words = s.second }) ≡ Ok (lines.columns, record { size = size; words = [] }) =
+    ap (λ ws. increasing_lines width ColumnOutOfRange (length lines.columns) (record { size = size; words = ws })) (sym (append-nil s.second))
     ∙ lines_again width ColumnOutOfRange size s.second [] [] lines.columns (subst (λ ws. Spell count_in ws (numbers_of lines.columns)) (sym s.back_is) are.columns_are) are.columns_rise in
     rw (rows, columns) refl
 
@@ -146,8 +146,8 @@ submatrix_only height width size (h ∷ w ∷ p ∷ q ∷ words) lines is =
     let lw : texts_of words ≡ is.row_words ++ is.column_words = cc in
     let same_height = own_size_again height h.1 (ap count_in hw ∙ is.height_is) in
     let same_width = own_size_again width w.1 (ap count_in ww ∙ is.width_is) in
-    let row_count = limited_again (limit_kind RowOutOfRange) height p.1 (length lines.rows) (ap count_in pw ∙ is.row_count) (rising_count height lines.rows is.rows_rise is.rows_in) in
-    let column_count = limited_again (limit_kind ColumnOutOfRange) width q.1 (length lines.columns) (ap count_in qw ∙ is.column_count) (rising_count width lines.columns is.columns_rise is.columns_in) in
+    let row_count = limited_again (limit_kind RowOutOfRange) height p.1 (length lines.rows) (ap count_in pw ∙ is.row_count) (increasing_count height lines.rows is.rows_rise is.rows_in) in
+    let column_count = limited_again (limit_kind ColumnOutOfRange) width q.1 (length lines.columns) (ap count_in qw ∙ is.column_count) (increasing_count width lines.columns is.columns_rise is.columns_in) in
     rw (same_height, same_width, row_count, column_count) (lists_again height width size words lines (record {
       row_words = is.row_words;
       column_words = is.column_words;

@@ -11,7 +11,7 @@ use Rattle.text_fields.specs.Spelling.{Spell}
 use Rattle.text_fields.specs.Reading.{Fault, field, times, ended}
 use Rattle.matrix_text.specs.declared.error.TextKind.{TextKind}
 use Rattle.matrix_text.specs.declared.error.TextKind.TheVariants.{Short, Extra, RowOutOfRange, ColumnOutOfRange}
-use Rattle.matrix_text.specs.Values.{own_size, limited, rising_line_in}
+use Rattle.matrix_text.specs.Values.{own_size, limited, increasing_line_in}
 
 -- the numbers of lines, counted from 1
 abbrev pub numbers_of : List ℕ → List ℕ
@@ -40,12 +40,12 @@ pub record IsSubmatrix (height width : ℕ) (words : List (List ℕ)) (lines : L
 -- one more line, above the one before it
 abbrev pub another_line : ℕ → TextKind → List ℕ → Text → Result (List ℕ × Text) (Fault TextKind)
 another_line most outside lines text = do
-  number ← field Short (rising_line_in most outside (last_number lines)) text
+  number ← field Short (increasing_line_in most outside (last_number lines)) text
   Ok (lines ++ (number.0 - 1) ∷ [], number.1)
 
--- so many rising lines
-abbrev pub rising_lines : ℕ → TextKind → ℕ → Text → Result (List ℕ × Text) (Fault TextKind)
-rising_lines most outside n text = times (another_line most outside) n [] text
+-- so many increasing lines
+abbrev pub increasing_lines : ℕ → TextKind → ℕ → Text → Result (List ℕ × Text) (Fault TextKind)
+increasing_lines most outside n text = times (another_line most outside) n [] text
 
 -- reading: the lines that a submatrix text names in a matrix of these sizes, or its first fault
 abbrev pub named_lines : ℕ → ℕ → Text → Result LineSet (Fault TextKind)
@@ -54,6 +54,6 @@ named_lines height width text = do
   same_width ← field Short (own_size width) same_height.1
   row_count ← field Short (limited height RowOutOfRange) same_width.1
   column_count ← field Short (limited width ColumnOutOfRange) row_count.1
-  rows ← rising_lines height RowOutOfRange row_count.0 column_count.1
-  columns ← rising_lines width ColumnOutOfRange column_count.0 rows.1
+  rows ← increasing_lines height RowOutOfRange row_count.0 column_count.1
+  columns ← increasing_lines width ColumnOutOfRange column_count.0 rows.1
   ended Extra (record { rows = rows.0; columns = columns.0 }) columns.1

@@ -26,8 +26,8 @@ abbrev pub line_in : ℕ → TextKind → List ℕ → Result ℕ TextKind
 line_in most outside word = renamed (limit_kind outside) (limits.line_in most word)
 
 -- a line's number above the one before it
-abbrev pub rising_line_in : ℕ → TextKind → ℕ → List ℕ → Result ℕ TextKind
-rising_line_in most outside before word = renamed (limit_kind outside) (limits.rising_line_in most before word)
+abbrev pub increasing_line_in : ℕ → TextKind → ℕ → List ℕ → Result ℕ TextKind
+increasing_line_in most outside before word = renamed (limit_kind outside) (limits.increasing_line_in most before word)
 
 -- a column's number that is not taken
 abbrev pub free_column_in : ℕ → (ℕ → Bool) → List ℕ → Result ℕ TextKind

@@ -2,12 +2,12 @@ ghost use Rattle.std.specs.Prelude.{◌≤◌, ◌<◌, ◌-◌, IfOk, length, s
 ghost use Rattle.cmr_base.specs.Matrix.{IsEntry};
 ghost use Rattle.text_fields.specs.Reading.{field, Reads};
 ghost use Rattle.matrix_text.specs.declared.error.TextKind.TheVariants.{Short};
-ghost use Rattle.matrix_text.specs.Values.{count, limited, own_size, line_in, rising_line_in, free_column_in, entry_in};
+ghost use Rattle.matrix_text.specs.Values.{count, limited, own_size, line_in, increasing_line_in, free_column_in, entry_in};
 
 use crate::error::{TextError, TextKind};
 use crate::value::{self, named};
 use cmr_base::MAX_COLUMNS;
-use text_fields::{Words, at_place, line_in, rising_line_in};
+use text_fields::{Words, at_place, increasing_line_in, line_in};
 
 pub fn count(words: &mut Words<'_>) -> Result<u32, TextError>
     ensures { Reads (λ n. n) words.new result (field Short count words.old) }
@@ -40,19 +40,22 @@ pub fn line(words: &mut Words<'_>, most: u32, outside: TextKind) -> Result<u32, 
     at_place(place, named(line_in(word, most), outside))
 }
 
-pub fn rising_line(
+pub fn increasing_line(
     words: &mut Words<'_>,
     most: u32,
     outside: TextKind,
     before: u32,
 ) -> Result<u32, TextError>
     ensures read { Reads (λ n. n) words.new result
-        (field Short (rising_line_in most outside before) words.old) }
+        (field Short (increasing_line_in most outside before) words.old) }
     ensures above { IfOk result (λ n. before < n) }
     ensures within { IfOk result (λ n. n ≤ most) }
 {
     let (place, word) = words.due(TextKind::Short)?;
-    at_place(place, named(rising_line_in(word, most, before), outside))
+    at_place(
+        place,
+        named(increasing_line_in(word, most, before), outside),
+    )
 }
 
 pub fn free_column(words: &mut Words<'_>, taken: &[bool]) -> Result<u32, TextError>

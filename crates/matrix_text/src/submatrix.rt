@@ -6,7 +6,7 @@ ghost use Rattle.text_fields.specs.Spelling.{words_in};
 ghost use Rattle.text_fields.specs.Reading.{Gives, Reads};
 ghost use Rattle.text_fields.specs.Written.{with_line};
 ghost use Rattle.matrix_text.specs.CanonicalMatrices.{submatrix_text};
-ghost use Rattle.matrix_text.specs.Submatrix.{IsSubmatrix, named_lines, rising_lines};
+ghost use Rattle.matrix_text.specs.Submatrix.{IsSubmatrix, named_lines, increasing_lines};
 ghost use Rattle.text_fields.specs.LineNumbers.{number_of_line};
 
 use crate::error::{TextError, TextKind};
@@ -42,8 +42,8 @@ fn lines_of_text(alloc: Global, bytes: &[u8], rows: u32, columns: u32) -> Result
     let row_count = field::limited(&mut words, rows, TextKind::RowOutOfRange)?;
     let column_count = field::limited(&mut words, columns, TextKind::ColumnOutOfRange)?;
     let lines = LineSet {
-        rows: rising_lines(alloc, &mut words, rows, TextKind::RowOutOfRange, row_count)?,
-        columns: rising_lines(
+        rows: increasing_lines(alloc, &mut words, rows, TextKind::RowOutOfRange, row_count)?,
+        columns: increasing_lines(
             alloc,
             &mut words,
             columns,
@@ -55,19 +55,19 @@ fn lines_of_text(alloc: Global, bytes: &[u8], rows: u32, columns: u32) -> Result
     Ok(lines)
 }
 
-fn rising_lines(
+fn increasing_lines(
     alloc: Global,
     words: &mut Words<'_>,
     most: u32,
     outside: TextKind,
     count: u32,
 ) -> Result<Indices, TextError>
-    ensures { Reads (λ lines. lines) words.new result (rising_lines most outside count words.old) }
+    ensures { Reads (λ lines. lines) words.new result (increasing_lines most outside count words.old) }
 {
     let mut lines = Indices::new(alloc);
     let mut before = 0;
     for _ in 0..count {
-        let number = field::rising_line(words, most, outside, before)?;
+        let number = field::increasing_line(words, most, outside, before)?;
         lines.push(number - 1)?;
         before = number;
     }

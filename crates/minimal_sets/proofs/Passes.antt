@@ -16,12 +16,12 @@ use Rattle.cmr_base.proofs.Places.{members_below}
 
 pub row_set_left : (m : Matrix) (rows : List ℕ) (lines : List Line) → IsRowSet m rows → IsRowSet m (rows_left rows lines)
 row_set_left m rows lines is =
-    row_set_from_within m (rows_left rows lines) (rows_left-increase lines rows is.rising)
+    row_set_from_within m (rows_left rows lines) (rows_left-increase lines rows is.increasing)
     (λ x h. in_first_lines (height m) x (members_below (height m) rows is.in_range x (rows_left-within lines rows x h)))
 
 pub column_set_left : (m : Matrix) (columns : List ℕ) (lines : List Line) → IsColumnSet m columns → IsColumnSet m (columns_left columns lines)
 column_set_left m columns lines is =
-    column_set_from_within m (columns_left columns lines) (columns_left-increase lines columns is.rising)
+    column_set_from_within m (columns_left columns lines) (columns_left-increase lines columns is.increasing)
     (λ x h. in_first_lines m.width x (members_below m.width columns is.in_range x (columns_left-within lines columns x h)))
 
 pub all_rows : (m : Matrix) → IsRowSet m (first_lines (height m))
@@ -54,7 +54,7 @@ module _ (P : Matrix → Type 0) (m : Matrix) (R C : List ℕ) where
       row_set = row_set_left m R' lines p.row_set;
       column_set = column_set_left m C' lines p.column_set;
       lacks = lacks;
-      greedy = more_turns (rows_left R' lines) (columns_left C' lines) (greedy_left P m inherited lines R' C' p.row_set.rising p.column_set.rising lacks);
+      greedy = more_turns (rows_left R' lines) (columns_left C' lines) (greedy_left P m inherited lines R' C' p.row_set.increasing p.column_set.increasing lacks);
     }
 
   -- the next one cannot go

@@ -131,7 +131,7 @@ fn outside(
     from: u32,
     count: u32,
 ) -> Result<Indices, Memory>
-    requires rising { IsStrictlyIncreasing numbers.now }
+    requires increasing { IsStrictlyIncreasing numbers.now }
     requires small { AllBelow MAX_ROWS numbers.now }
     requires before { before ≤ MAX_ROWS }
     requires few { from + count ≤ MAX_ROWS + MAX_COLUMNS }

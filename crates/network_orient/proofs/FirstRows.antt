@@ -118,7 +118,7 @@ module _ (m n : Matrix) (is_m : IsMatrix m) (is_n : IsMatrix n) (height_same : h
 
       free : HasNoCycleFault (entry whole)
       free = no_violator_no_fault whole is_whole.rectangular is_whole.small
-          (λ R C row_set column_set violator. no_violator R C (record { rising = row_set.rising; in_range = λ k h. let low = row_set.in_range k h in omega (arith, low, same) }) (record { rising = column_set.rising; in_range = column_set.in_range }) (violator_up_to_signs (entry whole) (entry m) R C agreement violator))
+          (λ R C row_set column_set violator. no_violator R C (record { increasing = row_set.increasing; in_range = λ k h. let low = row_set.in_range k h in omega (arith, low, same) }) (record { increasing = column_set.increasing; in_range = column_set.in_range }) (violator_up_to_signs (entry whole) (entry m) R C agreement violator))
 
       agree : (r x : ℕ) → r < count → entry n r x ≡ entry whole r x
       agree r x k = elim (cases_lt x m.width) [

@@ -23,7 +23,7 @@ slice_get-paired words (pivot ∷ pivots) flat (suc k) h =
 pub paired-push : (words : ℕ) (pivots flat : List ℕ) (pivot : ℕ) (columns : List ℕ) → length flat ≡ length pivots * words → length columns ≡ words → paired words (pivots ++ pivot ∷ []) (flat ++ columns) ≡ paired words pivots flat ++ record { pivot = pivot; columns = number_of columns } ∷ []
 paired-push words [] flat pivot columns whole len =
     let none : flat ≡ [] = no_items flat (whole ∙ zero-mul words) in
-    rw none (ap (λ (front : List ℕ). record { pivot = pivot; columns = number_of front } ∷ []) (take_all words columns (omega arith)))
+    rw none (ap (λ (prefix : List ℕ). record { pivot = pivot; columns = number_of prefix } ∷ []) (take_all words columns (omega arith)))
 paired-push words (first ∷ pivots) flat pivot columns whole len =
     let room : words ≤ length flat = omega (arith, suc-mul (length pivots) words) in
     rw (take-append-le words flat columns room, drop-append-le words flat columns room)

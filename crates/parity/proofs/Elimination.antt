@@ -7,7 +7,7 @@ use Rattle.std.proofs.lemmas.Nat.{xor_lt, pow_below}
 use Rattle.std.proofs.lemmas.Nat.Bits.{bit_at_and, bit_at_xor, same_from_bits, bit_at-lt, bit_at-zero, bit_at-pow_other, bit_at_above}
 use Rattle.std.proofs.lemmas.Bool.{cases_lt, cases_eq}
 use lib.Bits.{xor_self}
-use Rattle.cmr_base.proofs.Lists.{all-append, all_back, all_front, all_weaker}
+use Rattle.cmr_base.proofs.Lists.{all-append, all_back, all_prefix, all_weaker}
 use Rattle.parity.specs.declared.narrow.Equation.{Equation}
 use Rattle.parity.specs.Equations.{IsBasis, IsLowest, cleared_by, common, corrected_by, reduced_by, solved}
 use Rattle.parity.proofs.Bits.{DiffersAt, and-xor, common-lt, common-pow, common-xor, common-xor_right, differs, lowest_differs}
@@ -70,7 +70,7 @@ basis_none width gone = record { follow = λ set hold. tt; cleared = tt; lowest 
 
 pub basis_skip : (width gone : ℕ) (rows : List ℕ) (es : List Equation) (row : ℕ) → IsBasis width gone rows es → reduced_by es row ≡ 0 → IsBasis width gone (rows ++ row ∷ []) es
 basis_skip width gone rows es row basis none = record {
-  follow = λ set hold. basis.follow set (all_front (λ r. common r set ≡ 0) rows (row ∷ []) hold);
+  follow = λ set hold. basis.follow set (all_prefix (λ r. common r set ≡ 0) rows (row ∷ []) hold);
   cleared = all-append (λ r. reduced_by es r ≡ 0) rows (row ∷ []) basis.cleared (none, tt);
   lowest = basis.lowest;
   apart = basis.apart;
@@ -81,7 +81,7 @@ pub basis_push : (width gone : ℕ) (rows : List ℕ) (es : List Equation) (row 
     → IsBasis width gone (rows ++ row ∷ []) (es ++ record { pivot = pivot; columns = reduced_by es row } ∷ [])
 basis_push width gone rows es row pivot basis apart small low = record {
   follow = λ set hold.
-      let before = basis.follow set (all_front (λ r. common r set ≡ 0) rows (row ∷ []) hold) in
+      let before = basis.follow set (all_prefix (λ r. common r set ≡ 0) rows (row ∷ []) hold) in
       let last = (all_back (λ r. common r set ≡ 0) rows (row ∷ []) hold).0 in
       all-append (λ f. common f.columns set ≡ 0) es (e ∷ []) before (common-reduced_by es row set before ∙ last, tt);
   cleared = all-append (λ r. reduced_by (es ++ e ∷ []) r ≡ 0) rows (row ∷ [])

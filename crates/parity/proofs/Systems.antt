@@ -14,7 +14,7 @@ use Rattle.cmr_base.specs.Sums.{sum_over, IsEven, IsTwoModFour}
 use Rattle.cmr_base.specs.Violator.{IsViolator, IsLeastColumnSet, HasNoColumnSet}
 use Rattle.cmr_base.proofs.Integers.{sums}
 use Rattle.cmr_base.proofs.Lists.{all-map, all_weaker, all_unmapped}
-use Rattle.cmr_base.proofs.RisingLists.{column_set_rises}
+use Rattle.cmr_base.proofs.IncreasingLists.{column_set_rises}
 use Rattle.cmr_base.proofs.SetNumbers.{set_number-lt, numbered_same, number_of_numbered, column_set-numbered}
 use Rattle.cmr_base.proofs.SumLaws.{sum_over-exchange}
 use Rattle.cmr_base.proofs.PlaneWords.{bit_at-bits_of, bits_of-lt}

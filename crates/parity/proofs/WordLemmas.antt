@@ -173,11 +173,11 @@ ones_more xs ys place x_words y_words same h =
     let x_more = drop_more xs place 0 h in
     let in_ys : place < length ys = omega arith in
     let y_more = drop_more ys place 0 in_ys in
-    ap₂ (λ (front back : List ℕ). count_ones (bit_and (number_of front) (number_of back))) x_more y_more
+    ap₂ (λ (prefix back : List ℕ). count_ones (bit_and (number_of prefix) (number_of back))) x_more y_more
     ∙ ones-number_of (get_or xs place 0) (get_or ys place 0) (drop (place + 1) xs) (drop (place + 1) ys) (subst AreWords x_more (drop_words xs place x_words)) (subst AreWords y_more (drop_words ys place y_words))
 
 pub ones_end : (xs ys : List ℕ) (place : ℕ) → length xs ≡ length ys → length xs ≤ place → count_ones (bit_and (number_of (drop place xs)) (number_of (drop place ys))) ≡ 0
-ones_end xs ys place same h = ap₂ (λ (front back : List ℕ). count_ones (bit_and (number_of front) (number_of back))) (drop_all place xs h) (drop_all place ys (omega arith)) ∙ ones-zero
+ones_end xs ys place same h = ap₂ (λ (prefix back : List ℕ). count_ones (bit_and (number_of prefix) (number_of back))) (drop_all place xs h) (drop_all place ys (omega arith)) ∙ ones-zero
 
 pub number_of-zeros : (count : ℕ) → number_of (replicate count 0) ≡ 0
 number_of-zeros zero = refl

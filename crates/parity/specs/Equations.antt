@@ -52,7 +52,7 @@ pub record IsBasis (width gone : ℕ) (rows : List ℕ) (es : List Equation) : T
 
 -- an equation added to the words behind a place, and no other word changed
 pub record IsAddedBehind (e : Equation) (place : ℕ) (before after : List ℕ) : Type 0 where
-  pub front : (at : ℕ) → at ≤ place → slice_index_or after at 0 ≡ slice_index_or before at 0
+  pub prefix : (at : ℕ) → at ≤ place → slice_index_or after at 0 ≡ slice_index_or before at 0
   pub behind : (at : ℕ) → place < at → at < length before → slice_index_or after at 0 ≡ cleared_by e (slice_index_or before at 0)
 
 -- the word at a place, an equation with its least column as the pivot, added behind the place; nothing changed where the word is 0

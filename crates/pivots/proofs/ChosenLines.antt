@@ -18,10 +18,10 @@ in_either x [] ys h = inr h
 in_either x (y ∷ xs) ys (inl e) = inl (inl e)
 in_either x (y ∷ xs) ys (inr h) = elim (in_either x xs ys h) [ inl k ↦ inl (inr k) | inr k ↦ inr k ]
 
-in_front : (x : ℕ) (xs ys : List ℕ) → IsIn x xs → IsIn x (xs ++ ys)
-in_front x [] ys h = absurd h
-in_front x (y ∷ xs) ys (inl e) = inl e
-in_front x (y ∷ xs) ys (inr h) = inr (in_front x xs ys h)
+in_prefix : (x : ℕ) (xs ys : List ℕ) → IsIn x xs → IsIn x (xs ++ ys)
+in_prefix x [] ys h = absurd h
+in_prefix x (y ∷ xs) ys (inl e) = inl e
+in_prefix x (y ∷ xs) ys (inr h) = inr (in_prefix x xs ys h)
 
 in_back : (x : ℕ) (xs ys : List ℕ) → IsIn x ys → IsIn x (xs ++ ys)
 in_back x [] ys h = h
@@ -79,7 +79,7 @@ line_is_there x line true (inr h) = absurd h
 line_is_there x line false h = absurd h
 
 pub line_there : (lines : List ℕ) (line : ℕ) (has : Bool) → IsIn line (with_or_without lines line has) ↔ (has ≡ true)
-line_there lines line has = (there, (λ e. in_front line (low ++ cond has (line ∷ []) []) high (in_back line low (cond has (line ∷ []) []) (put e))))
+line_there lines line has = (there, (λ e. in_prefix line (low ++ cond has (line ∷ []) []) high (in_back line low (cond has (line ∷ []) []) (put e))))
   where
     low : List ℕ
     low = filter (λ other. nat_lt other line) lines
@@ -119,7 +119,7 @@ others_there lines line has x other = (from, to)
 
     to : IsIn x lines → IsIn x (with_or_without lines line has)
     to h = elim (cases_lt x line) [
-      | inl l ↦ in_front x (low ++ cond has (line ∷ []) []) high (in_front x low (cond has (line ∷ []) []) (low_is_member x line lines h l))
+      | inl l ↦ in_prefix x (low ++ cond has (line ∷ []) []) high (in_prefix x low (cond has (line ∷ []) []) (low_is_member x line lines h l))
       | inr ge ↦ in_back x (low ++ cond has (line ∷ []) []) high (high_is_member x line lines h (omega arith))
     ]
 

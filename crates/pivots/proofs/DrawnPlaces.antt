@@ -23,10 +23,10 @@ use Rattle.cmr_base.proofs.RowLists.{filter_in, in_filter}
 
 -- ---- items by their numbers
 
-get_front : (xs ys : List PlacedPivot) (n : ℕ) → n < length xs → slice_get (xs ++ ys) n ≡ slice_get xs n
-get_front [] ys n h = absurd (omega arith)
-get_front (x ∷ xs) ys zero h = refl
-get_front (x ∷ xs) ys (suc n) h = get_front xs ys n (omega arith)
+get_prefix : (xs ys : List PlacedPivot) (n : ℕ) → n < length xs → slice_get (xs ++ ys) n ≡ slice_get xs n
+get_prefix [] ys n h = absurd (omega arith)
+get_prefix (x ∷ xs) ys zero h = refl
+get_prefix (x ∷ xs) ys (suc n) h = get_prefix xs ys n (omega arith)
 
 get_back : (xs ys : List PlacedPivot) (n : ℕ) → length xs ≤ n → slice_get (xs ++ ys) n ≡ slice_get ys (n - length xs)
 get_back [] ys n h = let e : n ≡ n - 0 = omega arith in ap (slice_get ys) e
@@ -57,7 +57,7 @@ module _ (m : Matrix) (rows columns : List ℕ) (k left : ℕ) (inside : k < len
   more = ap (λ (xs : List ℕ). places_on m xs columns) (drop_more rows k 0 inside)
 
   pub place_here : left < length (row_places m columns (get_or rows k 0)) → slice_get (row_places m columns (get_or rows k 0)) left ≡ slice_get (places_on m (drop k rows) columns) left
-  place_here h = sym (get_front row (places_on m (drop (k + 1) rows) columns) left h) ∙ sym (ap (λ (xs : List PlacedPivot). slice_get xs left) more)
+  place_here h = sym (get_prefix row (places_on m (drop (k + 1) rows) columns) left h) ∙ sym (ap (λ (xs : List PlacedPivot). slice_get xs left) more)
 
   pub place_later : length (row_places m columns (get_or rows k 0)) ≤ left
       → slice_get (places_on m (drop (k + 1) rows) columns) (left - length (row_places m columns (get_or rows k 0))) ≡ slice_get (places_on m (drop k rows) columns) left

@@ -38,10 +38,10 @@ below n lines line made all inside others k h = elim (cases_eq (get_or made k 0)
 ]
 
 pub row_set : (m : Matrix) (row : ℕ) (rows : List ℕ) (has : Bool) (made : List ℕ) → made ≡ with_or_without rows row has → IsStrictlyIncreasing made → AllBelow (height m) rows → row < height m → IsRowSet m made
-row_set m row rows has made e rising all inside = record { rising = rising; in_range = below (height m) rows row made all inside (λ x apart h. (others_there rows row has x apart).0 (subst (IsIn x) e h)) }
+row_set m row rows has made e increasing all inside = record { increasing = increasing; in_range = below (height m) rows row made all inside (λ x apart h. (others_there rows row has x apart).0 (subst (IsIn x) e h)) }
 
 pub column_set : (m : Matrix) (column : ℕ) (columns : List ℕ) (has : Bool) (made : List ℕ) → made ≡ with_or_without columns column has → IsStrictlyIncreasing made → AllBelow m.width columns → column < m.width → IsColumnSet m made
-column_set m column columns has made e rising all inside = record { rising = rising; in_range = below m.width columns column made all inside (λ x apart h. (others_there columns column has x apart).0 (subst (IsIn x) e h)) }
+column_set m column columns has made e increasing all inside = record { increasing = increasing; in_range = below m.width columns column made all inside (λ x apart h. (others_there columns column has x apart).0 (subst (IsIn x) e h)) }
 
 pub pivot_place : (m : Matrix) (row column : ℕ) → IsMatrix m → row < height m → column < m.width → entry m row column ≢ pos 0 → IsPivotPlace m row column
 pivot_place m row column is row_in column_in nonzero = record { row_in = row_in; column_in = column_in; nonzero = sign_of_entry (entry m row column) (is.small row column) nonzero }

@@ -24,9 +24,9 @@ use Rattle.pivots.proofs.PartLaws.{entry_among, replaced_is_small}
 
 -- two places are one exactly if the lines there are
 test_of_places : (lines : List ℕ) (x y : ℕ) → IsStrictlyIncreasing lines → x < length lines → y < length lines → eqb x y ≡ eqb (get_or lines x 0) (get_or lines y 0)
-test_of_places lines x y rising hx hy = same_test (eqb x y) (eqb (get_or lines x 0) (get_or lines y 0))
+test_of_places lines x y increasing hx hy = same_test (eqb x y) (eqb (get_or lines x 0) (get_or lines y 0))
     (λ e. eq-eqb (get_or lines x 0) (get_or lines y 0) (ap (λ k. get_or lines k 0) (eqb-true x y e)))
-    (λ e. eq-eqb x y (same_place lines x y (increasing_distinct lines rising) hx hy (eqb-true (get_or lines x 0) (get_or lines y 0) e)))
+    (λ e. eq-eqb x y (same_place lines x y (increasing_distinct lines increasing) hx hy (eqb-true (get_or lines x 0) (get_or lines y 0) e)))
 
 -- an entry of a pivot, with the lines by their places
 entry_by_places : (M : ℕ → ℕ → ℤ) (f g : ℕ → ℕ) (r c i j : ℕ) → eqb i r ≡ eqb (f i) (f r) → eqb j c ≡ eqb (g j) (g c) → pivot_entry (λ i j. M (f i) (g j)) r c i j ≡ pivot_entry M (f r) (g c) (f i) (g j)
@@ -66,7 +66,7 @@ module _ (m : Matrix) (lines : LineSet) (is_rows : IsRowSet m lines.rows) (is_co
           entry-submatrix (pivoted_part m lines (numbered_place lines row column)) lines.rows lines.columns i j hi hj
           ∙ entry_among m lines (numbered_place lines row column) is_rows is_columns (get_or lines.rows i 0) (get_or lines.columns j 0) (Contains-get_or lines.rows i 0 hi) (Contains-get_or lines.columns j 0 hj)
           ∙ sym (entry_by_places (entry m) (λ k. get_or lines.rows k 0) (λ k. get_or lines.columns k 0) row column i j
-          (test_of_places lines.rows i row is_rows.rising hi row_in) (test_of_places lines.columns j column is_columns.rising hj column_in))
+          (test_of_places lines.rows i row is_rows.increasing hi row_in) (test_of_places lines.columns j column is_columns.increasing hj column_in))
           ∙ sym (pivot_entry_same (entry (part_of m)) (λ i j. entry m (get_or lines.rows i 0) (get_or lines.columns j 0)) row column i j
           (entry-submatrix m lines.rows lines.columns row column row_in column_in) (entry-submatrix m lines.rows lines.columns i column hi column_in)
           (entry-submatrix m lines.rows lines.columns row j row_in hj) (entry-submatrix m lines.rows lines.columns i j hi hj))

@@ -16,7 +16,7 @@ use Rattle.cmr_base.proofs.Entries.{height-with_entry, entry-with_entry_same, en
 use Rattle.cmr_base.proofs.ListedLines.{has_line_from_listed, listed_from_has_line}
 use Rattle.cmr_base.proofs.ListsWithout.{in_from_contains}
 use Rattle.cmr_base.proofs.Places.{contained_below, each_more, placed_before}
-use Rattle.cmr_base.proofs.RisingLists.{RisesIn, rising_row_set, rising_column_set}
+use Rattle.cmr_base.proofs.IncreasingLists.{RisesIn, increasing_row_set, increasing_column_set}
 use Rattle.ghouila.specs.PivotLaws.{pivot_entry}
 use Rattle.ghouila.proofs.PivotLaws.{filled_again}
 use Rattle.pivots.specs.declared.place.PlacedPivot.{PlacedPivot}
@@ -94,10 +94,10 @@ module _ (m before : Matrix) (columns : List ℕ) (place : PlacedPivot) (row : �
 
   pub row_stopped : (now : Matrix) (k : ℕ) → k < length columns → IsStrictlyIncreasing columns → ¬ (IsEntry (pivot_entry (entry m) place.row place.column row (get_or columns k 0)))
       → IsRowPivotedTo m before now columns place row k → IsFirstTwoOfRow m columns place row (get_or columns k 0)
-  row_stopped now k inside rising two h = record {
+  row_stopped now k inside increasing two h = record {
     column_in = Contains-get_or columns k 0 inside;
     two = two;
-    columns_before = λ j there lower. placed_before (λ x. IsEntry (pivot_entry (entry m) place.row place.column row x)) columns k rising h.small j (in_from_contains columns j there) lower;
+    columns_before = λ j there lower. placed_before (λ x. IsEntry (pivot_entry (entry m) place.row place.column row x)) columns k increasing h.small j (in_from_contains columns j there) lower;
   }
 
 -- ---- row by row
@@ -200,12 +200,12 @@ module _ (m : Matrix) (lines : LineSet) (place : PlacedPivot) (is : IsMatrix m) 
     column_in = first.column_in;
     two = first.two;
     rows_before = λ i j i_there j_there lower.
-        placed_before (λ x. (j : ℕ) → Contains lines.columns j → IsEntry (pivot_entry (entry m) place.row place.column x j)) lines.rows k is_rows.rising h.small i (in_from_contains lines.rows i i_there) lower j j_there;
+        placed_before (λ x. (j : ℕ) → Contains lines.columns j → IsEntry (pivot_entry (entry m) place.row place.column x j)) lines.rows k is_rows.increasing h.small i (in_from_contains lines.rows i i_there) lower j j_there;
     columns_before = first.columns_before;
     rows_are = e;
     columns_are = f;
-    row_set = subst (IsRowSet m) (sym e) (rising_row_set m (two_lines place.row row) two_rows);
-    column_set = subst (IsColumnSet m) (sym f) (rising_column_set m (two_lines place.column column) two_columns);
+    row_set = subst (IsRowSet m) (sym e) (increasing_row_set m (two_lines place.row row) two_rows);
+    column_set = subst (IsColumnSet m) (sym f) (increasing_column_set m (two_lines place.column column) two_columns);
     among = record {
       rows = subst (AllByRecursion (Contains lines.rows)) (sym e) (two_among lines.rows place.row row place_in.row there);
       columns = subst (AllByRecursion (Contains lines.columns)) (sym f) (two_among lines.columns place.column column place_in.column first.column_in);

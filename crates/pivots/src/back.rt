@@ -81,7 +81,7 @@ fn is_odd(sum: i32) -> bool
 // The set with a line, or without it.
 fn with_or_without(alloc: Global, lines: &Indices, line: u32, has: bool) -> Result<Indices, Memory>
     ensures lines { IfOk result (λ made. made ≡ with_or_without lines.now line has) }
-    ensures rising { IfOk result IsStrictlyIncreasing }
+    ensures increasing { IfOk result IsStrictlyIncreasing }
 {
     let mut made = lines_up_to(alloc, lines, line, has)?;
     push_above(&mut made, lines, line)?;

@@ -8,7 +8,7 @@ use Rattle.cmr_base.specs.Members.{IsIn}
 use Rattle.cmr_base.specs.Sums.{sum_over, IsOdd}
 use Rattle.cmr_base.proofs.Lists.{all_at, all_both, all-one_more}
 use Rattle.cmr_base.proofs.Members.{all_in, all_of_members, in_at}
-use Rattle.cmr_base.proofs.Places.{rising_same}
+use Rattle.cmr_base.proofs.Places.{increasing_same}
 use Rattle.cmr_base.proofs.SumLaws.{sum_over_same}
 use Rattle.cmr_base.proofs.Booleans.{neither}
 use Rattle.ghouila.specs.declared.by_pivots.Pivot.{Pivot}
@@ -292,8 +292,8 @@ violated_pivot steps once rows m m' after row column left (step ∷ steps') afte
         let are = next_is rows m m' after after' row row' column column' left left' same next next' in
         let there = once left after after' steps' after_rows after_columns after_rows' after_columns' (same_after rows m m' after after' row row' column column' left left' same next next' made made') run
         (subst (λ l. ViolatesBySteps after' l steps' after_rows' after_columns') are.one_left rest') in
-        let rows_one : after_rows' ≡ after_rows = rising_same after_rows' after_rows back'.row_set back.row_set (λ i. (there.rows_are i).0) (λ i. (there.rows_are i).1) in
-        let columns_one : after_columns' ≡ after_columns = rising_same after_columns' after_columns back'.column_set back.column_set (λ j. (there.columns_are j).0) (λ j. (there.columns_are j).1) in
+        let rows_one : after_rows' ≡ after_rows = increasing_same after_rows' after_rows back'.row_set back.row_set (λ i. (there.rows_are i).0) (λ i. (there.rows_are i).1) in
+        let columns_one : after_columns' ≡ after_columns = increasing_same after_columns' after_columns back'.column_set back.column_set (λ j. (there.columns_are j).0) (λ j. (there.columns_are j).1) in
         let moved : IsTakenBack m' row column after_rows after_columns violator_rows' violator_columns' =
         subst (λ xs. IsTakenBack m' row column after_rows xs violator_rows' violator_columns') columns_one
         (subst (λ xs. IsTakenBack m' row column xs after_columns' violator_rows' violator_columns') rows_one
@@ -330,6 +330,6 @@ answers_are_one m rows (Signed signs steps) (Violated lines) right right' (sign,
 answers_are_one m rows (Violated lines) (Signed signs steps) right right' (steps', run') (sign, signs_are, run) = absurd (signs_or_violates m rows steps steps' sign lines.rows lines.columns run run')
 answers_are_one m rows (Violated lines) (Violated lines') right right' (steps, run) (steps', run') =
     let there = violated_once steps rows m m steps' lines.rows lines.columns lines'.rows lines'.columns (same_self rows m) run run' in
-    let rows_one : lines'.rows ≡ lines.rows = rising_same lines'.rows lines.rows right'.row_set.rising right.row_set.rising (λ i. (there.rows_are i).0) (λ i. (there.rows_are i).1) in
-    let columns_one : lines'.columns ≡ lines.columns = rising_same lines'.columns lines.columns right'.column_set.rising right.column_set.rising (λ j. (there.columns_are j).0) (λ j. (there.columns_are j).1) in
+    let rows_one : lines'.rows ≡ lines.rows = increasing_same lines'.rows lines.rows right'.row_set.increasing right.row_set.increasing (λ i. (there.rows_are i).0) (λ i. (there.rows_are i).1) in
+    let columns_one : lines'.columns ≡ lines.columns = increasing_same lines'.columns lines.columns right'.column_set.increasing right.column_set.increasing (λ j. (there.columns_are j).0) (λ j. (there.columns_are j).1) in
     sym (ap₂ (λ (rs cs : List ℕ). Violated (record { rows = rs; columns = cs })) rows_one columns_one)

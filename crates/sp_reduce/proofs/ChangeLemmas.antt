@@ -45,7 +45,7 @@ module _ (binary : Bool) (m : Matrix) (side : StayingLines) (across : List ℕ) 
   count_before at h =
       let f = table (entry m) side.kind (get_or side.stays.items at 0) in
       b.counted.counts at h
-      ∙ sum_by-without (λ k. cond (is_nonzero (f k)) 1 0) gone b.before (increasing_distinct b.before b.lines.rising) (in_from_contains b.before gone b.there)
+      ∙ sum_by-without (λ k. cond (is_nonzero (f k)) 1 0) gone b.before (increasing_distinct b.before b.lines.increasing) (in_from_contains b.before gone b.there)
       ∙ ap (λ (lines : List ℕ). cond (is_nonzero (f gone)) 1 0 + nonzeros_at lines f) (sym b.left)
 
   sum_before : (at : ℕ) → at < length side.stays.items
@@ -53,7 +53,7 @@ module _ (binary : Bool) (m : Matrix) (side : StayingLines) (across : List ℕ) 
   sum_before at h =
       let f = table (entry m) side.kind (get_or side.stays.items at 0) in
       b.counted.sums at h
-      ∙ sum_by-without (λ k. cond (is_nonzero (f k)) (weight k) 0) gone b.before (increasing_distinct b.before b.lines.rising) (in_from_contains b.before gone b.there)
+      ∙ sum_by-without (λ k. cond (is_nonzero (f k)) (weight k) 0) gone b.before (increasing_distinct b.before b.lines.increasing) (in_from_contains b.before gone b.there)
       ∙ ap (λ (lines : List ℕ). cond (is_nonzero (f gone)) (weight gone) 0 + weight_at lines f) (sym b.left)
 
   pub held : IsHeld m side gone
@@ -95,17 +95,17 @@ module _ (binary : Bool) (m : Matrix) (side : StayingLines) (across : List ℕ) 
       let N = table (entry m) side.kind in
       let line = get_or side.stays.items at 0 in
       let inside : at < length side.stays.items = subst (λ (xs : List ℕ). at < length xs) stays h in
-      let before : ¬ _ = irreducible_from_none binary N (line_named side.kind) (cross_named side.kind) side.stays.items b.before line b.lines.rising (b.settled at inside (was at inside e)) in
+      let before : ¬ _ = irreducible_from_none binary N (line_named side.kind) (cross_named side.kind) side.stays.items b.before line b.lines.increasing (b.settled at inside (was at inside e)) in
       rw (kind, stays, b.left)
       (none_from_irreducible binary N (line_named side.kind) (cross_named side.kind) side.stays.items (without b.before gone) line
-      (irreducible_after binary N (line_named side.kind) b.before side.stays.items gone line reason b.lines.rising (in-get_or side.stays.items at inside)
-      (meant_for binary (entry m) side.kind b.before side.stays.items gone reason is.rising b.why) before
+      (irreducible_after binary N (line_named side.kind) b.before side.stays.items gone line reason b.lines.increasing (in-get_or side.stays.items at inside)
+      (meant_for binary (entry m) side.kind b.before side.stays.items gone reason is.increasing b.why) before
       (λ c. subst (λ (lines : List ℕ). 1 < nonzeros_at lines (N line)) b.left (many at inside e c))
       (λ c q i. let w = unit at inside e c q i in (w.0, ap (λ (lines : List ℕ). is_twin binary N lines c line) (sym b.left) ∙ w.1))))
 
   pub across_left : IsAcross m side.kind across
   across_left = subst (λ (lines : List ℕ). IsAcross m side.kind lines) (sym b.left) (record {
-    rising = without_increases gone b.before b.lines.rising;
+    increasing = without_increases gone b.before b.lines.increasing;
     in_range = within_below (cross_size m side.kind) (without b.before gone) b.before (within-without gone b.before) b.lines.in_range;
   })
 
@@ -128,7 +128,7 @@ module _ (binary : Bool) (m : Matrix) (side : StayingLines) (across : List ℕ) 
         → ((at : ℕ) → at < length side.stays.items → IsUnsettled binary m new last across changed at) → IsSettled binary m last across
     settled_named line changed e inside here unsettled = settled_last (λ at h mark c q i.
         let there : get_or side.stays.items changed 0 ≡ c = here ∙ unit_number side.kind line c (sym e ∙ q) in (
-          (λ p. (unsettled at h).other mark (same_place side.stays.items at changed (increasing_distinct side.stays.items is.rising) h inside (p ∙ sym there))),
+          (λ p. (unsettled at h).other mark (same_place side.stays.items at changed (increasing_distinct side.stays.items is.increasing) h inside (p ∙ sym there))),
           ap (λ (line : ℕ). is_twin binary (table (entry m) side.kind) across line (get_or side.stays.items at 0)) (sym there)
               ∙ ap (λ (s : StayingLines). is_twin binary (table (entry m) s.kind) across (get_or s.stays.items changed 0) (get_or s.stays.items at 0)) (sym f.same)
               ∙ (unsettled at h).no_twin mark,
@@ -141,14 +141,14 @@ module _ (m : Matrix) (own new : StayingLines) (place : ℕ) (is : IsSide m own)
   shorter = ap (λ (xs : List ℕ). length xs + 1) cut.stays ∙ length-remove own.stays.items place inside
 
   pub cut_without : new.stays.items ≡ without own.stays.items (get_or own.stays.items place 0)
-  cut_without = cut.stays ∙ remove-without own.stays.items place (increasing_distinct own.stays.items is.rising) inside
+  cut_without = cut.stays ∙ remove-without own.stays.items place (increasing_distinct own.stays.items is.increasing) inside
 
   place_before : (at : ℕ) → at < length new.stays.items → (old : ℕ) × HasStood (length own.stays.items) place at old
   place_before at h = stood (length own.stays.items) place at inside (omega (arith, h, shorter))
 
   pub cut_side : IsSide m new
   cut_side = record {
-    rising = subst IsStrictlyIncreasing (sym cut_without) (without_increases (get_or own.stays.items place 0) own.stays.items is.rising);
+    increasing = subst IsStrictlyIncreasing (sym cut_without) (without_increases (get_or own.stays.items place 0) own.stays.items is.increasing);
     in_range = λ at h. let w = place_before at h in
         rw (cut.kind, cut.stays) (subst (λ (n : ℕ). n < count_of_kind m own.kind) (sym (w.1.number own.stays.items refl)) (is.in_range w.0 w.1.in_range));
     parallel = record {

@@ -26,7 +26,7 @@ paired_swapped binary m own across p = record {
 
 pub across_of_paired : (binary : Bool) (m : Matrix) (own across : StayingLines) → ArePaired binary m own across → IsAcross m own.kind across.stays.items
 across_of_paired binary m own across p = record {
-  rising = p.across_side.rising;
+  increasing = p.across_side.increasing;
   in_range = λ k h. subst (λ (n : ℕ). get_or across.stays.items k 0 < n) (ap (count_of_kind m) p.kinds ∙ size-other m own.kind) (p.across_side.in_range k h);
 }
 
@@ -77,6 +77,6 @@ module _ (binary : Bool) (m : Matrix) (own own' across : StayingLines) (place : 
     own_counted = subst (λ (lines : List ℕ). AreNonzerosCounted m own' lines) (sym stays) (cut_counted m own own' place p.own_side inside cut across.stays.items p.own_counted);
     across_counted = counted;
     own_settled = subst (λ (lines : List ℕ). IsSettled binary m own' lines) (sym stays)
-        (cut_settled m own own' place p.own_side inside cut binary across.stays.items p.across_side.rising p.own_settled);
+        (cut_settled m own own' place p.own_side inside cut binary across.stays.items p.across_side.increasing p.own_settled);
     across_settled = settled;
   }

@@ -14,7 +14,7 @@ use Rattle.sp_reduce.proofs.Searches.{some_not_none}
 
 pub side_marked : (m : Matrix) (side side' : StayingLines) → side' ≡ record side { settled = side'.settled } → length side'.settled.items ≡ length side.stays.items → IsSide m side → IsSide m side'
 side_marked m side side' e long is = subst (λ (s : StayingLines). IsSide m s) (sym e) (record {
-  rising = is.rising;
+  increasing = is.increasing;
   in_range = is.in_range;
   parallel = record { counts = is.parallel.counts; sums = is.parallel.sums; settled = long };
 })

@@ -82,8 +82,8 @@ column_set_within m columns is x h = let w = place_is x columns h in in_first_li
 
 pub submatrices : SubmatricesAreSeriesParallel
 submatrices binary m rows columns is js sp =
-    submatrix_from_lines binary m rows columns is.rising js.rising
-    (series_parallel-within binary (entry m) (first_lines (height m)) (first_lines m.width) rows columns is.rising js.rising (row_set_within m rows is) (column_set_within m columns js) sp)
+    submatrix_from_lines binary m rows columns is.increasing js.increasing
+    (series_parallel-within binary (entry m) (first_lines (height m)) (first_lines m.width) rows columns is.increasing js.increasing (row_set_within m rows is) (column_set_within m columns js) sp)
 
 all_lines_few : (m : Matrix) → length (first_lines (height m)) + length (first_lines m.width) ≡ height m + m.width
 all_lines_few m = ap₂ (λ (a b : ℕ). a + b) (length-range_with_len 0 (height m)) (length-range_with_len 0 m.width)

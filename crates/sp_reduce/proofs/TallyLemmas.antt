@@ -213,12 +213,12 @@ module _ (m : Matrix) (kind : LineKind) (marks : List Bool) (across : List ℕ) 
   counts_are : (l : ℕ) → l < count_of_kind m kind → get_or t.counts.items l 0 ≡ nonzeros_at across (table (entry m) kind l)
   counts_are l h =
       are.counts l h ∙ tally_same (λ _. 1) marks (cross_size m kind) (by_kind (is_passed m (height m) 0) kind l) (by_kind (support m) kind l) (λ k g. by_kind_all m kind l k h g)
-      ∙ tally_marked (λ _. 1) marks (cross_size m kind) across (by_kind (support m) kind l) marked is.rising inside ∙ by_table l (λ _. 1)
+      ∙ tally_marked (λ _. 1) marks (cross_size m kind) across (by_kind (support m) kind l) marked is.increasing inside ∙ by_table l (λ _. 1)
 
   sums_are : (l : ℕ) → l < count_of_kind m kind → get_or t.sums.items l 0 ≡ weight_at across (table (entry m) kind l)
   sums_are l h =
       are.sums l h ∙ tally_same weight marks (cross_size m kind) (by_kind (is_passed m (height m) 0) kind l) (by_kind (support m) kind l) (λ k g. by_kind_all m kind l k h g)
-      ∙ tally_marked weight marks (cross_size m kind) across (by_kind (support m) kind l) marked is.rising inside ∙ by_table l weight
+      ∙ tally_marked weight marks (cross_size m kind) across (by_kind (support m) kind l) marked is.increasing inside ∙ by_table l weight
 
   -- and of some lines alone
   pub tallies_of : (lines : List ℕ) (some : Tallies) → AllBelow (count_of_kind m kind) lines → AreTalliesAt lines (length lines) t some → AreTalliesOf m kind lines across some

@@ -22,7 +22,7 @@ sum_by-without f i (x ∷ xs) d h = sum_by-cons f x xs ∙ go (eqb x i) refl h (
     go false e (inl q) k = absurd (eqb-false x i e (sym q))
     go false e (inr h) k = let w = k h in let s = sum_by-cons f x (without xs i) in omega (arith, w, s)
 
--- a rising list cut at a place is the list without the number there
+-- a increasing list cut at a place is the list without the number there
 pub remove-without : (xs : List ℕ) (place : ℕ) → IsDistinct xs → place < length xs → remove xs place ≡ without xs (get_or xs place 0)
 remove-without [] place d h = absurd (omega arith)
 remove-without (x ∷ xs) zero d h = rw (eq-eqb x x refl) (sym (without_none x xs d.0))

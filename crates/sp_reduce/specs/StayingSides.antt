@@ -27,15 +27,15 @@ pub record IsParallel (side : StayingLines) : Type 0 where
   pub sums : length side.sums.items ≡ length side.stays.items
   pub settled : length side.settled.items ≡ length side.stays.items
 
--- rising numbers of lines of the matrix
+-- increasing numbers of lines of the matrix
 pub record IsSide (m : Matrix) (side : StayingLines) : Type 0 where
-  pub rising : IsStrictlyIncreasing side.stays.items
+  pub increasing : IsStrictlyIncreasing side.stays.items
   pub in_range : AllBelow (count_of_kind m side.kind) side.stays.items
   pub parallel : IsParallel side
 
--- rising numbers of crossing lines
+-- increasing numbers of crossing lines
 pub record IsAcross (m : Matrix) (kind : LineKind) (across : List ℕ) : Type 0 where
-  pub rising : IsStrictlyIncreasing across
+  pub increasing : IsStrictlyIncreasing across
   pub in_range : AllBelow (cross_size m kind) across
 
 -- the lines at two places are not one, and have one sum

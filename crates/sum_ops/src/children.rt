@@ -83,7 +83,7 @@ fn child_rows(
     more: &[Line],
 ) -> Result<Indices, Memory>
     ensures child { IfOk result (λ child. child ≡ chosen Row inside side.now more.now rows.now) }
-    ensures rising { IfOk result (λ _. IsStrictlyIncreasing rows.now) }
+    ensures increasing { IfOk result (λ _. IsStrictlyIncreasing rows.now) }
 {
     let mut child = Indices::new(alloc);
     for row in rows.as_slice() {
@@ -103,7 +103,7 @@ fn child_columns(
 ) -> Result<Indices, Memory>
     ensures child { IfOk result (λ child. child ≡ chosen Column inside side.now more.now
         columns.now) }
-    ensures rising { IfOk result (λ _. IsStrictlyIncreasing columns.now) }
+    ensures increasing { IfOk result (λ _. IsStrictlyIncreasing columns.now) }
 {
     let mut child = Indices::new(alloc);
     for column in columns.as_slice() {

@@ -52,12 +52,12 @@ bind_fails (errors.Fault kind place) r f h = rw h refl
 
 -- so many fields were read, behind those before them: these words spelled them
 pub record AreFields {A K : Type 0} (parse : List ℕ → Result A K) (n : ℕ) (text : Text) (before values : List A) (rest : Text) : Type 0 where
-  pub front : List (ℕ × List ℕ)
+  pub prefix : List (ℕ × List ℕ)
   pub read : List A
-  pub words_are : text.words ≡ front ++ rest.words
+  pub words_are : text.words ≡ prefix ++ rest.words
   pub size_is : text.size ≡ rest.size
   pub values_are : values ≡ before ++ read
-  pub spell : Spell parse (texts_of front) read
+  pub spell : Spell parse (texts_of prefix) read
   pub count : length read ≡ n
 
 another_ok : {A K : Type 0} (short : K) (parse : List ℕ → Result A K) (before : List A) (text : Text) (next : List A × Text) → another short parse before text ≡ Ok next → (x : A) × (field short parse text ≡ Ok (x, next.1)) × (next.0 ≡ before ++ x ∷ [])
@@ -70,7 +70,7 @@ pub fields_ok : {A K : Type 0} (short : K) (parse : List ℕ → Result A K) (n 
 fields_ok {A} short parse zero before text values rest h =
     let e = ok_same (before, text) (values, rest) h in
     record {
-      front = [];
+      prefix = [];
       read = [];
       words_are = ap (λ (p : List A × Text). (p.1).words) e;
       size_is = ap (λ (p : List A × Text). (p.1).size) e;
@@ -84,11 +84,11 @@ fields_ok {A} short parse (suc n) before text values rest h =
     let first = field_ok short parse text one.0 b.0.1 one.1 in
     let later = fields_ok short parse n b.0.0 b.0.1 values rest b.2 in
     record {
-      front = first.word ∷ later.front;
+      prefix = first.word ∷ later.prefix;
       read = one.0 ∷ later.read;
       words_are = first.words_are ∙ ap (λ words. first.word ∷ words) later.words_are;
       size_is = first.size_is ∙ later.size_is;
-      values_are = later.values_are ∙ ap (λ front. front ++ later.read) one.2 ∙ append_assoc before (one.0 ∷ []) later.read;
+      values_are = later.values_are ∙ ap (λ prefix. prefix ++ later.read) one.2 ∙ append_assoc before (one.0 ∷ []) later.read;
       spell = (first.parsed, later.spell);
       count = ap suc later.count;
     }

@@ -4,7 +4,7 @@ use Rattle.std.proofs.lemmas.Bool.{leb-true, le-leb}
 use Rattle.std.proofs.lemmas.Bool.Decides.{nat_tests}
 use Rattle.text_fields.specs.declared.error.LimitFault.{LimitFault}
 use Rattle.text_fields.specs.declared.error.LimitFault.TheVariants.{Number, OutOfRange, NotRising}
-use Rattle.text_fields.specs.Limits.{limited, line_in, rising_line_in}
+use Rattle.text_fields.specs.Limits.{limited, line_in, increasing_line_in}
 use Rattle.text_fields.specs.Numbers.{count_in}
 use Rattle.text_fields.specs.Result.{renamed}
 use Rattle.text_fields.proofs.Results.{bind_ok, guard_ok, bar_ok, renamed_ok}
@@ -39,16 +39,16 @@ module _ {K : Type 0} (name : LimitFault → K) where
       let some : eqb n 0 ≡ false = grind (arith, nat_tests) in
       rw (h, t, some) refl
 
-  pub rising_line_ok : (most before : ℕ) (word : List ℕ) (n : ℕ) → renamed name (rising_line_in most before word) ≡ Ok n → (count_in word ≡ Ok n) × (0 < n) × (n ≤ most) × (before < n)
-  rising_line_ok most before word n h =
-      let b = bind_ok (line_in most word) (λ k. cond (ltb before k) (Ok k) (Err NotRising)) n (renamed_ok name (rising_line_in most before word) n h) in
+  pub increasing_line_ok : (most before : ℕ) (word : List ℕ) (n : ℕ) → renamed name (increasing_line_in most before word) ≡ Ok n → (count_in word ≡ Ok n) × (0 < n) × (n ≤ most) × (before < n)
+  increasing_line_ok most before word n h =
+      let b = bind_ok (line_in most word) (λ k. cond (ltb before k) (Ok k) (Err NotRising)) n (renamed_ok name (increasing_line_in most before word) n h) in
       let g = guard_ok (ltb before b.0) b.0 n NotRising b.2 in
       let l = line_found most word b.0 b.1 in
       let above : before < b.0 = grind (arith, nat_tests, g.0) in
       (l.0 ∙ ap Ok g.1, omega (arith, g.1, l.1), omega (arith, g.1, l.2), omega (arith, g.1))
 
-  pub rising_line_again : (most before : ℕ) (word : List ℕ) (n : ℕ) → count_in word ≡ Ok n → 0 < n → n ≤ most → before < n → renamed name (rising_line_in most before word) ≡ Ok n
-  rising_line_again most before word n h above within rising =
+  pub increasing_line_again : (most before : ℕ) (word : List ℕ) (n : ℕ) → count_in word ≡ Ok n → 0 < n → n ≤ most → before < n → renamed name (increasing_line_in most before word) ≡ Ok n
+  increasing_line_again most before word n h above within increasing =
       let t : leb n most ≡ true = le-leb n most within in
       let some : eqb n 0 ≡ false = grind (arith, nat_tests) in
       let rises : ltb before n ≡ true = grind (arith, nat_tests) in

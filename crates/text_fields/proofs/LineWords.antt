@@ -73,24 +73,24 @@ words_in_lines [] all = refl
 words_in_lines (line ∷ lines) all = words_in_line line (text_of_lines lines) all.0 ∙ ap (λ ws. line ++ ws) (words_in_lines lines all.1)
 
 -- words whose texts are those of two lists, one after the other
-pub record AreSplit (words : List (ℕ × List ℕ)) (front back : List (List ℕ)) : Type 0 where
+pub record AreSplit (words : List (ℕ × List ℕ)) (prefix back : List (List ℕ)) : Type 0 where
   pub first : List (ℕ × List ℕ)
   pub second : List (ℕ × List ℕ)
   pub words_are : words ≡ first ++ second
-  pub front_is : texts_of first ≡ front
+  pub prefix_is : texts_of first ≡ prefix
   pub back_is : texts_of second ≡ back
 
-pub split_texts : (words : List (ℕ × List ℕ)) (front back : List (List ℕ)) → texts_of words ≡ front ++ back → AreSplit words front back
-split_texts words [] back e = record { first = []; second = words; words_are = refl; front_is = refl; back_is = e }
-split_texts [] (text ∷ front) back e = absurd (cc)
-split_texts (word ∷ words) (text ∷ front) back e =
+pub split_texts : (words : List (ℕ × List ℕ)) (prefix back : List (List ℕ)) → texts_of words ≡ prefix ++ back → AreSplit words prefix back
+split_texts words [] back e = record { first = []; second = words; words_are = refl; prefix_is = refl; back_is = e }
+split_texts [] (text ∷ prefix) back e = absurd (cc)
+split_texts (word ∷ words) (text ∷ prefix) back e =
     let head : word.1 ≡ text = cc in
-    let tail : texts_of words ≡ front ++ back = cc in
-    let later = split_texts words front back tail in
+    let tail : texts_of words ≡ prefix ++ back = cc in
+    let later = split_texts words prefix back tail in
     record {
       first = word ∷ later.first;
       second = later.second;
       words_are = ap (λ ws. word ∷ ws) later.words_are;
-      front_is = rw (head, later.front_is) refl;
+      prefix_is = rw (head, later.prefix_is) refl;
       back_is = later.back_is;
     }

@@ -22,7 +22,7 @@ line_in most word = do
   if n == 0 then Err OutOfRange else Ok n
 
 -- a line's number above the one before it
-abbrev pub rising_line_in : ℕ → ℕ → List ℕ → Result ℕ LimitFault
-rising_line_in most before word = do
+abbrev pub increasing_line_in : ℕ → ℕ → List ℕ → Result ℕ LimitFault
+increasing_line_in most before word = do
   n ← line_in most word
   if nat_lt before n then Ok n else Err NotRising

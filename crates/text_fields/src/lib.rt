@@ -9,6 +9,6 @@ mod writer;
 
 pub use error::{FieldError, LimitFault, NumberFault};
 pub use line_name::push_line_name;
-pub use number::{count_in, limited, line_in, rising_line_in, signed_in};
+pub use number::{count_in, increasing_line_in, limited, line_in, signed_in};
 pub use words::{Words, at_place};
 pub use writer::Writer;

@@ -1,7 +1,7 @@
 // Counts, signed numbers, and numbers within limits.
 ghost use Rattle.std.specs.Prelude.{◌≡◌, ◌≤◌, ◌<◌, ◌^◌, IfOk};
 ghost use Rattle.text_fields.specs.Numbers.{magnitude, count_in, signed_in};
-ghost use Rattle.text_fields.specs.Limits.{limited, line_in, rising_line_in};
+ghost use Rattle.text_fields.specs.Limits.{limited, line_in, increasing_line_in};
 
 use crate::error::{LimitFault, NumberFault};
 
@@ -75,8 +75,8 @@ pub fn line_in(word: &[u8], most: u32) -> Result<u32, LimitFault>
 }
 
 /// The number of a line, from 1 to `most`, above the number before it.
-pub fn rising_line_in(word: &[u8], most: u32, before: u32) -> Result<u32, LimitFault>
-    ensures value { result ≡ rising_line_in most before word.now }
+pub fn increasing_line_in(word: &[u8], most: u32, before: u32) -> Result<u32, LimitFault>
+    ensures value { result ≡ increasing_line_in most before word.now }
     ensures above { IfOk result (λ n. before < n) }
     ensures within { IfOk result (λ n. n ≤ most) }
 {

@@ -27,8 +27,8 @@ use Rattle.line_growth.specs.GrowingSets.{IsClosedIn}
 use Rattle.line_growth.specs.Rules.{IsRuleOf, lower_of, upper_of}
 use Rattle.three_sep.specs.declared.connectors.Connectors.{Connectors}
 use Rattle.three_sep.specs.NumberedSeeds.{IsGoodSeed, Seed}
-use Rattle.three_sep.specs.Connectors.{AreConnectorsOf, all_front, connectors_at}
-use Rattle.three_sep.specs.Searches.{HasNoGood, HasNoneBelow, IsFirstOf, corner_front, first_at, second_at}
+use Rattle.three_sep.specs.Connectors.{AreConnectorsOf, all_prefix, connectors_at}
+use Rattle.three_sep.specs.Searches.{HasNoGood, HasNoneBelow, IsFirstOf, corner_prefix, first_at, second_at}
 use Rattle.three_sep.specs.Concentrated.{AreCandidates, AreConcentratedCorners, HasNoneBetween, IsFirstPair, IsHeldBy, IsNoOtherColumn, IsOtherColumn, IsOtherRow, IsPulled}
 use Rattle.three_sep.proofs.SearchLemmas.{good_inside, level_found, no_second_corner, seed_at, seed_from_first, seed_from_second}
 use Rattle.three_sep.proofs.SpreadLemmas.{spread_parts, spread_same}
@@ -110,7 +110,7 @@ module _ (m : Matrix) (a b : Connector) (x : Line) (S : Lines) (good : IsGoodThr
         }
 
     -- so there is a good seed with them
-    some_elsewhere : HasNoGood m (all_front Concentrated d) → ⊥
+    some_elsewhere : HasNoGood m (all_prefix Concentrated d) → ⊥
     some_elsewhere none =
         let (y, T, other) = good_three_seed (height m) m.width (entry m) Concentrated d.first d.second S separation_elsewhere in
         none (seed_at Concentrated d y) T (refl, (refl, (refl, (refl, (refl, (refl, (refl, tt))))))) other
@@ -129,7 +129,7 @@ module _ (m : Matrix) where
   concentrated_seed s S e g = subst (λ (f : Form). IsGoodThree (height m) m.width (entry m) f s.pair.first s.pair.second s.line S) e g
 
   -- where two connectors are in no good seed, none has their row i in side one and their column j in side two
-  pub none_between : (d : Connectors) → IsConnectorPair (height m) m.width (entry m) Concentrated d.first d.second → HasNoGood m (all_front Concentrated d) → HasNoneBetween m d.first.row d.second.column
+  pub none_between : (d : Connectors) → IsConnectorPair (height m) m.width (entry m) Concentrated d.first d.second → HasNoGood m (all_prefix Concentrated d) → HasNoneBetween m d.first.row d.second.column
   none_between d pair none s S ef g row_one =
       true_is (S (Column d.second.column)) (λ out. some_elsewhere m s.pair.first s.pair.second s.line S (concentrated_seed s S ef g) d pair row_one out none)
 
@@ -162,7 +162,7 @@ module _ (m : Matrix) where
   zero_determinant x y z w ex ey (inl e) = let k : x *ℤ w -ℤ y *ℤ z ≡ pos 0 = rw (ex, ey) (simp products (omega (arith, sums))) in let l = sym k ∙ e in absurd (omega (arith, sums))
   zero_determinant x y z w ex ey (inr e) = let k : x *ℤ w -ℤ y *ℤ z ≡ pos 0 = rw (ex, ey) (simp products (omega (arith, sums))) in let l = sym k ∙ e in absurd (omega (arith, sums))
 
-  pub no_column : (c : Corners) (q : ℕ) → IsNoOtherColumn (entry m) c q → HasNoGood m (corner_front Concentrated c ++ q ∷ [])
+  pub no_column : (c : Corners) (q : ℕ) → IsNoOtherColumn (entry m) c q → HasNoGood m (corner_prefix Concentrated c ++ q ∷ [])
   no_column c q refused s S h g0 =
       let g = subst (λ (z : Seed). IsGoodSeed m z S) (seed_from_first m Concentrated c q s h) g0 in
       elim refused [
@@ -172,26 +172,26 @@ module _ (m : Matrix) where
       ]
 
   -- columns up to p, and columns in which row i is 0
-  pub none_to_first : (c : Corners) → HasNoneBelow m (corner_front Concentrated c) (c.p + 1)
+  pub none_to_first : (c : Corners) → HasNoneBelow m (corner_prefix Concentrated c) (c.p + 1)
   none_to_first c b l = no_column c b (inl (omega arith))
 
-  pub none_over_zeros : (c : Corners) (from q : ℕ) → HasNoneBelow m (corner_front Concentrated c) from → ((column : ℕ) → from ≤ column → column < q → support m c.i column ≡ false) → HasNoneBelow m (corner_front Concentrated c) q
+  pub none_over_zeros : (c : Corners) (from q : ℕ) → HasNoneBelow m (corner_prefix Concentrated c) from → ((column : ℕ) → from ≤ column → column < q → support m c.i column ≡ false) → HasNoneBelow m (corner_prefix Concentrated c) q
   none_over_zeros c from q before zeros b l = elim (cases_lt b from) [
     | inl low ↦ before b low
     | inr high ↦ no_column c b (inr (inl (zero_is (entry m c.i b) (zeros b high l))))
   ]
 
-  pub no_row : (c : Corners) (q o : ℕ) → ¬ (IsOtherRow (entry m) c q o) → HasNoGood m (corner_front Concentrated c ++ q ∷ o ∷ [])
+  pub no_row : (c : Corners) (q o : ℕ) → ¬ (IsOtherRow (entry m) c q o) → HasNoGood m (corner_prefix Concentrated c ++ q ∷ o ∷ [])
   no_row c q o refused s S h g0 =
       let g = subst (λ (z : Seed). IsGoodSeed m z S) (seed_from_second m Concentrated (connectors_at c q o) s h) g0 in
       let tied = g.0.values.tied in
       refused (record { rises = tied.rows_rise; nonzero = tied.second_other; determinant = tied.determinant })
 
   -- rows up to k, and rows in which column j is 0
-  pub none_to_second : (c : Corners) (q : ℕ) → HasNoneBelow m (corner_front Concentrated c ++ q ∷ []) (c.k + 1)
+  pub none_to_second : (c : Corners) (q : ℕ) → HasNoneBelow m (corner_prefix Concentrated c ++ q ∷ []) (c.k + 1)
   none_to_second c q b l = no_row c q b (λ other. let r = other.rises in omega arith)
 
-  pub none_over_zero_rows : (c : Corners) (q from o : ℕ) → HasNoneBelow m (corner_front Concentrated c ++ q ∷ []) from → ((row : ℕ) → from ≤ row → row < o → support m row c.j ≡ false) → HasNoneBelow m (corner_front Concentrated c ++ q ∷ []) o
+  pub none_over_zero_rows : (c : Corners) (q from o : ℕ) → HasNoneBelow m (corner_prefix Concentrated c ++ q ∷ []) from → ((row : ℕ) → from ≤ row → row < o → support m row c.j ≡ false) → HasNoneBelow m (corner_prefix Concentrated c ++ q ∷ []) o
   none_over_zero_rows c q from o before zeros b l = elim (cases_lt b from) [
     | inl low ↦ before b low
     | inr high ↦ no_row c q b (λ other. other.nonzero (zero_is (entry m b c.j) (zeros b high l)))
@@ -258,11 +258,11 @@ no_common m i p k candidates are none s S h g = no_second m i p k s.pair.second.
 -- ---- the first connectors with two corners
 
 module _ (m : Matrix) (c : Corners) (d : Connectors) (is : IsFirstPair m c d) where
-  pub pair_found : (o : Option Three) (three : Three) → o ≡ Some three → IfSome o (IsFirstOf m (all_front Concentrated d)) → IsFirstOf m (corner_front Concentrated c) three
+  pub pair_found : (o : Option Three) (three : Three) → o ≡ Some three → IfSome o (IsFirstOf m (all_prefix Concentrated d)) → IsFirstOf m (corner_prefix Concentrated c) three
   pair_found o three e h =
-      let here : IsFirstOf m (corner_front Concentrated c ++ d.first.other ∷ d.second.other ∷ []) three =
-      subst (λ (z : Corners). IsFirstOf m (corner_front Concentrated z ++ d.first.other ∷ d.second.other ∷ []) three) is.corners (subst (λ (z : Option Three). IfSome z (IsFirstOf m (all_front Concentrated d))) e h) in
-      level_found m (corner_front Concentrated c) d.first.other three (omega arith) is.columns (level_found m (corner_front Concentrated c ++ d.first.other ∷ []) d.second.other three (omega arith) is.rows here)
+      let here : IsFirstOf m (corner_prefix Concentrated c ++ d.first.other ∷ d.second.other ∷ []) three =
+      subst (λ (z : Corners). IsFirstOf m (corner_prefix Concentrated z ++ d.first.other ∷ d.second.other ∷ []) three) is.corners (subst (λ (z : Option Three). IfSome z (IsFirstOf m (all_prefix Concentrated d))) e h) in
+      level_found m (corner_prefix Concentrated c) d.first.other three (omega arith) is.columns (level_found m (corner_prefix Concentrated c ++ d.first.other ∷ []) d.second.other three (omega arith) is.rows here)
 
   pub none_at_pair : HasNoneBetween m d.first.row d.second.column → HasNoneBetween m c.i c.j
   none_at_pair none = subst (λ (z : Corners). HasNoneBetween m z.i z.j) is.corners none

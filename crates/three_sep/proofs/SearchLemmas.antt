@@ -18,9 +18,9 @@ use Rattle.cmr_base.specs.Separations.{AreCrossing, IsTied, Lines, connector_lin
 use Rattle.cmr_base.specs.Seeds.{IsLine, form_number, line_number, IsBefore}
 use Rattle.three_sep.specs.NumberedSeeds.{Seed, IsBeside, IsCrossing, IsGoodSeed, seed_key, HasLines, seed_of}
 use Rattle.cuts.specs.LineCuts.{AreInside, IsCutAt, IsCut, HasNames, HoldTogether, name_of}
-use Rattle.three_sep.specs.Searches.{BeginsWith, HasNoGood, IsFirstOf, HasNoneBelow, corner_front, corners_of, first_at, line_count, other_line, HasNoColumn, HasNoRow, LacksColumn, LacksRow, IsNoSecondRow, IsNoSecondColumn}
+use Rattle.three_sep.specs.Searches.{BeginsWith, HasNoGood, IsFirstOf, HasNoneBelow, corner_prefix, corners_of, first_at, line_count, other_line, HasNoColumn, HasNoRow, LacksColumn, LacksRow, IsNoSecondRow, IsNoSecondColumn}
 use Rattle.three_sep.specs.declared.connectors.Connectors.{Connectors}
-use Rattle.three_sep.specs.Connectors.{all_front, connectors_at}
+use Rattle.three_sep.specs.Connectors.{all_prefix, connectors_at}
 use Rattle.three_sep.proofs.CrossingLemmas.{closed_crossing, crossing_from}
 
 -- ---- the lines of a connector
@@ -69,20 +69,20 @@ module _ (m : Matrix) (s : Seed) (S : Lines) (good : IsGoodSeed m s S) where
         let ties = crossing_from (entry m) s.pair.first s.pair.second s.form crossing good.0.values.tied in
         record { corners = corners_of s.pair; are_inside = good_inside; upper = ties.upper; lower = ties.lower; cut = good_is_cut_at }
 
--- ---- fronts
+-- ---- prefixes
 
-pub next_number : (front ys : List ℕ) → BeginsWith front ys → length front < length ys → (b : ℕ) × BeginsWith (front ++ b ∷ []) ys
+pub next_number : (prefix ys : List ℕ) → BeginsWith prefix ys → length prefix < length ys → (b : ℕ) × BeginsWith (prefix ++ b ∷ []) ys
 next_number [] [] h l = absurd (omega arith)
 next_number [] (y ∷ ys) h l = (y, (refl, tt))
 next_number (x ∷ xs) [] h l = absurd h
 next_number (x ∷ xs) (y ∷ ys) h l = let (b, g) = next_number xs ys h.1 (omega arith) in (b, (h.0, g))
 
-pub begins_shorter : (front ys : List ℕ) (b : ℕ) → BeginsWith (front ++ b ∷ []) ys → BeginsWith front ys
+pub begins_shorter : (prefix ys : List ℕ) (b : ℕ) → BeginsWith (prefix ++ b ∷ []) ys → BeginsWith prefix ys
 begins_shorter [] ys b h = tt
 begins_shorter (x ∷ xs) [] b h = absurd h
 begins_shorter (x ∷ xs) (y ∷ ys) b h = (h.0, begins_shorter xs ys b h.1)
 
-not_before : (front ys zs : List ℕ) (a b : ℕ) → BeginsWith (front ++ b ∷ []) ys → BeginsWith (front ++ a ∷ []) zs → a < b → ¬ (IsBefore ys zs)
+not_before : (prefix ys zs : List ℕ) (a b : ℕ) → BeginsWith (prefix ++ b ∷ []) ys → BeginsWith (prefix ++ a ∷ []) zs → a < b → ¬ (IsBefore ys zs)
 not_before [] [] zs a b hb ha l h = absurd hb
 not_before [] (y ∷ ys) [] a b hb ha l h = absurd ha
 not_before [] (y ∷ ys) (z ∷ zs) a b hb ha l (inl low) = let e = hb.0 in let f = ha.0 in omega arith
@@ -92,37 +92,37 @@ not_before (x ∷ xs) (y ∷ ys) [] a b hb ha l h = absurd ha
 not_before (x ∷ xs) (y ∷ ys) (z ∷ zs) a b hb ha l (inl low) = let e = hb.0 in let f = ha.0 in omega arith
 not_before (x ∷ xs) (y ∷ ys) (z ∷ zs) a b hb ha l (inr same) = not_before xs ys zs a b hb.1 ha.1 l same.1
 
-pub level_ends : (m : Matrix) (front : List ℕ) (bound : ℕ) → length front < 8 → HasNoneBelow m front bound
-    → ((s : Seed) (S : Lines) (b : ℕ) → IsGoodSeed m s S → BeginsWith (front ++ b ∷ []) (seed_key m s) → b < bound) → HasNoGood m front
-level_ends m front bound short none within s S begins good =
-    let (b, h) = next_number front (seed_key m s) begins (omega arith) in
+pub level_ends : (m : Matrix) (prefix : List ℕ) (bound : ℕ) → length prefix < 8 → HasNoneBelow m prefix bound
+    → ((s : Seed) (S : Lines) (b : ℕ) → IsGoodSeed m s S → BeginsWith (prefix ++ b ∷ []) (seed_key m s) → b < bound) → HasNoGood m prefix
+level_ends m prefix bound short none within s S begins good =
+    let (b, h) = next_number prefix (seed_key m s) begins (omega arith) in
     none b (within s S b good h) s S h good
 
-pub none_below_more : (m : Matrix) (front : List ℕ) (a : ℕ) → HasNoneBelow m front a → HasNoGood m (front ++ a ∷ []) → HasNoneBelow m front (a + 1)
-none_below_more m front a before here b l = elim (same_or_not b a) [
-  | inl e ↦ subst (λ (z : ℕ). HasNoGood m (front ++ z ∷ [])) (sym e) here
+pub none_below_more : (m : Matrix) (prefix : List ℕ) (a : ℕ) → HasNoneBelow m prefix a → HasNoGood m (prefix ++ a ∷ []) → HasNoneBelow m prefix (a + 1)
+none_below_more m prefix a before here b l = elim (same_or_not b a) [
+  | inl e ↦ subst (λ (z : ℕ). HasNoGood m (prefix ++ z ∷ [])) (sym e) here
   | inr n ↦ before b (omega (arith, n))
 ]
 
-pub level_found : (m : Matrix) (front : List ℕ) (a : ℕ) (three : Three) → length front < 8 → HasNoneBelow m front a → IsFirstOf m (front ++ a ∷ []) three → IsFirstOf m front three
-level_found m front a three short before found = record {
+pub level_found : (m : Matrix) (prefix : List ℕ) (a : ℕ) (three : Three) → length prefix < 8 → HasNoneBelow m prefix a → IsFirstOf m (prefix ++ a ∷ []) three → IsFirstOf m prefix three
+level_found m prefix a three short before found = record {
   x = found.x;
   side = found.side;
-  begins = begins_shorter front (seed_key m (seed_of three found.x)) a found.begins;
+  begins = begins_shorter prefix (seed_key m (seed_of three found.x)) a found.begins;
   good = found.good;
   first = λ other T begins good.
-      let (b, h) = next_number front (seed_key m other) begins (omega arith) in
+      let (b, h) = next_number prefix (seed_key m other) begins (omega arith) in
       elim (cases_lt b a) [
         | inl l ↦ absurd (before b l other T h good)
         | inr ge ↦ elim (same_or_not b a) [
-          | inl e ↦ found.first other T (subst (λ (z : ℕ). BeginsWith (front ++ z ∷ []) (seed_key m other)) e h) good
-          | inr n ↦ not_before front (seed_key m other) (seed_key m (seed_of three found.x)) a b h found.begins (omega (arith, n))
+          | inl e ↦ found.first other T (subst (λ (z : ℕ). BeginsWith (prefix ++ z ∷ []) (seed_key m other)) e h) good
+          | inr n ↦ not_before prefix (seed_key m other) (seed_key m (seed_of three found.x)) a b h found.begins (omega (arith, n))
         ]
       ];
   lines = found.lines;
 }
 
--- ---- seeds by their fronts
+-- ---- seeds by their prefixes
 
 abbrev pub seed_at : Form → Connectors → Line → Seed
 seed_at form d x = record { form = form; pair = d; line = x }
@@ -131,17 +131,17 @@ seed_is : (s : Seed) (kind : Form) (i p k j q o : ℕ) (x : Line) → kind ≡ s
     → s ≡ record { form = kind; pair = record { first = record { row = i; column = p; other = q }; second = record { row = k; column = j; other = o } }; line = x }
 seed_is s kind i p k j q o x e1 e2 e3 e4 e5 e6 e7 e8 = rw (e1, e2, e3, e4, e5, e6, e7, e8) refl
 
-pub seed_from_corners : (m : Matrix) (form : Form) (c : Corners) (s : Seed) → BeginsWith (corner_front form c) (seed_key m s) → s ≡ seed_at form (connectors_at c s.pair.first.other s.pair.second.other) s.line
+pub seed_from_corners : (m : Matrix) (form : Form) (c : Corners) (s : Seed) → BeginsWith (corner_prefix form c) (seed_key m s) → s ≡ seed_at form (connectors_at c s.pair.first.other s.pair.second.other) s.line
 seed_from_corners m form c s h = seed_is s form c.i c.p c.k c.j s.pair.first.other s.pair.second.other s.line (form_is form s.form h.0) h.1.0 h.1.1.0 h.1.1.1.0 h.1.1.1.1.0 refl refl refl
 
-pub seed_from_first : (m : Matrix) (form : Form) (c : Corners) (q : ℕ) (s : Seed) → BeginsWith (corner_front form c ++ q ∷ []) (seed_key m s) → s ≡ seed_at form (connectors_at c q s.pair.second.other) s.line
+pub seed_from_first : (m : Matrix) (form : Form) (c : Corners) (q : ℕ) (s : Seed) → BeginsWith (corner_prefix form c ++ q ∷ []) (seed_key m s) → s ≡ seed_at form (connectors_at c q s.pair.second.other) s.line
 seed_from_first m form c q s h = seed_is s form c.i c.p c.k c.j q s.pair.second.other s.line (form_is form s.form h.0) h.1.0 h.1.1.0 h.1.1.1.0 h.1.1.1.1.0 h.1.1.1.1.1.0 refl refl
 
-pub seed_from_second : (m : Matrix) (form : Form) (d : Connectors) (s : Seed) → BeginsWith (all_front form d) (seed_key m s) → s ≡ seed_at form d s.line
+pub seed_from_second : (m : Matrix) (form : Form) (d : Connectors) (s : Seed) → BeginsWith (all_prefix form d) (seed_key m s) → s ≡ seed_at form d s.line
 seed_from_second m form d s h = seed_is s form d.first.row d.first.column d.second.row d.second.column d.first.other d.second.other s.line (form_is form s.form h.0) h.1.0 h.1.1.0 h.1.1.1.0 h.1.1.1.1.0 h.1.1.1.1.1.0 h.1.1.1.1.1.1.0 refl
 
 pub seed_from_all : (m : Matrix) (form : Form) (d : Connectors) (place : ℕ) (x : Line) (s : Seed) → IsLine (height m) m.width x → IsLine (height m) m.width s.line → line_number (height m) x ≡ place
-    → BeginsWith (all_front form d ++ place ∷ []) (seed_key m s) → s ≡ seed_at form d x
+    → BeginsWith (all_prefix form d ++ place ∷ []) (seed_key m s) → s ≡ seed_at form d x
 seed_from_all m form d place x s lx ls e h =
     seed_is s form d.first.row d.first.column d.second.row d.second.column d.first.other d.second.other x (form_is form s.form h.0) h.1.0 h.1.1.0 h.1.1.1.0 h.1.1.1.1.0 h.1.1.1.1.1.0 h.1.1.1.1.1.1.0
     (line_is (height m) m.width x s.line lx ls (e ∙ h.1.1.1.1.1.1.1.0))
@@ -256,15 +256,15 @@ module _ (m : Matrix) (form : Form) (crossing : IsCrossing form) where
         | inr (inr (inr e)) ↦ not_both (S (Column s.pair.first.column)) column_one (T (Column s.pair.first.column) (Column s.pair.second.column) within.column_one within.column_two (rw (sym h.1.1.0, sym h.1.1.1.1.0) e) ∙ column_two)
       ]
 
-  pub no_good_first : (c : Corners) (q : ℕ) → ¬ (IsTied (entry m) (first_is_flat form) (first_at c q) c.k c.j) → HasNoGood m (corner_front form c ++ q ∷ [])
+  pub no_good_first : (c : Corners) (q : ℕ) → ¬ (IsTied (entry m) (first_is_flat form) (first_at c q) c.k c.j) → HasNoGood m (corner_prefix form c ++ q ∷ [])
   no_good_first c q none s S h g = none (subst (λ (z : Seed). IsTied (entry m) (first_is_flat z.form) z.pair.first z.pair.second.row z.pair.second.column) (seed_from_first m form c q s h) (ties s S h.0 g).first_tied)
 
-  pub no_good_second : (d : Connectors) → ¬ (IsTied (entry m) (second_is_flat form) d.second d.first.row d.first.column) → HasNoGood m (all_front form d)
+  pub no_good_second : (d : Connectors) → ¬ (IsTied (entry m) (second_is_flat form) d.second d.first.row d.first.column) → HasNoGood m (all_prefix form d)
   no_good_second d none s S h g = none (subst (λ (z : Seed). IsTied (entry m) (second_is_flat z.form) z.pair.second z.pair.first.row z.pair.first.column) (seed_from_second m form d s h) (ties s S h.0 g).second_tied)
 
 -- a line of one of the connectors
 pub no_good_beside : (m : Matrix) (form : Form) (d : Connectors) (place : ℕ) (x : Line) → IsLine (height m) m.width x → line_number (height m) x ≡ place
-    → ¬ (IsBeside (first_is_flat form) d.first x × IsBeside (second_is_flat form) d.second x) → HasNoGood m (all_front form d ++ place ∷ [])
+    → ¬ (IsBeside (first_is_flat form) d.first x × IsBeside (second_is_flat form) d.second x) → HasNoGood m (all_prefix form d ++ place ∷ [])
 no_good_beside m form d place x lx number among s S h g0 =
     let g = subst (λ (z : Seed). IsGoodSeed m z S) (seed_from_all m form d place x s lx g0.1.line number h) g0 in
     among (g.1.not_first, g.1.not_second)
@@ -281,11 +281,11 @@ module _ (m : Matrix) (form : Form) (d : Connectors) (place : ℕ) (x : Line) (S
   three_is e1 e2 e3 = rw (e1, e2, e3) refl
 
   pub found_here : seed_of three x ≡ seed_at form d x → IsGoodSeed m (seed_at form d x) S → IsLine (height m) m.width x → line_number (height m) x ≡ place
-      → HasLines (height m) m.width S three.side.rows three.side.columns → IsFirstOf m (all_front form d ++ place ∷ []) three
+      → HasLines (height m) m.width S three.side.rows three.side.columns → IsFirstOf m (all_prefix form d ++ place ∷ []) three
   found_here e good lx number lines = record {
     x = x;
     side = S;
-    begins = subst (λ (z : Seed). BeginsWith (all_front form d ++ place ∷ []) (seed_key m z)) (sym e) (refl, (refl, (refl, (refl, (refl, (refl, (refl, (sym number, tt))))))));
+    begins = subst (λ (z : Seed). BeginsWith (all_prefix form d ++ place ∷ []) (seed_key m z)) (sym e) (refl, (refl, (refl, (refl, (refl, (refl, (refl, (sym number, tt))))))));
     good = subst (λ (z : Seed). IsGoodSeed m z S) (sym e) good;
     first = λ other T begins g before.
         not_before_itself (seed_key m other)
@@ -309,11 +309,11 @@ below_none m b l = absurd (omega arith)
 
 -- ---- answers of calls
 
-pub found_some : (m : Matrix) (front : List ℕ) (a : ℕ) (o : Option Three) (three : Three) → length front < 8 → HasNoneBelow m front a → o ≡ Some three → IfSome o (IsFirstOf m (front ++ a ∷ [])) → IsFirstOf m front three
-found_some m front a o three short before e h = level_found m front a three short before (subst (λ (z : Option Three). IfSome z (IsFirstOf m (front ++ a ∷ []))) e h)
+pub found_some : (m : Matrix) (prefix : List ℕ) (a : ℕ) (o : Option Three) (three : Three) → length prefix < 8 → HasNoneBelow m prefix a → o ≡ Some three → IfSome o (IsFirstOf m (prefix ++ a ∷ [])) → IsFirstOf m prefix three
+found_some m prefix a o three short before e h = level_found m prefix a three short before (subst (λ (z : Option Three). IfSome z (IsFirstOf m (prefix ++ a ∷ []))) e h)
 
-pub none_more : (m : Matrix) (front : List ℕ) (a : ℕ) (o : Option Three) → HasNoneBelow m front a → o ≡ None → IfNone o (HasNoGood m (front ++ a ∷ [])) → HasNoneBelow m front (a + 1)
-none_more m front a o before e h = none_below_more m front a before (subst (λ (z : Option Three). IfNone z (HasNoGood m (front ++ a ∷ []))) e h)
+pub none_more : (m : Matrix) (prefix : List ℕ) (a : ℕ) (o : Option Three) → HasNoneBelow m prefix a → o ≡ None → IfNone o (HasNoGood m (prefix ++ a ∷ [])) → HasNoneBelow m prefix (a + 1)
+none_more m prefix a o before e h = none_below_more m prefix a before (subst (λ (z : Option Three). IfNone z (HasNoGood m (prefix ++ a ∷ []))) e h)
 
 pub none_of : (Q : Type 0) (o : Option Three) → o ≡ None → IfNone o Q → Q
 none_of Q o e h = subst (λ (z : Option Three). IfNone z Q) e h
@@ -341,20 +341,20 @@ pub below_line : (m : Matrix) (flat : Bool) (b : ℕ) → b < line_count m flat 
 below_line m true b l = l
 below_line m false b l = l
 
-pub first_below : (m : Matrix) (form : Form) (c : Corners) (s : Seed) (S : Lines) (b : ℕ) → IsGoodSeed m s S → BeginsWith (corner_front form c ++ b ∷ []) (seed_key m s)
+pub first_below : (m : Matrix) (form : Form) (c : Corners) (s : Seed) (S : Lines) (b : ℕ) → IsGoodSeed m s S → BeginsWith (corner_prefix form c ++ b ∷ []) (seed_key m s)
     → b < line_count m (first_is_flat form)
 first_below m form c s S b g0 h =
     let g = subst (λ (z : Seed). IsGoodSeed m z S) (seed_from_first m form c b s h) g0 in
     line_below m (first_is_flat form) b (first_in m (seed_at form (connectors_at c b s.pair.second.other) s.line) S g).2
 
-pub second_below : (m : Matrix) (form : Form) (c : Corners) (q : ℕ) (s : Seed) (S : Lines) (b : ℕ) → IsGoodSeed m s S → BeginsWith (corner_front form c ++ q ∷ b ∷ []) (seed_key m s)
+pub second_below : (m : Matrix) (form : Form) (c : Corners) (q : ℕ) (s : Seed) (S : Lines) (b : ℕ) → IsGoodSeed m s S → BeginsWith (corner_prefix form c ++ q ∷ b ∷ []) (seed_key m s)
     → b < line_count m (second_is_flat form)
 second_below m form c q s S b g0 h =
     let g = subst (λ (z : Seed). IsGoodSeed m z S) (seed_from_second m form (connectors_at c q b) s h) g0 in
     line_below m (second_is_flat form) b (second_in m (seed_at form (connectors_at c q b) s.line) S g).2
 
 pub place_below : (m : Matrix) (kind : Form) (d : Connectors) (rows columns : ℕ) → rows ≡ height m → columns ≡ m.width
-    → (s : Seed) (S : Lines) (b : ℕ) → IsGoodSeed m s S → BeginsWith (all_front kind d ++ b ∷ []) (seed_key m s) → b < rows + columns
+    → (s : Seed) (S : Lines) (b : ℕ) → IsGoodSeed m s S → BeginsWith (all_prefix kind d ++ b ∷ []) (seed_key m s) → b < rows + columns
 place_below m kind d rows columns er ec s S b g h = go s.line g.1.line h.1.1.1.1.1.1.1.0
   where
     go : (x : Line) → IsLine (height m) m.width x → b ≡ line_number (height m) x → b < rows + columns

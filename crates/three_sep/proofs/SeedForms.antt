@@ -57,8 +57,8 @@ module _ (m : Matrix) (three : Three) (f : IsFirstOf m [] three) where
 
   pub first_three : IsFirstThreeSeparation m three
   first_three = record {
-    row_set = row_set_from_within m three.side.rows f.lines.rows_rising (λ r h. in_first_lines (height m) r ((f.lines.rows_are r).0 h).0);
-    column_set = column_set_from_within m three.side.columns f.lines.columns_rising (λ c h. in_first_lines m.width c ((f.lines.columns_are c).0 h).0);
+    row_set = row_set_from_within m three.side.rows f.lines.rows_increasing (λ r h. in_first_lines (height m) r ((f.lines.rows_are r).0 h).0);
+    column_set = column_set_from_within m three.side.columns f.lines.columns_increasing (λ c h. in_first_lines m.width c ((f.lines.columns_are c).0 h).0);
     first = record {
       seed = f.x;
       good = good;

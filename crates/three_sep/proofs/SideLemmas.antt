@@ -20,9 +20,9 @@ use Rattle.line_growth.specs.declared.rule.GrowthRule.{GrowthRule}
 use Rattle.line_growth.specs.GrowingSets.{HasNoLeaving, HasNone, IsClosedIn, IsLeaving, Leaves}
 use Rattle.line_growth.specs.Rules.{IsRuleOf, exchanged, lower_of, upper_of}
 use Rattle.three_sep.specs.declared.connectors.Connectors.{Connectors}
-use Rattle.three_sep.specs.Connectors.{AreConnectorsOf, HasNoneParting, all_front, connectors_at, firsts, rule_of, seconds}
+use Rattle.three_sep.specs.Connectors.{AreConnectorsOf, HasNoneParting, all_prefix, connectors_at, firsts, rule_of, seconds}
 use Rattle.three_sep.specs.NumberedSeeds.{HasLines, IsBeside, IsCrossing, IsGoodSeed, Seed}
-use Rattle.three_sep.specs.Searches.{HasCorners, HasNoGood, corner_front, first_at, held_lines, other_line, second_at}
+use Rattle.three_sep.specs.Searches.{HasCorners, HasNoGood, corner_prefix, first_at, held_lines, other_line, second_at}
 use Rattle.three_sep.proofs.CrossingLemmas.{closed_crossing, crossing_to, lower_crossing, upper_crossing}
 use Rattle.three_sep.proofs.SearchLemmas.{first_has, second_out, seed_at, seed_from_all, seed_from_corners, seed_from_first, seed_from_second, to_connector}
 
@@ -64,10 +64,10 @@ module _ (m : Matrix) (form : Form) (rule : GrowthRule) (d : Connectors) (are : 
     unless_parting : HasNoneParting m rule (firsts form d) (seconds form d) → ⊥
     unless_parting refused = refused S closed good.1.grown.has.1 good.1.two (three_separation_of_seed (height m) m.width (entry m) form d.first d.second x S good).enough
 
-  pub no_good_line : (place : ℕ) (x : Line) → IsLine (height m) m.width x → line_number (height m) x ≡ place → HasNoLeaving m rule (x ∷ firsts form d) (seconds form d) 4 → HasNoGood m (all_front form d ++ place ∷ [])
+  pub no_good_line : (place : ℕ) (x : Line) → IsLine (height m) m.width x → line_number (height m) x ≡ place → HasNoLeaving m rule (x ∷ firsts form d) (seconds form d) 4 → HasNoGood m (all_prefix form d ++ place ∷ [])
   no_good_line place x lx number refused s S h g = unless x S (subst (λ (z : Seed). IsGoodSeed m z S) (seed_from_all m form d place x s lx g.1.line number h) g) refused
 
-  pub no_good_parting : HasNoneParting m rule (firsts form d) (seconds form d) → HasNoGood m (all_front form d)
+  pub no_good_parting : HasNoneParting m rule (firsts form d) (seconds form d) → HasNoGood m (all_prefix form d)
   no_good_parting refused s S h g = unless_parting s.line S (subst (λ (z : Seed). IsGoodSeed m z S) (seed_from_second m form d s h) g) refused
 
   -- a side that leaves the second connector is that of a good seed
@@ -101,14 +101,14 @@ module _ (m : Matrix) (form : Form) (crossing : IsCrossing form) (c : Corners) w
     corners_none : HasNone S (Row c.k ∷ Column c.j ∷ [])
     corners_none = let none = second_out m (seed_at form (connectors_at c q o) x) S good in (none.0, (none.1, tt))
 
-  pub no_good_corners : HasNoneParting m (rule_of c) (Row c.i ∷ Column c.p ∷ []) (Row c.k ∷ Column c.j ∷ []) → HasNoGood m (corner_front form c)
+  pub no_good_corners : HasNoneParting m (rule_of c) (Row c.i ∷ Column c.p ∷ []) (Row c.k ∷ Column c.j ∷ []) → HasNoGood m (corner_prefix form c)
   no_good_corners refused s S h g0 =
       let q = s.pair.first.other in
       let o = s.pair.second.other in
       let g = subst (λ (z : Seed). IsGoodSeed m z S) (seed_from_corners m form c s h) g0 in
       refused S (crossing_closed q o s.line S g) (corners_has q o s.line S g) (corners_none q o s.line S g) (three_separation_of_seed (height m) m.width (entry m) form (first_at c q) (second_at c o) s.line S g).enough
 
-  pub no_good_side : (q : ℕ) → HasNoLeaving m (rule_of c) (held_lines form c q) (Row c.k ∷ Column c.j ∷ []) 4 → HasNoGood m (corner_front form c ++ q ∷ [])
+  pub no_good_side : (q : ℕ) → HasNoLeaving m (rule_of c) (held_lines form c q) (Row c.k ∷ Column c.j ∷ []) 4 → HasNoGood m (corner_prefix form c ++ q ∷ [])
   no_good_side q refused s S h g0 =
       let o = s.pair.second.other in
       let g = subst (λ (z : Seed). IsGoodSeed m z S) (seed_from_first m form c q s h) g0 in
@@ -116,7 +116,7 @@ module _ (m : Matrix) (form : Form) (crossing : IsCrossing form) (c : Corners) w
 
   -- the first connector's closed side has the second's other line
   pub no_good_held : (q o : ℕ) (L : Lines) → IsGrown (height m) m.width (entry m) (product_at (entry m) c.i c.j) (product_at (entry m) c.k c.p) (held_lines form c q) L → IsLine (height m) m.width (other_line (second_is_flat form) o)
-      → L (other_line (second_is_flat form) o) ≡ true → HasNoGood m (corner_front form c ++ q ∷ o ∷ [])
+      → L (other_line (second_is_flat form) o) ≡ true → HasNoGood m (corner_prefix form c ++ q ∷ o ∷ [])
   no_good_held q o L least line held s S h g0 =
       let d = connectors_at c q o in
       let g = subst (λ (z : Seed). IsGoodSeed m z S) (seed_from_second m form d s h) g0 in
@@ -145,8 +145,8 @@ module _ (m : Matrix) (form : Form) (crossing : IsCrossing form) (c : Corners) w
 pub lines_of_filters : (m n : ℕ) (S : Lines) (rows columns : List ℕ) → rows ≡ filter (λ r. S (Row r)) (first_lines m) → columns ≡ filter (λ c. S (Column c)) (first_lines n) → HasLines m n S rows columns
 lines_of_filters m n S rows columns er ec =
     subst (λ (xs : List ℕ). HasLines m n S xs columns) (sym er) (subst (λ (xs : List ℕ). HasLines m n S (filter (λ r. S (Row r)) (first_lines m)) xs) (sym ec) (record {
-      rows_rising = IsStrictlyIncreasing-filter (λ r. S (Row r)) (first_lines m) (first_lines_increase m);
-      columns_rising = IsStrictlyIncreasing-filter (λ c. S (Column c)) (first_lines n) (first_lines_increase n);
+      rows_increasing = IsStrictlyIncreasing-filter (λ r. S (Row r)) (first_lines m) (first_lines_increase m);
+      columns_increasing = IsStrictlyIncreasing-filter (λ c. S (Column c)) (first_lines n) (first_lines_increase n);
       rows_are = λ r. (
         (λ h. let k = in_filter (λ y. S (Row y)) r (first_lines m) h in (first_lines_in m r k.0, k.1)),
         λ h. filter_in (λ y. S (Row y)) r (first_lines m) (in_first_lines m r h.0) h.1,

@@ -14,7 +14,7 @@ use Rattle.line_growth.specs.GrowingSets.{IsClosedIn}
 use Rattle.line_growth.specs.Rules.{lower_of}
 use Rattle.three_sep.specs.declared.connectors.Connectors.{Connectors}
 use Rattle.three_sep.specs.NumberedSeeds.{Seed, IsGoodSeed}
-use Rattle.three_sep.specs.Searches.{HasNoneBelow, corner_front, corners_of, first_at, second_at}
+use Rattle.three_sep.specs.Searches.{HasNoneBelow, corner_prefix, corners_of, first_at, second_at}
 
 -- the two corners are not 0
 pub record AreConcentratedCorners (M : ℕ → ℕ → ℤ) (c : Corners) : Type 0 where
@@ -41,14 +41,14 @@ IsNoOtherColumn M c q = (q ≤ c.p) ⊎ (M c.i q ≡ pos 0) ⊎ ((M c.k c.p ≡ 
 pub record IsFirstRow (m : Matrix) (c : Corners) (q o : ℕ) : Type 0 where
   pub inside : o < height m
   pub row : IsOtherRow (entry m) c q o
-  pub rows : HasNoneBelow m (corner_front Concentrated c ++ q ∷ []) o
+  pub rows : HasNoneBelow m (corner_prefix Concentrated c ++ q ∷ []) o
 
 -- the first connectors with two corners
 pub record IsFirstPair (m : Matrix) (c : Corners) (d : Connectors) : Type 0 where
   pub corners : corners_of d ≡ c
   pub pair : IsConnectorPair (height m) m.width (entry m) Concentrated d.first d.second
-  pub columns : HasNoneBelow m (corner_front Concentrated c) d.first.other
-  pub rows : HasNoneBelow m (corner_front Concentrated c ++ d.first.other ∷ []) d.second.other
+  pub columns : HasNoneBelow m (corner_prefix Concentrated c) d.first.other
+  pub rows : HasNoneBelow m (corner_prefix Concentrated c ++ d.first.other ∷ []) d.second.other
 
 -- ---- columns that may be in side two
 

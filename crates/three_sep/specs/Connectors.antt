@@ -14,7 +14,7 @@ use Rattle.line_growth.specs.declared.rule.GrowthRule.{GrowthRule}
 use Rattle.line_growth.specs.GrowingSets.{HasNone, IsClosedIn}
 use Rattle.line_growth.specs.Rules.{IsRuleOf, lower_of, upper_of}
 use Rattle.three_sep.specs.declared.connectors.Connectors.{Connectors}
-use Rattle.three_sep.specs.Searches.{corner_front, corners_of, first_at, second_at}
+use Rattle.three_sep.specs.Searches.{corner_prefix, corners_of, first_at, second_at}
 
 -- the connectors with some corners and other lines
 abbrev pub connectors_at : Corners → ℕ → ℕ → Connectors
@@ -42,8 +42,8 @@ pub record AreConnectorsOf (m : Matrix) (form : Form) (rule : GrowthRule) (d : C
   pub upper : upper_of m rule ≡ upper_block (entry m) form d.first d.second
   pub lower : lower_of m rule ≡ lower_block (entry m) form d.first d.second
 
-abbrev pub all_front : Form → Connectors → List ℕ
-all_front form d = corner_front form (corners_of d) ++ d.first.other ∷ d.second.other ∷ []
+abbrev pub all_prefix : Form → Connectors → List ℕ
+all_prefix form d = corner_prefix form (corners_of d) ++ d.first.other ∷ d.second.other ∷ []
 
 -- no set that is closed by the rule has some lines and none of others, with four lines or more on each side
 abbrev pub HasNoneParting : Matrix → GrowthRule → (first second : List Line) → Type 0

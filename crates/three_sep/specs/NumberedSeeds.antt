@@ -39,10 +39,10 @@ IsGoodSeed m s S = IsGoodThree (height m) m.width (entry m) s.form s.pair.first 
 abbrev pub seed_key : Matrix → Seed → List ℕ
 seed_key m s = three_key (height m) s.form s.pair.first s.pair.second s.line
 
--- two rising lists have the rows and the columns of a set
+-- two increasing lists have the rows and the columns of a set
 pub record HasLines (m n : ℕ) (S : Lines) (rows columns : List ℕ) : Type 0 where
-  pub rows_rising : IsStrictlyIncreasing rows
-  pub columns_rising : IsStrictlyIncreasing columns
+  pub rows_increasing : IsStrictlyIncreasing rows
+  pub columns_increasing : IsStrictlyIncreasing columns
   pub rows_are : (r : ℕ) → IsIn r rows ↔ ((r < m) × (S (Row r) ≡ true))
   pub columns_are : (c : ℕ) → IsIn c columns ↔ ((c < n) × (S (Column c) ≡ true))
 

@@ -24,20 +24,20 @@ BeginsWith (x ∷ xs) (y ∷ ys) = (x ≡ y) × BeginsWith xs ys
 
 -- no seed that begins so is good
 abbrev pub HasNoGood : Matrix → List ℕ → Type 0
-HasNoGood m front = (s : Seed) (S : Lines) → BeginsWith front (seed_key m s) → ¬ (IsGoodSeed m s S)
+HasNoGood m prefix = (s : Seed) (S : Lines) → BeginsWith prefix (seed_key m s) → ¬ (IsGoodSeed m s S)
 
 -- the separation of the first good one of the seeds that begin so
-pub record IsFirstOf (m : Matrix) (front : List ℕ) (three : Three) : Type 0 where
+pub record IsFirstOf (m : Matrix) (prefix : List ℕ) (three : Three) : Type 0 where
   pub x : Line
   pub side : Lines
-  pub begins : BeginsWith front (seed_key m (seed_of three x))
+  pub begins : BeginsWith prefix (seed_key m (seed_of three x))
   pub good : IsGoodSeed m (seed_of three x) side
-  pub first : (other : Seed) (T : Lines) → BeginsWith front (seed_key m other) → IsGoodSeed m other T → ¬ (IsBefore (seed_key m other) (seed_key m (seed_of three x)))
+  pub first : (other : Seed) (T : Lines) → BeginsWith prefix (seed_key m other) → IsGoodSeed m other T → ¬ (IsBefore (seed_key m other) (seed_key m (seed_of three x)))
   pub lines : HasLines (height m) m.width side three.side.rows three.side.columns
 
 -- no seed that begins so and goes on with a lesser number is good
 abbrev pub HasNoneBelow : Matrix → List ℕ → ℕ → Type 0
-HasNoneBelow m front bound = (b : ℕ) → b < bound → HasNoGood m (front ++ b ∷ [])
+HasNoneBelow m prefix bound = (b : ℕ) → b < bound → HasNoGood m (prefix ++ b ∷ [])
 
 -- the corners of two connectors, and the connectors with some corners and other lines q and o
 abbrev pub corners_of : Connectors → Corners
@@ -49,8 +49,8 @@ first_at c q = record { row = c.i; column = c.p; other = q }
 abbrev pub second_at : Corners → ℕ → Connector
 second_at c o = record { row = c.k; column = c.j; other = o }
 
-abbrev pub corner_front : Form → Corners → List ℕ
-corner_front form c = form_number form ∷ c.i ∷ c.p ∷ c.k ∷ c.j ∷ []
+abbrev pub corner_prefix : Form → Corners → List ℕ
+corner_prefix form c = form_number form ∷ c.i ∷ c.p ∷ c.k ∷ c.j ∷ []
 
 -- a connector's other line
 abbrev pub other_line : Bool → ℕ → Line

@@ -10,8 +10,8 @@ ghost use Rattle.cmr_base.specs.Separations.{core_determinant};
 ghost use Rattle.cmr_base.specs.Seeds.{IsConnectorPair, form_number};
 ghost use Rattle.cmr_base.specs.Trees.{support};
 ghost use Rattle.cuts.specs.LineCuts.{AreInside};
-ghost use Rattle.three_sep.specs.Connectors.{all_front};
-ghost use Rattle.three_sep.specs.Searches.{HasNoGood, IsFirstOf, corner_front, first_at, second_at};
+ghost use Rattle.three_sep.specs.Connectors.{all_prefix};
+ghost use Rattle.three_sep.specs.Searches.{HasNoGood, IsFirstOf, corner_prefix, first_at, second_at};
 ghost use Rattle.three_sep.specs.Concentrated.{AreConcentratedCorners, AreCandidates, HasNoneBetween, IsFirstPair, IsFirstRow, IsNoOtherColumn, IsOtherColumn};
 
 use crate::connectors::Connectors;
@@ -175,9 +175,9 @@ fn first_of_corners(
     ensures candidates { OnOk result (AreCandidates matrix.now corners.now.i
         candidates.new.items) }
     ensures first { IfOk result (λ answer.
-        IfSome answer (IsFirstOf matrix.now (corner_front Concentrated corners.now))) }
+        IfSome answer (IsFirstOf matrix.now (corner_prefix Concentrated corners.now))) }
     ensures none { IfOk result (λ answer.
-        IfNone answer (HasNoGood matrix.now (corner_front Concentrated corners.now))) }
+        IfNone answer (HasNoGood matrix.now (corner_prefix Concentrated corners.now))) }
 {
     let _columns = matrix.columns();
     let Some(connectors) = first_connectors(matrix, corners) else {
@@ -201,7 +201,7 @@ fn first_of_pair(
     requires connectors { IsConnectorPair (height matrix.now) matrix.now.width (entry matrix.now)
         Concentrated connectors.now.first connectors.now.second }
     ensures first { IfOk result (λ answer.
-        IfSome answer (IsFirstOf matrix.now (all_front Concentrated connectors.now))) }
+        IfSome answer (IsFirstOf matrix.now (all_prefix Concentrated connectors.now))) }
     ensures none { IfOk result (λ answer. IfNone answer (HasNoneBetween matrix.now
         connectors.now.first.row connectors.now.second.column)) }
 {
@@ -216,7 +216,7 @@ fn first_connectors(matrix: &RowsAndColumns<'_>, corners: &Corners) -> Option<Co
     requires inside { AreInside matrix.now corners.now }
     requires corners { AreConcentratedCorners (entry matrix.now) corners.now }
     ensures { MatchOption result
-        (HasNoGood matrix.now (corner_front Concentrated corners.now))
+        (HasNoGood matrix.now (corner_prefix Concentrated corners.now))
         (IsFirstPair matrix.now corners.now) }
 {
     let _columns = matrix.columns();
@@ -237,7 +237,7 @@ fn first_other_row(matrix: &RowsAndColumns<'_>, corners: &Corners, q: u32) -> Op
     requires inside { AreInside matrix.now corners.now }
     requires column { q < matrix.now.width }
     ensures { MatchOption result
-        (HasNoGood matrix.now (corner_front Concentrated corners.now ++ q ∷ []))
+        (HasNoGood matrix.now (corner_prefix Concentrated corners.now ++ q ∷ []))
         (IsFirstRow matrix.now corners.now q) }
 {
     let _rows = matrix.rows();
@@ -260,9 +260,9 @@ fn first_of_connectors(
     requires { IsConnectorPair (height matrix.now) matrix.now.width (entry matrix.now) Concentrated
         connectors.now.first connectors.now.second }
     ensures first { IfOk result (λ answer.
-        IfSome answer (IsFirstOf matrix.now (all_front Concentrated connectors.now))) }
+        IfSome answer (IsFirstOf matrix.now (all_prefix Concentrated connectors.now))) }
     ensures none { IfOk result (λ answer.
-        IfNone answer (HasNoGood matrix.now (all_front Concentrated connectors.now))) }
+        IfNone answer (HasNoGood matrix.now (all_prefix Concentrated connectors.now))) }
 {
     let rule = connectors.spread_rule(matrix);
     let Connector { row, column, other } = connectors.first;

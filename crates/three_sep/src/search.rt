@@ -6,7 +6,7 @@ ghost use Rattle.cmr_base.specs.Seeds.{IsLine, form_number};
 ghost use Rattle.cuts.specs.LineCuts.{AreInside, HasNames};
 ghost use Rattle.three_sep.specs.NumberedSeeds.{IsCrossing};
 ghost use Rattle.three_sep.specs.ThreeSeparations.{HasNoThreeSeparation, IsFirstThreeSeparation};
-ghost use Rattle.three_sep.specs.Searches.{HasCorners, HasNoGood, HoldsFirst, IsCorner, IsFirstOf, IsNoSecondColumn, IsNoSecondRow, IsSearchOf, corner_front, other_line, second_at};
+ghost use Rattle.three_sep.specs.Searches.{HasCorners, HasNoGood, HoldsFirst, IsCorner, IsFirstOf, IsNoSecondColumn, IsNoSecondRow, IsSearchOf, corner_prefix, other_line, second_at};
 
 use crate::concentrated::first_concentrated;
 use crate::connectors::{Connectors, rule_at};
@@ -237,9 +237,9 @@ impl Search {
         requires corners { HasCorners matrix.now corners.now }
         ensures search { OnOk result (IsSearchOf matrix.now self.new) }
         ensures first { IfOk result (λ answer.
-            IfSome answer (IsFirstOf matrix.now (corner_front form corners.now))) }
+            IfSome answer (IsFirstOf matrix.now (corner_prefix form corners.now))) }
         ensures none { IfOk result (λ answer.
-            IfNone answer (HasNoGood matrix.now (corner_front form corners.now))) }
+            IfNone answer (HasNoGood matrix.now (corner_prefix form corners.now))) }
     {
         let Corners { i, p, k, j } = *corners;
         let first = [Line::Row(i), Line::Column(p)];
@@ -276,7 +276,7 @@ impl Search {
         ensures held { IfOk result (λ held. held ≡ true
             → HoldsFirst matrix.now form corners.now q self.new) }
         ensures no { IfOk result (λ held. held ≡ false
-            → HasNoGood matrix.now (corner_front form corners.now ++ q ∷ [])) }
+            → HasNoGood matrix.now (corner_prefix form corners.now ++ q ∷ [])) }
     {
         if !is_first_other(matrix, form, corners, q) {
             return Ok(false);
@@ -307,9 +307,9 @@ impl Search {
         requires held { HoldsFirst matrix.now form corners.now q self.old }
         ensures search { OnOk result (IsSearchOf matrix.now self.new) }
         ensures first { IfOk result (λ answer.
-            IfSome answer (IsFirstOf matrix.now (corner_front form corners.now ++ q ∷ []))) }
+            IfSome answer (IsFirstOf matrix.now (corner_prefix form corners.now ++ q ∷ []))) }
         ensures none { IfOk result (λ answer.
-            IfNone answer (HasNoGood matrix.now (corner_front form corners.now ++ q ∷ []))) }
+            IfNone answer (HasNoGood matrix.now (corner_prefix form corners.now ++ q ∷ []))) }
     {
         for o in 0..count_of(matrix, form.second_is_flat()) {
             if let Some(three) = self.first_of_other(alloc, matrix, form, corners, q, o)? {
@@ -336,9 +336,9 @@ impl Search {
             (other_line (second_is_flat form) o) }
         ensures held { OnOk result (HoldsFirst matrix.now form corners.now q self.new) }
         ensures first { IfOk result (λ answer.
-            IfSome answer (IsFirstOf matrix.now (corner_front form corners.now ++ q ∷ o ∷ []))) }
+            IfSome answer (IsFirstOf matrix.now (corner_prefix form corners.now ++ q ∷ o ∷ []))) }
         ensures none { IfOk result (λ answer.
-            IfNone answer (HasNoGood matrix.now (corner_front form corners.now ++ q ∷ o ∷ []))) }
+            IfNone answer (HasNoGood matrix.now (corner_prefix form corners.now ++ q ∷ o ∷ []))) }
     {
         if !is_second_other(matrix, form, corners, o) {
             return Ok(None);
@@ -368,9 +368,9 @@ impl Search {
             (other_line (second_is_flat form) o) }
         ensures held { OnOk result (HoldsFirst matrix.now form corners.now q self.new) }
         ensures first { IfOk result (λ answer.
-            IfSome answer (IsFirstOf matrix.now (corner_front form corners.now ++ q ∷ o ∷ []))) }
+            IfSome answer (IsFirstOf matrix.now (corner_prefix form corners.now ++ q ∷ o ∷ []))) }
         ensures none { IfOk result (λ answer.
-            IfNone answer (HasNoGood matrix.now (corner_front form corners.now ++ q ∷ o ∷ []))) }
+            IfNone answer (HasNoGood matrix.now (corner_prefix form corners.now ++ q ∷ o ∷ []))) }
     {
         let connectors = Connectors::at(corners, q, o);
         let rule = rule_at(corners);

@@ -6,7 +6,7 @@ ghost use Rattle.cmr_base.specs.Matrix.{height};
 ghost use Rattle.cmr_base.specs.Seeds.{IsLine};
 ghost use Rattle.line_growth.specs.GrowingSets.{HasRoom, IsGrowing, TellsClosed, set_of};
 ghost use Rattle.line_growth.specs.Rules.{IsRuleOf, lower_of, upper_of};
-ghost use Rattle.three_sep.specs.Connectors.{AreConnectorsOf, HasNoneParting, all_front, firsts};
+ghost use Rattle.three_sep.specs.Connectors.{AreConnectorsOf, HasNoneParting, all_prefix, firsts};
 ghost use Rattle.three_sep.specs.NumberedSeeds.{HasLines};
 ghost use Rattle.three_sep.specs.Searches.{HasNoGood, IsFirstOf};
 
@@ -181,9 +181,9 @@ pub fn first_of_lines(
         (firsts form connectors.now) side.now }
     ensures grown { OnOk result (HasRoom matrix.now grown.new) }
     ensures first { IfOk result (λ answer.
-        IfSome answer (IsFirstOf matrix.now (all_front form connectors.now))) }
+        IfSome answer (IsFirstOf matrix.now (all_prefix form connectors.now))) }
     ensures none { IfOk result (λ answer.
-        IfNone answer (HasNoGood matrix.now (all_front form connectors.now))) }
+        IfNone answer (HasNoGood matrix.now (all_prefix form connectors.now))) }
 {
     let second = connectors.second.lines(form.second_is_flat());
     for place in 0..matrix.rows() + matrix.columns() {

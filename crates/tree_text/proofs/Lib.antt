@@ -1,4 +1,4 @@
-pub mod RisingMembers
+pub mod IncreasingMembers
 pub mod Nodes
 pub mod WordsRead
 pub mod TreesRead

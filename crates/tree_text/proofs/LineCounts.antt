@@ -5,12 +5,12 @@ use Rattle.std.proofs.lemmas.List.{length-append}
 use Rattle.text_fields.specs.Written.{text_line, text_of_lines}
 use Rattle.tree_type.specs.NodeCounts.{node_count, nodes_below}
 use Rattle.tree_type.specs.DecompositionTrees.{Tree, Trees, Branch, NoTrees, MoreTrees}
-use Rattle.tree_text.specs.CanonicalTrees.{front_lines, node_lines, forest_lines, tree_lines, tree_text}
+use Rattle.tree_text.specs.CanonicalTrees.{opening_lines, node_lines, forest_lines, tree_lines, tree_text}
 
 mutual
   nodes_have_lines : (tree : Tree) → node_count tree ≤ length (node_lines tree)
   nodes_have_lines (Branch lines finding trees) =
-      let whole = length-append (front_lines (Branch lines finding trees)) (forest_lines trees) in
+      let whole = length-append (opening_lines (Branch lines finding trees)) (forest_lines trees) in
       let below = forests_have_lines trees in
       omega (arith, whole, below)
 

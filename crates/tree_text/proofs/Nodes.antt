@@ -1,4 +1,4 @@
--- A node, read from its front and its children.
+-- A node, read from its opening and its children.
 use Rattle.std.proofs.Common.{◌≡◌, ◌-◌, ◌∙◌, ◌+◌, ◌++◌, ◌∷◌, [], ℕ, suc, List, length, map, Option, Some, None, Result, Ok, Err, refl, ap, sym, arith}
 use Rattle.std.proofs.lemmas.List.{length-map, length_push}
 use Rattle.cmr_base.specs.declared.line_set.LineSet.{LineSet}
@@ -18,13 +18,13 @@ use Rattle.tree_text.specs.declared.header.Title.{Title}
 use Rattle.tree_text.specs.declared.header.Version.{Version}
 use Rattle.tree_text.specs.TreeValues.{limited}
 use Rattle.tree_text.specs.Versions.{title_in, version_in}
-use Rattle.tree_text.specs.ReadFindings.{NodeFront}
-use Rattle.tree_text.specs.TreeReading.{Reader, PlainTree, another_tree, front, node, tree}
+use Rattle.tree_text.specs.ReadFindings.{NodeOpening}
+use Rattle.tree_text.specs.TreeReading.{Reader, PlainTree, another_tree, opening, node, tree}
 
 pub levels_left : (header : Header) (levels : ℕ) (parent : Option LineSet) (text : Text) → ¬ (levels ≡ 0) → node header levels parent text ≡ node header (suc (levels - 1)) parent text
 levels_left header levels parent text some = let more : levels ≡ suc (levels - 1) = omega (arith, some) in ap (λ k. node header k parent text) more
 
-module _ (header : Header) (levels : ℕ) (parent : Option LineSet) (text : Text) (head : NodeFront) (rest : Text) (read : front header parent text ≡ Ok (head, rest)) where
+module _ (header : Header) (levels : ℕ) (parent : Option LineSet) (text : Text) (head : NodeOpening) (rest : Text) (read : opening header parent text ≡ Ok (head, rest)) where
   abbrev pub children : Result (List Tree × Text) (Fault TreeKind)
   children = times (another_tree (node header levels (Some head.lines))) head.children [] rest
 

@@ -23,7 +23,7 @@ use Rattle.cmr_base.specs.Reductions.{HasLine}
 use Rattle.cmr_base.specs.Separations.{first_is_flat, second_is_flat}
 use Rattle.tree_type.specs.Sides.{HasConnector}
 use Rattle.cmr_base.proofs.Lists.{all_contain, all_weaker, all_of, all-append}
-use Rattle.cmr_base.proofs.RisingLists.{rises_in, rising_count}
+use Rattle.cmr_base.proofs.IncreasingLists.{rises_in, increasing_count}
 use Rattle.cmr_base.proofs.Places.{contained_below}
 use Rattle.text_fields.specs.TextWords.{Text, is_space, text_of, words_from}
 use Rattle.text_fields.specs.Result.{◌>>=◌}
@@ -41,18 +41,18 @@ use Rattle.tree_text.specs.declared.value.Sizes.{Sizes}
 use Rattle.tree_text.specs.declared.header.Header.{Header}
 use Rattle.tree_text.specs.declared.header.Version.{Version}
 use Rattle.tree_text.specs.declared.header.Version.TheVariants as version
-use Rattle.tree_text.specs.ReadFindings.{NodeFront}
+use Rattle.tree_text.specs.ReadFindings.{NodeOpening}
 use Rattle.tree_text.specs.Versions.{title_word, title_in, title_of, version_word, version_in}
 use Rattle.tree_text.specs.KindWords.{word_of_kind, kind_words, kind_among, has_word, kind_in, kind_of}
 use Rattle.tree_text.specs.TreeValues.{limited, line_of, step_in}
-use Rattle.tree_text.specs.TreeReading.{Reader, rising_lines, line_set, another_pair, network, connector, two, three, pivot_place, own_part, front, another_tree, node, tree}
-use Rattle.tree_text.specs.CanonicalTrees.{number_of_line, line_name, set_words, pair_words, network_words, connector_words, own_words, line_for, front_lines, node_lines, forest_lines, is_pivot, has_pivot, have_pivot, version_of, tree_lines, tree_text}
+use Rattle.tree_text.specs.TreeReading.{Reader, increasing_lines, line_set, another_pair, network, connector, two, three, pivot_place, own_part, opening, another_tree, node, tree}
+use Rattle.tree_text.specs.CanonicalTrees.{number_of_line, line_name, set_words, pair_words, network_words, connector_words, own_words, line_for, opening_lines, node_lines, forest_lines, is_pivot, has_pivot, have_pivot, version_of, tree_lines, tree_text}
 use Rattle.tree_text.proofs.Nodes.{read_whole}
 use Rattle.tree_text.proofs.TreesRead.{AreSome, IsSome}
 use Rattle.text_fields.proofs.ReadAgain.{Again, again_done, again_field, again_bind, again_wrap, again_times}
 use Rattle.tree_text.proofs.WordsAgain.{again_lines, limited_again, line_of_again, step_again}
 
-some_lines : (most : ℕ) (whole : Option (List ℕ)) (lines : List ℕ) → most ≤ 1000 → AreSome most whole lines → Again (rising_lines most whole (length lines)) (map number_of_line lines) lines
+some_lines : (most : ℕ) (whole : Option (List ℕ)) (lines : List ℕ) → most ≤ 1000 → AreSome most whole lines → Again (increasing_lines most whole (length lines)) (map number_of_line lines) lines
 some_lines most whole lines small some = again_lines most whole small [] lines (rises_in 0 most lines some.rise some.below (λ h. zero-le)) some.within
 
 module _ (sizes : Sizes) (few_rows : sizes.rows ≤ 1000) (few_columns : sizes.columns ≤ 1000) where
@@ -62,10 +62,10 @@ module _ (sizes : Sizes) (few_rows : sizes.rows ≤ 1000) (few_columns : sizes.c
       let whole_columns = option_map (λ (lines : LineSet). lines.columns) whole in
       let p = length lines.rows in
       let q = length lines.columns in
-      let few_p = rising_count sizes.rows lines.rows some.rows.rise some.rows.below in
-      let few_q = rising_count sizes.columns lines.columns some.columns.rise some.columns.below in
-      let columns = again_wrap (rising_lines sizes.columns whole_columns q) (λ (columns : List ℕ). record { rows = lines.rows; columns = columns }) (map number_of_line lines.columns) lines.columns (some_lines sizes.columns whole_columns lines.columns few_columns some.columns) in
-      let rows = again_bind (rising_lines sizes.rows whole_rows p) _ (map number_of_line lines.rows) (map number_of_line lines.columns) lines.rows lines (some_lines sizes.rows whole_rows lines.rows few_rows some.rows) columns in
+      let few_p = increasing_count sizes.rows lines.rows some.rows.rise some.rows.below in
+      let few_q = increasing_count sizes.columns lines.columns some.columns.rise some.columns.below in
+      let columns = again_wrap (increasing_lines sizes.columns whole_columns q) (λ (columns : List ℕ). record { rows = lines.rows; columns = columns }) (map number_of_line lines.columns) lines.columns (some_lines sizes.columns whole_columns lines.columns few_columns some.columns) in
+      let rows = again_bind (increasing_lines sizes.rows whole_rows p) _ (map number_of_line lines.rows) (map number_of_line lines.columns) lines.rows lines (some_lines sizes.rows whole_rows lines.rows few_rows some.rows) columns in
       let second = again_bind (field Short (limited sizes.columns)) _ (decimal q ∷ []) (map number_of_line lines.rows ++ map number_of_line lines.columns) q lines (again_field Short (limited sizes.columns) (decimal q) q (limited_again sizes.columns q few_q (omega (arith, few_columns)))) rows in
       again_bind (field Short (limited sizes.rows)) _ (decimal p ∷ []) (decimal q ∷ (map number_of_line lines.rows ++ map number_of_line lines.columns)) p lines (again_field Short (limited sizes.rows) (decimal p) p (limited_again sizes.rows p few_p (omega (arith, few_rows)))) second
 
@@ -143,8 +143,8 @@ module _ (sizes : Sizes) (few_rows : sizes.rows ≤ 1000) (few_columns : sizes.c
 
   few_lines : size_of lines ≤ 2000
   few_lines =
-      let p = rising_count sizes.rows lines.rows rise_rows rows_in in
-      let q = rising_count sizes.columns lines.columns rise_columns columns_in in
+      let p = increasing_count sizes.rows lines.rows rise_rows rows_in in
+      let q = increasing_count sizes.columns lines.columns rise_columns columns_in in
       omega (arith, p, q, few_rows, few_columns)
 
   count_again : (n : ℕ) → n ≤ size_of lines → Again (field Short (limited (size_of lines))) (decimal n ∷ []) n
@@ -169,10 +169,10 @@ module _ (sizes : Sizes) (few_rows : sizes.rows ≤ 1000) (few_columns : sizes.c
   own_again OneSum trees fits e = again_wrap (field Short (limited (size_of lines))) (λ (n : ℕ). (OneSum, n)) (decimal (count_trees trees) ∷ []) (count_trees trees) (count_again (count_trees trees) fits)
   own_again (Network n) trees fits e =
       counted (own_part sizes lines kind.Network) (network_words n) (Network n) 0 (count_trees trees) e
-      (again_wrap (network (length lines.rows) (length lines.columns)) (λ (n : net.Network). (Network n, 0)) (network_words n) n (network_again (length lines.rows) (length lines.columns) n (let p = rising_count sizes.rows lines.rows rise_rows rows_in in omega (arith, p, few_rows)) fits))
+      (again_wrap (network (length lines.rows) (length lines.columns)) (λ (n : net.Network). (Network n, 0)) (network_words n) n (network_again (length lines.rows) (length lines.columns) n (let p = increasing_count sizes.rows lines.rows rise_rows rows_in in omega (arith, p, few_rows)) fits))
   own_again (Conetwork n) trees fits e =
       counted (own_part sizes lines kind.Conetwork) (network_words n) (Conetwork n) 0 (count_trees trees) e
-      (again_wrap (network (length lines.columns) (length lines.rows)) (λ (n : net.Network). (Conetwork n, 0)) (network_words n) n (network_again (length lines.columns) (length lines.rows) n (let q = rising_count sizes.columns lines.columns rise_columns columns_in in omega (arith, q, few_columns)) fits))
+      (again_wrap (network (length lines.columns) (length lines.rows)) (λ (n : net.Network). (Conetwork n, 0)) (network_words n) n (network_again (length lines.columns) (length lines.rows) n (let q = increasing_count sizes.columns lines.columns rise_columns columns_in in omega (arith, q, few_columns)) fits))
   own_again R10 trees fits e = counted (own_part sizes lines kind.R10) [] R10 0 (count_trees trees) e (again_done (R10, 0))
   own_again (TwoSum t) trees fits e =
       counted (own_part sizes lines kind.TwoSum) (own_words (TwoSum t) trees) (TwoSum t) 2 (count_trees trees) e (again_wrap (two sizes lines) (λ (t : Two). (TwoSum t, 2)) (own_words (TwoSum t) trees) t (two_again t fits.0 fits.1 fits.2))
@@ -275,12 +275,12 @@ known tree = go (has_pivot tree) refl
     go false e = rw e (known_without tree e)
 
 -- the words of a node and of those below it
-abbrev front_words : LineSet → Finding → Trees → List (List ℕ)
-front_words lines finding trees = word_of_kind (kind_of finding) ∷ (set_words lines ++ own_words finding trees)
+abbrev opening_words : LineSet → Finding → Trees → List (List ℕ)
+opening_words lines finding trees = word_of_kind (kind_of finding) ∷ (set_words lines ++ own_words finding trees)
 
 abbrev mutual
   node_words : Tree → List (List ℕ)
-  node_words (Branch lines finding trees) = front_words lines finding trees ++ forest_words trees
+  node_words (Branch lines finding trees) = opening_words lines finding trees ++ forest_words trees
 
   forest_words : Trees → List (List ℕ)
   forest_words NoTrees = []
@@ -301,10 +301,10 @@ module _ (v : Version) (sizes : Sizes) (few_rows : sizes.rows ≤ 1000) (few_col
   abbrev header : Header
   header = record { version = v; sizes = sizes }
 
-  front_again : (parent : Option LineSet) (lines : LineSet) (finding : Finding) (trees : Trees) → has_word v (kind_of finding) ≡ true → IsSome sizes parent lines → FitsLines lines finding trees → HasChildren finding (count_trees trees)
-      → Again (front header parent) (front_words lines finding trees) (record { lines = lines; finding = finding; children = count_trees trees })
-  front_again parent lines finding trees has some fits children =
-      let head : NodeFront = record { lines = lines; finding = finding; children = count_trees trees } in
+  opening_again : (parent : Option LineSet) (lines : LineSet) (finding : Finding) (trees : Trees) → has_word v (kind_of finding) ≡ true → IsSome sizes parent lines → FitsLines lines finding trees → HasChildren finding (count_trees trees)
+      → Again (opening header parent) (opening_words lines finding trees) (record { lines = lines; finding = finding; children = count_trees trees })
+  opening_again parent lines finding trees has some fits children =
+      let head : NodeOpening = record { lines = lines; finding = finding; children = count_trees trees } in
       let own = again_wrap (own_part sizes lines (kind_of finding)) (λ (own : Finding × ℕ). record { lines = lines; finding = own.0; children = own.1 }) (own_words finding trees) (finding, count_trees trees)
       (own_again sizes few_rows few_columns lines some.rows.rise some.columns.rise some.rows.below some.columns.below finding trees fits children) in
       let set = again_bind (line_set sizes parent) _ (set_words lines) (own_words finding trees) lines head (set_again sizes few_rows few_columns parent lines some) own in
@@ -314,11 +314,11 @@ module _ (v : Version) (sizes : Sizes) (few_rows : sizes.rows ≤ 1000) (few_col
     node_again : (levels : ℕ) (parent : Option LineSet) (tree : Tree) (whole : LineSet) → IsKnown v tree → IsSome sizes parent (lines_at_root tree) → IsTreeWithin whole levels tree → Again (node header levels parent) (node_words tree) tree
     node_again levels parent (Branch lines finding trees) whole known some (l, part, fits, children, below) =
         let more : levels ≡ suc (levels - 1) = omega (arith, l) in
-        let head : NodeFront = record { lines = lines; finding = finding; children = count_trees trees } in
+        let head : NodeOpening = record { lines = lines; finding = finding; children = count_trees trees } in
         let forest = again_wrap (times (another_tree (node header (levels - 1) (Some lines))) (count_trees trees) []) (λ (ts : List Tree). Branch lines finding (trees_from ts)) (forest_words trees) (list_of trees) (forest_again (levels - 1) lines [] trees known.1 some.rows.rise some.columns.rise some.rows.below some.columns.below below) in
         let back = ap (Branch lines finding) (trees_back trees) in
-        subst (λ k. Again (node header k parent) (front_words lines finding trees ++ forest_words trees) (Branch lines finding trees)) (sym more)
-        (again_bind (front header parent) (λ (h : NodeFront × Text). times (another_tree (node header (levels - 1) (Some (h.0).lines))) (h.0).children [] h.1 >>= λ (children : List Tree × Text). Ok (Branch (h.0).lines (h.0).finding (trees_from children.0), children.1)) (front_words lines finding trees) (forest_words trees) head (Branch lines finding trees) (front_again parent lines finding trees known.0 some fits children)
+        subst (λ k. Again (node header k parent) (opening_words lines finding trees ++ forest_words trees) (Branch lines finding trees)) (sym more)
+        (again_bind (opening header parent) (λ (h : NodeOpening × Text). times (another_tree (node header (levels - 1) (Some (h.0).lines))) (h.0).children [] h.1 >>= λ (children : List Tree × Text). Ok (Branch (h.0).lines (h.0).finding (trees_from children.0), children.1)) (opening_words lines finding trees) (forest_words trees) head (Branch lines finding trees) (opening_again parent lines finding trees known.0 some fits children)
         (subst (λ tree. Again (λ text. times (another_tree (node header (levels - 1) (Some lines))) (count_trees trees) [] text >>= λ (children : List Tree × Text). Ok (Branch lines finding (trees_from children.0), children.1)) (forest_words trees) tree) back forest))
 
     forest_again : (levels : ℕ) (lines : LineSet) (before : List Tree) (trees : Trees) → AreKnown v trees → IsStrictlyIncreasing lines.rows → IsStrictlyIncreasing lines.columns → AllBelow sizes.rows lines.rows → AllBelow sizes.columns lines.columns → AreTreesWithin lines levels trees
@@ -338,7 +338,7 @@ own_joined (word ∷ words) = append-nil (word ∷ words)
 mutual
   node_joined : (tree : Tree) → words_of_lines (node_lines tree) ≡ node_words tree
   node_joined (Branch lines finding trees) =
-      flat_map-append (λ line. line) (front_lines (Branch lines finding trees)) (forest_lines trees)
+      flat_map-append (λ line. line) (opening_lines (Branch lines finding trees)) (forest_lines trees)
       ∙ ap₂ (λ (xs ys : List (List ℕ)). xs ++ ys) (ap (λ ws. (word_of_kind (kind_of finding) ∷ set_words lines) ++ ws) (own_joined (own_words finding trees))) (forest_joined trees)
 
   forest_joined : (trees : Trees) → words_of_lines (forest_lines trees) ≡ forest_words trees
@@ -394,8 +394,8 @@ line_for_words (word ∷ words) all = (all, tt)
 module _ (sizes : Sizes) (few_rows : sizes.rows ≤ 1000) (few_columns : sizes.columns ≤ 1000) where
   set_all : (whole : Option LineSet) (lines : LineSet) → IsSome sizes whole lines → AreWords (set_words lines)
   set_all whole lines some =
-      let p = rising_count sizes.rows lines.rows some.rows.rise some.rows.below in
-      let q = rising_count sizes.columns lines.columns some.columns.rise some.columns.below in (
+      let p = increasing_count sizes.rows lines.rows some.rows.rise some.rows.below in
+      let q = increasing_count sizes.columns lines.columns some.columns.rise some.columns.below in (
         decimal_word (length lines.rows) (omega (arith, p, few_rows)),
         (
           decimal_word (length lines.columns) (omega (arith, q, few_columns)),
@@ -407,10 +407,10 @@ module _ (sizes : Sizes) (few_rows : sizes.rows ≤ 1000) (few_columns : sizes.c
   own_all whole lines finding trees some fits = go finding fits
     where
       p : length lines.rows ≤ sizes.rows
-      p = rising_count sizes.rows lines.rows some.rows.rise some.rows.below
+      p = increasing_count sizes.rows lines.rows some.rows.rise some.rows.below
 
       q : length lines.columns ≤ sizes.columns
-      q = rising_count sizes.columns lines.columns some.columns.rise some.columns.below
+      q = increasing_count sizes.columns lines.columns some.columns.rise some.columns.below
 
       part : (set : LineSet) → AreLinesOf set lines → AreWords (set_words set)
       part set is = set_all (Some lines) set (some_from sizes few_rows few_columns lines some.rows.rise some.columns.rise some.rows.below some.columns.below set is)
@@ -473,8 +473,8 @@ versioned_again version.One = refl
 versioned_again version.Two = refl
 versioned_again version.Pivoted = refl
 
-whole_again : (read : Header → Reader Tree) (v : Version) (rows columns : ℕ) (root : Tree) (words : List (List ℕ)) → rows ≤ 1000 → columns ≤ 1000 → Again (read (record { version = v; sizes = record { rows = rows; columns = columns } })) words root → (size : ℕ) (front : List (ℕ × List ℕ))
-    → texts_of front ≡ title_word (title_of v) ∷ version_word v ∷ decimal rows ∷ decimal columns ∷ words → read_whole read (record { size = size; words = front }) ≡ Ok (record { rows = rows; columns = columns; root = root })
+whole_again : (read : Header → Reader Tree) (v : Version) (rows columns : ℕ) (root : Tree) (words : List (List ℕ)) → rows ≤ 1000 → columns ≤ 1000 → Again (read (record { version = v; sizes = record { rows = rows; columns = columns } })) words root → (size : ℕ) (opening : List (ℕ × List ℕ))
+    → texts_of opening ≡ title_word (title_of v) ∷ version_word v ∷ decimal rows ∷ decimal columns ∷ words → read_whole read (record { size = size; words = opening }) ≡ Ok (record { rows = rows; columns = columns; root = root })
 whole_again read v rows columns root words few_rows few_columns again size [] e = absurd (cc)
 whole_again read v rows columns root words few_rows few_columns again size (a ∷ []) e = absurd (cc)
 whole_again read v rows columns root words few_rows few_columns again size (a ∷ b ∷ []) e = absurd (cc)

@@ -18,7 +18,7 @@ use Rattle.cmr_base.specs.Reductions.{HasLine}
 use Rattle.cmr_base.specs.Separations.{first_is_flat, second_is_flat}
 use Rattle.tree_type.specs.Sides.{HasConnector}
 use Rattle.cmr_base.proofs.Lists.{all-append, all_contained}
-use Rattle.cmr_base.proofs.RisingLists.{RisesIn, rising_increases, rising_in_range}
+use Rattle.cmr_base.proofs.IncreasingLists.{RisesIn, increases_along, increasing_in_range}
 use Rattle.text_fields.specs.TextWords.{Text}
 use Rattle.text_fields.specs.Result.{◌>>=◌}
 use Rattle.text_fields.specs.Reading.{Fault, field, times, fields}
@@ -34,29 +34,29 @@ use Rattle.tree_text.specs.declared.kind_word.KindWord.TheVariants as kind
 use Rattle.tree_text.specs.declared.value.Sizes.{Sizes}
 use Rattle.tree_text.specs.declared.header.Header.{Header}
 use Rattle.tree_text.specs.declared.header.Version.{Version}
-use Rattle.tree_text.specs.ReadFindings.{NodeFront}
+use Rattle.tree_text.specs.ReadFindings.{NodeOpening}
 use Rattle.tree_text.specs.KindWords.{kind_in}
 use Rattle.tree_text.specs.TreeValues.{limited, line_of, step_in}
-use Rattle.tree_text.specs.TreeReading.{rising_lines, line_set, another_pair, network, connector, two, three, pivot_place, own_part, front, another_tree, too_deep, node}
+use Rattle.tree_text.specs.TreeReading.{increasing_lines, line_set, another_pair, network, connector, two, three, pivot_place, own_part, opening, another_tree, too_deep, node}
 use Rattle.tree_text.proofs.WordsRead.{times_keep, spelled_all, limited_ok, IsAmong, line_of_ok, step_ok, lines_ok}
 
 -- a value that was read by a field
 pub field_value : {A : Type 0} (parse : List ℕ → Result A TreeKind) (P : A → Type 0) → ((word : List ℕ) (x : A) → parse word ≡ Ok x → P x) → (text : Text) (x : A × Text) → field Short parse text ≡ Ok x → P x.0
 field_value parse P each text x h = let f = field_ok Short parse text x.0 x.1 h in each f.word.1 x.0 f.parsed
 
--- a rising list of lines below a bound, among those of a whole
+-- a increasing list of lines below a bound, among those of a whole
 pub record AreSome (most : ℕ) (whole : Option (List ℕ)) (lines : List ℕ) : Type 0 where
   pub rise : IsStrictlyIncreasing lines
   pub below : AllBelow most lines
   pub within : AllByRecursion (IsAmong whole) lines
 
-rising_ok : (most : ℕ) (whole : Option (List ℕ)) (n : ℕ) (text : Text) (lines : List ℕ × Text) → rising_lines most whole n text ≡ Ok lines → AreSome most whole lines.0
-rising_ok most whole n text lines h =
+increasing_ok : (most : ℕ) (whole : Option (List ℕ)) (n : ℕ) (text : Text) (lines : List ℕ × Text) → increasing_lines most whole n text ≡ Ok lines → AreSome most whole lines.0
+increasing_ok most whole n text lines h =
     let read = lines_ok most whole n [] text lines.0 lines.1 h in
     let rises : RisesIn 0 most lines.0 = subst (RisesIn 0 most) (sym read.lines_are) read.rises in
     record {
-      rise = rising_increases 0 most lines.0 rises;
-      below = rising_in_range 0 most lines.0 rises;
+      rise = increases_along 0 most lines.0 rises;
+      below = increasing_in_range 0 most lines.0 rises;
       within = subst (AllByRecursion (IsAmong whole)) (sym read.lines_are) read.within;
     }
 
@@ -68,15 +68,15 @@ pub line_set_ok : (sizes : Sizes) (whole : Option LineSet) (text : Text) (lines 
 line_set_ok sizes whole text lines h =
     let whole_rows = option_map (λ (lines : LineSet). lines.rows) whole in
     let whole_columns = option_map (λ (lines : LineSet). lines.columns) whole in
-    let p = bind_ok (field Short (limited sizes.rows) text) (λ (p : ℕ × Text). field Short (limited sizes.columns) p.1 >>= λ (q : ℕ × Text). rising_lines sizes.rows whole_rows p.0 q.1 >>= λ (rows : List ℕ × Text). rising_lines sizes.columns whole_columns q.0 rows.1 >>= λ (columns : List ℕ × Text). Ok (record { rows = rows.0; columns = columns.0 }, columns.1)) lines h in
-    let q = bind_ok (field Short (limited sizes.columns) p.0.1) (λ (q : ℕ × Text). rising_lines sizes.rows whole_rows p.0.0 q.1 >>= λ (rows : List ℕ × Text). rising_lines sizes.columns whole_columns q.0 rows.1 >>= λ (columns : List ℕ × Text). Ok (record { rows = rows.0; columns = columns.0 }, columns.1)) lines p.2 in
-    let rows = bind_ok (rising_lines sizes.rows whole_rows p.0.0 q.0.1) (λ (rows : List ℕ × Text). rising_lines sizes.columns whole_columns q.0.0 rows.1 >>= λ (columns : List ℕ × Text). Ok (record { rows = rows.0; columns = columns.0 }, columns.1)) lines q.2 in
-    let columns = bind_ok (rising_lines sizes.columns whole_columns q.0.0 rows.0.1) (λ (columns : List ℕ × Text). Ok (record { rows = rows.0.0; columns = columns.0 }, columns.1)) lines rows.2 in
+    let p = bind_ok (field Short (limited sizes.rows) text) (λ (p : ℕ × Text). field Short (limited sizes.columns) p.1 >>= λ (q : ℕ × Text). increasing_lines sizes.rows whole_rows p.0 q.1 >>= λ (rows : List ℕ × Text). increasing_lines sizes.columns whole_columns q.0 rows.1 >>= λ (columns : List ℕ × Text). Ok (record { rows = rows.0; columns = columns.0 }, columns.1)) lines h in
+    let q = bind_ok (field Short (limited sizes.columns) p.0.1) (λ (q : ℕ × Text). increasing_lines sizes.rows whole_rows p.0.0 q.1 >>= λ (rows : List ℕ × Text). increasing_lines sizes.columns whole_columns q.0 rows.1 >>= λ (columns : List ℕ × Text). Ok (record { rows = rows.0; columns = columns.0 }, columns.1)) lines p.2 in
+    let rows = bind_ok (increasing_lines sizes.rows whole_rows p.0.0 q.0.1) (λ (rows : List ℕ × Text). increasing_lines sizes.columns whole_columns q.0.0 rows.1 >>= λ (columns : List ℕ × Text). Ok (record { rows = rows.0; columns = columns.0 }, columns.1)) lines q.2 in
+    let columns = bind_ok (increasing_lines sizes.columns whole_columns q.0.0 rows.0.1) (λ (columns : List ℕ × Text). Ok (record { rows = rows.0.0; columns = columns.0 }, columns.1)) lines rows.2 in
     let made : LineSet = record { rows = rows.0.0; columns = columns.0.0 } in
     let e = ok_same (made, columns.0.1) lines columns.2 in
     subst (IsSome sizes whole) (ap (λ (p : LineSet × Text). p.0) e) (record {
-      rows = rising_ok sizes.rows whole_rows p.0.0 q.0.1 rows.0 rows.1;
-      columns = rising_ok sizes.columns whole_columns q.0.0 rows.0.1 columns.0 columns.1;
+      rows = increasing_ok sizes.rows whole_rows p.0.0 q.0.1 rows.0 rows.1;
+      columns = increasing_ok sizes.columns whole_columns q.0.0 rows.0.1 columns.0 columns.1;
     })
 
 lines_of_whole : (sizes : Sizes) (whole lines : LineSet) → IsSome sizes (Some whole) lines → AreLinesOf lines whole
@@ -185,7 +185,7 @@ module _ (sizes : Sizes) (lines : LineSet) where
       let steps = bind_ok (fields Short (step_in sizes lines) count.0.0 count.0.1) (λ (steps : List Line × Text). Ok ((Reduced steps.0, 1), steps.1)) found count.2 in
       let few = field_value (limited (size_of lines)) (λ n. n ≤ size_of lines) (limited_ok (size_of lines)) text count.0 count.1 in
       let read = fields_ok Short (step_in sizes lines) count.0.0 [] count.0.1 steps.0.0 steps.0.1 steps.1 in
-      let all = spelled_all (step_in sizes lines) (HasLine lines.rows lines.columns) (step_ok sizes lines) (texts_of read.front) read.read read.spell in
+      let all = spelled_all (step_in sizes lines) (HasLine lines.rows lines.columns) (step_ok sizes lines) (texts_of read.opening) read.read read.spell in
       fitting_from (Reduced steps.0.0, 1) steps.0.1 found steps.2 (λ trees e. (
         (subst (AllByRecursion (HasLine lines.rows lines.columns)) (sym read.values_are) all, (let n = ap length read.values_are ∙ read.count in omega (arith, n, few))),
         e,
@@ -216,20 +216,20 @@ module _ (sizes : Sizes) (lines : LineSet) where
       let place = bind_ok (pivot_place sizes lines text) (λ (found : PlacedPivot × Text). Ok ((Pivoted found.0, 1), found.1)) found h in
       fitting_from (Pivoted place.0.0, 1) place.0.1 found place.2 (λ trees e. (place_ok text place.0 place.1, e))
 
--- the front of a node that was read
-record IsFront (sizes : Sizes) (parent : Option LineSet) (head : NodeFront) : Type 0 where
+-- the opening of a node that was read
+record IsOpening (sizes : Sizes) (parent : Option LineSet) (head : NodeOpening) : Type 0 where
   lines : IsSome sizes parent head.lines
   fits : (trees : Trees) → count_trees trees ≡ head.children → FitsLines head.lines head.finding trees × HasChildren head.finding (count_trees trees)
 
-front_ok : (header : Header) (parent : Option LineSet) (text : Text) (head : NodeFront × Text) → front header parent text ≡ Ok head → IsFront header.sizes parent head.0
-front_ok header parent text head h =
+opening_ok : (header : Header) (parent : Option LineSet) (text : Text) (head : NodeOpening × Text) → opening header parent text ≡ Ok head → IsOpening header.sizes parent head.0
+opening_ok header parent text head h =
     let sizes = header.sizes in
     let kind = bind_ok (field Short (kind_in header.version) text) (λ (kind : KindWord × Text). line_set sizes parent kind.1 >>= λ (lines : LineSet × Text). own_part sizes lines.0 kind.0 lines.1 >>= λ (own : (Finding × ℕ) × Text). Ok (record { lines = lines.0; finding = (own.0).0; children = (own.0).1 }, own.1)) head h in
     let lines = bind_ok (line_set sizes parent kind.0.1) (λ (lines : LineSet × Text). own_part sizes lines.0 kind.0.0 lines.1 >>= λ (own : (Finding × ℕ) × Text). Ok (record { lines = lines.0; finding = (own.0).0; children = (own.0).1 }, own.1)) head kind.2 in
     let own = bind_ok (own_part sizes lines.0.0 kind.0.0 lines.0.1) (λ (own : (Finding × ℕ) × Text). Ok (record { lines = lines.0.0; finding = (own.0).0; children = (own.0).1 }, own.1)) head lines.2 in
-    let made : NodeFront = record { lines = lines.0.0; finding = (own.0.0).0; children = (own.0.0).1 } in
-    let e = ap (λ (p : NodeFront × Text). p.0) (ok_same (made, own.0.1) head own.2) in
-    subst (IsFront sizes parent) e (record { lines = line_set_ok sizes parent kind.0.1 lines.0 lines.1; fits = own_part_ok sizes lines.0.0 kind.0.0 lines.0.1 own.0 own.1 })
+    let made : NodeOpening = record { lines = lines.0.0; finding = (own.0.0).0; children = (own.0.0).1 } in
+    let e = ap (λ (p : NodeOpening × Text). p.0) (ok_same (made, own.0.1) head own.2) in
+    subst (IsOpening sizes parent) e (record { lines = line_set_ok sizes parent kind.0.1 lines.0 lines.1; fits = own_part_ok sizes lines.0.0 kind.0.0 lines.0.1 own.0 own.1 })
 
 trees_push : (parent : LineSet) (levels : ℕ) (trees : List Tree) (tree : Tree) → AreTreesWithin parent levels (trees_from trees) → IsTreeWithin parent levels tree → AreTreesWithin parent levels (trees_from (trees ++ tree ∷ []))
 trees_push parent levels [] tree all one = (one, tt)
@@ -260,13 +260,13 @@ child_kept header levels lines each k s text next rest held made =
 node_ok : (header : Header) (levels : ℕ) (parent : Option LineSet) (text : Text) (tree : Tree × Text) → node header levels parent text ≡ Ok tree → IsRead header.sizes levels parent tree.0
 node_ok header zero parent text tree h = absurd (let f = field_ok Short too_deep text tree.0 tree.1 h in let p = f.parsed in cc)
 node_ok header (suc levels) parent text tree h =
-    let head = bind_ok (front header parent text) (λ (head : NodeFront × Text). times (another_tree (node header levels (Some (head.0).lines))) (head.0).children [] head.1 >>= λ (children : List Tree × Text). Ok (Branch (head.0).lines (head.0).finding (trees_from children.0), children.1)) tree h in
+    let head = bind_ok (opening header parent text) (λ (head : NodeOpening × Text). times (another_tree (node header levels (Some (head.0).lines))) (head.0).children [] head.1 >>= λ (children : List Tree × Text). Ok (Branch (head.0).lines (head.0).finding (trees_from children.0), children.1)) tree h in
     let lines = (head.0.0).lines in
     let finding = (head.0.0).finding in
     let count = (head.0.0).children in
     let children = bind_ok (times (another_tree (node header levels (Some lines))) count [] head.0.1) (λ (children : List Tree × Text). Ok (Branch lines finding (trees_from children.0), children.1)) tree head.2 in
     let e = ap (λ (p : Tree × Text). p.0) (ok_same (Branch lines finding (trees_from children.0.0), children.0.1) tree children.2) in
-    let is = front_ok header parent text head.0 head.1 in
+    let is = opening_ok header parent text head.0 head.1 in
     let all = times_keep (another_tree (node header levels (Some lines))) (λ k trees. (length trees ≡ k) × AreTreesWithin lines levels (trees_from trees)) (child_kept header levels lines (λ text tree. node_ok header levels (Some lines) text tree)) count 0 [] head.0.1 children.0.0 children.0.1 (refl, tt) children.1 in
     let counted : count_trees (trees_from children.0.0) ≡ count = (let n = count_from children.0.0 in let m = all.0 in omega (arith, n, m)) in
     let fits = is.fits (trees_from children.0.0) counted in

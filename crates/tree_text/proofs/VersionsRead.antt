@@ -17,9 +17,9 @@ use Rattle.tree_text.specs.declared.header.Version.TheVariants.{One, Two}
 use Rattle.tree_text.specs.declared.kind_word.KindWord.{KindWord}
 use Rattle.tree_text.specs.declared.kind_word.KindWord.TheVariants as kinds
 use Rattle.tree_text.specs.declared.value.Sizes.{Sizes}
-use Rattle.tree_text.specs.ReadFindings.{NodeFront}
+use Rattle.tree_text.specs.ReadFindings.{NodeOpening}
 use Rattle.tree_text.specs.KindWords.{has_word, kind_among, kind_in, kind_words}
-use Rattle.tree_text.specs.TreeReading.{PlainTree, Reader, another_tree, front, line_set, node, own_part, tree}
+use Rattle.tree_text.specs.TreeReading.{PlainTree, Reader, another_tree, opening, line_set, node, own_part, tree}
 use Rattle.tree_text.specs.TreeValues.{limited}
 use Rattle.tree_text.specs.Versions.{title_word, title_in, version_in, version_word}
 use Rattle.tree_text.proofs.Nodes.{read_whole}
@@ -64,8 +64,8 @@ abbrev in_version : Sizes → Version → Header
 in_version sizes version = record { version = version; sizes = sizes }
 
 module _ (sizes : Sizes) where
-  front_kept : (parent : Option LineSet) (text : Text) (head : NodeFront × Text) → front (in_version sizes One) parent text ≡ Ok head → front (in_version sizes Two) parent text ≡ Ok head
-  front_kept parent text head h =
+  opening_kept : (parent : Option LineSet) (text : Text) (head : NodeOpening × Text) → opening (in_version sizes One) parent text ≡ Ok head → opening (in_version sizes Two) parent text ≡ Ok head
+  opening_kept parent text head h =
       let kind = bind_ok (field Short (kind_in One) text) (λ (kind : KindWord × Text). line_set sizes parent kind.1 >>= λ (lines : LineSet × Text). own_part sizes lines.0 kind.0 lines.1 >>= λ (own : (Finding × ℕ) × Text). Ok (record { lines = lines.0; finding = (own.0).0; children = (own.0).1 }, own.1)) head h in
       rw (field_kept (kind_in One) (kind_in Two) kind_kept text kind.0 kind.1) kind.2
 
@@ -78,12 +78,12 @@ module _ (sizes : Sizes) where
   node_kept : (levels : ℕ) (parent : Option LineSet) (text : Text) (tree : Tree × Text) → node (in_version sizes One) levels parent text ≡ Ok tree → node (in_version sizes Two) levels parent text ≡ Ok tree
   node_kept zero parent text tree h = h
   node_kept (suc levels) parent text tree h =
-      let head = bind_ok (front (in_version sizes One) parent text) (λ (head : NodeFront × Text). times (another_tree (node (in_version sizes One) levels (Some (head.0).lines))) (head.0).children [] head.1 >>= λ (children : List Tree × Text). Ok (Branch (head.0).lines (head.0).finding (trees_from children.0), children.1)) tree h in
+      let head = bind_ok (opening (in_version sizes One) parent text) (λ (head : NodeOpening × Text). times (another_tree (node (in_version sizes One) levels (Some (head.0).lines))) (head.0).children [] head.1 >>= λ (children : List Tree × Text). Ok (Branch (head.0).lines (head.0).finding (trees_from children.0), children.1)) tree h in
       let lines = (head.0.0).lines in
       let first = another_tree (node (in_version sizes One) levels (Some lines)) in
       let second = another_tree (node (in_version sizes Two) levels (Some lines)) in
       let children = bind_ok (times first (head.0.0).children [] head.0.1) (λ (children : List Tree × Text). Ok (Branch lines (head.0.0).finding (trees_from children.0), children.1)) tree head.2 in
-      rw (front_kept parent text head.0 head.1, times_kept first second (child_kept levels lines (node_kept levels (Some lines))) (head.0.0).children [] head.0.1 children.0 children.1) children.2
+      rw (opening_kept parent text head.0 head.1, times_kept first second (child_kept levels lines (node_kept levels (Some lines))) (head.0.0).children [] head.0.1 children.0 children.1) children.2
 
 -- the words in front of the root, with some way to read the root
 module _ (read : Header → Reader Tree) (kept : (sizes : Sizes) (text : Text) (tree : Tree × Text) → read (in_version sizes One) text ≡ Ok tree → read (in_version sizes Two) text ≡ Ok tree) where

@@ -12,7 +12,7 @@ use Rattle.cmr_base.specs.declared.line.Line.TheVariants.{Row, Column}
 use Rattle.cmr_base.specs.declared.line_set.LineSet.{LineSet}
 use Rattle.cmr_base.specs.Reductions.{HasLine}
 use Rattle.tree_type.specs.Sides.{is_among}
-use Rattle.cmr_base.proofs.RisingLists.{RisesIn}
+use Rattle.cmr_base.proofs.IncreasingLists.{RisesIn}
 use Rattle.text_fields.specs.TextWords.{Text}
 use Rattle.text_fields.specs.Reading.{field, times}
 use Rattle.text_fields.proofs.Decimals.{count_of_decimal}
@@ -49,7 +49,7 @@ next_line_again most whole before line above below small is =
     let t : leb before line ≡ true = le-leb before line above in
     rw (line_in_again most line below small, t) (among_again whole line is)
 
--- rising lines
+-- increasing lines
 pub again_lines : (most : ℕ) (whole : Option (List ℕ)) → most ≤ 1000 → (before lines : List ℕ) → RisesIn (last_number before) most lines → AllByRecursion (IsAmong whole) lines
     → Again (times (another_line most whole) (length lines) before) (map number_of_line lines) (before ++ lines)
 again_lines most whole small before [] rises within = subst (λ xs. Again {K = TreeKind} (λ text. Ok (before, text)) [] xs) (sym (append-nil before)) (again_done before)

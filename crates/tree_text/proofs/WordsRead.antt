@@ -10,7 +10,7 @@ use Rattle.cmr_base.specs.declared.line_set.LineSet.{LineSet}
 use Rattle.cmr_base.specs.Reductions.{HasLine}
 use Rattle.tree_type.specs.Sides.{is_among}
 use Rattle.tree_type.proofs.Among.{among_contains}
-use Rattle.cmr_base.proofs.RisingLists.{RisesIn}
+use Rattle.cmr_base.proofs.IncreasingLists.{RisesIn}
 use Rattle.text_fields.specs.TextWords.{Text}
 use Rattle.text_fields.specs.Result.{◌>>=◌, renamed}
 use Rattle.text_fields.specs.Reading.{field, times}
@@ -114,12 +114,12 @@ lines_ok most whole (suc n) before text lines rest h =
     let line = one.0.0 in
     let first = field_ok Short (next_line most whole (last_number before)) text line one.0.1 one.1 in
     let ok = next_line_ok most whole (last_number before) first.word.1 line first.parsed in
-    let front : b.0.0 ≡ before ++ line ∷ [] = sym (ap (λ (p : List ℕ × Text). p.0) (ok_same (before ++ line ∷ [], one.0.1) b.0 one.2)) in
+    let opening : b.0.0 ≡ before ++ line ∷ [] = sym (ap (λ (p : List ℕ × Text). p.0) (ok_same (before ++ line ∷ [], one.0.1) b.0 one.2)) in
     let later = lines_ok most whole n b.0.0 b.0.1 lines rest b.2 in
-    let last : last_number b.0.0 ≡ line + 1 = ap last_number front ∙ fold_push (λ (before line : ℕ). line + 1) 0 before line in
+    let last : last_number b.0.0 ≡ line + 1 = ap last_number opening ∙ fold_push (λ (before line : ℕ). line + 1) 0 before line in
     record {
       read = line ∷ later.read;
-      lines_are = later.lines_are ∙ ap (λ front. front ++ later.read) front ∙ append_assoc before (line ∷ []) later.read;
+      lines_are = later.lines_are ∙ ap (λ opening. opening ++ later.read) opening ∙ append_assoc before (line ∷ []) later.read;
       count = ap suc later.count;
       rises = (ok.0, ok.1, subst (λ low. RisesIn low most later.read) last later.rises);
       within = (ok.2, later.within);

@@ -57,9 +57,9 @@ one_sum_line node children is =
     sym (ap own_text_line (tree_is node ∙ ap (λ (s : Finding × Trees). Branch node.lines s.0 s.1) (ap said is ∙ said_one_sum children)) ∙ ap (λ n. (decimal n ∷ []) ∷ []) (count_is children))
 
 -- the lines of a node with two children
-pub both_written : (start : Draft) (front one two : List (List (List ℕ))) → fold with_line (fold with_line (fold with_line start front) one) two ≡ fold with_line start (front ++ (one ++ (two ++ [])))
-both_written start front one two =
-    sym (fold-append with_line start front (one ++ (two ++ [])) ∙ fold-append with_line (fold with_line start front) one (two ++ []) ∙ ap (fold with_line (fold with_line (fold with_line start front) one)) (append-nil two))
+pub both_written : (start : Draft) (opening one two : List (List (List ℕ))) → fold with_line (fold with_line (fold with_line start opening) one) two ≡ fold with_line start (opening ++ (one ++ (two ++ [])))
+both_written start opening one two =
+    sym (fold-append with_line start opening (one ++ (two ++ [])) ∙ fold-append with_line (fold with_line start opening) one (two ++ []) ∙ ap (fold with_line (fold with_line (fold with_line start opening) one)) (append-nil two))
 
 -- the lines of one more child
 pub child_written : (start : Draft) (nodes : List Node) (i : ℕ) (after : Draft) (total : Draft) (node : Node) → i < length nodes → node ≡ get_or nodes i node

@@ -44,13 +44,13 @@ abbrev pub own_text_line : Tree → List (List (List ℕ))
 own_text_line (Branch lines finding trees) = line_for (own_words finding trees)
 
 -- a line with the kind and the lines of a node, and one with its own part
-abbrev pub front_lines : Tree → List (List (List ℕ))
-front_lines (Branch lines finding trees) = (word_of_kind (kind_of finding) ∷ set_words lines) ∷ own_text_line (Branch lines finding trees)
+abbrev pub opening_lines : Tree → List (List (List ℕ))
+opening_lines (Branch lines finding trees) = (word_of_kind (kind_of finding) ∷ set_words lines) ∷ own_text_line (Branch lines finding trees)
 
 abbrev mutual
   -- a node's own lines, and those of its children
   pub node_lines : Tree → List (List (List ℕ))
-  node_lines (Branch lines finding trees) = front_lines (Branch lines finding trees) ++ forest_lines trees
+  node_lines (Branch lines finding trees) = opening_lines (Branch lines finding trees) ++ forest_lines trees
 
   pub forest_lines : Trees → List (List (List ℕ))
   forest_lines NoTrees = []

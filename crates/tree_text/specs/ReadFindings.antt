@@ -4,16 +4,16 @@ use Rattle.cmr_base.specs.declared.line_set.LineSet.{LineSet}
 use Rattle.tree_type.specs.DecompositionTrees.{Finding}
 use Rattle.tree_type.specs.Findings.{finding_shown}
 use Rattle.tree_text.specs.declared.own_part.OwnPart.{OwnPart}
-use Rattle.tree_text.specs.declared.own_part.Front.{Front}
+use Rattle.tree_text.specs.declared.own_part.Opening.{Opening}
 
 abbrev pub own_shown : OwnPart → Finding × ℕ
 own_shown own = (finding_shown own.finding, own.children)
 
 -- what stands in front of a node's children: its lines, what it says of them, and how many children it has
-pub record NodeFront : Type 0 where
+pub record NodeOpening : Type 0 where
   pub lines : LineSet
   pub finding : Finding
   pub children : ℕ
 
-abbrev pub front_shown : Front → NodeFront
-front_shown front = record { lines = front.lines; finding = finding_shown front.finding; children = front.children }
+abbrev pub opening_shown : Opening → NodeOpening
+opening_shown opening = record { lines = opening.lines; finding = finding_shown opening.finding; children = opening.children }

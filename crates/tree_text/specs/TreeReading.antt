@@ -21,12 +21,12 @@ use Rattle.tree_text.specs.declared.kind_word.KindWord.{KindWord}
 use Rattle.tree_text.specs.declared.kind_word.KindWord.TheVariants as kind
 use Rattle.tree_text.specs.declared.value.Sizes.{Sizes}
 use Rattle.tree_text.specs.declared.header.Header.{Header}
-use Rattle.tree_text.specs.ReadFindings.{NodeFront}
+use Rattle.tree_text.specs.ReadFindings.{NodeOpening}
 use Rattle.tree_text.specs.Versions.{title_in, version_in}
 use Rattle.tree_text.specs.KindWords.{kind_in}
 use Rattle.tree_text.specs.TreeValues.{limited, line_of, last_number, next_line, step_in}
 
--- reading a value off the front of a text
+-- reading a value off the opening of a text
 abbrev pub Reader : Type 0 → Type 0
 Reader A = Text → Result (A × Text) (Fault TreeKind)
 
@@ -36,16 +36,16 @@ another_line most whole lines text = do
   line ← field Short (next_line most whole (last_number lines)) text
   Ok (lines ++ line.0 ∷ [], line.1)
 
-abbrev pub rising_lines : ℕ → Option (List ℕ) → ℕ → Reader (List ℕ)
-rising_lines most whole n text = times (another_line most whole) n [] text
+abbrev pub increasing_lines : ℕ → Option (List ℕ) → ℕ → Reader (List ℕ)
+increasing_lines most whole n text = times (another_line most whole) n [] text
 
 -- two counts, and so many rows and so many columns, which are among the lines of a whole
 abbrev pub line_set : Sizes → Option LineSet → Reader LineSet
 line_set sizes whole text = do
   row_count ← field Short (limited sizes.rows) text
   column_count ← field Short (limited sizes.columns) row_count.1
-  rows ← rising_lines sizes.rows (option_map (λ lines. lines.rows) whole) row_count.0 column_count.1
-  columns ← rising_lines sizes.columns (option_map (λ lines. lines.columns) whole) column_count.0 rows.1
+  rows ← increasing_lines sizes.rows (option_map (λ lines. lines.rows) whole) row_count.0 column_count.1
+  columns ← increasing_lines sizes.columns (option_map (λ lines. lines.columns) whole) column_count.0 rows.1
   Ok (record { rows = rows.0; columns = columns.0 }, columns.1)
 
 -- two nodes of a tree whose last node has this number
@@ -125,9 +125,9 @@ own_part sizes lines kind.Pivoted text = do
   place ← pivot_place sizes lines text
   Ok ((Pivoted place.0, 1), place.1)
 
--- the front of a node: its kind word, its lines and its own part
-abbrev pub front : Header → Option LineSet → Reader NodeFront
-front header parent text = do
+-- the opening of a node: its kind word, its lines and its own part
+abbrev pub opening : Header → Option LineSet → Reader NodeOpening
+opening header parent text = do
   kind ← field Short (kind_in header.version) text
   lines ← line_set header.sizes parent kind.1
   own ← own_part header.sizes lines.0 kind.0 lines.1
@@ -147,9 +147,9 @@ too_deep word = Err TooDeep
 abbrev pub node : Header → ℕ → Option LineSet → Reader Tree
 node header zero parent text = field Short too_deep text
 node header (suc levels) parent text = do
-  front ← front header parent text
-  children ← times (another_tree (node header levels (Some (front.0).lines))) (front.0).children [] front.1
-  Ok (Branch (front.0).lines (front.0).finding (trees_from children.0), children.1)
+  opening ← opening header parent text
+  children ← times (another_tree (node header levels (Some (opening.0).lines))) (opening.0).children [] opening.1
+  Ok (Branch (opening.0).lines (opening.0).finding (trees_from children.0), children.1)
 
 -- a tree with the sizes of its matrix
 pub record PlainTree : Type 0 where

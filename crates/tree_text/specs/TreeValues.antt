@@ -33,7 +33,7 @@ line_of most lines word = do
   line ← line_in most word
   among (Some lines) line
 
--- the next line of a rising list
+-- the next line of a increasing list
 abbrev pub next_line : ℕ → Option (List ℕ) → ℕ → List ℕ → Result ℕ TreeKind
 next_line most whole before word = do
   line ← line_in most word

@@ -6,8 +6,8 @@ ghost use Rattle.tree_type.specs.Invariant.{HasChildren};
 ghost use Rattle.tree_text.specs.declared.error.TreeKind.TheVariants.{Short};
 ghost use Rattle.tree_text.specs.TreeValues.{step_in};
 ghost use Rattle.tree_type.specs.Findings.{finding_shown};
-ghost use Rattle.tree_text.specs.ReadFindings.{own_shown, front_shown};
-ghost use Rattle.tree_text.specs.TreeReading.{rising_lines, line_set, another_pair, network, connector, two, three, pivot_place, own_part, front};
+ghost use Rattle.tree_text.specs.ReadFindings.{own_shown, opening_shown};
+ghost use Rattle.tree_text.specs.TreeReading.{increasing_lines, line_set, another_pair, network, connector, two, three, pivot_place, own_part, opening};
 
 use crate::header::Header;
 use crate::kind_word::KindWord;
@@ -30,7 +30,7 @@ pub struct OwnPart {
 
 /// What stands in front of a node's children.
 #[derive(Debug, Drop)]
-pub struct Front {
+pub struct Opening {
     pub lines: LineSet,
     pub finding: Finding,
     pub children: u32,
@@ -54,12 +54,12 @@ pub fn read_line_set(
         Some(lines) => (Some(&lines.rows), Some(&lines.columns)),
         None => (None, None),
     };
-    let rows = read_rising(alloc, words, sizes.rows, whole_rows, row_count)?;
-    let columns = read_rising(alloc, words, sizes.columns, whole_columns, column_count)?;
+    let rows = read_increasing(alloc, words, sizes.rows, whole_rows, row_count)?;
+    let columns = read_increasing(alloc, words, sizes.columns, whole_columns, column_count)?;
     Ok(LineSet { rows, columns })
 }
 
-fn read_rising(
+fn read_increasing(
     alloc: Global,
     words: &mut Words<'_>,
     most: u32,
@@ -67,7 +67,7 @@ fn read_rising(
     count: u32,
 ) -> Result<Indices, TreeError>
     ensures read { Reads (λ lines. lines) words.new result
-        (rising_lines most (option_copied whole.entry) count words.old) }
+        (increasing_lines most (option_copied whole.entry) count words.old) }
     ensures len { IfOk result (λ lines. length lines ≡ count) }
 {
     let mut lines = Indices::new(alloc);
@@ -248,27 +248,27 @@ pub fn read_own_part(
 }
 
 /// A node's kind, its lines and its own part.
-pub fn read_front(
+pub fn read_opening(
     alloc: Global,
     words: &mut Words<'_>,
     header: Header,
     parent: Option<&LineSet>,
-) -> Result<Box<Front>, TreeError>
+) -> Result<Box<Opening>, TreeError>
     requires rows { header.sizes.rows ≤ MAX_ROWS }
     requires columns { header.sizes.columns ≤ MAX_COLUMNS }
-    ensures read { Reads (λ front. front_shown front.value) words.new result
-        (front header (option_copied parent.entry) words.old) }
-    ensures children { IfOk result (λ front.
-        HasChildren (finding_shown front.value.finding) front.value.children) }
+    ensures read { Reads (λ opening. opening_shown opening.value) words.new result
+        (opening header (option_copied parent.entry) words.old) }
+    ensures children { IfOk result (λ opening.
+        HasChildren (finding_shown opening.value.finding) opening.value.children) }
 {
     let Header { version, sizes } = header;
     let kind = field::kind(words, version)?;
     let lines = read_line_set(alloc, words, sizes, parent)?;
     let own = read_own_part(alloc, words, sizes, &lines, kind)?;
-    let front = Front {
+    let opening = Opening {
         lines,
         finding: own.finding,
         children: own.children,
     };
-    Ok(Box::new(alloc, front)?)
+    Ok(Box::new(alloc, opening)?)
 }

@@ -9,7 +9,7 @@ ghost use Rattle.tree_type.specs.Findings.{finding_shown};
 ghost use Rattle.tree_text.specs.TreeReading.{another_tree, too_deep, node, plain_of, tree};
 
 use crate::header::Header;
-use crate::own_part::{Front, read_front};
+use crate::own_part::{Opening, read_opening};
 use crate::value::Sizes;
 use crate::{TreeError, TreeKind, field};
 use cmr_base::{LineSet, MAX_COLUMNS, MAX_DEPTH, MAX_ROWS, Memory};
@@ -75,38 +75,38 @@ fn read_node(
     if levels == 0 {
         return Err(too_deep(words));
     }
-    let front = read_front(alloc, words, header, parent)?;
+    let opening = read_opening(alloc, words, header, parent)?;
     let mut children = Vec::new(alloc);
-    for _ in 0..front.children {
+    for _ in 0..opening.children {
         read_node(
             alloc,
             words,
             header,
-            Some(&front.lines),
+            Some(&opening.lines),
             levels - 1,
             &mut children,
         )?;
     }
-    push_node(alloc, front, children, nodes)?;
+    push_node(alloc, opening, children, nodes)?;
     Ok(())
 }
 
-// Joins a node from its front and its children, and puts it behind others.
+// Joins a node from its opening and its children, and puts it behind others.
 fn push_node(
     alloc: Global,
-    front: Box<Front>,
+    opening: Box<Opening>,
     children: Vec<Node>,
     nodes: &mut Vec<Node>,
 ) -> Result<(), Memory>
-    requires { HasChildren (finding_shown front.value.finding) (length children.items) }
+    requires { HasChildren (finding_shown opening.value.finding) (length children.items) }
     ensures { OnOk result (map tree_of nodes.new.items
         ≡ map tree_of nodes.old.items
-        ++ Branch front.value.lines (finding_shown front.value.finding)
+        ++ Branch opening.value.lines (finding_shown opening.value.finding)
         (trees_from (map tree_of children.items))
         ∷ []) }
 {
-    let front = Box::into_inner(front);
-    nodes.push(join_node(alloc, front.lines, front.finding, children)?)?;
+    let opening = Box::into_inner(opening);
+    nodes.push(join_node(alloc, opening.lines, opening.finding, children)?)?;
     Ok(())
 }
 

@@ -48,7 +48,7 @@ pub fn line_of(word: &[u8], most: u32, lines: &Indices) -> Result<u32, TreeKind>
     among(line_in(word, most)?, Some(lines))
 }
 
-/// The next line of a rising list. The last line before it has the number `before`, counted from 1.
+/// The next line of a increasing list. The last line before it has the number `before`, counted from 1.
 pub fn next_line(
     word: &[u8],
     most: u32,

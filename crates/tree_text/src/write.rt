@@ -8,7 +8,7 @@ ghost use Rattle.tree_type.specs.NodeCounts.{node_count};
 ghost use Rattle.tree_type.specs.DecompositionTrees.{tree_of, finding_of};
 ghost use Rattle.tree_text.specs.KindWords.{word_of_kind, kind_of};
 ghost use Rattle.tree_text.specs.TreeReading as reading;
-ghost use Rattle.tree_text.specs.CanonicalTrees.{number_of_line, line_name, set_words, pair_words, network_words, connector_words, line_for, own_text_line, front_lines, node_lines, tree_text};
+ghost use Rattle.tree_text.specs.CanonicalTrees.{number_of_line, line_name, set_words, pair_words, network_words, connector_words, line_for, own_text_line, opening_lines, node_lines, tree_text};
 
 use crate::header::{title_of, title_word, version_of, version_word};
 use crate::kind_word::{kind_of, word_of};
@@ -45,7 +45,7 @@ fn write_node(alloc: Global, text: &mut Writer, node: &Node) -> Result<(), Memor
         (tree_of node.now))) }
     ensures at_start { OnOk result (text.new.is_begun ≡ false) }
 {
-    write_front(alloc, text, node)?;
+    write_opening(alloc, text, node)?;
     match &node.kind {
         Kind::Reduced { child, .. } => write_node(alloc, text, child),
         Kind::OneSum { children } => {
@@ -80,9 +80,9 @@ fn write_node(alloc: Global, text: &mut Writer, node: &Node) -> Result<(), Memor
 }
 
 // A line with the node's kind and its lines, and one with its own part.
-fn write_front(alloc: Global, text: &mut Writer, node: &Node) -> Result<(), Memory>
+fn write_opening(alloc: Global, text: &mut Writer, node: &Node) -> Result<(), Memory>
     requires { text.old.is_begun ≡ false }
-    ensures lines { OnOk result (text.new ≡ fold with_line text.old (front_lines
+    ensures lines { OnOk result (text.new ≡ fold with_line text.old (opening_lines
         (tree_of node.now))) }
     ensures at_start { OnOk result (text.new.is_begun ≡ false) }
 {

@@ -5,14 +5,14 @@ use Rattle.cmr_base.specs.declared.line_set.LineSet.{LineSet}
 use Rattle.cmr_base.specs.Matrix.{Matrix, height, IsMatrix}
 use Rattle.cmr_base.proofs.Lists.{all_contained}
 use Rattle.cmr_base.proofs.ListsWithout.{contains_from_in, in-get_or}
-use Rattle.cmr_base.proofs.Parts.{is_matrix-submatrix, length-rising}
+use Rattle.cmr_base.proofs.Parts.{is_matrix-submatrix, length-increasing}
 use Rattle.tree_type.specs.Invariant.{AreLines, AreLinesOf}
 use Rattle.tree_type.specs.Soundness.{part}
 
 pub part_is : (m : Matrix) (lines : LineSet) → IsMatrix m → AreLines m lines → IsMatrix (part m lines)
 part_is m lines is are =
-    let rows = length-rising lines.rows (height m) are.rows.rising are.rows.in_range in
-    let columns = length-rising lines.columns m.width are.columns.rising are.columns.in_range in
+    let rows = length-increasing lines.rows (height m) are.rows.increasing are.rows.in_range in
+    let columns = length-increasing lines.columns m.width are.columns.increasing are.columns.in_range in
     is_matrix-submatrix m lines.rows lines.columns is (let h = is.height_in in omega (arith, rows, h)) (let w = is.width_in in omega (arith, columns, w))
 
 in_range : (xs ys : List ℕ) (high : ℕ) → ((x : ℕ) → Contains xs x → Contains ys x) → ((k : ℕ) → k < length ys → get_or ys k 0 < high) → (k : ℕ) → k < length xs → get_or xs k 0 < high
@@ -26,6 +26,6 @@ in_range xs ys high within below k l =
 
 pub lines_within : (m : Matrix) (child parent : LineSet) → AreLinesOf child parent → AreLines m parent → AreLines m child
 lines_within m child parent h are = record {
-  rows = record { rising = h.rows_rise; in_range = in_range child.rows parent.rows (height m) h.rows are.rows.in_range };
-  columns = record { rising = h.columns_rise; in_range = in_range child.columns parent.columns m.width h.columns are.columns.in_range };
+  rows = record { increasing = h.rows_rise; in_range = in_range child.rows parent.rows (height m) h.rows are.rows.in_range };
+  columns = record { increasing = h.columns_rise; in_range = in_range child.columns parent.columns m.width h.columns are.columns.in_range };
 }

@@ -17,7 +17,7 @@ pub record AreLines (m : Matrix) (lines : LineSet) : Type 0 where
   pub rows : IsRowSet m lines.rows
   pub columns : IsColumnSet m lines.columns
 
--- rising lists of rows and of columns that are among those of the second
+-- increasing lists of rows and of columns that are among those of the second
 pub record AreLinesOf (part whole : LineSet) : Type 0 where
   pub rows_rise : IsStrictlyIncreasing part.rows
   pub columns_rise : IsStrictlyIncreasing part.columns

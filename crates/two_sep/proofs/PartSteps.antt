@@ -28,10 +28,10 @@ use Rattle.two_sep.proofs.FirstTwo.{listed_filter}
 
 -- ---- lists
 
-part_front : (parts : List LineSet) (p : LineSet) (a : ℕ) → a < length parts → part_at (parts ++ p ∷ []) a ≡ part_at parts a
-part_front [] p a l = absurd (omega arith)
-part_front (x ∷ xs) p zero l = refl
-part_front (x ∷ xs) p (suc a) l = part_front xs p a (omega arith)
+part_prefix : (parts : List LineSet) (p : LineSet) (a : ℕ) → a < length parts → part_at (parts ++ p ∷ []) a ≡ part_at parts a
+part_prefix [] p a l = absurd (omega arith)
+part_prefix (x ∷ xs) p zero l = refl
+part_prefix (x ∷ xs) p (suc a) l = part_prefix xs p a (omega arith)
 
 part_last : (parts : List LineSet) (p : LineSet) → part_at (parts ++ p ∷ []) (length parts) ≡ p
 part_last [] p = refl
@@ -210,7 +210,7 @@ module _ (m : Matrix) where
         column_sets = λ a l. each (λ p. IsColumnSet m p.columns) found.column_sets (subst (IsColumnSet m) (sym columns_are) (column_set_from_within m (filter (λ x. S (Column x)) (first_lines m.width)) (IsStrictlyIncreasing-filter (λ x. S (Column x)) (first_lines m.width) (first_lines_increase m.width)) (λ x i. (in_filter (λ x. S (Column x)) x (first_lines m.width) i).0))) a l;
         components = λ a l. each (λ p. IsComponent h m.width (entry m) (listed p.rows p.columns)) found.components component a l;
         seen_in = λ other l e. elim (or_is (seen other) (S other) (sym (is other) ∙ e)) [
-          | inl f ↦ let a = found.seen_in other l f in (a.0, (let k = a.1 in let n = length-more parts part in omega arith), subst (λ p. HasLine p.rows p.columns other) (sym (part_front parts part a.0 a.1)) a.2)
+          | inl f ↦ let a = found.seen_in other l f in (a.0, (let k = a.1 in let n = length-more parts part in omega arith), subst (λ p. HasLine p.rows p.columns other) (sym (part_prefix parts part a.0 a.1)) a.2)
           | inr f ↦ (length parts, (let n = length-more parts part in omega arith), subst (λ p. HasLine p.rows p.columns other) (sym (part_last parts part)) (has_line_from_listed part.rows part.columns other (same_lines other l ∙ f)))
         ];
         in_seen = λ a other l k. elim (old_or_new a l) [
@@ -233,18 +233,18 @@ module _ (m : Matrix) where
         ];
         ordered = λ a b l k. elim (old_or_new b k) [
           | inl q ↦
-              let x = ap (first_number h) (part_front parts part a (omega arith)) in
-              let y = ap (first_number h) (part_front parts part b q) in
+              let x = ap (first_number h) (part_prefix parts part a (omega arith)) in
+              let y = ap (first_number h) (part_prefix parts part b q) in
               let o = found.ordered a b l q in omega arith
           | inr q ↦
               let p : a < length parts = omega arith in
-              let x = ap (first_number h) (part_front parts part a p) in
+              let x = ap (first_number h) (part_prefix parts part a p) in
               let y = ap (first_number h) (at_last b q) in
               let o = found.early a p in
               let f = first_is in omega arith
         ];
         early = λ a l. elim (old_or_new a l) [
-          | inl p ↦ let x = ap (first_number h) (part_front parts part a p) in let o = found.early a p in omega arith
+          | inl p ↦ let x = ap (first_number h) (part_prefix parts part a p) in let o = found.early a p in omega arith
           | inr p ↦ let x = ap (first_number h) (at_last a p) in let f = first_is in omega arith
         ];
       }
@@ -260,12 +260,12 @@ module _ (m : Matrix) where
 
           each : (P : LineSet → Type 0) → ((a : ℕ) → a < length parts → P (part_at parts a)) → P part → (a : ℕ) → a < length (parts ++ part ∷ []) → P (part_at (parts ++ part ∷ []) a)
           each P old now a l = elim (old_or_new a l) [
-            | inl p ↦ subst P (sym (part_front parts part a p)) (old a p)
+            | inl p ↦ subst P (sym (part_prefix parts part a p)) (old a p)
             | inr p ↦ subst P (sym (at_last a p)) now
           ]
 
           old_line : (a : ℕ) (line : Line) → a < length parts → HasPartLine (parts ++ part ∷ []) a line → HasPartLine parts a line
-          old_line a line p k = subst (λ q. HasLine q.rows q.columns line) (part_front parts part a p) k
+          old_line a line p k = subst (λ q. HasLine q.rows q.columns line) (part_prefix parts part a p) k
 
           new_line : (a : ℕ) (line : Line) → a ≡ length parts → HasPartLine (parts ++ part ∷ []) a line → HasLine part.rows part.columns line
           new_line a line p k = subst (λ q. HasLine q.rows q.columns line) (at_last a p) k

@@ -1,10 +1,10 @@
-use Rattle.cmr_base.proofs.RisingLists.{row_set_short}
+use Rattle.cmr_base.proofs.IncreasingLists.{row_set_short}
 use Rattle.std.proofs.Common.{arith}
 use Rattle.balance.proofs.KeptSteps.{below_width, least_alike, not_least, not_true, from_not}
 use Rattle.balance.proofs.kept.is_kept.Goals as goal
 
 pub has_alike-requires-clause-few : goal.has_alike-requires-clause-few
-has_alike-requires-clause-few c = omega (arith, row_set_short c.args.matrix.now c.args.rows.now c.requires.rows.rising c.requires.rows.in_range, c.requires.matrix.height_in)
+has_alike-requires-clause-few c = omega (arith, row_set_short c.args.matrix.now c.args.rows.now c.requires.rows.increasing c.requires.rows.in_range, c.requires.matrix.height_in)
 
 pub has_alike-requires-clause-columns : goal.has_alike-requires-clause-columns
 has_alike-requires-clause-columns c = below_width c.args.matrix.now c.args.rows.now c.args.column c.args.before.now c.requires.before

@@ -9,4 +9,4 @@ push-requires c =
     let rows = c.args.rows.now in
     let i = c.loop-row.row-index in
     subst (λ (of_part : List ℕ). IsAbove (get_or rows i 0) of_part) (sym c.loop-row.invariant)
-    (kept_below (λ row. is_number c.args.number (number_at c.args.part.now row)) rows i c.requires.rising c.loop-row-test.true)
+    (kept_below (λ row. is_number c.args.number (number_at c.args.part.now row)) rows i c.requires.increasing c.loop-row-test.true)

@@ -11,5 +11,5 @@ returns c =
     let m = c.args.matrix.now in
     let S = c.args.rows.now in
     let set = c.in_ok-counts.counts.thrice.items in
-    first_is m S set c.first_from_three.result c.as_slice.ensures.rising
+    first_is m S set c.first_from_three.result c.as_slice.ensures.increasing
     (subst (λ (rows : List ℕ). AreMore m rows 2 set) c.as_slice.ensures.items c.in_ok-counts.ensures.thrice) c.first_from_three.ensures

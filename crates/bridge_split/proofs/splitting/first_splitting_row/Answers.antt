@@ -21,8 +21,8 @@ returns-then-count-ge-SPLIT_PARTS c =
     let numbers = c.number_parts-count.new.self.part.items in
     let count = c.number_parts-count.result in
     let parts = c.number_parts-count.ensures.parts in (
-      first_split M S c.requires.rising p c.loop-row-test.true c.loop-row.invariant.none (splits_two M S c.requires.rising i numbers count parts (in_at S p c.loop-row-test.true) c.if-count-ge-SPLIT_PARTS.true),
-      subst (AreParts M S i) (sym (c.in_ok-parts.ensures ∙ ap (λ (n : List (Option ℕ)). numbered_parts n S count) c.deref.ensures.value)) (numbered_are_parts M S i c.requires.rising numbers count parts),
+      first_split M S c.requires.increasing p c.loop-row-test.true c.loop-row.invariant.none (splits_two M S c.requires.increasing i numbers count parts (in_at S p c.loop-row-test.true) c.if-count-ge-SPLIT_PARTS.true),
+      subst (AreParts M S i) (sym (c.in_ok-parts.ensures ∙ ap (λ (n : List (Option ℕ)). numbered_parts n S count) c.deref.ensures.value)) (numbered_are_parts M S i c.requires.increasing numbers count parts),
     )
 
 pub loop-row-preserved : goal.loop-row-preserved
@@ -34,12 +34,12 @@ loop-row-preserved c =
     elim c.if-row-untested.branch [
       | then-row-untested+else-count-ge-SPLIT_PARTS w ↦
           subst (λ (v : PartWalk). IsSearching m S (p + 1) v.part.items v.reached.items) (sym w.walk-is)
-          (searching_on m S c.requires.rising p w.number_parts-count.result walk.part.items w.number_parts-count.new.self.part.items walk.reached.items w.number_parts-count.new.self.reached.items
+          (searching_on m S c.requires.increasing p w.number_parts-count.result walk.part.items w.number_parts-count.new.self.part.items walk.reached.items w.number_parts-count.new.self.reached.items
           c.loop-row.invariant c.loop-row-test.true w.number_parts-count.ensures.room w.number_parts-count.ensures.parts w.if-count-ge-SPLIT_PARTS.false)
       | else-row-untested w ↦
           subst (λ (v : PartWalk). IsSearching m S (p + 1) v.part.items v.reached.items) (sym w.walk-is)
-          (searching_past m S c.requires.rising p walk.part.items walk.reached.items c.loop-row.invariant (c.requires.tested (get_or S p 0) (let k = w.if-row-untested.false in omega arith)))
+          (searching_past m S c.requires.increasing p walk.part.items walk.reached.items c.loop-row.invariant (c.requires.tested (get_or S p 0) (let k = w.if-row-untested.false in omega arith)))
     ]
 
 pub returns : goal.returns
-returns c = none_splits (support c.args.matrix.now) c.args.rows.now c.requires.rising c.loop-row.row-index c.loop-row-test.false c.loop-row.invariant.none
+returns c = none_splits (support c.args.matrix.now) c.args.rows.now c.requires.increasing c.loop-row.row-index c.loop-row-test.false c.loop-row.invariant.none

@@ -64,7 +64,7 @@ returns-then-meets c =
     let at : x ≡ get_or S k 0 = ap (λ (xs : List ℕ). get_or xs k 0) items in
     let low : x < height m = subst (λ (z : ℕ). z < height m) (sym at) (c.requires k inside) in
     let common : HasCommon c.loop-row.twice.items row = subst (λ (xs : List ℕ). HasCommon xs row) c.as_slice.ensures.value (c.meets.ensures.0 c.if-meets.true) in
-    third_found m S k common.0 c.as_slice-row-items.ensures.rising inside (sym (c.loop-row.invariant.twice common.0) ∙ common.1)
+    third_found m S k common.0 c.as_slice-row-items.ensures.increasing inside (sym (c.loop-row.invariant.twice common.0) ∙ common.1)
     (sym (words_columns m x row c.support_words-columns.ensures c.columns.ensures.shape low common.0 ∙ ap (λ (z : ℕ). support m z common.0) at) ∙ common.2)
 
 pub returns : goal.returns

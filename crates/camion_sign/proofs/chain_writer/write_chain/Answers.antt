@@ -5,7 +5,7 @@ use Rattle.std.specs.List.{AllByRecursion}
 use Rattle.text_fields.specs.TextWords.{text_of}
 use Rattle.text_fields.specs.Written.{Draft, with_line}
 use Rattle.camion_sign.specs.declared.step.SignStep.{SignStep}
-use Rattle.camion_sign.specs.ChainTexts.{step_words, chain, IsRisingStep}
+use Rattle.camion_sign.specs.ChainTexts.{step_words, chain, IsIncreasingStep}
 use Rattle.camion_sign.proofs.ChainAgain.{chain_again}
 use Rattle.camion_sign.proofs.ChainSteps.{first_line, chain_written}
 use Rattle.camion_sign.proofs.chain_writer.write_chain.Goals as goal
@@ -30,7 +30,7 @@ returns-clause-again c =
       few_columns = c.requires.columns;
       few_steps = c.requires.few;
       steps_in = c.requires.steps;
-      steps_rise = subst (AllByRecursion IsRisingStep) c.as_slice-steps.ensures c.in_ok-write_steps.ensures.rising;
+      steps_rise = subst (AllByRecursion IsIncreasingStep) c.as_slice-steps.ensures c.in_ok-write_steps.ensures.increasing;
       violator_in = c.requires.violator;
-      violator_rises = c.in_ok-write_violator.ensures.rising;
+      violator_rises = c.in_ok-write_violator.ensures.increasing;
     })

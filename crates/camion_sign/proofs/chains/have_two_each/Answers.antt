@@ -1,18 +1,18 @@
 use Rattle.std.proofs.Common.{◌∙◌, sym, ap, subst, List, ℕ, arith, length}
 use Rattle.cmr_base.specs.Matrix.{height}
 use Rattle.camion_sign.specs.Chains.{HasTwoEach}
-use Rattle.cmr_base.proofs.Parts.{length-rising}
+use Rattle.cmr_base.proofs.Parts.{length-increasing}
 use Rattle.cmr_base.proofs.Booleans.{true_is_false}
 use Rattle.camion_sign.proofs.ChainChecks.{two_each_from, rows_two, columns_two}
 use Rattle.camion_sign.proofs.chains.have_two_each.Goals as goal
 
 pub prove-unreachable-requires : goal.prove-unreachable-requires
 prove-unreachable-requires c =
-    omega (arith, length-rising c.args.lines.now.rows (height c.args.matrix.now) c.as_slice-rows.ensures.rising c.requires.rows, ap length c.as_slice-rows.ensures.items)
+    omega (arith, length-increasing c.args.lines.now.rows (height c.args.matrix.now) c.as_slice-rows.ensures.increasing c.requires.rows, ap length c.as_slice-rows.ensures.items)
 
 pub prove-unreachable-requires-2 : goal.prove-unreachable-requires-2
 prove-unreachable-requires-2 c =
-    omega (arith, length-rising c.args.lines.now.columns c.args.matrix.now.width c.as_slice-columns.ensures.rising c.requires.columns, ap length c.as_slice-columns.ensures.items)
+    omega (arith, length-increasing c.args.lines.now.columns c.args.matrix.now.width c.as_slice-columns.ensures.increasing c.requires.columns, ap length c.as_slice-columns.ensures.items)
 
 pub returns-then-not-have_two_in_rows : goal.returns-then-not-have_two_in_rows
 returns-then-not-have_two_in_rows c =

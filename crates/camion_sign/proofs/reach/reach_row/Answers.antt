@@ -31,7 +31,7 @@ pub reach-requires-clause-few : goal.reach-requires-clause-few
 reach-requires-clause-few c =
     let w = c.loop-column.invariant in
     let m = c.args.matrix.now in
-    omega (arith, w.fits.matrix.width_in, few (entry m) c.args.start.row c.args.start.column m.width (progress c.loop-column.walk.steps.items c.loop-column.walk.places.items c.loop-column.walk.used.items) w.key w.front.queue)
+    omega (arith, w.fits.matrix.width_in, few (entry m) c.args.start.row c.args.start.column m.width (progress c.loop-column.walk.steps.items c.loop-column.walk.places.items c.loop-column.walk.used.items) w.key w.prefix.queue)
 
 pub loop-column-preserved : goal.loop-column-preserved
 loop-column-preserved c =

@@ -49,7 +49,7 @@ returns-clause-walk c =
 pub column-row-items-requires : goal.column-row-items-requires
 column-row-items-requires c =
     let is = step_is c.args.walk.now.steps.items c.args.head c.index.result.now c.requires.open.within c.index.ensures in
-    subst (λ (j : ℕ). j < c.args.matrix.now.width) (ap (λ v. v.column) is) (c.requires.walking.front.queue.inside c.args.head c.requires.open.within)
+    subst (λ (j : ℕ). j < c.args.matrix.now.width) (ap (λ v. v.column) is) (c.requires.walking.prefix.queue.inside c.args.head c.requires.open.within)
 
 pub returns-then-row-start-clause-pending : goal.returns-then-row-start-clause-pending
 returns-then-row-start-clause-pending c = c.loop-row.invariant.pending_in
@@ -73,16 +73,16 @@ reach_row-requires-clause-leads c =
 pub reach_row-requires-clause-walking : goal.reach_row-requires-clause-walking
 reach_row-requires-clause-walking c =
     let walking = c.loop-row.invariant.walking in
-    let front = walking.front in
+    let prefix = walking.prefix in
     let low = c.loop-row.invariant.ahead c.loop-row.row-index (omega arith) c.loop-row-test.true in record {
       fits = walking.fits;
       key = walking.key;
-      front = record {
-        queue = front.queue;
-        fits = front.fits;
-        done = front.done;
-        gone = front.gone;
-        front = λ j r x inside more late. front.front j r x inside more (omega (arith, low, late));
+      prefix = record {
+        queue = prefix.queue;
+        fits = prefix.fits;
+        done = prefix.done;
+        gone = prefix.gone;
+        prefix = λ j r x inside more late. prefix.prefix j r x inside more (omega (arith, low, late));
       };
     }
 

@@ -41,7 +41,7 @@ entry-requires-clause-column c =
     let within : c.loop-head.head < length c.loop-head.walk.steps.items = omega (arith, c.len.ensures, c.loop-head-test.true) in
     let is = step_is c.loop-head.walk.steps.items c.loop-head.head c.index.result.now within c.index.ensures in
     let walking = is_walking c.args.matrix.now c.args.start.row c.args.start.column c.loop-head.head c.loop-head.pending c.loop-head.walk c.loop-head.invariant (omega (arith, c.columns.ensures.columns, c.if-pending-columns.true)) in
-    subst (λ (j : ℕ). j < c.args.matrix.now.width) (ap (λ v. v.column) is) (walking.front.queue.inside c.loop-head.head within)
+    subst (λ (j : ℕ). j < c.args.matrix.now.width) (ap (λ v. v.column) is) (walking.prefix.queue.inside c.loop-head.head within)
 
 pub reach_rows-requires-clause-open : goal.reach_rows-requires-clause-open
 reach_rows-requires-clause-open c =

@@ -8,15 +8,15 @@ use Rattle.cmr_base.proofs.Rows.{length-rows_of, row-rows_of}
 use Rattle.cmr_base.proofs.planes.planes_of.Goals as goal
 
 -- a row more in one plane
-one_more : (test : ℤ → Bool) (cells : List ℤ) (rows columns words row : ℕ) (front later : List ℕ) → row < rows
-    → later ≡ front ++ words_of words test (take (row * columns + columns - row * columns) (drop (row * columns) cells))
-    → front ≡ flat_map (words_of words test) (take row (rows_of rows columns cells))
+one_more : (test : ℤ → Bool) (cells : List ℤ) (rows columns words row : ℕ) (prefix later : List ℕ) → row < rows
+    → later ≡ prefix ++ words_of words test (take (row * columns + columns - row * columns) (drop (row * columns) cells))
+    → prefix ≡ flat_map (words_of words test) (take row (rows_of rows columns cells))
     → later ≡ flat_map (words_of words test) (take (row + 1) (rows_of rows columns cells))
-one_more test cells rows columns words row front later inside pushed so_far =
+one_more test cells rows columns words row prefix later inside pushed so_far =
     let count : row * columns + columns - row * columns ≡ columns = omega arith in
     pushed
-    ∙ ap (λ (n : ℕ). front ++ words_of words test (take n (drop (row * columns) cells))) count
-    ∙ ap (λ (line : List ℤ). front ++ words_of words test line) (sym (row-rows_of rows columns cells row inside))
+    ∙ ap (λ (n : ℕ). prefix ++ words_of words test (take n (drop (row * columns) cells))) count
+    ∙ ap (λ (line : List ℤ). prefix ++ words_of words test line) (sym (row-rows_of rows columns cells row inside))
     ∙ ap (λ (bits : List ℕ). bits ++ words_of words test (get_or (rows_of rows columns cells) row [])) so_far
     ∙ sym (more_rows (words_of words test) (rows_of rows columns cells) row (omega (arith, inside, length-rows_of rows columns cells)))
 

@@ -5,15 +5,15 @@ use Rattle.cmr_base.proofs.PlaneWords.{take_capped, words_of_more}
 use Rattle.cmr_base.proofs.planes.push_row.Goals as goal
 
 -- a word more in one plane
-one_more : (test : ℤ → Bool) (front later whole : List ℕ) (row : List ℤ) (words word value : ℕ) → word < words
-    → later ≡ front ++ value ∷ [] → value ≡ bits_of test (take 64 (drop (64 * word) row))
-    → front ++ words_of (words - word) test (drop (64 * word) row) ≡ whole
+one_more : (test : ℤ → Bool) (prefix later whole : List ℕ) (row : List ℤ) (words word value : ℕ) → word < words
+    → later ≡ prefix ++ value ∷ [] → value ≡ bits_of test (take 64 (drop (64 * word) row))
+    → prefix ++ words_of (words - word) test (drop (64 * word) row) ≡ whole
     → later ++ words_of (words - (word + 1)) test (drop (64 * (word + 1)) row) ≡ whole
-one_more test front later whole row words word value h pushed is so_far =
+one_more test prefix later whole row words word value h pushed is so_far =
     let rest = words_of (words - (word + 1)) test (drop (64 * (word + 1)) row) in
-    ap (λ (bits : List ℕ). bits ++ rest) (pushed ∙ ap (λ (n : ℕ). front ++ n ∷ []) is)
-    ∙ append_assoc front (bits_of test (take 64 (drop (64 * word) row)) ∷ []) rest
-    ∙ ap (λ (ws : List ℕ). front ++ ws) (sym (words_of_more words word test row h))
+    ap (λ (bits : List ℕ). bits ++ rest) (pushed ∙ ap (λ (n : ℕ). prefix ++ n ∷ []) is)
+    ∙ append_assoc prefix (bits_of test (take 64 (drop (64 * word) row)) ∷ []) rest
+    ∙ ap (λ (ws : List ℕ). prefix ++ ws) (sym (words_of_more words word test row h))
     ∙ so_far
 
 pub loop-word-preserved : goal.loop-word-preserved

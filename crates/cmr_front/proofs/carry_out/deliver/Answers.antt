@@ -1,6 +1,6 @@
 use Rattle.std.proofs.Common.{◌≡◌, ◌<◌, ℕ, List, Some, ap, map, refl, subst, length}
 use Rattle.std.specs.Prelude.{IsTrue, slice_get}
-use Rattle.cmr_io.specs.Whole.{AppendsFront}
+use Rattle.cmr_io.specs.Whole.{AppendsPrefix}
 use Rattle.cmr_front.specs.Report.{File, after_files, with_files}
 use Rattle.cmr_front.specs.Outcome.{cannot_write_line, file_of}
 use Rattle.cmr_front.specs.SinkLines.{GetsLine}
@@ -40,8 +40,8 @@ returns-in-Err-write_whole-clause-carried_out g c =
     cut_short c.status-in-Err-write_whole.ensures (record {
       files = subst (λ fs. IsTrue (S.tells c.args.shelf.now) → (name : List ℕ) → S.content c.write_files.new.shelf name ≡ with_files (S.content c.args.shelf.now) (map file_of fs) name) c.deref.ensures.value c.in_default.ensures.whole;
       writes = subst (λ fs. S.writes c.write_files.new.shelf ≡ after_files (S.writes c.args.shelf.now) (map file_of fs)) c.deref.ensures.value c.in_default.ensures.writes;
-      output = subst (λ bytes. IsTrue (O.tells c.args.out.now) → AppendsFront (O.got c.args.out.now) (O.got c.write_whole.new.sink) bytes) c.deref-2.ensures.value c.in-Err-write_whole.ensures.front;
-      output_taken = subst (AppendsFront (O.taken c.args.out.now) (O.taken c.write_whole.new.sink)) c.deref-2.ensures.value c.in-Err-write_whole.ensures.cut;
+      output = subst (λ bytes. IsTrue (O.tells c.args.out.now) → AppendsPrefix (O.got c.args.out.now) (O.got c.write_whole.new.sink) bytes) c.deref-2.ensures.value c.in-Err-write_whole.ensures.prefix;
+      output_taken = subst (AppendsPrefix (O.taken c.args.out.now) (O.taken c.write_whole.new.sink)) c.deref-2.ensures.value c.in-Err-write_whole.ensures.cut;
       error = c.write_cannot_write-in-Err-write_whole.ensures.got;
       error_taken = c.write_cannot_write-in-Err-write_whole.ensures.taken;
       cause = c.in-Err-write_whole.ensures.cause.failed;

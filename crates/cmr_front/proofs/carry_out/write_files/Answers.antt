@@ -31,7 +31,7 @@ returns-in-Err-clause-left g c =
       (λ told.
           let told' = before.standing.telling ∙ told in
           left_at (S.content c.args.shelf.now) (S.content c.loop-place.shelf) (S.content c.write_output_file.new.shelf) files place file
-          (before.written told) (c.in-Err.ensures.others told') (c.in-Err.ensures.front told')),
+          (before.written told) (c.in-Err.ensures.others told') (c.in-Err.ensures.prefix told')),
       begun_last (S.writes c.args.shelf.now) (S.writes c.loop-place.shelf) (S.writes c.write_output_file.new.shelf) files place file before.writes c.in-Err.ensures.begun,
     )
 

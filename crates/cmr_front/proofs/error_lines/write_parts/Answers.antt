@@ -1,18 +1,18 @@
 use Rattle.std.proofs.Common.{◌≡◌, ◌∙◌, ◌++◌, List, ℕ, take, drop, map, ◌+◌, ap, sym, subst, inl, inr, append_assoc, arith, []}
 use Rattle.std.specs.List.{concat}
-use Rattle.cmr_front.proofs.Parts.{one_more, at, front}
+use Rattle.cmr_front.proofs.Parts.{one_more, at, prefix}
 use Rattle.cmr_io.specs.Causes.{Rose}
-use Rattle.cmr_io.specs.Whole.{AppendsFront}
+use Rattle.cmr_io.specs.Whole.{AppendsPrefix}
 use Rattle.cmr_front.proofs.error_lines.write_parts.Goals as goal
 
 -- a part more
 put_on : (old mid new done part all : List ℕ) → new ≡ mid ++ part → mid ≡ old ++ done → done ++ part ≡ all → new ≡ old ++ all
 put_on old mid new done part all wrote before is = wrote ∙ ap (λ (xs : List ℕ). xs ++ part) before ∙ append_assoc old done part ∙ ap (λ (xs : List ℕ). old ++ xs) is
 
--- a front of a part, and then no more
-cut_on : (old mid new done part rest all : List ℕ) → AppendsFront mid new part → mid ≡ old ++ done → done ++ (part ++ rest) ≡ all → AppendsFront old new all
+-- a prefix of a part, and then no more
+cut_on : (old mid new done part rest all : List ℕ) → AppendsPrefix mid new part → mid ≡ old ++ done → done ++ (part ++ rest) ≡ all → AppendsPrefix old new all
 cut_on old mid new done part rest all wrote before is =
-    subst (AppendsFront old new) is (front old done part rest new (subst (λ (xs : List ℕ). AppendsFront xs new part) before wrote))
+    subst (AppendsPrefix old new) is (prefix old done part rest new (subst (λ (xs : List ℕ). AppendsPrefix xs new part) before wrote))
 
 pub loop-part-preserved : goal.loop-part-preserved
 loop-part-preserved g c =
@@ -52,6 +52,6 @@ returns-in-Err g c =
     let is : done ++ (part ++ rest) ≡ all = ap (λ (p : List ℕ). done ++ (p ++ rest)) c.as_bytes.ensures.value ∙ sym (at (λ p. p.now) parts i (record { ref_ptr = (0, 0); now = [] }) (omega arith)) in
     let rose : Rose (E.faults old) (E.faults new) = elim wrote.cause.failed [ inl up ↦ inl (omega (arith, before.later)) | inr last ↦ inr last ] in
     record {
-      got = λ told. inr (rose, cut_on (E.got old) (E.got mid) (E.got new) done part rest all (wrote.front (before.tells ∙ told)) (before.written told) is);
+      got = λ told. inr (rose, cut_on (E.got old) (E.got mid) (E.got new) done part rest all (wrote.prefix (before.tells ∙ told)) (before.written told) is);
       taken = inr (rose, cut_on (E.taken old) (E.taken mid) (E.taken new) done part rest all wrote.cut before.taken is);
     }

@@ -6,7 +6,7 @@ pub loop-place-init : goal.loop-place-init
 loop-place-init c = counted_none c.args.sorted.now _ refl refl refl refl
 
 pub loop-place-preserved : goal.loop-place-preserved
-loop-place-preserved c = c.runs_with-runs.ensures c.args.sorted.now c.loop-place.place c.requires.rising c.loop-place-test.true refl c.loop-place.invariant
+loop-place-preserved c = c.runs_with-runs.ensures c.args.sorted.now c.loop-place.place c.requires.increasing c.loop-place-test.true refl c.loop-place.invariant
 
 pub returns : goal.returns
 returns c = counted_all c.args.sorted.now c.loop-place.runs c.loop-place.place c.loop-place-test.false c.loop-place.invariant

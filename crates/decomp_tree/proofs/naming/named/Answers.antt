@@ -14,5 +14,5 @@ push-requires c =
     let same = c.as_slice-place-items.ensures.items in
     subst (λ (xs : List ℕ). IsAbove (numbered numbers (get_or xs i 0)) c.loop-place.named) (sym same)
     (subst (λ (named : List ℕ). IsAbove (numbered numbers (get_or places i 0)) named) (sym c.loop-place.invariant)
-    (named_below numbers places i (subst IsStrictlyIncreasing (sym c.as_slice-numbers.ensures.items) c.as_slice-numbers.ensures.rising) c.as_slice-place-items.ensures.rising
+    (named_below numbers places i (subst IsStrictlyIncreasing (sym c.as_slice-numbers.ensures.items) c.as_slice-numbers.ensures.increasing) c.as_slice-place-items.ensures.increasing
     (subst (λ (xs : List ℕ). AllBelow (length xs) places) (sym c.as_slice-numbers.ensures.items) c.requires) (let l = c.loop-place-test.true in omega (arith, l, ap length same))))

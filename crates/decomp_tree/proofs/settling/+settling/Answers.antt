@@ -13,11 +13,11 @@ use Rattle.tree_type.specs.Verdicts.{verdict_of}
 use Rattle.tree_type.specs.declared.tree.Node.{Node}
 use Rattle.decomp_tree.specs.declared.drafts.Draft.{Draft}
 use Rattle.decomp_tree.specs.declared.drafts.Draft.TheViews.{out-roll-Draft}
-use Rattle.decomp_tree.specs.declared.drafts.Front.{Front}
+use Rattle.decomp_tree.specs.declared.drafts.Opening.{Opening}
 use Rattle.decomp_tree.specs.PivotedShapes.{IsBehind, IsDrawnWith, IsFound, IsToldBeforePivot, undecided}
 use Rattle.decomp_tree.specs.Refined.{is_undecided}
 use Rattle.decomp_tree.specs.Seen.{HasNoneAmong, IsNamedFault, is_unsearched}
-use Rattle.decomp_tree.specs.Sketches.{sketch_of, lines_of_sketch, front_in, drafts_in, HasNoLateFault}
+use Rattle.decomp_tree.specs.Sketches.{sketch_of, lines_of_sketch, opening_in, drafts_in, HasNoLateFault}
 use Rattle.decomp_tree.proofs.Children.{child_lines}
 use Rattle.decomp_tree.proofs.DraftLemmas.{lines_are}
 use Rattle.decomp_tree.proofs.FoundCases.{fault_drawn, found_after, found_none, found_no_place, found_two, lines_made}
@@ -153,31 +153,31 @@ settle-returns-in-Some g t c =
     let m = c.args.matrix.now in
     let found = subst (λ (o : Option LineSet). MatchOption o (HasNoLateFault m c.deref.result.now.lines (finding_shown c.deref-2.result.now.finding)) (λ fault. IsNamedFault m c.deref.result.now.lines fault × (is_unsearched (finding_shown c.deref-2.result.now.finding) ≡ true))) c.in-Some.is c.in_ok-fault.ensures in
     fault_settled c.args.limits.lines m c.args.drawn c.requires.drafted c.args.pivots c.args.state c.requires.shape (lines_in c.args.limits.lines m c.args.drawn c.requires.drafted c.requires.lines) c.in-Some.fault
-    (subst (λ (front : Front). IsNamedFault m front.lines c.in-Some.fault) c.deref.ensures found.0) (map tree_of c.args.nodes.now.items) (map tree_of c.push_fault.new.nodes.items)
+    (subst (λ (opening : Opening). IsNamedFault m opening.lines c.in-Some.fault) c.deref.ensures found.0) (map tree_of c.args.nodes.now.items) (map tree_of c.push_fault.new.nodes.items)
     (subst (λ (lines : LineSet). map tree_of c.push_fault.new.nodes.items ≡ map tree_of c.args.nodes.now.items ++ Branch lines (Cycle c.in-Some.fault) NoTrees ∷ []) c.lines_of.ensures c.in_ok-push_fault.ensures)
 
 pub settle-returns-then-is_undecided : goal.settle-returns-then-is_undecided
 settle-returns-then-is_undecided g t c =
     let m = c.args.matrix.now in
     found_settled c.args.limits.lines m c.args.drawn c.requires.drafted c.args.pivots c.args.state
-    (subst (λ (front : Front). is_undecided (finding_shown front.finding) ≡ true) c.deref-3.ensures (sym c.is_undecided.ensures ∙ c.if-is_undecided.true)) (tree_of c.in_ok-found.found)
-    (subst (λ (front : Front). IsFound c.args.limits.lines c.args.pivots c.args.state m front.lines (tree_of c.in_ok-found.found)) c.deref-then-is_undecided.ensures
+    (subst (λ (opening : Opening). is_undecided (finding_shown opening.finding) ≡ true) c.deref-3.ensures (sym c.is_undecided.ensures ∙ c.if-is_undecided.true)) (tree_of c.in_ok-found.found)
+    (subst (λ (opening : Opening). IsFound c.args.limits.lines c.args.pivots c.args.state m opening.lines (tree_of c.in_ok-found.found)) c.deref-then-is_undecided.ensures
     (subst (λ (whole : Matrix). IsFound c.args.limits.lines c.args.pivots c.args.state whole c.deref-then-is_undecided.result.now.lines (tree_of c.in_ok-found.found)) c.by_rows-whole.ensures.matrix c.in_ok-found.ensures))
     (map tree_of c.args.nodes.now.items) (map tree_of c.push.new.self.items) (tree_behind c.args.nodes.now.items c.push.new.self.items c.in_ok-found.found c.in_ok-push.ensures.items)
 
 pub settle-late_fault-requires-clause-lines : goal.settle-late_fault-requires-clause-lines
 settle-late_fault-requires-clause-lines g t c =
-    subst (λ (front : Front). AreLines c.args.matrix.now front.lines) (sym c.deref.ensures) (lines_in c.args.limits.lines c.args.matrix.now c.args.drawn c.requires.drafted c.requires.lines)
+    subst (λ (opening : Opening). AreLines c.args.matrix.now opening.lines) (sym c.deref.ensures) (lines_in c.args.limits.lines c.args.matrix.now c.args.drawn c.requires.drafted c.requires.lines)
 
 pub settle-late_fault-requires-clause-free : goal.settle-late_fault-requires-clause-free
 settle-late_fault-requires-clause-free g t c free =
-    subst (λ (front : Front). HasNoneAmong c.args.matrix.now front.lines) (sym c.deref.ensures) (none_if_free c.args.limits.lines c.args.matrix.now c.args.drawn c.requires.drafted free)
+    subst (λ (opening : Opening). HasNoneAmong c.args.matrix.now opening.lines) (sym c.deref.ensures) (none_if_free c.args.limits.lines c.args.matrix.now c.args.drawn c.requires.drafted free)
 
 pub settle-find-requires : goal.settle-find-requires
 settle-find-requires g t c =
     let m = c.args.matrix.now in
     let lines = c.deref-then-is_undecided.result.now.lines in
-    let same : lines ≡ lines_of_sketch (sketch_of c.args.drawn) = ap (λ (front : Front). front.lines) c.deref-then-is_undecided.ensures ∙ sym (lines_are c.args.drawn) in
+    let same : lines ≡ lines_of_sketch (sketch_of c.args.drawn) = ap (λ (opening : Opening). opening.lines) c.deref-then-is_undecided.ensures ∙ sym (lines_are c.args.drawn) in
     let size : size_of lines ≡ size_of (lines_of_sketch (sketch_of c.args.drawn)) = ap size_of same in
     let falls : 4 * (c.args.pivots + size_of lines) < t = omega (arith, c.decreases, size) in
     λ κs lives. (
@@ -264,6 +264,6 @@ settle-returns g t c =
     let late = subst (λ (o : Option LineSet). MatchOption o (HasNoLateFault m c.deref.result.now.lines (finding_shown c.deref-2.result.now.finding)) (λ fault. IsNamedFault m c.deref.result.now.lines fault × (is_unsearched (finding_shown c.deref-2.result.now.finding) ≡ true))) c.in_default.is c.in_ok-fault.ensures in
     whole_settled c.args.limits.lines m c.args.drawn c.requires.drafted c.args.pivots c.args.state at.children.items
     (subst (λ (drafts : List Draft). AreSettled c.args.limits.lines c.args.pivots c.args.state m (map (λ child. lines_of_sketch (sketch_of child)) drafts) (map tree_of at.children.items)) all at.invariant.2)
-    (subst (λ (front : Front). is_undecided (finding_shown front.finding) ≡ false) c.deref-3.ensures (sym c.is_undecided.ensures ∙ c.if-is_undecided.false))
-    (subst (λ (front : Front). HasNoLateFault m (front_in c.args.drawn).lines (finding_shown front.finding)) c.deref-2.ensures (subst (λ (front : Front). HasNoLateFault m front.lines (finding_shown c.deref-2.result.now.finding)) c.deref.ensures late))
+    (subst (λ (opening : Opening). is_undecided (finding_shown opening.finding) ≡ false) c.deref-3.ensures (sym c.is_undecided.ensures ∙ c.if-is_undecided.false))
+    (subst (λ (opening : Opening). HasNoLateFault m (opening_in c.args.drawn).lines (finding_shown opening.finding)) c.deref-2.ensures (subst (λ (opening : Opening). HasNoLateFault m opening.lines (finding_shown c.deref-2.result.now.finding)) c.deref.ensures late))
     (map tree_of c.args.nodes.now.items) (map tree_of c.push_node.new.nodes.items) c.in_ok-push_node.ensures

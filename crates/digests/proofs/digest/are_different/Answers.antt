@@ -9,5 +9,5 @@ pub returns-clause-answer : goal.returns-clause-answer
 returns-clause-answer c =
     let ordered = IsNonDecreasingBy-from_sort (λ n. n) c.sort_unstable.new.self c.sort_unstable.ensures.sorted in
     let same = different_when_sorted c.args.numbers.now c.sort_unstable.new.self c.sort_unstable.ensures.permutation ordered in
-    let rising = c.are_rising.ensures in
-    ((λ yes. same.0 (rising.0 yes)), (λ different. rising.1 (same.1 different)))
+    let increasing = c.are_increasing.ensures in
+    ((λ yes. same.0 (increasing.0 yes)), (λ different. increasing.1 (same.1 different)))

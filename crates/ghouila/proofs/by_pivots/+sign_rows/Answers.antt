@@ -339,7 +339,7 @@ pub sign_by_pivot-sign_left-requires : goal.sign_by_pivot-sign_left-requires
 sign_by_pivot-sign_left-requires t c =
     let height_is = c.make_pivot.ensures.others.same_height in
     let falls : 2 * vec_len c.args.left + 1 < t = omega (arith, c.decreases) in
-    (falls, record { rising = c.requires.rows.rising; in_range = λ k h. omega (arith, c.requires.rows.in_range k h, height_is) })
+    (falls, record { increasing = c.requires.rows.increasing; in_range = λ k h. omega (arith, c.requires.rows.in_range k h, height_is) })
 
 pub sign_by_pivot-returns-in_err-signs-clause-others : goal.sign_by_pivot-returns-in_err-signs-clause-others
 sign_by_pivot-returns-in_err-signs-clause-others t c =

@@ -7,7 +7,7 @@ use Rattle.ghouila.proofs.by_pivots.sign_by_steps.Goals as goal
 
 pub sign_left-requires : goal.sign_left-requires
 sign_left-requires c = subst (λ (m : Matrix). IsRowSet m c.in_ok-left.left.items) (sym c.in_ok-work.ensures.copy)
-    (subst (IsRowSet c.args.matrix.now) (sym c.in_ok-left.ensures.items) (record { rising = c.in_ok-left.ensures.rising; in_range = c.requires }))
+    (subst (IsRowSet c.args.matrix.now) (sym c.in_ok-left.ensures.items) (record { increasing = c.in_ok-left.ensures.increasing; in_range = c.requires }))
 
 pub returns-clause-right : goal.returns-clause-right
 returns-clause-right c =

@@ -23,7 +23,7 @@ join_arc-requires-clause-clear c =
     let items = c.as_slice-arc-items.result.now in
     let index = c.loop-arc.arc-index in
     let l = c.loop-arc-test.true in
-    let kept = c.loop-arc.invariant.joined.kept (get_or items index 0) (not_before items index (subst IsStrictlyIncreasing (sym c.as_slice-arc-items.ensures.items) c.as_slice-arc-items.ensures.rising) (omega arith)) in
+    let kept = c.loop-arc.invariant.joined.kept (get_or items index 0) (not_before items index (subst IsStrictlyIncreasing (sym c.as_slice-arc-items.ensures.items) c.as_slice-arc-items.ensures.increasing) (omega arith)) in
     clear_stays (support c.args.matrix.now) c.args.joint.now c.args.sides.now c.loop-arc.sides (get_or items index 0) kept
     (c.requires.clear (get_or items index 0) (subst (λ (xs : List ℕ). IsIn (get_or items index 0) xs) c.as_slice-arc-items.ensures.items (in_at items index (omega arith))) c.if-arc-joint.false)
 
@@ -37,7 +37,7 @@ loop-arc-preserved c =
     let index = c.loop-arc.arc-index in
     let so = c.loop-arc.invariant in
     let l = c.loop-arc-test.true in
-    let kept = so.joined.kept (get_or items index 0) (not_before items index (subst IsStrictlyIncreasing (sym c.as_slice-arc-items.ensures.items) c.as_slice-arc-items.ensures.rising) (omega arith)) in
+    let kept = so.joined.kept (get_or items index 0) (not_before items index (subst IsStrictlyIncreasing (sym c.as_slice-arc-items.ensures.items) c.as_slice-arc-items.ensures.increasing) (omega arith)) in
     elim c.if-arc-joint.branch [
       | then-arc-joint w ↦ rw w.sides-is (record {
         tables = w.join_row.ensures.tables;

@@ -78,7 +78,7 @@ join_parts-find_sides-requires t c =
     let low = members_below (height m) S c.requires.rows in
     let short = nonzero_in_range m c.in_ok-joint.ensures.shape.rectangular in
     let fewer = with_fewer (support m) (height m) m.width short S low i c.requires.split.here parts c.requires.split.parts c.args.ends.now c.requires.ends c.in_ok-joint.joint c.in_ok-joint.ensures.joint
-    c.loop-place.place within T c.in_ok-rows_with.ensures.rows c.requires.split.two c.in_ok-rows_with.ensures.rising in
+    c.loop-place.place within T c.in_ok-rows_with.ensures.rows c.requires.split.two c.in_ok-rows_with.ensures.increasing in
     let falls : 2 * length T + 1 < t = omega (arith, c.decreases) in (
       falls,
       (

@@ -25,4 +25,4 @@ returns c =
     let given = c.as_slice.result.now in
     IfOk-weaker c.first_splitting_row.result
     (λ o. MatchOption o ((row : ℕ) → ¬ (Splits M given row)) (λ split. IsFirstSplit M given split.row × AreParts M given split.row split.parts))
-    (λ o. MatchOption o ((row : ℕ) → ¬ (Splits M S row)) (IsSplit M S)) (λ o h. found M S given o c.as_slice.ensures.items c.as_slice.ensures.rising h) c.first_splitting_row.ensures
+    (λ o. MatchOption o ((row : ℕ) → ¬ (Splits M S row)) (IsSplit M S)) (λ o h. found M S given o c.as_slice.ensures.items c.as_slice.ensures.increasing h) c.first_splitting_row.ensures

@@ -34,7 +34,7 @@ loop-row-preserved c =
           (λ column. c.add_row.ensures.columns column ∙ ap (λ (z : ℕ). has_column c.loop-row.seen.items column || M z column) at);
       drawn = redrawn_more (IsRay M S) (ray_same M S) c.as_slice-row-items.result.now p c.args.sides.now c.loop-row.sides c.draw_ray.new.sides so.drawn c.draw_ray.ensures.others
           (subst (λ (z : ℕ). IsRay M S z c.draw_ray.new.sides) (sym at) (ray_after M S p (has_column c.loop-row.seen.items) c.draw_ray.new.sides
-          c.as_slice-row-items.ensures.rising inside so.seen ray));
+          c.as_slice-row-items.ensures.increasing inside so.seen ray));
     }
 
 pub returns-clause-cuts : goal.returns-clause-cuts

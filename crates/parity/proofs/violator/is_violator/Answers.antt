@@ -5,17 +5,17 @@ use Rattle.cmr_base.specs.LineSets.{submatrix_sum}
 use Rattle.cmr_base.specs.Sums.{IsTwoModFour}
 use Rattle.cmr_base.specs.Matrix.{entry, height}
 use Rattle.cmr_base.specs.Violator.{IsViolator}
-use Rattle.cmr_base.proofs.Parts.{length-rising}
+use Rattle.cmr_base.proofs.Parts.{length-increasing}
 use Rattle.parity.proofs.violator.is_violator.Goals as goal
 use Rattle.parity.proofs.violator.is_violator.Goals.{then-have_even_rows, else-have_even_rows}
 
 pub prove-unreachable-requires : goal.prove-unreachable-requires
 prove-unreachable-requires c =
-    omega (arith, length-rising c.args.lines.now.rows (height c.args.matrix.now) c.as_slice-rows.ensures.rising c.requires.rows, ap length c.as_slice-rows.ensures.items)
+    omega (arith, length-increasing c.args.lines.now.rows (height c.args.matrix.now) c.as_slice-rows.ensures.increasing c.requires.rows, ap length c.as_slice-rows.ensures.items)
 
 pub prove-unreachable-requires-2 : goal.prove-unreachable-requires-2
 prove-unreachable-requires-2 c =
-    omega (arith, length-rising c.args.lines.now.columns c.args.matrix.now.width c.as_slice-columns.ensures.rising c.requires.columns, ap length c.as_slice-columns.ensures.items)
+    omega (arith, length-increasing c.args.lines.now.columns c.args.matrix.now.width c.as_slice-columns.ensures.increasing c.requires.columns, ap length c.as_slice-columns.ensures.items)
 
 pub returns-then-have_even_columns : goal.returns-then-have_even_columns
 returns-then-have_even_columns c =

@@ -9,4 +9,4 @@ push-requires c =
     let i = c.loop-line.line-index in
     let same = c.as_slice-line-items.ensures.items in
     rw same (subst (λ (made : List ℕ). IsAbove (get_or lines i 0) made) (sym c.loop-line.invariant)
-    (next_above c.args.made.now lines c.args.bound i c.as_slice-line-items.ensures.rising (omega (arith, ap length same)) (subst (λ (items : List ℕ). c.args.bound < get_or items i 0) same c.if-line-bound.true) c.requires))
+    (next_above c.args.made.now lines c.args.bound i c.as_slice-line-items.ensures.increasing (omega (arith, ap length same)) (subst (λ (items : List ℕ). c.args.bound < get_or items i 0) same c.if-line-bound.true) c.requires))

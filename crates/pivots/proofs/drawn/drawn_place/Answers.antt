@@ -1,7 +1,7 @@
 use Rattle.std.proofs.Common.{◌≡◌, ◌∙◌, ℕ, List, Contains, pos, ap, ap₂, length, subst, sym, arith, rules}
 use Rattle.std.specs.Prelude.{IfSome, IfNone, Option}
 use Rattle.cmr_base.specs.Matrix.{height, entry}
-use Rattle.cmr_base.proofs.Parts.{length-rising}
+use Rattle.cmr_base.proofs.Parts.{length-increasing}
 use Rattle.pivots.specs.declared.drawn.DrawnPlace.{DrawnPlace}
 use Rattle.pivots.specs.DrawnPlaces.{places_on}
 use Rattle.pivots.specs.PivotedParts.{IsPlaceIn}
@@ -10,11 +10,11 @@ use Rattle.pivots.proofs.drawn.drawn_place.Goals as goal
 
 pub prove-unreachable-requires : goal.prove-unreachable-requires
 prove-unreachable-requires c =
-    omega (arith, length-rising c.args.lines.now.rows (height c.args.matrix.now) c.as_slice-rows.ensures.rising c.requires.rows.in_range, ap length c.as_slice-rows.ensures.items)
+    omega (arith, length-increasing c.args.lines.now.rows (height c.args.matrix.now) c.as_slice-rows.ensures.increasing c.requires.rows.in_range, ap length c.as_slice-rows.ensures.items)
 
 pub prove-unreachable-requires-2 : goal.prove-unreachable-requires-2
 prove-unreachable-requires-2 c =
-    omega (arith, length-rising c.args.lines.now.columns c.args.matrix.now.width c.as_slice-columns.ensures.rising c.requires.columns.in_range, ap length c.as_slice-columns.ensures.items)
+    omega (arith, length-increasing c.args.lines.now.columns c.args.matrix.now.width c.as_slice-columns.ensures.increasing c.requires.columns.in_range, ap length c.as_slice-columns.ensures.items)
 
 pub returns-then-count-eq0-clause-none : goal.returns-then-count-eq0-clause-none
 returns-then-count-eq0-clause-none c = none_placed c.args.matrix.now c.args.lines.now.rows c.args.lines.now.columns

@@ -29,7 +29,7 @@ pub make_pivot-requires-clause-rows : goal.make_pivot-requires-clause-rows
 make_pivot-requires-clause-rows c =
     let m = c.args.matrix.now in
     subst (λ (work : Matrix). IsRowSet work c.as_slice-left.result.now) (sym c.in_ok-work.ensures.copy) (subst (IsRowSet m) (sym (c.as_slice-left.ensures.items ∙ c.in_ok-others.ensures.others))
-    (record { rising = others_rise (height m) c.args.row; in_range = others_below (height m) c.args.row }))
+    (record { increasing = others_rise (height m) c.args.row; in_range = others_below (height m) c.args.row }))
 
 pub make_pivot-requires-clause-apart : goal.make_pivot-requires-clause-apart
 make_pivot-requires-clause-apart c = subst (IsOutside c.args.row) (sym (c.as_slice-left.ensures.items ∙ c.in_ok-others.ensures.others)) (others_outside (height c.args.matrix.now) c.args.row)

@@ -12,7 +12,7 @@ pub returns-then-not-is_entry-clause-some : goal.returns-then-not-is_entry-claus
 returns-then-not-is_entry-clause-some c =
     let z = c.entry_after-after.result in
     let fits : SFits w8 z = search rules in
-    row_stopped c.args.matrix.now c.args.work.now c.args.columns.now c.args.place c.args.row c.loop-column.work c.loop-column.column-index c.loop-column-test.true c.requires.columns.rising
+    row_stopped c.args.matrix.now c.args.work.now c.args.columns.now c.args.place c.args.row c.loop-column.work c.loop-column.column-index c.loop-column-test.true c.requires.columns.increasing
     (λ small. false≢true (sym c.if-not-is_entry.true ∙ c.is_entry.ensures.1 (subst IsEntry (sym (to_z-of_z w8 z fits ∙ c.entry_after-after.ensures)) small)))
     c.loop-column.invariant
 

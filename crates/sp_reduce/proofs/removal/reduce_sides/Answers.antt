@@ -4,10 +4,10 @@ use Rattle.cmr_base.specs.Reductions.{Removal}
 use Rattle.sp_reduce.proofs.removal.reduce_sides.Goals as goal
 
 pub of-requires : goal.of-requires
-of-requires c = subst IsStrictlyIncreasing (sym c.deref.ensures.value) c.in_ok-steps.ensures.paired.own_side.rising
+of-requires c = subst IsStrictlyIncreasing (sym c.deref.ensures.value) c.in_ok-steps.ensures.paired.own_side.increasing
 
 pub of-requires-2 : goal.of-requires-2
-of-requires-2 c = subst IsStrictlyIncreasing (sym c.deref-2.ensures.value) c.in_ok-steps.ensures.paired.across_side.rising
+of-requires-2 c = subst IsStrictlyIncreasing (sym c.deref-2.ensures.value) c.in_ok-steps.ensures.paired.across_side.increasing
 
 pub returns : goal.returns
 returns c =

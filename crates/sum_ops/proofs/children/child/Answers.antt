@@ -10,7 +10,7 @@ returns-clause-lines c = record {
 
 pub returns-clause-fewer : goal.returns-clause-fewer
 returns-clause-fewer c = λ least enough few.
-    fewer_in_child c.args.lines.now c.args.inside c.args.side.now.rows c.args.side.now.columns c.args.more.now least _ c.in_ok-child_rows.ensures.rising c.in_ok-child_columns.ensures.rising enough few (record {
+    fewer_in_child c.args.lines.now c.args.inside c.args.side.now.rows c.args.side.now.columns c.args.more.now least _ c.in_ok-child_rows.ensures.increasing c.in_ok-child_columns.ensures.increasing enough few (record {
       rows = c.in_ok-child_rows.ensures.child ∙ chosen_rows c.args.inside c.args.side.now.rows c.args.side.now.columns c.args.more.now c.args.lines.now.rows;
       columns = c.in_ok-child_columns.ensures.child ∙ chosen_columns c.args.inside c.args.side.now.rows c.args.side.now.columns c.args.more.now c.args.lines.now.columns;
     })

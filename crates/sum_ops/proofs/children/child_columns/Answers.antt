@@ -13,4 +13,4 @@ push-requires c =
     let i = c.loop-column.column-index in
     let same = c.as_slice-column-items.ensures.items in
     rw same (subst (λ (child : List ℕ). IsAbove (get_or lines i 0) child) (sym c.loop-column.invariant)
-    (kept_below (λ line. on_list c.args.inside c.args.side.now line || list_any (is_same_line (Column line)) c.args.more.now) lines i c.as_slice-column-items.ensures.rising (omega (arith, ap length same))))
+    (kept_below (λ line. on_list c.args.inside c.args.side.now line || list_any (is_same_line (Column line)) c.args.more.now) lines i c.as_slice-column-items.ensures.increasing (omega (arith, ap length same))))

@@ -1,5 +1,5 @@
 use Rattle.three_sep.specs.Concentrated.{HasNoneBetween}
-use Rattle.three_sep.specs.Connectors.{all_front}
+use Rattle.three_sep.specs.Connectors.{all_prefix}
 use Rattle.three_sep.specs.Searches.{HasNoGood}
 use Rattle.cmr_base.specs.declared.separation.Form.TheVariants.{Concentrated}
 use Rattle.three_sep.proofs.ConcentratedLemmas.{none_between}
@@ -10,4 +10,4 @@ pub returns-clause-none : goal.returns-clause-none
 returns-clause-none c =
     let m = c.args.matrix.now in
     let d = c.args.connectors.now in
-    map_none (HasNoGood m (all_front Concentrated d)) (HasNoneBetween m d.first.row d.second.column) c.first_of_connectors.result (none_between m d c.requires.connectors) c.first_of_connectors.ensures.none
+    map_none (HasNoGood m (all_prefix Concentrated d)) (HasNoneBetween m d.first.row d.second.column) c.first_of_connectors.result (none_between m d c.requires.connectors) c.first_of_connectors.ensures.none

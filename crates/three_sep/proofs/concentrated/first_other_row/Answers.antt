@@ -2,7 +2,7 @@ use Rattle.std.proofs.Common.{[], ◌∷◌, ◌++◌, ◌∙◌, sym, arith}
 use Rattle.cmr_base.specs.declared.separation.Form.TheVariants.{Concentrated}
 use Rattle.cmr_base.specs.Matrix.{entry, height}
 use Rattle.cmr_base.proofs.Booleans.{nonzero_is, not_both}
-use Rattle.three_sep.specs.Searches.{corner_front}
+use Rattle.three_sep.specs.Searches.{corner_prefix}
 use Rattle.three_sep.proofs.SearchLemmas.{level_ends, none_below_more, second_below}
 use Rattle.cmr_base.proofs.TransposedLines.{transposed_inside, transposed_row, transposed_support}
 use Rattle.three_sep.proofs.ConcentratedLemmas.{no_row, none_over_zero_rows, none_to_second}
@@ -43,7 +43,7 @@ loop-o-preserved c =
     let corners = c.args.corners.now in
     let q = c.args.q in
     let o = c.in-Some.o in (
-      none_below_more m (corner_front Concentrated corners ++ q ∷ []) o
+      none_below_more m (corner_prefix Concentrated corners ++ q ∷ []) o
           (none_over_zero_rows m corners q c.loop-o.from o c.loop-o.invariant.0 (λ row a l. sym (transposed_support m n columns_are row corners.j c.by_columns.ensures.shape) ∙ c.in-Some.ensures.first.3 row a l))
           (no_row m corners q o (λ other. not_both c.has_sign.result (c.has_sign.ensures.1 other.determinant) c.if-has_sign.false)),
       let f = c.in-Some.ensures.first.0 in let i = c.loop-o.invariant.1 in omega arith,
@@ -55,7 +55,7 @@ returns c =
     let m = c.args.matrix.now in
     let n = c.by_columns.result.now in
     let corners = c.args.corners.now in
-    level_ends m (corner_front Concentrated corners ++ c.args.q ∷ []) (height m) (omega arith)
+    level_ends m (corner_prefix Concentrated corners ++ c.args.q ∷ []) (height m) (omega arith)
     (none_over_zero_rows m corners c.args.q c.loop-o.from (height m) c.loop-o.invariant.0
     (λ row a l. sym (transposed_support m n c.by_columns.ensures.matrix row corners.j c.by_columns.ensures.shape) ∙ c.in_default.ensures.first row a))
     (second_below m Concentrated corners c.args.q)

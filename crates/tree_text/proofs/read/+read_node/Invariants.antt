@@ -9,6 +9,6 @@ decreases-read_node l = l.levels
 
 abbrev pub invariant-loop : goal.invariant-loop
 invariant-loop l = record {
-  read : times (another_tree (node l.header (l.levels - 1) (Some l.front.value.lines))) (l.front.value.children - l.counter) (map tree_of l.children.items) l.words ≡ times (another_tree (node l.header (l.levels - 1) (Some l.front.value.lines))) l.front.value.children [] l.initial.words;
+  read : times (another_tree (node l.header (l.levels - 1) (Some l.opening.value.lines))) (l.opening.value.children - l.counter) (map tree_of l.children.items) l.words ≡ times (another_tree (node l.header (l.levels - 1) (Some l.opening.value.lines))) l.opening.value.children [] l.initial.words;
   len : length l.children.items ≡ l.counter;
 }

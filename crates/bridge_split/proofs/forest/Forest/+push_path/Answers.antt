@@ -2,7 +2,7 @@ use Rattle.std.proofs.Common.{◌≡◌, ◌≢◌, ◌<◌, ◌≤◌, ◌∙�
 use Rattle.bridge_split.specs.declared.cuts.CutTable.{CutTable}
 use Rattle.bridge_split.specs.Forests.{AreInOneTree, HasTreeRoom, joins, depth_at, parent_at}
 use Rattle.bridge_split.proofs.CutTables.{disagree_back}
-use Rattle.bridge_split.proofs.PathRoutes.{route_one, route_front, route_back, swapped, climbs}
+use Rattle.bridge_split.proofs.PathRoutes.{route_one, route_prefix, route_back, swapped, climbs}
 use Rattle.bridge_split.proofs.forest.Forest.+push_path.Goals as goal
 use Rattle.std.proofs.lemmas.List.{get_or_default}
 
@@ -58,7 +58,7 @@ returns-in_ok-push_path t c =
     let s = c.args.self.now in
     let u = up_here c.args.table.now s.depth.items s.parent.items s.reached.items c.requires.room c.args.one c.args.two c.index-then-index.result.now c.index.result.now c.index-else-one-two.result.now
     c.requires.tree c.if-one-two.false c.index.ensures c.index-else-one-two.ensures c.if-index.true c.index-then-index.ensures in
-    route_front (joins c.args.table.now) c.args.table.now.count (depth_at s.depth.items) c.args.path.now c.push-then-index.new.self c.push_path.new.path
+    route_prefix (joins c.args.table.now) c.args.table.now.count (depth_at s.depth.items) c.args.path.now c.push-then-index.new.self c.push_path.new.path
     c.args.one c.index-then-index.result.now c.args.two c.in_ok-push-2.ensures.ok c.in_ok-push_path.ensures u.1 u.2 u.3
 
 pub returns-in_ok-push-3 : goal.returns-in_ok-push-3

@@ -2,7 +2,7 @@ use Rattle.std.proofs.Common.{◌<◌, ◌&&◌, ◌||◌, ◌∙◌, not, ℕ, 
 use Rattle.cmr_base.specs.Matrix.{height}
 use Rattle.cmr_base.specs.Trees.{support}
 use Rattle.cmr_base.proofs.Members.{in_at}
-use Rattle.cmr_base.proofs.Parts.{length-rising}
+use Rattle.cmr_base.proofs.Parts.{length-increasing}
 use Rattle.cmr_base.specs.ColumnSets.{has_column}
 use Rattle.bridge_split.specs.PartNumbers.{number_at, IsBetween}
 use Rattle.bridge_split.proofs.PartWalks.{part_done}
@@ -18,18 +18,18 @@ loop-met-init c =
     let x = get_or S place 0 in
     let s = c.args.self.now in
     let few : c.args.number < 1000 =
-    let g = length-rising S (height m) c.requires.rising c.requires.rows in
+    let g = length-increasing S (height m) c.requires.increasing c.requires.rows in
     let h = c.requires.numbering.room.matrix.height_in in
     let f = c.requires.numbering.fewer in
     let l = c.requires.place in omega (arith, g, h, f, l) in
     starts_from m S i c.args.number x s.part.items c.meet.new.self.part.items s.reached.items c.meet.new.self.reached.items (in_at S place c.requires.place) (c.requires.rows place c.requires.place) c.requires.left c.requires.numbering.room
     (c.meet.ensures.part ∙ ap (λ (v : List (Option ℕ)). set v x (Some c.args.number)) c.forget.ensures.part)
-    place c.requires.rising c.requires.numbering.between c.requires.place refl c.requires.numbering.before few c.meet.ensures.room
+    place c.requires.increasing c.requires.numbering.between c.requires.place refl c.requires.numbering.before few c.meet.ensures.room
     (λ column. c.meet.ensures.reached column ∙ ap (λ t. t || (support m x column && not (support m i column))) (c.forget.ensures.none column))
 
 pub meet_touched-met-requires-clause-few : goal.meet_touched-met-requires-clause-few
 meet_touched-met-requires-clause-few c =
-    let g = length-rising c.args.rows.now (height c.args.matrix.now) c.requires.rising c.requires.rows in
+    let g = length-increasing c.args.rows.now (height c.args.matrix.now) c.requires.increasing c.requires.rows in
     let h = c.requires.numbering.room.matrix.height_in in omega (arith, g, h)
 
 pub loop-met-preserved : goal.loop-met-preserved

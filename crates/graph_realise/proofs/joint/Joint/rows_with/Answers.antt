@@ -16,12 +16,12 @@ loop-row-preserved c =
     elim c.if-is_with.branch [
       | then-is_with+in_ok-push w ↦
           rw (w.rows-is, w.in_ok-push.ensures.ok) (record {
-            rising = increasing-append c.loop-row.rows c.loop-row.row so.rising (λ y h. ((so.rows y).0 h).0);
+            increasing = increasing-append c.loop-row.rows c.loop-row.row so.increasing (λ y h. ((so.rows y).0 h).0);
             rows = rows_more (λ x. (x ≡ joint.row) ⊎ (number_at joint.part_of.items x ≡ Some c.args.part)) c.loop-row.row c.loop-row.rows so.rows (c.is_with.ensures.0 w.if-is_with.true);
           })
       | else-is_with w ↦
           rw w.rows-is (record {
-            rising = so.rising;
+            increasing = so.increasing;
             rows = rows_same (λ x. (x ≡ joint.row) ⊎ (number_at joint.part_of.items x ≡ Some c.args.part)) c.loop-row.row c.loop-row.rows so.rows
                 (λ h. not_both c.is_with.result (c.is_with.ensures.1 h) w.if-is_with.false);
           })

@@ -31,11 +31,11 @@ loop-chunk-preserved c =
     ∙ ap₂ (λ a b. a && b)
     (ap (λ (n : ℕ). has_bit n k) c.support_word.ensures ∙ bit_at_chunk m c.args.one chunk k small)
     (ap (λ (n : ℕ). has_bit n k) c.support_word-in-loop-chunk.ensures ∙ bit_at_chunk m c.args.other chunk k small) in
-    let kept : (k : ℕ) → k < 64 → cell now row (64 * chunk + k) ≡ cell old row (64 * chunk + k) = λ k small. not_filled values old now row chunks index k c.requires.chunks.rising c.loop-chunk-test.true so small in
+    let kept : (k : ℕ) → k < 64 → cell now row (64 * chunk + k) ≡ cell old row (64 * chunk + k) = λ k small. not_filled values old now row chunks index k c.requires.chunks.increasing c.loop-chunk-test.true so small in
     elim c.if-common-ne0.branch [
       | then-common-ne0 w ↦
           subst (λ (t : Grid). AreChunksFilled values old t row chunks (index + 1)) (sym w.self-is)
-          (chunks_more values old now w.set_word.new.self row chunks index (bit_or w.word.result (bit_and one other)) c.requires.chunks.rising c.loop-chunk-test.true so w.set_word.ensures
+          (chunks_more values old now w.set_word.new.self row chunks index (bit_or w.word.result (bit_and one other)) c.requires.chunks.increasing c.loop-chunk-test.true so w.set_word.ensures
           (λ k small inside.
           has_bit-or w.word.result (bit_and one other) k ∙ ap₂ (λ a b. a || b) (w.word.ensures k small (omega (arith, inside, so.rows.width)) ∙ kept k small) (both k small)))
       | else-common-ne0 w ↦

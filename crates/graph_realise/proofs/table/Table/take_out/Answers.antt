@@ -28,7 +28,7 @@ loop-chunk-preserved c =
     let chunk = get_or chunks index 0 in
     let so = c.loop-chunk.invariant in
     let values : ℕ → Bool = λ column. cell c.args.self.now c.args.row column && not (support c.args.matrix.now c.args.other column) in
-    let kept : (k : ℕ) → k < 64 → cell now row (64 * chunk + k) ≡ cell old row (64 * chunk + k) = λ k small. not_filled values old now row chunks index k c.requires.chunks.rising c.loop-chunk-test.true so small in
+    let kept : (k : ℕ) → k < 64 → cell now row (64 * chunk + k) ≡ cell old row (64 * chunk + k) = λ k small. not_filled values old now row chunks index k c.requires.chunks.increasing c.loop-chunk-test.true so small in
     let word : (k : ℕ) → k < 64 → 64 * chunk + k < old.width → has_bit c.word-word.result k ≡ cell old row (64 * chunk + k) = λ k small inside.
     c.word-word.ensures k small (omega (arith, inside, so.rows.width)) ∙ kept k small in
     let gone : (k : ℕ) → k < 64 → has_bit c.support_word-gone.result k ≡ support m c.args.other (64 * chunk + k) = λ k small.
@@ -36,7 +36,7 @@ loop-chunk-preserved c =
     elim c.if-word-gone-ne0.branch [
       | then-word-gone-ne0 w ↦
           subst (λ (t : Grid). AreChunksFilled values old t row chunks (index + 1)) (sym w.self-is)
-          (chunks_more values old now w.set_word.new.self row chunks index w.outside.result c.requires.chunks.rising c.loop-chunk-test.true so w.set_word.ensures
+          (chunks_more values old now w.set_word.new.self row chunks index w.outside.result c.requires.chunks.increasing c.loop-chunk-test.true so w.set_word.ensures
           (λ k small inside. w.outside.ensures k small ∙ ap₂ (λ a b. a && not b) (word k small inside) (gone k small)))
       | else-word-gone-ne0 w ↦
           subst (λ (t : Grid). AreChunksFilled values old t row chunks (index + 1)) (sym w.self-is)

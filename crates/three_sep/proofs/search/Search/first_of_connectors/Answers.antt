@@ -3,7 +3,7 @@ use Rattle.line_growth.specs.declared.rule.GrowthRule.{GrowthRule}
 use Rattle.line_growth.specs.GrowingSets.{IsGrowing}
 use Rattle.line_growth.specs.Rules.{lower_of, upper_of}
 use Rattle.three_sep.specs.declared.connectors.Connectors.{Connectors}
-use Rattle.three_sep.specs.Connectors.{AreConnectorsOf, all_front, connectors_at, firsts}
+use Rattle.three_sep.specs.Connectors.{AreConnectorsOf, all_prefix, connectors_at, firsts}
 use Rattle.three_sep.specs.Searches.{HasNoGood, IsFirstOf, held_lines}
 use Rattle.three_sep.proofs.SideLemmas.{crossing_connectors}
 use Rattle.three_sep.proofs.search.Search.first_of_connectors.Goals as goal
@@ -24,7 +24,7 @@ first_of_lines-requires-clause-growing c =
     (subst (λ (r : GrowthRule). IsGrowing m (upper_of m r) (lower_of m r) (held_lines c.args.form c.args.corners.now c.args.q) side) (sym c.rule_at-rule.ensures) c.requires.held.growing)
 
 pub returns-clause-first : goal.returns-clause-first
-returns-clause-first c = subst (λ (e : Connectors). IfOk c.first_of_lines.result (λ answer. IfSome answer (IsFirstOf c.args.matrix.now (all_front c.args.form e)))) c.at-connectors.ensures c.first_of_lines.ensures.first
+returns-clause-first c = subst (λ (e : Connectors). IfOk c.first_of_lines.result (λ answer. IfSome answer (IsFirstOf c.args.matrix.now (all_prefix c.args.form e)))) c.at-connectors.ensures c.first_of_lines.ensures.first
 
 pub returns-clause-none : goal.returns-clause-none
-returns-clause-none c = subst (λ (e : Connectors). IfOk c.first_of_lines.result (λ answer. IfNone answer (HasNoGood c.args.matrix.now (all_front c.args.form e)))) c.at-connectors.ensures c.first_of_lines.ensures.none
+returns-clause-none c = subst (λ (e : Connectors). IfOk c.first_of_lines.result (λ answer. IfNone answer (HasNoGood c.args.matrix.now (all_prefix c.args.form e)))) c.at-connectors.ensures c.first_of_lines.ensures.none

@@ -5,7 +5,7 @@ use Rattle.line_growth.specs.Rules.{IsRuleOf}
 use Rattle.three_sep.specs.Connectors.{HasNoneParting}
 use Rattle.three_sep.specs.declared.search.Search.{Search}
 use Rattle.cmr_base.specs.Separations.{first_is_flat}
-use Rattle.three_sep.specs.Searches.{IsSearchOf, corner_front, line_count}
+use Rattle.three_sep.specs.Searches.{IsSearchOf, corner_prefix, line_count}
 use Rattle.three_sep.proofs.SearchLemmas.{below_line, found_some, none_more, level_ends, none_below_more, first_below}
 use Rattle.three_sep.proofs.SideLemmas.{no_good_corners, rule_inside}
 use Rattle.three_sep.proofs.search.Search.first_of_corners.Goals as goal
@@ -23,24 +23,24 @@ hold_first-requires-clause-line c =
     below_line c.args.matrix.now (first_is_flat c.args.form) c.loop-q.q (let l = c.loop-q-test.true in let e = c.count_of-q-end.ensures.count ∙ ap (λ (z : Bool). line_count c.args.matrix.now z) c.first_is_flat.ensures in omega arith)
 
 pub returns-in-Some-clause-first : goal.returns-in-Some-clause-first
-returns-in-Some-clause-first c = found_some c.args.matrix.now (corner_front c.args.form c.args.corners.now) c.loop-q.q c.in_ok-three.field-0 c.in-Some.three (omega arith) c.loop-q.invariant.1 c.in-Some.is c.in_ok-three.ensures.first
+returns-in-Some-clause-first c = found_some c.args.matrix.now (corner_prefix c.args.form c.args.corners.now) c.loop-q.q c.in_ok-three.field-0 c.in-Some.three (omega arith) c.loop-q.invariant.1 c.in-Some.is c.in_ok-three.ensures.first
 
 pub loop-q-preserved : goal.loop-q-preserved
 loop-q-preserved c =
     let m = c.args.matrix.now in
-    let front = corner_front c.args.form c.args.corners.now in
+    let prefix = corner_prefix c.args.form c.args.corners.now in
     elim c.if-branch.branch [
       | then-branch+in_ok-three+in_default w ↦ (
         subst (λ (s : Search). IsSearchOf m s) (sym w.self-is) w.in_ok-three.ensures.search,
-        none_more m front c.loop-q.q w.in_ok-three.field-0 c.loop-q.invariant.1 w.in_default.is w.in_ok-three.ensures.none,
+        none_more m prefix c.loop-q.q w.in_ok-three.field-0 c.loop-q.invariant.1 w.in_default.is w.in_ok-three.ensures.none,
       )
       | else-branch w ↦ (
         subst (λ (s : Search). IsSearchOf m s) (sym w.self-is) c.in_ok-hold_first.ensures.search,
-        none_below_more m front c.loop-q.q c.loop-q.invariant.1 (c.in_ok-hold_first.ensures.no w.if-branch.false),
+        none_below_more m prefix c.loop-q.q c.loop-q.invariant.1 (c.in_ok-hold_first.ensures.no w.if-branch.false),
       )
     ]
 
 pub returns-clause-none : goal.returns-clause-none
-returns-clause-none c = level_ends c.args.matrix.now (corner_front c.args.form c.args.corners.now) c.loop-q.q (omega arith) c.loop-q.invariant.1
+returns-clause-none c = level_ends c.args.matrix.now (corner_prefix c.args.form c.args.corners.now) c.loop-q.q (omega arith) c.loop-q.invariant.1
     (λ s S b g h. let k = first_below c.args.matrix.now c.args.form c.args.corners.now s S b g h in
     let l = c.loop-q-test.false in let e = c.count_of-q-end.ensures.count ∙ ap (λ (z : Bool). line_count c.args.matrix.now z) c.first_is_flat.ensures in omega arith)

@@ -1,4 +1,4 @@
--- Rising lists of numbers, and the rising list of what stands an odd number of times in a list.
+-- Increasing lists of numbers, and the increasing list of what stands an odd number of times in a list.
 use Rattle.std.proofs.Common.{◌≡◌, ◌≢◌, ◌<◌, ◌≤◌, ◌+◌, ◌⊎◌, inl, inr, ℕ, zero, suc, Bool, true, false, cond, nat_eq, nat_lt, ℤ, pos, ◌+ℤ◌, ◌-ℤ◌, List, [], ◌∷◌, length, take, get_or, refl, ap, sym, subst, arith}
 use Rattle.std.specs.List.{AllByRecursion, range_with_len}
 use Rattle.std.specs.List.Sorted.{IsStrictlyIncreasing}
@@ -29,23 +29,23 @@ pub rises_from_lower : (low from high : ℕ) (xs : List ℕ) → low ≤ from �
 rises_from_lower low from high [] h rises = tt
 rises_from_lower low from high (x ∷ xs) h rises = (omega (arith, rises.0), rises.1, rises.2)
 
-pub rising_in_range : (low high : ℕ) (xs : List ℕ) → RisesIn low high xs → (k : ℕ) → k < length xs → get_or xs k 0 < high
-rising_in_range low high [] rises k h = absurd (omega arith)
-rising_in_range low high (x ∷ xs) rises zero h = rises.1
-rising_in_range low high (x ∷ xs) rises (suc k) h = rising_in_range (x + 1) high xs rises.2 k (omega arith)
+pub increasing_in_range : (low high : ℕ) (xs : List ℕ) → RisesIn low high xs → (k : ℕ) → k < length xs → get_or xs k 0 < high
+increasing_in_range low high [] rises k h = absurd (omega arith)
+increasing_in_range low high (x ∷ xs) rises zero h = rises.1
+increasing_in_range low high (x ∷ xs) rises (suc k) h = increasing_in_range (x + 1) high xs rises.2 k (omega arith)
 
-pub rising_at_least : (low high : ℕ) (xs : List ℕ) → RisesIn low high xs → (k : ℕ) → k < length xs → low ≤ get_or xs k 0
-rising_at_least low high [] rises k h = absurd (omega arith)
-rising_at_least low high (x ∷ xs) rises zero h = rises.0
-rising_at_least low high (x ∷ xs) rises (suc k) h = let from = rising_at_least (x + 1) high xs rises.2 k (omega arith) in omega (arith, rises.0)
+pub increasing_at_least : (low high : ℕ) (xs : List ℕ) → RisesIn low high xs → (k : ℕ) → k < length xs → low ≤ get_or xs k 0
+increasing_at_least low high [] rises k h = absurd (omega arith)
+increasing_at_least low high (x ∷ xs) rises zero h = rises.0
+increasing_at_least low high (x ∷ xs) rises (suc k) h = let from = increasing_at_least (x + 1) high xs rises.2 k (omega arith) in omega (arith, rises.0)
 
 -- what stands before a place is below what stands there
-pub rising_front : (low high : ℕ) (xs : List ℕ) → RisesIn low high xs → (k : ℕ) → k < length xs → AllByRecursion (λ x. x < get_or xs k 0) (take k xs)
-rising_front low high [] rises k h = absurd (omega arith)
-rising_front low high (x ∷ xs) rises zero h = tt
-rising_front low high (x ∷ xs) rises (suc k) h = (
-  let from = rising_at_least (x + 1) high xs rises.2 k (omega arith) in omega arith,
-  rising_front (x + 1) high xs rises.2 k (omega arith),
+pub increasing_prefix : (low high : ℕ) (xs : List ℕ) → RisesIn low high xs → (k : ℕ) → k < length xs → AllByRecursion (λ x. x < get_or xs k 0) (take k xs)
+increasing_prefix low high [] rises k h = absurd (omega arith)
+increasing_prefix low high (x ∷ xs) rises zero h = tt
+increasing_prefix low high (x ∷ xs) rises (suc k) h = (
+  let from = increasing_at_least (x + 1) high xs rises.2 k (omega arith) in omega arith,
+  increasing_prefix (x + 1) high xs rises.2 k (omega arith),
 )
 
 next_above : (low high : ℕ) (xs : List ℕ) → RisesIn low high xs → (k : ℕ) → suc k < length xs → get_or xs k 0 < get_or xs (suc k) 0
@@ -54,36 +54,36 @@ next_above low high (x ∷ []) rises k h = absurd (omega arith)
 next_above low high (x ∷ y ∷ xs) rises zero h = omega (arith, rises.2.0)
 next_above low high (x ∷ y ∷ xs) rises (suc k) h = next_above (x + 1) high (y ∷ xs) rises.2 k (omega arith)
 
-pub rising_increases : (low high : ℕ) (xs : List ℕ) → RisesIn low high xs → IsStrictlyIncreasing xs
-rising_increases low high xs rises k h = let next : k + 1 ≡ suc k = omega arith in rw next (next_above low high xs rises k (omega arith))
+pub increases_along : (low high : ℕ) (xs : List ℕ) → RisesIn low high xs → IsStrictlyIncreasing xs
+increases_along low high xs rises k h = let next : k + 1 ≡ suc k = omega arith in rw next (next_above low high xs rises k (omega arith))
 
-pub rising_short : (low high : ℕ) (xs : List ℕ) → RisesIn low high xs → low ≤ high → length xs + low ≤ high
-rising_short low high [] rises h = omega arith
-rising_short low high (x ∷ xs) rises h = omega (arith, rises.0, rises.1, rising_short (x + 1) high xs rises.2 (omega (arith, rises.1)))
+pub increasing_short : (low high : ℕ) (xs : List ℕ) → RisesIn low high xs → low ≤ high → length xs + low ≤ high
+increasing_short low high [] rises h = omega arith
+increasing_short low high (x ∷ xs) rises h = omega (arith, rises.0, rises.1, increasing_short (x + 1) high xs rises.2 (omega (arith, rises.1)))
 
-pub rising_count : (bound : ℕ) (xs : List ℕ) → IsStrictlyIncreasing xs → AllBelow bound xs → length xs ≤ bound
-rising_count bound xs rises below = let short = rising_short 0 bound xs (rises_in 0 bound xs rises below (λ h. omega arith)) (omega arith) in omega (arith, short)
+pub increasing_count : (bound : ℕ) (xs : List ℕ) → IsStrictlyIncreasing xs → AllBelow bound xs → length xs ≤ bound
+increasing_count bound xs rises below = let short = increasing_short 0 bound xs (rises_in 0 bound xs rises below (λ h. omega arith)) (omega arith) in omega (arith, short)
 
-pub rising_below : (low high : ℕ) (xs : List ℕ) → RisesIn low high xs → AllByRecursion (λ x. x < high) xs
-rising_below low high [] rises = tt
-rising_below low high (x ∷ xs) rises = (rises.1, rising_below (x + 1) high xs rises.2)
+pub increasing_below : (low high : ℕ) (xs : List ℕ) → RisesIn low high xs → AllByRecursion (λ x. x < high) xs
+increasing_below low high [] rises = tt
+increasing_below low high (x ∷ xs) rises = (rises.1, increasing_below (x + 1) high xs rises.2)
 
 pub row_set_rises : (m : Matrix) (rows : List ℕ) → IsRowSet m rows → RisesIn 0 (height m) rows
-row_set_rises m rows is = rises_in 0 (height m) rows is.rising is.in_range (λ h. omega arith)
+row_set_rises m rows is = rises_in 0 (height m) rows is.increasing is.in_range (λ h. omega arith)
 
-pub rising_row_set : (m : Matrix) (rows : List ℕ) → RisesIn 0 (height m) rows → IsRowSet m rows
-rising_row_set m rows rises = record {
-  rising = rising_increases 0 (height m) rows rises;
-  in_range = rising_in_range 0 (height m) rows rises;
+pub increasing_row_set : (m : Matrix) (rows : List ℕ) → RisesIn 0 (height m) rows → IsRowSet m rows
+increasing_row_set m rows rises = record {
+  increasing = increases_along 0 (height m) rows rises;
+  in_range = increasing_in_range 0 (height m) rows rises;
 }
 
 pub column_set_rises : (m : Matrix) (columns : List ℕ) → IsColumnSet m columns → RisesIn 0 m.width columns
-column_set_rises m columns is = rises_in 0 m.width columns is.rising is.in_range (λ h. omega arith)
+column_set_rises m columns is = rises_in 0 m.width columns is.increasing is.in_range (λ h. omega arith)
 
-pub rising_column_set : (m : Matrix) (columns : List ℕ) → RisesIn 0 m.width columns → IsColumnSet m columns
-rising_column_set m columns rises = record {
-  rising = rising_increases 0 m.width columns rises;
-  in_range = rising_in_range 0 m.width columns rises;
+pub increasing_column_set : (m : Matrix) (columns : List ℕ) → RisesIn 0 m.width columns → IsColumnSet m columns
+increasing_column_set m columns rises = record {
+  increasing = increases_along 0 m.width columns rises;
+  in_range = increasing_in_range 0 m.width columns rises;
 }
 
 -- ---- one number put in, or taken out
@@ -93,7 +93,7 @@ abbrev pub toggle : ℕ → List ℕ → List ℕ
 toggle n [] = n ∷ []
 toggle n (x ∷ xs) = cond (nat_lt n x) (n ∷ x ∷ xs) (cond (nat_eq n x) xs (x ∷ toggle n xs))
 
--- the numbers that stand an odd number of times, rising
+-- the numbers that stand an odd number of times, increasing
 abbrev pub odd_times : List ℕ → List ℕ
 odd_times [] = []
 odd_times (x ∷ xs) = toggle x (odd_times xs)
@@ -171,11 +171,11 @@ pub rises-odd_times : (high : ℕ) (xs : List ℕ) → AllByRecursion (λ x. x <
 rises-odd_times high [] h = tt
 rises-odd_times high (x ∷ xs) h = rises-toggle 0 high x (odd_times xs) (omega arith) h.0 (rises-odd_times high xs h.1)
 
--- ---- a rising list with one number counted apart
+-- ---- a increasing list with one number counted apart
 
-pub rising_apart : (low high n : ℕ) (xs : List ℕ) → n < low → RisesIn low high xs → AllByRecursion (λ x. x ≢ n) xs
-rising_apart low high n [] h rises = tt
-rising_apart low high n (x ∷ xs) h rises = (omega (arith, rises.0), rising_apart (x + 1) high n xs (omega (arith, rises.0)) rises.2)
+pub increasing_apart : (low high n : ℕ) (xs : List ℕ) → n < low → RisesIn low high xs → AllByRecursion (λ x. x ≢ n) xs
+increasing_apart low high n [] h rises = tt
+increasing_apart low high n (x ∷ xs) h rises = (omega (arith, rises.0), increasing_apart (x + 1) high n xs (omega (arith, rises.0)) rises.2)
 
 pub record IsSplitAt (n : ℕ) (xs : List ℕ) : Type 0 where
   pub there : Bool
@@ -190,7 +190,7 @@ split_at low high n (x ∷ xs) rises = elim (cases_eq x n) [
     there = true;
     others = xs;
     joined = subst (λ k. IsJoined true k xs (x ∷ xs)) e (one_more_first x xs);
-    apart = rising_apart (x + 1) high n xs (omega arith) rises.2;
+    apart = increasing_apart (x + 1) high n xs (omega arith) rises.2;
   }
   | inr other ↦
       let later = split_at (x + 1) high n xs rises.2 in
@@ -203,7 +203,7 @@ split_at low high n (x ∷ xs) rises = elim (cases_eq x n) [
 ]
 
 pub row_set_short : (m : Matrix) (rows : List ℕ) → IsStrictlyIncreasing rows → ((k : ℕ) → k < length rows → get_or rows k 0 < height m) → length rows ≤ height m
-row_set_short m rows rises inside = let short = rising_short 0 (height m) rows (row_set_rises m rows (record { rising = rises; in_range = inside })) (omega arith) in omega arith
+row_set_short m rows rises inside = let short = increasing_short 0 (height m) rows (row_set_rises m rows (record { increasing = rises; in_range = inside })) (omega arith) in omega arith
 
 -- ---- ranges and maps
 

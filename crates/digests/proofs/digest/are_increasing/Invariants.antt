@@ -1,5 +1,5 @@
 use Rattle.std.proofs.Common.{◌<◌, ◌+◌, ℕ, get_or}
-use Rattle.digests.proofs.digest.are_rising.Given as goal
+use Rattle.digests.proofs.digest.are_increasing.Given as goal
 
 -- the numbers so far rise
 abbrev pub invariant-loop-place : goal.invariant-loop-place

@@ -1,4 +1,4 @@
--- Numbers in rising lists.
+-- Numbers in increasing lists.
 use Rattle.std.proofs.Common.{◌<◌, ◌≤◌, ◌+◌, ℕ, zero, suc, List, [], ◌∷◌, ◌++◌, length, get_or, arith}
 
 -- one more number above all others

@@ -4,8 +4,8 @@ use Rattle.std.proofs.lemmas.List.Sums.{fold_push}
 use Rattle.text_fields.specs.Reading.{times}
 use Rattle.text_fields.proofs.Times.{goes_on}
 use Rattle.tree_text.specs.TreeReading.{another_line}
-use Rattle.tree_text.proofs.RisingMembers.{below_push}
-use Rattle.tree_text.proofs.own_part.read_rising.Goals as goal
+use Rattle.tree_text.proofs.IncreasingMembers.{below_push}
+use Rattle.tree_text.proofs.own_part.read_increasing.Goals as goal
 
 pub loop-preserved : goal.loop-preserved
 loop-preserved c =
