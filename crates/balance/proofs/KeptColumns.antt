@@ -200,7 +200,7 @@ module _ (m : Matrix) (small : (i j : ℕ) → IsEntry (entry m i j)) (R C : Lis
       fours : (a b c d : ℤ) → IsFour (a +ℤ b) → IsFour (c +ℤ d) → IsFour ((a +ℤ c) +ℤ (b +ℤ d))
       fours a b c d (k, e) (l, g) = (k +ℤ l, omega (arith, sums))
 
-  -- the number of the kept columns is at most the number of the fault's columns
+  -- as a set, the kept columns have at most the number of the fault's columns
   pub kept_least : set_number K ≤ set_number C
   kept_least = let k = matched_sums (λ a b. a ≤ℤ b) (omega (arith, sums)) (λ a b c d e g. plain a b c d e g) Like (λ j. pos (2 ^ j)) (λ j. pos (2 ^ j)) m.width K C distinct (column_set_rises m C column_set) matched powers in
       let a = sum_number K in let b = sum_number C in omega (arith, sums)

@@ -10,7 +10,7 @@ use cmr_base::{Indices, MAX_ROWS, Matrix, Memory};
 use parity::is_two_mod_four;
 use std::alloc::Global;
 
-/// Gives the columns with exactly two nonzeros in these rows, and only the least of any columns that are alike.
+/// Gives the least column of each class of alike columns with exactly two nonzeros in these rows.
 pub fn kept_columns(alloc: Global, matrix: &Matrix, rows: &[u32]) -> Result<Indices, Memory>
     requires { IsRowSet matrix.now rows.now }
     ensures kept { IfOk result (AreKept matrix.now rows.now) }

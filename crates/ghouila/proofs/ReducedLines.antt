@@ -1,4 +1,4 @@
--- A set of lines without a reducible line has a violator if and only if the whole set has one.
+-- A set of lines has a violator if and only if it has one after a reducible line is removed.
 use Rattle.std.proofs.Common.{ℕ, ℤ, pos, negsuc, Bool, true, false, cond, nat_eq, map, List, [], ◌∷◌, ◌≡◌, ◌≢◌, ◌+ℤ◌, ◌*ℤ◌, ◌-ℤ◌, neg_ℤ, ◌∙◌, sym, ap, ap₂, refl, arith, subst, ◌⊎◌, inl, inr}
 use Rattle.std.specs.List.{AllByRecursion}
 use Rattle.cmr_base.specs.Sums.{sum_over, IsEven, IsTwoModFour}

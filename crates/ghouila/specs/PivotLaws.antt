@@ -1,5 +1,5 @@
--- The pivot of a whole matrix, and the properties that it keeps. The pivot is the step of the simplex method in the tableau of `M x + y =
--- b` that exchanges the row's y and the column's x.
+-- The pivot of a whole matrix, and the properties that it keeps. In the tableau of `M x + y = b` the pivot is the step of the simplex
+-- method that exchanges the row's y and the column's x.
 use Rattle.std.specs.Prelude.{◌≡◌, ◌≢◌, ◌<◌, ◌↔◌, ℕ, ℤ, ◌*ℤ◌, ◌==◌, if◌then◌else◌, List}
 use Rattle.cmr_base.specs.Matrix.{Matrix, height, entry, HasTernaryEntries, IsRectangular, IsTernary}
 use Rattle.cmr_base.specs.LineSets.{IsRowSet, IsColumnSet}

@@ -13,7 +13,7 @@ use Rattle.cmr_base.specs.Separations.{Lines, rows_in, columns_in, child_one, ch
 use Rattle.cmr_base.specs.Components.{AreComponents, ArePartsOf, part_at}
 use Rattle.cmr_base.specs.MatrixSums.{one_sum, HaveTwoSum, two_sum, HaveThreeSum, three_sum}
 
--- a submatrix has no violator if and only if it has none without a reducible line
+-- a submatrix has no violator if and only if it has none after a reducible line is removed
 abbrev pub ReductionsKeepViolators : Type 0
 ReductionsKeepViolators = (m : Matrix) (rows columns : List ℕ) (line : Line) (binary : Bool) → IsTernary m → IsSome (line_reason binary (entry m) rows columns line)
     → HasNoViolator (submatrix m rows columns) ↔ HasNoViolator (submatrix m (rows_without rows line) (columns_without columns line))

@@ -29,8 +29,8 @@ pub fn network_free()
     ensures conetwork { ConetworkMatricesAreUnimodular }
 {}
 
-/// Removing a reducible line keeps the violators: the matrix has one if and only if it has one without the line. A
-/// line is reducible if it is zero, has one nonzero, or equals another line of its kind or the negative of one.
+/// A matrix has a violator if and only if it has one after a reducible line is removed. A line is reducible if it is
+/// zero, has one nonzero, or equals another line of its kind or the negative of one.
 pub fn reduction_free()
     ensures { ReductionsKeepViolators }
 {}

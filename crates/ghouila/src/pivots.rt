@@ -21,7 +21,8 @@ pub struct Corner {
     pub column: u32,
 }
 
-/// Gives the first column with a positive even number of nonzeros in the remaining rows, with the first such row.
+/// Gives the first column with a positive even number of nonzeros in the remaining rows, and the first of these rows
+/// with a nonzero in it.
 pub fn first_pivot(work: &Matrix, left: &[u32]) -> Option<PivotPlace>
     requires { AllBelow (height work.now) left.now }
     ensures some { IfSome result (λ pivot.

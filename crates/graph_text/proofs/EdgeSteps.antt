@@ -20,7 +20,7 @@ use Rattle.graph_text.specs.GraphReading.{edge_behind, edges_from, element_in, n
 abbrev Rest : Type 0
 Rest = (Element × Edge) × Text
 
--- all edges, after the edge with this first node
+-- all edges, from the next edge and the words after it
 abbrev and_more : ℕ → Edges → Rest → Result Edges (Fault GraphKind)
 and_more size edges next = edges_from size (with_edge edges (next.0).0 (next.0).1) (next.1).words
 

@@ -106,7 +106,7 @@ fn least<R: Threads + Sync, S: Sought>(
     }
 }
 
-/// The greatest number of row sets that one worker tests. Starting other workers for so few sets costs more time.
+/// The number of row sets that one worker tests in less time than the start of other workers takes.
 const FEW_SETS: u64 = 2048;
 
 // Gives the submatrix with the least row set, and among these submatrices the one with the least column set.

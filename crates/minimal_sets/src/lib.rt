@@ -1,4 +1,4 @@
-//! Minimal submatrices that lack a hereditary property, which each submatrix inherits.
+//! Minimal submatrices that lack a hereditary property: a property that submatrices inherit.
 #![tactic(auto)]
 
 mod greedy;

@@ -21,7 +21,7 @@ low_xor a b = sym (bit_at_lowest (bit_xor a b)) ∙ bit_at_xor a b 0 ∙ ap₂ (
 pub ones-zero : count_ones 0 ≡ 0
 ones-zero = omega (arith, ones-le 0 0 (omega arith))
 
--- the number of ones of the difference has the parity of the sum of the two numbers of ones
+-- the numbers of ones of two numbers, added, have the parity of the number of ones of their difference
 ones-xor_in : (k a b : ℕ) → a ≤ k → b ≤ k → count_ones (bit_xor a b) % 2 ≡ (count_ones a + count_ones b) % 2
 ones-xor_in zero a b ha hb =
     let a_is : a ≡ 0 = omega arith in

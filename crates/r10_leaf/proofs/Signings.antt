@@ -1,4 +1,4 @@
--- One signing of each table without violators: the proof tries all sets of its rows and of its columns.
+-- One signing of each table, which has no violator: the proof tries all sets of its rows and of its columns.
 use Rattle.std.proofs.Common.{◌≡◌, ℕ, zero, suc, ℤ, pos, negsuc, ◌+◌, ◌%◌, ◌+ℤ◌, Bool, true, false, not, cond, ◌&&◌, nat_eq, List, [], ◌∷◌, map, length, refl, arith}
 use Rattle.cmr_base.proofs.Booleans.{and_is}
 
