@@ -1,4 +1,4 @@
--- A part of a list with one line more.
+-- A part of a list with one line added.
 use Rattle.std.proofs.Common.{◌≡◌, ◌≢◌, ◌∙◌, ◌⊎◌, inl, inr, ℕ, Bool, true, false, nat_eq, ℤ, pos, ◌+ℤ◌, List, ◌∷◌, refl, ap, sym, subst, arith}
 use Rattle.std.specs.Prelude.{filter}
 use Rattle.std.proofs.lemmas.Bool.{false≢true}

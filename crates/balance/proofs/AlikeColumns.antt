@@ -1,4 +1,4 @@
--- Columns with two nonzeros in the rows of a least fault: each joins the rows of a column of the fault.
+-- Columns with two nonzeros in the rows of a least fault: each joins the two rows of a column of the fault.
 use Rattle.std.proofs.Common.{◌≡◌, ◌≢◌, ◌<◌, ◌∙◌, ◌⊎◌, inl, inr, ℕ, Bool, true, false, not, ℤ, pos, ◌+ℤ◌, ◌-ℤ◌, List, [], ◌∷◌, refl, ap, sym, subst, arith}
 use Rattle.std.specs.Prelude.{filter}
 use Rattle.std.proofs.lemmas.Bool.{false≢true, cases_eq}
@@ -74,7 +74,7 @@ module _ (m : Matrix) (small : (i j : ℕ) → IsEntry (entry m i j)) (R C : Lis
             at_v = t;
           }
 
-  -- each column with two nonzeros joins the rows of a column of the fault
+  -- each column with two nonzeros joins the two rows of a column of the fault
   pub neighbours : (w : ℕ) → w < m.width → IsCandidate m R w → (j : Joins w) → (c : ℕ) × IsIn c C × IsSign (entry m j.u c) × IsSign (entry m j.v c)
   neighbours w w_in is j = go (search_rows (λ c. c ≡ w) (λ c. c ≢ w) (λ c. cases_eq c w) C) (search_rows (λ c. IsSign (entry m j.u c) × IsSign (entry m j.v c)) (λ c. IsSign (entry m j.u c) → IsSign (entry m j.v c) → ⊥) both C)
     where
@@ -93,7 +93,7 @@ module _ (m : Matrix) (small : (i j : ℕ) → IsEntry (entry m i j)) (R C : Lis
       go (inr out) (inl (c, h, (s, t))) = (c, h, s, t)
       go (inr out) (inr none) = absurd (no_chord m small R C row_set column_set f before w w_in (λ h. out w h refl) (counted (λ i. entry m i w) R ∙ ap pos is) j.u j.v j.u_in j.v_in j.apart j.at_u j.at_v none)
 
-  -- no two columns of the fault join the same rows and are no fault together
+  -- two columns of the fault that join the same rows are a fault together
   pub never_alike : (c d : ℕ) → IsIn c C → IsIn d C → c ≢ d → ((i : ℕ) → IsIn i R → is_nonzero (entry m i c) ≡ is_nonzero (entry m i d)) → IsFour (sum_over R (λ i. entry m i c) +ℤ sum_over R (λ i. entry m i d)) → ⊥
   never_alike c d c_in d_in apart same four = go (some_nonzero (λ i. entry m i c) (λ i. small i c) R (λ e. let k = columns_two m small R C row_set column_set f before c c_in in omega (arith, sums)))
     where
@@ -222,7 +222,7 @@ module _ (m : Matrix) (small : (i j : ℕ) → IsEntry (entry m i j)) (R C : Lis
           both : (a b x y : ℤ) → a ≡ x → b ≡ y → a +ℤ b ≡ x +ℤ y
           both a b x y e g = omega (arith, sums)
 
-  -- where there are only two rows, the fault's other column
+  -- the fault's other column, if there are only two rows
   other_column : (w c : ℕ) → IsCandidate m R w → (j : Joins w) → IsIn c C → IsSign (entry m j.u c) → IsSign (entry m j.v c) → IsTwoModFour (sum_over R (λ i. entry m i w) +ℤ sum_over R (λ i. entry m i c)) → ((r : ℕ) → IsIn r R → (r ≡ j.u) ⊎ (r ≡ j.v))
       → (d : ℕ) × IsIn d (filter (λ k. not (only c k)) C) × IsSign (entry m j.u d) → (d : ℕ) × IsAlike w d
   other_column w c is j c_in s t two few (d, h, a) = (

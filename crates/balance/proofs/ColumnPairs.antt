@@ -1,4 +1,4 @@
--- Sums of marks: what a sum of 2 says of the terms.
+-- Sums of marks: the terms of a sum of 2.
 use Rattle.std.proofs.Common.{◌≡◌, ◌≢◌, ◌≤ℤ◌, ◌∙◌, ◌⊎◌, inl, inr, ℕ, ℤ, pos, List, [], ◌∷◌, refl, sym, subst, arith}
 use Rattle.cmr_base.specs.Matrix.{IsEntry}
 use Rattle.cmr_base.specs.Members.{IsIn}
@@ -24,7 +24,7 @@ module _ (g : ℕ → ℤ) (small : (x : ℕ) → IsEntry (g x)) where
   no_sum [] h = refl
   no_sum (x ∷ xs) h = let e = mark_zero (g x) (h x (inl refl)) in let k = no_sum xs (λ y i. h y (inr i)) in omega (arith, sums)
 
-  -- a sum other than 0 has a nonzero
+  -- a nonzero sum has a nonzero term
   pub some_nonzero : (xs : List ℕ) → sum_over xs (λ x. mark (g x)) ≢ pos 0 → (x : ℕ) × IsIn x xs × IsSign (g x)
   some_nonzero xs more = go (search_rows (λ x. IsSign (g x)) (λ x. g x ≡ pos 0) sign_or_zero xs)
     where
@@ -57,7 +57,7 @@ module _ (g : ℕ → ℤ) (small : (x : ℕ) → IsEntry (g x)) where
   three_terms (x ∷ xs) a b c ab ac bc (inr h) (inr k) (inl d) u v w = let o = mark_sign (g x) (subst (λ y. IsSign (g y)) d w) in let n = two_terms xs a b ab h k u v in omega (arith, sums)
   three_terms (x ∷ xs) a b c ab ac bc (inr h) (inr k) (inr l) u v w = let o = mark_least (g x) (small x) in let n = three_terms xs a b c ab ac bc h k l u v w in omega (arith, sums)
 
-  -- besides two nonzeros a line with two nonzeros is 0
+  -- a line with two nonzeros is 0 at any third item
   pub third_zero : (xs : List ℕ) → sum_over xs (λ x. mark (g x)) ≡ pos 2 → (a b c : ℕ) → a ≢ b → a ≢ c → b ≢ c → IsIn a xs → IsIn b xs → IsIn c xs → IsSign (g a) → IsSign (g b) → g c ≡ pos 0
   third_zero xs e a b c ab ac bc h k l u v = elim (zero_or_sign (g c) (small c)) [
     | inl z ↦ z

@@ -1,4 +1,4 @@
--- Balance faults are violators, and the cycle fault is one.
+-- Balance faults are violators, and the cycle fault is a balance fault.
 use Rattle.std.proofs.Common.{◌≡◌, ◌<◌, ◌∙◌, inl, inr, ℕ, zero, suc, ℤ, pos, ◌+ℤ◌, ◌∷◌, map, refl, ap, sym, subst, arith}
 use Rattle.std.specs.List.{AllByRecursion}
 use Rattle.std.proofs.lemmas.Bool.{cases_lt}

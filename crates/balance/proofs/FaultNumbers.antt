@@ -1,4 +1,4 @@
--- Row sets asked by their numbers.
+-- Row sets tested in the order of their numbers.
 use Rattle.std.proofs.Common.{◌≡◌, ◌<◌, ◌≤◌, ◌+◌, ◌^◌, ◌∙◌, ℕ, zero, suc, pos, List, ◌↔◌, inl, inr, ap, subst, sym, arith}
 use Rattle.std.proofs.lemmas.Bool.{cases_lt}
 use Rattle.cmr_base.specs.Matrix.{Matrix, height, entry, IsMatrix}
@@ -15,7 +15,7 @@ use Rattle.balance.specs.SearchedFaults.{HasNoFaultBelow}
 use Rattle.balance.proofs.FaultSets.{none_more, none_at_all, least_found}
 use Rattle.balance.proofs.KeptColumns.{kept_fault, kept_least, sum_number}
 
--- increasing lists with the same members are one list
+-- increasing lists with the same members are equal
 same_set : (high : ℕ) (xs ys : List ℕ) → RisesIn 0 high xs → RisesIn 0 high ys → ((x : ℕ) → IsIn x xs ↔ IsIn x ys) → xs ≡ ys
 same_set high xs ys r s same =
     let sum = sum_over_members xs ys (λ x. pos (2 ^ x)) (increasing_are_distinct 0 high xs r) (increasing_are_distinct 0 high ys s) (λ x. (same x).0) (λ x. (same x).1) in
@@ -32,7 +32,7 @@ none_here : (m : Matrix) → IsMatrix m → (number : ℕ) → number < 2 ^ heig
 none_here m is number inside none before columns column_set f = none (λ others kept.
     kept_fault m is.small (set_numbered (height m) 0 number) columns (row_set-numbered m number) column_set f (subst (HasNoFaultBelow m) (sym (number_of_numbered (height m) number inside)) before) others kept)
 
--- where the kept columns of no lesser set make a fault, no lesser set has a fault
+-- if the kept columns of no smaller set make a fault, no smaller set has a fault
 pub none_before : (m : Matrix) → IsMatrix m → (number : ℕ) → number ≤ 2 ^ height m → NoneBetween (MakeFaultAt m) 0 number → HasNoFaultBelow m number
 none_before m is zero inside none = λ others row_set l. absurd (omega arith)
 none_before m is (suc number) inside none =
@@ -49,7 +49,7 @@ one_more m from number none before k low high has = elim (cases_lt k number) [
   | inr past ↦ let same : k ≡ number = omega arith in none (subst (MakeFaultAt m) same has)
 ]
 
--- the first set whose kept columns make a fault, with these
+-- the first set whose kept columns make a fault, with these columns
 pub first_fault : (m : Matrix) → IsMatrix m → (number : ℕ) (rows columns : List ℕ) → number < 2 ^ height m → NoneBetween (MakeFaultAt m) 0 number → rows ≡ set_numbered (height m) 0 number → AreKept m rows columns → IsBalanceFault (entry m) rows columns
     → IsLeastFaultByRows m rows columns
 first_fault m is number rows columns inside none same kept fault = subst (λ (rs : List ℕ). IsLeastFaultByRows m rs columns) (sym same)

@@ -1,4 +1,4 @@
--- Row sets gone through by their numbers, and faults of the transposed matrix.
+-- Row sets in the order of their numbers, and faults of the transposed matrix.
 use Rattle.std.proofs.Common.{◌≡◌, ◌<◌, ◌≤◌, ◌+◌, ◌^◌, ◌∙◌, ℕ, ℤ, List, ap, subst, sym, inl, inr, arith}
 use Rattle.std.proofs.lemmas.Bool.{cases_lt}
 use Rattle.cmr_base.specs.Matrix.{Matrix, height, entry, transposed, IsMatrix}
@@ -34,7 +34,7 @@ least_found m number columns small before least = record {
   ];
 }
 
--- ---- transposed
+-- ---- the transposed matrix
 
 fault_swapped : (M : ℕ → ℕ → ℤ) (rows columns : List ℕ) → IsBalanceFault M rows columns → IsBalanceFault (λ column row. M row column) columns rows
 fault_swapped M rows columns f = record {

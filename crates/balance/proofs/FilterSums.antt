@@ -24,7 +24,7 @@ zero_one : (b : Bool) (x : ℕ) (ys : List ℕ) (f : ℕ → ℤ) (total : ℤ) 
 zero_one true x ys f total z e = ap (λ (t : ℤ). f x +ℤ t) e
 zero_one false x ys f total z e = let h = z refl in omega (arith, sums)
 
--- what is left out is 0
+-- the removed terms are 0
 pub sum_part : (p : ℕ → Bool) (xs : List ℕ) (f : ℕ → ℤ) → ((x : ℕ) → IsIn x xs → p x ≡ false → f x ≡ pos 0) → sum_over (filter p xs) f ≡ sum_over xs f
 sum_part p [] f h = refl
 sum_part p (x ∷ xs) f h = zero_one (p x) x (filter p xs) f (sum_over xs f) (λ e. h x (inl refl) e) (sum_part p xs f (λ y i e. h y (inr i) e))
@@ -33,12 +33,12 @@ none_one : (b : Bool) (x : ℕ) (ys : List ℕ) (f : ℕ → ℤ) → (b ≡ tru
 none_one true x ys f z e = let h = z refl in omega (arith, sums)
 none_one false x ys f z e = e
 
--- what is kept is 0
+-- the kept terms are 0
 pub sum_empty : (p : ℕ → Bool) (xs : List ℕ) (f : ℕ → ℤ) → ((x : ℕ) → IsIn x xs → p x ≡ true → f x ≡ pos 0) → sum_over (filter p xs) f ≡ pos 0
 sum_empty p [] f h = refl
 sum_empty p (x ∷ xs) f h = none_one (p x) x (filter p xs) f (λ e. h x (inl refl) e) (sum_empty p xs f (λ y i e. h y (inr i) e))
 
--- a part that leaves a line out has a lesser number
+-- a part without one of the lines has a smaller number
 at_most_one : (b : Bool) (x : ℕ) (ys : List ℕ) (total : ℕ) → set_number ys ≤ total → set_number (cond b (x ∷ ys) ys) ≤ 2 ^ x + total
 at_most_one true x ys total h = omega arith
 at_most_one false x ys total h = omega arith
@@ -95,7 +95,7 @@ fewer_kept p q [] k x h e f = absurd h
 fewer_kept p q (y ∷ ys) k x (inl i) e f = fewer_here (q y) (p y) y (filter q ys) (filter p ys) (ap q (sym i) ∙ f) (ap p (sym i) ∙ e) (fewer_all p q ys k)
 fewer_kept p q (y ∷ ys) k x (inr h) e f = fewer_more (q y) (p y) y (filter q ys) (filter p ys) (k y) (fewer_kept p q ys k x h e f)
 
--- ---- one line put in
+-- ---- one line added
 
 abbrev pub with_line : ℕ → List ℕ → List ℕ
 with_line n [] = n ∷ []

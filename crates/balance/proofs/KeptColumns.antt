@@ -181,7 +181,7 @@ module _ (m : Matrix) (small : (i j : ℕ) → IsEntry (entry m i j)) (R C : Lis
   distinct : IsDistinct K
   distinct = increasing_are_distinct 0 m.width K (column_set_rises m K kept.column_set)
 
-  -- the kept columns are a fault too
+  -- the kept columns are also a fault
   pub kept_fault : IsBalanceFault (entry m) R K
   kept_fault = record {
     two_in_rows = all_of_members (λ i. row_nonzeros (entry m) K i ≡ 2) R (λ i h. two_from_sum (λ j. entry m i j) K
@@ -200,7 +200,7 @@ module _ (m : Matrix) (small : (i j : ℕ) → IsEntry (entry m i j)) (R C : Lis
       fours : (a b c d : ℤ) → IsFour (a +ℤ b) → IsFour (c +ℤ d) → IsFour ((a +ℤ c) +ℤ (b +ℤ d))
       fours a b c d (k, e) (l, g) = (k +ℤ l, omega (arith, sums))
 
-  -- and their number is not greater
+  -- as a set, the kept columns have at most the number of the fault's columns
   pub kept_least : set_number K ≤ set_number C
   kept_least = let k = matched_sums (λ a b. a ≤ℤ b) (omega (arith, sums)) (λ a b c d e g. plain a b c d e g) Like (λ j. pos (2 ^ j)) (λ j. pos (2 ^ j)) m.width K C distinct (column_set_rises m C column_set) matched powers in
       let a = sum_number K in let b = sum_number C in omega (arith, sums)

@@ -1,4 +1,4 @@
--- The columns that are kept, gathered one after another.
+-- The kept columns, collected one after another.
 use Rattle.std.proofs.Common.{◌≡◌, ◌<◌, ◌≤◌, ◌≤ℤ◌, ◌+◌, ◌++◌, ◌∙◌, inl, inr, ℕ, zero, suc, Bool, true, false, not, ℤ, pos, neg_ℤ, ◌+ℤ◌, ◌-ℤ◌, List, [], ◌∷◌, length, get_or, refl, ap₂, sym, SFits, to_z, of_z, w32, subst, arith}
 use Rattle.std.specs.List.{AllByRecursion}
 use Rattle.std.specs.Prelude.{IsTrue}
@@ -46,7 +46,7 @@ module _ (m : Matrix) (is : IsMatrix m) (rows : List ℕ) where
   even : (c : ℕ) → IsCandidate m rows c → IsEven (column_sum c)
   even c two = two_is_even (λ row. entry m row c) (λ row. is.small row c) rows two
 
-  -- what is alike the same is alike
+  -- two columns that are alike one column are alike each other
   alike_through : (x y z : ℕ) → IsCandidate m rows x → IsCandidate m rows y → AreAlike m rows x y → AreAlike m rows y z → IsEven (column_sum z) → AreAlike m rows x z
   alike_through x y z p q a b r = record {
     same_rows = all_of_members (λ row. is_nonzero (entry m row x) ≡ is_nonzero (entry m row z)) rows
@@ -61,7 +61,7 @@ module _ (m : Matrix) (is : IsMatrix m) (rows : List ℕ) where
       joined (a, e) (b, f) (k, g) = ((a +ℤ b) -ℤ k, omega (arith, sums))
 
   module _ (column : ℕ) (inside : column < m.width) (before : List ℕ) (b : AreKeptBelow m rows column before) where
-    -- where no kept column is alike, no candidate before it is
+    -- if no kept column is alike, no candidate before the column is alike
     no_earlier : (bound other : ℕ) → IsCandidate m rows column → ((other : ℕ) → IsIn other before → ¬ (AreAlike m rows other column)) → other < bound → other < column → IsCandidate m rows other → ¬ (AreAlike m rows other column)
     no_earlier zero other candidate none l less is_one alike = omega arith
     no_earlier (suc bound) other candidate none l less is_one alike = none other ((b.members other).1 (
@@ -85,7 +85,7 @@ module _ (m : Matrix) (is : IsMatrix m) (rows : List ℕ) where
 
 -- ---- one column after another
 
--- what is kept next is above the others
+-- the next kept column is greater than the kept columns before it
 pub above : (m : Matrix) (rows : List ℕ) (bound : ℕ) (columns : List ℕ) → AreKeptBelow m rows bound columns → (k : ℕ) → k < length columns → get_or columns k 0 < bound
 above m rows bound columns b k l = ((b.members (get_or columns k 0)).0 (in_at columns k l)).0
 

@@ -1,4 +1,4 @@
--- A fault on a set of rows, where no lesser set of rows has one: it does not fall apart.
+-- A fault on a set of rows is connected if no smaller set of rows has a fault.
 use Rattle.std.proofs.Common.{◌≡◌, ◌≢◌, ◌<◌, ◌≤◌, zero, suc, ◌∙◌, ◌⊎◌, inl, inr, ℕ, Bool, true, false, not, ℤ, pos, ◌+ℤ◌, ◌-ℤ◌, List, length, refl, ap, sym, subst, arith}
 use Rattle.std.specs.Prelude.{filter}
 use Rattle.std.proofs.lemmas.Bool.{false≢true, cases_eq}
@@ -38,7 +38,7 @@ module _ (m : Matrix) (small : (i j : ℕ) → IsEntry (entry m i j)) (R C : Lis
   pub columns_two : (j : ℕ) → IsIn j C → sum_over R (λ i. mark (entry m i j)) ≡ pos 2
   columns_two j h = counted (λ i. entry m i j) R ∙ ap pos (all_in (λ x. column_nonzeros (entry m) R x ≡ 2) C f.two_in_columns j h)
 
-  -- there is no fault on a part of the rows
+  -- no part of the rows has a fault
   pub no_lesser : (p : ℕ → Bool) (D : List ℕ) (r : ℕ) → IsIn r R → p r ≡ false → IsColumnSet m D → ((i : ℕ) → IsIn i R → p i ≡ true → sum_over D (λ j. mark (entry m i j)) ≡ pos 2)
       → ((j : ℕ) → IsIn j D → sum_over (filter p R) (λ i. mark (entry m i j)) ≡ pos 2) → IsTwoModFour (sum_over (filter p R) (λ i. sum_over D (λ j. entry m i j))) → ⊥
   no_lesser p D r there out is rows columns two = before (filter p R) (increasing_row_set m (filter p R) (rises-part p 0 (height m) R (row_set_rises m R row_set))) (number_less p R r there out) D is (record {
@@ -63,7 +63,7 @@ module _ (m : Matrix) (small : (i j : ℕ) → IsEntry (entry m i j)) (R C : Lis
   part_columns : (p q : ℕ → Bool) → IsClosed p q → (j : ℕ) → IsIn j C → q j ≡ true → sum_over (filter p R) (λ i. mark (entry m i j)) ≡ pos 2
   part_columns p q c j h e = sum_part p R (λ i. mark (entry m i j)) (λ i k out. mark_zero (entry m i j) (across p q c i j k h (λ same. true_apart (q j) (p i) (sym same) e out))) ∙ columns_two j h
 
-  -- a part with its sum is a fault
+  -- a part with its sum is not a fault
   pub part_no_fault : (p q : ℕ → Bool) → IsClosed p q → (r : ℕ) → IsIn r R → p r ≡ false → IsTwoModFour (sum_over (filter p R) (λ i. sum_over (filter q C) (λ j. entry m i j))) → ⊥
   part_no_fault p q c r there out two = no_lesser p (filter q C) r there out (increasing_column_set m (filter q C) (rises-part q 0 m.width C (column_set_rises m C column_set)))
       (λ i h e. part_rows p q c mark mark_zero i h e ∙ rows_two i h)
@@ -73,7 +73,7 @@ module _ (m : Matrix) (small : (i j : ℕ) → IsEntry (entry m i j)) (R C : Lis
   part_sum p q c = sum_over_same (filter p R) (λ i. sum_over (filter q C) (λ j. entry m i j)) (λ i. sum_over C (λ j. entry m i j))
       (all_of_members (λ i. sum_over (filter q C) (λ j. entry m i j) ≡ sum_over C (λ j. entry m i j)) (filter p R) (λ i h. let k = in_filter p i R h in part_rows p q c (λ z. z) (λ z e. e) i k.0 k.1))
 
-  -- so no part of the rows is closed but none and all
+  -- the only closed parts of the rows are the empty part and the whole
   pub no_part : (p q : ℕ → Bool) → IsClosed p q → (a b : ℕ) → IsIn a R → IsIn b R → p a ≡ true → p b ≡ false → ⊥
   no_part p q c a b a_in b_in in_part out = elim (four_or_two first even) [
     | inl four ↦ part_no_fault (λ i. not (p i)) (λ j. not (q j)) (closed_rest p q c) a a_in (ap not in_part)
@@ -126,7 +126,7 @@ module _ (m : Matrix) (small : (i j : ℕ) → IsEntry (entry m i j)) (R C : Lis
     pub first_one : sum_over (filter q C) (λ j. mark (entry m u j)) ≡ pos 1
     pub last_one : sum_over (filter q C) (λ j. mark (entry m x j)) ≡ pos 1
 
-  -- a column joins no third row
+  -- a column does not join a third row
   no_third : (x y i j : ℕ) → IsIn x R → IsIn y R → IsIn i R → IsIn j C → x ≢ y → IsSign (entry m x j) → IsSign (entry m y j) → IsSign (entry m i j) → (i ≡ x) ⊎ (i ≡ y)
   no_third x y i j x_in y_in i_in j_in apart u v w = elim (cases_eq i x) [
     | inl e ↦ inl e
@@ -292,7 +292,7 @@ module _ (m : Matrix) (small : (i j : ℕ) → IsEntry (entry m i j)) (R C : Lis
       from_column : (c : ℕ) × IsIn c C × IsSign (entry m u c) → (p : ℕ → Bool) × (q : ℕ → Bool) × IsPathTo u v p q
       from_column (c, h, s) = from_row c h s (other_row u c u_in h s)
 
-  -- ---- a further column with two nonzeros cuts the fault into two, unless it joins neighbours
+  -- ---- another column with two nonzeros splits the fault into two parts, unless it joins neighbours
 
   module _ (w : ℕ) (w_in : w < m.width) (w_out : ¬ (IsIn w C)) (two_w : sum_over R (λ i. mark (entry m i w)) ≡ pos 2) where
     arc_set : (q : ℕ → Bool) → IsColumnSet m (with_line w (filter q C))

@@ -11,7 +11,7 @@ use Rattle.cmr_base.proofs.Lists.{all_of}
 use Rattle.cmr_base.proofs.SumLaws.{sum_over-sub}
 use Rattle.ghouila.proofs.SignedSums.{zero_or_sign}
 
--- 1 for a nonzero
+-- 1 for a nonzero, 0 for 0
 abbrev pub mark : ℤ → ℤ
 mark z = if is_nonzero z then pos 1 else pos 0
 
@@ -40,7 +40,7 @@ counted f xs = counted_by f xs ∙ ap pos (is_count_by (count_nonzeros f) (λ x.
 pub two_from_sum : (f : ℕ → ℤ) (xs : List ℕ) → sum_over xs (λ x. mark (f x)) ≡ pos 2 → count_by (λ x. is_nonzero (f x)) xs ≡ 2
 two_from_sum f xs e = let k = counted f xs in omega (arith, sums, k, e)
 
--- two entries of -1 and 1 add up to an even number
+-- an entry has the parity of its mark
 mark_even : (z : ℤ) → IsEntry z → IsEven (mark z -ℤ z)
 mark_even z small = elim (zero_or_sign z small) [ inl e ↦ (pos 0, rw e refl) | inr u ↦ go z u ]
   where

@@ -5,7 +5,7 @@ use Rattle.cmr_base.specs.Matrix.{Matrix, height, entry, is_nonzero}
 use Rattle.cmr_base.specs.LineSets.{IsRowSet, IsColumnSet, set_number}
 use Rattle.cmr_base.specs.Sums.{sum_over, IsTwoModFour}
 
--- how many of these columns have a nonzero in the row, and of these rows in the column
+-- the number of these columns with a nonzero in the row, and of these rows with a nonzero in the column
 abbrev pub row_nonzeros : (ℕ → ℕ → ℤ) → List ℕ → ℕ → ℕ
 row_nonzeros M columns row = count_by (λ column. is_nonzero (M row column)) columns
 
@@ -50,7 +50,7 @@ pub record IsLeastFaultByColumns (m : Matrix) (rows columns : List ℕ) : Type 0
   pub rows_least : IsLeastFaultRows m rows columns
   pub columns_least : (rows' others : List ℕ) → IsRowSet m rows' → IsColumnSet m others → IsBalanceFault (entry m) rows' others → set_number columns ≤ set_number others
 
--- the least fault: by rows where there are at most as many rows as columns, else by columns
+-- the least fault: by rows if the matrix has at most as many rows as columns, otherwise by columns
 pub record IsLeastFault (m : Matrix) (rows columns : List ℕ) : Type 0 where
   pub few_rows : height m ≤ m.width → IsLeastFaultByRows m rows columns
   pub few_columns : m.width < height m → IsLeastFaultByColumns m rows columns

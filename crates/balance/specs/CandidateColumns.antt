@@ -1,4 +1,4 @@
--- The columns that may make a fault with a set of rows, and those of them that are kept.
+-- The columns that can make a fault with a set of rows, and the columns that the search keeps.
 use Rattle.std.specs.Prelude.{◌≡◌, ◌<◌, ◌+ℤ◌, ◌↔◌, ℕ, List}
 use Rattle.std.specs.List.{AllByRecursion}
 use Rattle.std.specs.List.Sorted.{IsStrictlyIncreasing}
@@ -8,7 +8,7 @@ use Rattle.cmr_base.specs.Members.{IsIn}
 use Rattle.cmr_base.specs.Sums.{sum_over, IsTwoModFour}
 use Rattle.balance.specs.BalanceFaults.{column_nonzeros, IsBalanceFault}
 
--- exactly two nonzeros in these rows
+-- the column has exactly two nonzeros in these rows
 abbrev pub IsCandidate : Matrix → List ℕ → ℕ → Type 0
 IsCandidate m rows column = column_nonzeros (entry m) rows column ≡ 2
 
@@ -17,26 +17,26 @@ pub record AreAlike (m : Matrix) (rows : List ℕ) (c d : ℕ) : Type 0 where
   pub same_rows : AllByRecursion (λ row. is_nonzero (entry m row c) ≡ is_nonzero (entry m row d)) rows
   pub no_fault : ¬ (IsTwoModFour (sum_over rows (λ row. entry m row c) +ℤ sum_over rows (λ row. entry m row d)))
 
--- of the candidates that are alike the least one
+-- the least candidate of a class of alike candidates
 pub record IsLeastAlike (m : Matrix) (rows : List ℕ) (column : ℕ) : Type 0 where
   pub column_in : column < m.width
   pub candidate : IsCandidate m rows column
   pub least : (other : ℕ) → other < column → IsCandidate m rows other → ¬ (AreAlike m rows other column)
 
--- these columns are the least alike
+-- these columns are the least alike candidates
 pub record AreKept (m : Matrix) (rows columns : List ℕ) : Type 0 where
   pub column_set : IsColumnSet m columns
   pub members : (column : ℕ) → IsIn column columns ↔ IsLeastAlike m rows column
 
--- these are the least alike before a column
+-- these columns are the least alike candidates below a bound
 pub record AreKeptBelow (m : Matrix) (rows : List ℕ) (bound : ℕ) (columns : List ℕ) : Type 0 where
   pub increasing : IsStrictlyIncreasing columns
   pub members : (column : ℕ) → IsIn column columns ↔ ((column < bound) × IsLeastAlike m rows column)
 
--- the columns that are kept make a fault with these rows
+-- the kept columns make a fault with these rows
 abbrev pub MakeFault : Matrix → List ℕ → Type 0
 MakeFault m rows = (columns : List ℕ) → AreKept m rows columns → IsBalanceFault (entry m) rows columns
 
--- and with the row set of this number
+-- the kept columns make a fault with the row set of this number
 abbrev pub MakeFaultAt : Matrix → ℕ → Type 0
 MakeFaultAt m number = MakeFault m (set_numbered (height m) 0 number)

@@ -1,4 +1,4 @@
--- What a search for the least balance fault answers.
+-- The answers of a search for the least balance fault.
 use Rattle.std.specs.Prelude.{◌≡◌, ◌<◌, ◌≤◌, ℕ, List}
 use Rattle.cmr_base.specs.Matrix.{Matrix}
 use Rattle.cmr_base.specs.LineSets.{IsRowSet, set_number}
@@ -7,11 +7,11 @@ use Rattle.leaf_enumerate.specs.declared.search.LeastSubmatrix.{LeastSubmatrix}
 use Rattle.leaf_enumerate.specs.declared.search.LeastSubmatrix.TheVariants.{Clean, Found, TooMany}
 use Rattle.balance.specs.BalanceFaults.{IsBalanced, HasNoFaultColumns, IsLeastFault}
 
--- no row set with a lesser number has columns that make a fault with it
+-- no row set with a smaller number makes a fault with some columns
 abbrev pub HasNoFaultBelow : Matrix → ℕ → Type 0
 HasNoFaultBelow m number = (others : List ℕ) → IsRowSet m others → set_number others < number → HasNoFaultColumns m others
 
--- too many lines exactly where the shorter side is above the limit; else the matrix is balanced, or this is the least fault
+-- too many lines if and only if the shorter side is above the limit; otherwise the matrix is balanced, or this is the least fault
 abbrev pub HasSearchedFaults : Matrix → ℕ → LeastSubmatrix → Type 0
 HasSearchedFaults m limit Clean = (shorter_side m ≤ limit) × IsBalanced m
 HasSearchedFaults m limit (Found lines) = (shorter_side m ≤ limit) × IsLeastFault m lines.rows lines.columns

@@ -1,4 +1,4 @@
-// Balance faults as what is looked for.
+// Balance faults as a kind of submatrix.
 ghost use Rattle.balance.specs.BalanceFaults.{IsLeastFaultByRows};
 ghost use Rattle.balance.specs.CandidateColumns.{MakeFaultAt};
 
@@ -7,7 +7,7 @@ use cmr_base::{LineSet, Matrix, Memory, write_set};
 use leaf_enumerate::{Sought, row_set};
 use std::alloc::Global;
 
-/// Balance faults: a row set holds where the columns that are kept for it make one with it.
+/// Balance faults: a row set satisfies the predicate if it makes a fault with its kept columns.
 #[derive(Clone, Copy)]
 pub struct Faults;
 
@@ -24,7 +24,7 @@ impl Sought for Faults {
         }
     }
 
-    // The room for a set is taken once.
+    // The room for a set is allocated once.
     fn first(
         &self,
         alloc: Global,

@@ -1,4 +1,4 @@
-// The columns that may make a fault with a set of rows.
+// The columns that can make a fault with a set of rows.
 ghost use Rattle.std.specs.Prelude.{◌≡◌, ◌<◌, ◌≤◌, ◌↔◌, ℕ, IfOk, IsTrue, length};
 ghost use Rattle.std.specs.List.{AllByRecursion};
 ghost use Rattle.cmr_base.specs.LineSets.{AllBelow, IsRowSet};
@@ -10,7 +10,7 @@ use cmr_base::{Indices, MAX_ROWS, Matrix, Memory};
 use parity::is_two_mod_four;
 use std::alloc::Global;
 
-/// Of the columns with exactly two nonzeros in these rows, and of those that are alike, the least ones.
+/// Gives the least column of each class of alike columns with exactly two nonzeros in these rows.
 pub fn kept_columns(alloc: Global, matrix: &Matrix, rows: &[u32]) -> Result<Indices, Memory>
     requires { IsRowSet matrix.now rows.now }
     ensures kept { IfOk result (AreKept matrix.now rows.now) }
@@ -25,7 +25,7 @@ pub fn kept_columns(alloc: Global, matrix: &Matrix, rows: &[u32]) -> Result<Indi
     Ok(kept)
 }
 
-// Whether a column is kept, where these are the columns before it that are.
+// Decides whether a column is kept. `before` lists the kept columns before it.
 fn is_kept(matrix: &Matrix, rows: &[u32], before: &[u32], column: u32) -> bool
     requires matrix { IsMatrix matrix.now }
     requires rows { IsRowSet matrix.now rows.now }
@@ -36,7 +36,7 @@ fn is_kept(matrix: &Matrix, rows: &[u32], before: &[u32], column: u32) -> bool
     is_candidate(matrix, rows, column) && !has_alike(matrix, rows, before, column)
 }
 
-/// Whether the column has exactly two nonzeros in these rows.
+/// Decides whether the column has exactly two nonzeros in these rows.
 pub fn is_candidate(matrix: &Matrix, rows: &[u32], column: u32) -> bool
     requires rows { AllBelow (height matrix.now) rows.now }
     requires column { column < matrix.now.width }
@@ -51,7 +51,7 @@ pub fn is_candidate(matrix: &Matrix, rows: &[u32], column: u32) -> bool
     count == 2
 }
 
-// Whether one of some columns is alike a column.
+// Decides whether one of these columns is alike a column.
 fn has_alike(matrix: &Matrix, rows: &[u32], columns: &[u32], column: u32) -> bool
     requires matrix { IsMatrix matrix.now }
     requires rows { AllBelow (height matrix.now) rows.now }
@@ -69,7 +69,7 @@ fn has_alike(matrix: &Matrix, rows: &[u32], columns: &[u32], column: u32) -> boo
     false
 }
 
-// Whether two columns join the same rows of these, and are no fault together.
+// Decides whether two columns join the same of these rows and are no fault together.
 fn are_alike(matrix: &Matrix, rows: &[u32], first: u32, second: u32) -> bool
     requires matrix { IsMatrix matrix.now }
     requires rows { AllBelow (height matrix.now) rows.now }

@@ -1,4 +1,4 @@
-//! Balanced matrices: faults are submatrices with exactly two nonzeros in each line and a sum of 2 modulo 4.
+//! Balanced matrices: a fault is a submatrix with exactly two nonzeros in each line and a sum of 2 modulo 4.
 #![tactic(auto)]
 
 mod faults;

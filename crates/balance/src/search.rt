@@ -1,4 +1,4 @@
-// The least balance fault, set by set of the shorter side.
+// The search for the least balance fault, which tries the sets of the shorter side.
 ghost use Rattle.std.specs.Prelude.{◌≤◌, IfOk};
 ghost use Rattle.balance.specs.SearchedFaults.{HasSearchedFaults};
 
@@ -9,10 +9,11 @@ use leaf_enumerate::{LeastSubmatrix, least_submatrix};
 use std::alloc::Global;
 use std::thread::Threads;
 
-/// The least fault of a matrix whose shorter side has at most `limit` lines (Truemper's balanced matrices have none).
-/// The sets of the shorter side, rows in a tie, are asked by increasing number; the least that makes a fault with some set
-/// of the other side has its least one there. The answer is the same for every number of workers. The time doubles
-/// with each line of the shorter side.
+/// Gives the least balance fault of a matrix whose shorter side has at most `limit` lines. Truemper's balanced
+/// matrices are the matrices without a fault. The search tests the sets of the shorter side, rows in a tie, by
+/// increasing number. The least set that makes a fault with some set of the other side gives the least fault, with
+/// the least such set. The answer does not depend on the number of workers. The time doubles with each line of the
+/// shorter side.
 pub fn least_balance_fault<R: Threads + Sync>(
     rt: &R,
     alloc: Global,

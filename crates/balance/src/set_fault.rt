@@ -11,7 +11,7 @@ use cmr_base::{Indices, MAX_COLUMNS, MAX_ROWS, Matrix, Memory};
 use parity::is_two_mod_four;
 use std::alloc::Global;
 
-/// The columns that are kept for these rows, where they are a fault with them.
+/// Gives the kept columns of these rows, if they make a fault with the rows.
 pub fn fault_columns(
     alloc: Global,
     matrix: &Matrix,
@@ -58,7 +58,7 @@ fn have_two_in_rows(matrix: &Matrix, rows: &[u32], columns: &[u32]) -> bool
     true
 }
 
-// Whether the row has exactly two nonzeros in these columns.
+// Decides whether the row has exactly two nonzeros in these columns.
 fn has_two(matrix: &Matrix, row: u32, columns: &[u32]) -> bool
     requires row { row < height matrix.now }
     requires columns { AllBelow matrix.now.width columns.now }

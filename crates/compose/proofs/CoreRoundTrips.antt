@@ -16,7 +16,7 @@ use Rattle.compose.proofs.OrderedBlocks.{get_left, get_after, blocks_ordered, fi
 use Rattle.compose.proofs.SignedPlaces.{plain_submatrix, plain_before}
 use Rattle.compose.proofs.SideLines.{in_either, in_others}
 
--- what a separation says of its sides
+-- the properties of the sides of a separation
 pub record AreCored (M : ℕ → ℕ → ℤ) (s : Sides) (f g : Connector) : Type 0 where
   pub row_i : IsIn f.row s.rows_one
   pub column_p : IsIn f.column s.columns_one
@@ -206,7 +206,7 @@ module _ (m : Matrix) (s : Sides) (f g : Connector) (t : AreCored (entry m) s f 
   length_columns1 : length columns1 ≡ length B + 2
   length_columns1 = length-append B (p ∷ q ∷ [])
 
-  -- the rows of side one and the columns of side one, as those of the first matrix
+  -- the rows and columns of side one are rows and columns of the first matrix
   row_same : (a : ℕ) → a < length rows1 → get_or (A ++ (i ∷ k ∷ o ∷ [])) a 0 ≡ get_or rows1 a 0
   row_same a l = ap (λ (xs : List ℕ). get_or xs a 0) (sym (append_assoc A (i ∷ []) (k ∷ o ∷ []))) ∙ get_left rows1 (k ∷ o ∷ []) a l
 
@@ -253,7 +253,7 @@ module _ (m : Matrix) (s : Sides) (f g : Connector) (t : AreCored (entry m) s f 
   core_whole : concentrated_sum F S ≡ submatrix m (A ++ (i ∷ k ∷ o ∷ D)) (B ++ (p ∷ q ∷ j ∷ E))
   core_whole = in_sides ∙ ap₂ (submatrix m) (append_assoc A (i ∷ []) (k ∷ o ∷ D)) (append_assoc B (p ∷ q ∷ []) (j ∷ E))
 
-  -- ---- the matrices are those of the lines without signs
+  -- ---- the matrices are the matrices of the lines without signs
 
   pub first_is : signed_submatrix m (framed [] A (plain i ∷ plain k ∷ plain o ∷ [])) (framed [] B (plain p ∷ plain q ∷ plain j ∷ [])) ≡ F
   first_is = ap₂ (signed_submatrix m) (plain_before A (i ∷ k ∷ o ∷ [])) (plain_before B (p ∷ q ∷ j ∷ [])) ∙ plain_submatrix m (A ++ (i ∷ k ∷ o ∷ [])) (B ++ (p ∷ q ∷ j ∷ []))

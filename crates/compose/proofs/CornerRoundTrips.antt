@@ -1,4 +1,4 @@
--- The sum of the two matrices of a three-separation of the forms delta, y and mixed.
+-- The sum of the two matrices of a three-separation of the forms delta, Y and mixed.
 use Rattle.std.proofs.Common.{◌≡◌, ◌<◌, ◌≤◌, ◌+◌, ◌-◌, ◌∙◌, ◌++◌, ◌*ℤ◌, ℕ, suc, ℤ, pos, Bool, true, false, List, [], ◌∷◌, map, length, get_or, ap, ap₂, sym, subst, refl, arith, length-append}
 use Rattle.cmr_base.specs.declared.separation.Connector.{Connector}
 use Rattle.cmr_base.specs.Matrix.{Matrix, height, entry}
@@ -25,7 +25,7 @@ abbrev pub IsSecondOther : (ℕ → ℕ → ℤ) → Bool → Sides → (first s
 IsSecondOther M true s f g = IsIn g.other s.columns_two × (M g.row g.other ≡ pos 0) × IsSign (M f.row g.other)
 IsSecondOther M false s f g = IsIn g.other s.rows_two × (M g.other g.column ≡ pos 0) × IsSign (M g.other f.column)
 
--- what a separation says of its sides
+-- the properties of the sides of a separation
 pub record AreCornered (M : ℕ → ℕ → ℤ) (flat1 flat2 : Bool) (s : Sides) (f g : Connector) : Type 0 where
   pub row_i : IsIn f.row s.rows_one
   pub column_p : IsIn f.column s.columns_one
@@ -85,7 +85,7 @@ ends_at f e F x y x' y' ex ey h = subst (λ (z : ℕ). EndsIn f e z y F) (sym ex
 begins_at : (f : Bool) (e : ℤ) (F : ℕ → ℕ → ℤ) (x y x' y' : ℕ) → x ≡ x' → y ≡ y' → BeginsWithConnector f e x' y' F → BeginsWithConnector f e x y F
 begins_at f e F x y x' y' ex ey h = subst (λ (z : ℕ). BeginsWithConnector f e z y F) (sym ex) (subst (λ (z : ℕ). BeginsWithConnector f e x' z F) (sym ey) h)
 
--- a place from 1 on is one more than another
+-- a position from 1 on is the successor of a position
 earlier : (r u : ℕ) → 1 ≤ r → r < 1 + u → (x : ℕ) × (r ≡ 1 + x) × (x < u)
 earlier r u l k = (r - 1, omega arith, omega arith)
 

@@ -1,4 +1,4 @@
--- The lines of the two matrices of a separation are lines of the matrix, and no more than it has.
+-- The lines of the two matrices of a separation are lines of the matrix, and not more than the matrix has.
 use Rattle.std.proofs.Common.{◌≡◌, ◌≢◌, ◌<◌, ◌≤◌, ◌+◌, ◌∙◌, ◌++◌, ◌*ℤ◌, inl, ℕ, ℤ, pos, Bool, true, false, List, [], ◌∷◌, map, length, ap, refl, arith}
 use Rattle.std.specs.List.{AllByRecursion}
 use Rattle.std.proofs.lemmas.List.FromFn.{length-range_with_len}
@@ -32,7 +32,7 @@ framed_fit bound first lines last few prefix below back = record {
       (all-append (IsSigned bound) (map plain lines) last (all-map (IsSigned bound) plain lines (all_of_members (λ x. IsSigned bound (plain x)) lines (λ x h. (below x h, inl refl)))) back);
 }
 
--- a number is not another one where an entry says so
+-- two lines differ if one has a nonzero entry and the other has the entry 0
 apart : (f : ℕ → ℤ) (x y : ℕ) → f y ≡ pos 0 → IsSign (f x) → x ≢ y
 apart f x y zero unit e = sign_nonzero (f x) unit (ap f e ∙ zero)
 

@@ -41,7 +41,7 @@ blocks_ordered M R1 C1 R2 C2 up left first right below second one two three four
     go false true e f = three (a - length R1) b (within a (length R1) (length R2) la (at_least_of a (length R1) e)) (lt_of b (length C1) f) ∙ sym (ap₂ M (get_right R1 R2 a (at_least_of a (length R1) e)) (get_left C1 C2 b (lt_of b (length C1) f)))
     go false false e f = four (a - length R1) (b - length C1) (within a (length R1) (length R2) la (at_least_of a (length R1) e)) (within b (length C1) (length C2) lb (at_least_of b (length C1) f)) ∙ sym (ap₂ M (get_right R1 R2 a (at_least_of a (length R1) e)) (get_right C1 C2 b (at_least_of b (length C1) f)))
 
--- two lists made one from the places of the other
+-- the values at consecutive positions are the values at the items of a list
 map_places : {A : Type 0} (g k : ℕ → A) (xs : List ℕ) (from : ℕ) → ((i : ℕ) → i < length xs → g (from + i) ≡ k (get_or xs i 0)) → map g (range_with_len from (length xs)) ≡ map k xs
 map_places g k [] from h = refl
 map_places {A = A} g k (x ∷ xs) from h = ap₂ (λ (y : A) (ys : List A). y ∷ ys) (ap g (at_from from) ∙ h zero (omega arith)) (map_places g k xs (from + 1) (λ i l. ap g (later from i) ∙ h (suc i) (omega arith)))

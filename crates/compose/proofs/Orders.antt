@@ -1,4 +1,4 @@
--- The orders of the lines of a sum have each line of the matrix once.
+-- The orders of the lines of a sum contain each line of the matrix once.
 use Rattle.std.proofs.Common.{◌≡◌, ◌≢◌, ◌<◌, ◌≤◌, ◌+◌, ◌∙◌, ◌++◌, ◌⊎◌, inl, inr, ℕ, Bool, true, false, List, [], ◌∷◌, length, refl, sym, subst, arith, length-append}
 use Rattle.std.proofs.lemmas.Bool.{cases_lt}
 use Rattle.std.proofs.lemmas.List.FromFn.{length-range_with_len}
@@ -25,21 +25,21 @@ in_right (z ∷ zs) ys x h = inr (in_right zs ys x h)
 first_distinct : (n : ℕ) → IsDistinct (first_lines n)
 first_distinct n = increasing_distinct (first_lines n) (first_lines_increase n)
 
--- a list of all lines is no shorter than there are
+-- a list that contains all n lines has at least n items
 all_many : (n : ℕ) (xs : List ℕ) → ((x : ℕ) → x < n → IsIn x xs) → n ≤ length xs
 all_many n xs each =
     let many = fewer_distinct (first_lines n) xs (first_distinct n) (λ x h. each x (first_lines_in n x h)) in
     let count = length-range_with_len 0 n in
     omega arith
 
--- an order has as many lines as there are
+-- an order of n lines has n items
 pub order_count : (n : ℕ) (xs : List ℕ) → IsOrder n xs → length xs ≡ n
 order_count n xs order =
     let many = all_many n xs (λ x. (order.all x).1) in
     let few = distinct_few n xs order.distinct (λ x. (order.all x).0) in
     omega arith
 
--- a line that comes once more could be left out
+-- if a line occurs twice, a list of all n lines has more than n items
 no_more : (n : ℕ) (before : List ℕ) (y : ℕ) (ys : List ℕ) → length before + length (y ∷ ys) ≤ n → ((x : ℕ) → x < n → IsIn x before ⊎ IsIn x (y ∷ ys)) → ¬ (IsIn y ys)
 no_more n before y ys few each again =
     let many = all_many n (before ++ ys) (λ x l. left x (each x l)) in
@@ -51,7 +51,7 @@ no_more n before y ys few each again =
     left x (inr (inl e)) = in_right before ys x (subst (λ z. IsIn z ys) (sym e) again)
     left x (inr (inr h)) = in_right before ys x h
 
--- all lines are among some and the rest, which are no more than there are
+-- the rest has distinct lines if the two lists have at most n items together and contain all n lines
 rest_distinct : (n : ℕ) (before rest : List ℕ) → length before + length rest ≤ n → ((x : ℕ) → x < n → IsIn x before ⊎ IsIn x rest) → IsDistinct rest
 rest_distinct n before [] few each = tt
 rest_distinct n before (y ∷ ys) few each = (no_more n before y ys few each, rest_distinct n (y ∷ before) ys (omega arith) (λ x l. moved x (each x l)))
@@ -61,7 +61,7 @@ rest_distinct n before (y ∷ ys) few each = (no_more n before y ys few each, re
     moved x (inr (inl e)) = inl (inl e)
     moved x (inr (inr h)) = inr h
 
--- no more lines than there are, and all of them
+-- a list of at most n items that contains all n lines is an order
 all_lines : (n : ℕ) (xs : List ℕ) → length xs ≤ n → ((x : ℕ) → x < n → IsIn x xs) → IsOrder n xs
 all_lines n xs few each = record { distinct = rest_distinct n [] xs (omega arith) (λ x l. inr (each x l)); all = λ x. (below x, each x) }
   where
@@ -100,7 +100,7 @@ module _ (list : List ℕ) (n : ℕ) where
   two_first = all_lines n (two ++ one) (let c = length-append two one in let s = sides_count in omega arith)
       (λ x l. by_side (λ x. IsIn x (two ++ one)) x l (in_right two one x) (in_left two one x))
 
-  -- side one but for some of its lines, these, some lines of side two, and its others
+  -- side one without some of its lines, then these lines, then some lines of side two, then its other lines
   module _ (first second : List ℕ) (few_one : length first + length (others first one) ≤ length one) (few_two : length second + length (others second two) ≤ length two) where
     abbrev prefix : List ℕ
     prefix = others first one

@@ -9,7 +9,7 @@ use Rattle.cmr_base.proofs.ListedLines.{listed_from_in}
 use Rattle.sum_ops.specs.Children.{on_list}
 use Rattle.compose.specs.Arrangements.{lines_on, others}
 
--- the test of a list
+-- the membership test of a list
 abbrev pub is_listed : List ℕ → ℕ → Bool
 is_listed list x = list_any (λ y. nat_eq y x) list
 
@@ -57,7 +57,7 @@ two_there x y (z ∷ zs) (inl e) (inl f) d = absurd (d (e ∙ sym f))
 two_there x y (z ∷ zs) (inl e) (inr k) d = let l = one_there y zs k in omega arith
 two_there x y (z ∷ zs) (inr h) k d = let l = one_there x zs h in omega arith
 
--- without lines that are there
+-- lists without lines that they contain
 pub others_one : (x : ℕ) (xs : List ℕ) → IsIn x xs → 1 + length (others (x ∷ []) xs) ≤ length xs
 others_one x xs h =
     let there = one_there x (lines_on true (x ∷ []) xs) (filter_in (on_list true (x ∷ [])) x xs h (listed_from_in x (x ∷ []) (inl refl))) in

@@ -1,4 +1,4 @@
--- Places in lists of signed lines, and the entries of the matrices on such lines.
+-- Positions in lists of signed lines, and the entries of the matrices on such lines.
 use Rattle.std.proofs.Common.{◌≡◌, ◌<◌, ◌+◌, ◌∙◌, ◌++◌, ◌*ℤ◌, ℕ, zero, suc, ℤ, pos, List, [], ◌∷◌, map, length, get_or, ap, ap₂, sym, refl, arith, length-append}
 use Rattle.std.proofs.lemmas.List.{length-map}
 use Rattle.cmr_base.specs.Matrix.{Matrix, height, entry}
@@ -7,7 +7,7 @@ use Rattle.cmr_base.proofs.Integers.{products, zero-mul}
 use Rattle.compose.specs.declared.signed_line.SignedLine.{SignedLine}
 use Rattle.compose.specs.Arrangements.{signed, plain, framed, signed_entry, signed_submatrix}
 
--- the line at a place; past the end there is one that makes zeros
+-- the line at a position; past the end, a line that gives zeros
 abbrev pub at : List SignedLine → ℕ → SignedLine
 at lines a = get_or lines a (signed 0 (pos 0))
 
@@ -50,7 +50,7 @@ entry_at m [] columns a b = sym (zero-mul ((at columns b).sign *ℤ entry m 0 (a
 entry_at m (r ∷ rs) columns zero b = entry_in_row (entry m) r columns b
 entry_at m (r ∷ rs) columns (suc a) b = entry_at m rs columns a b
 
--- the entry, by the lines at its places
+-- the entry, by the lines at its positions
 pub entry_of : (m : Matrix) (rows columns : List SignedLine) (a b r c : ℕ) (s t : ℤ) → at rows a ≡ signed r s → at columns b ≡ signed c t → entry (signed_submatrix m rows columns) a b ≡ s *ℤ (t *ℤ entry m r c)
 entry_of m rows columns a b r c s t e f = entry_at m rows columns a b ∙ ap₂ (λ (x y : SignedLine). signed_entry (entry m) x y) e f
 

@@ -1,4 +1,4 @@
--- How many lines of the two matrices a sum has less.
+-- The numbers of lines that a sum has less than its two matrices.
 use Rattle.std.proofs.Common.{◌≡◌, ◌+◌, ◌-◌, ◌∙◌, ◌*ℤ◌, ℕ, ℤ, Bool, true, false, map, arith}
 use Rattle.std.proofs.lemmas.List.{length-map}
 use Rattle.std.proofs.lemmas.List.FromFn.{length-range_with_len}

@@ -1,5 +1,5 @@
--- The two matrices whose sum is a matrix with a separation: each is a submatrix of it with some lines multiplied by -1. The lines
--- of the matrix come in the sum in an order of their own.
+-- The two matrices whose sum is a matrix with a separation: each is a submatrix of it with some lines multiplied by -1. The sum has the
+-- lines of the matrix in another order.
 use Rattle.std.specs.Prelude.{◌<◌, ◌≤◌, ◌++◌, ◌*ℤ◌, filter, ℕ, ℤ, pos, Bool, true, false, List, [], ◌∷◌, map, length}
 use Rattle.std.specs.List.{AllByRecursion}
 use Rattle.cmr_base.specs.declared.line_set.LineSet.{LineSet}
@@ -20,31 +20,31 @@ use Rattle.compose.specs.declared.arrangement.Arranged.{Arranged}
 abbrev pub signed : ℕ → ℤ → SignedLine
 signed line sign = record { line = line; sign = sign }
 
--- the line itself
+-- the line with the sign 1
 abbrev pub plain : ℕ → SignedLine
 plain line = signed line (pos 1)
 
--- some lines themselves, after some and before some more
+-- lines with the sign 1, after the lines of `first` and before the lines of `last`
 abbrev pub framed : List SignedLine → List ℕ → List SignedLine → List SignedLine
 framed first lines last = first ++ (map plain lines ++ last)
 
 abbrev pub signed_entry : (ℕ → ℕ → ℤ) → SignedLine → SignedLine → ℤ
 signed_entry M row column = row.sign *ℤ (column.sign *ℤ M row.line column.line)
 
--- the submatrix on these lines in their order, each line times its sign
+-- the submatrix on these lines in their order, each line multiplied by its sign
 abbrev pub signed_submatrix : Matrix → List SignedLine → List SignedLine → Matrix
 signed_submatrix m rows columns = record { rows = map (λ row. map (signed_entry (entry m) row) columns) rows; width = length columns }
 
--- at most so many lines as the bound, each below it and with a sign
+-- at most `bound` lines, each below the bound and with a sign
 pub record AreSignedLines (bound : ℕ) (lines : List SignedLine) : Type 0 where
   pub few : length lines ≤ bound
   pub each : AllByRecursion (λ line. (line.line < bound) × IsSign line.sign) lines
 
--- those of some lines that are on a list, or that are not
+-- the lines that are on a list, or the lines that are not
 abbrev pub lines_on : Bool → List ℕ → List ℕ → List ℕ
 lines_on inside list lines = filter (on_list inside list) lines
 
--- side one has the lines of the set, side two the others
+-- side one has the lines of the set, and side two has the other lines
 abbrev pub sides_of : Matrix → LineSet → Sides
 sides_of m one = record {
   rows_one = lines_on true one.rows (first_lines (height m));
@@ -71,7 +71,7 @@ arranged m arrangement = record {
 
 -- ---- two-separations
 
--- `[A a]` of side two with column j, and `[b; B]` of row i times the entry where they cross, with side one
+-- `[A a]` is side two with column j; `[b; B]` is row i, multiplied by its entry in column j, and side one
 abbrev pub two_sum_lines : (ℕ → ℕ → ℤ) → Sides → (i j : ℕ) → Arrangement
 two_sum_lines M s i j = record {
   first_rows = framed [] s.rows_two [];
@@ -84,7 +84,8 @@ two_sum_lines M s i j = record {
 
 -- ---- three-separations of the forms delta, y and mixed
 
--- the rows of side one, then those of the second connector; its other row gets the sign that makes it equal to the corner's row there
+-- the rows of side one, then the rows of the second connector; its other row gets the sign that makes it equal to the corner's row in side
+-- one
 abbrev pub last_rows : (ℕ → ℕ → ℤ) → Bool → List ℕ → (first second : Connector) → List SignedLine
 last_rows M true rows first second = framed [] rows (plain second.row ∷ [])
 last_rows M false rows first second = framed [] rows (signed second.other (M second.other first.column *ℤ M second.row first.column) ∷ plain second.row ∷ [])
@@ -93,12 +94,12 @@ abbrev pub last_columns : (ℕ → ℕ → ℤ) → Bool → List ℕ → (first
 last_columns M true columns first second = framed [] columns (signed second.other (M first.row second.other *ℤ M first.row second.column) ∷ plain second.column ∷ [])
 last_columns M false columns first second = framed [] columns (plain second.column ∷ [])
 
--- the rows of the first connector, each times its entry in the second one's column, then those of side two
+-- the rows of the first connector, each multiplied by its entry in the second connector's column, then the rows of side two
 abbrev pub begin_rows : (ℕ → ℕ → ℤ) → Bool → List ℕ → (first second : Connector) → List SignedLine
 begin_rows M true rows first second = framed (signed first.row (M first.row second.column) ∷ []) rows []
 begin_rows M false rows first second = framed (signed first.row (M first.row second.column) ∷ signed first.other (M first.other second.column) ∷ []) rows []
 
--- the columns of the first connector, each times its entry in the second one's row, then those of side two
+-- the columns of the first connector, each multiplied by its entry in the second connector's row, then the columns of side two
 abbrev pub begin_columns : (ℕ → ℕ → ℤ) → Bool → List ℕ → (first second : Connector) → List SignedLine
 begin_columns M true columns first second = framed (signed first.column (M second.row first.column) ∷ signed first.other (M second.row first.other) ∷ []) columns []
 begin_columns M false columns first second = framed (signed first.column (M second.row first.column) ∷ []) columns []
@@ -115,11 +116,11 @@ corner_lines M first_flat second_flat s first second = record {
 
 -- ---- three-separations of the concentrated form
 
--- the lines of a side without some lines
+-- the lines of a side without the lines of a list
 abbrev pub others : List ℕ → List ℕ → List ℕ
 others gone lines = lines_on false gone lines
 
--- both matrices have the connectors; the first has them last, after the other lines of side one, and the second first
+-- both matrices contain the connectors: the first matrix ends with them, and the second matrix begins with them
 abbrev pub core_lines : Sides → (first second : Connector) → Arrangement
 core_lines s first second = record {
   first_rows = framed [] (others (first.row ∷ []) s.rows_one) (plain first.row ∷ plain second.row ∷ plain second.other ∷ []);
@@ -130,7 +131,7 @@ core_lines s first second = record {
   columns = others (first.column ∷ first.other ∷ []) s.columns_one ++ (first.column ∷ first.other ∷ second.column ∷ others (second.column ∷ []) s.columns_two);
 }
 
--- ---- of a matrix with a separation
+-- ---- arrangements of a matrix with a separation
 
 abbrev pub two_arrangement : Matrix → Two → Arrangement
 two_arrangement m two = two_sum_lines (entry m) (sides_of m two.side) two.row two.column
@@ -144,7 +145,7 @@ three_lines M Concentrated s first second = core_lines s first second
 abbrev pub three_arrangement : Matrix → Three → Arrangement
 three_arrangement m three = three_lines (entry m) three.form (sides_of m three.side) three.first three.second
 
--- a row, a column and one more line of the matrix: a column where the connector is flat, a row where it is tall
+-- a row, a column and one more line of the matrix: a column if the connector is flat, a row if it is tall
 abbrev pub HasConnectorLines : Bool → Matrix → Connector → Type 0
 HasConnectorLines true m c = (c.row < height m) × (c.column < m.width) × (c.other < m.width)
 HasConnectorLines false m c = (c.row < height m) × (c.column < m.width) × (c.other < height m)

@@ -16,7 +16,7 @@ use Rattle.compose.specs.SumKinds.{kind_of_form, HaveSum, sum_of}
 abbrev pub IsTwoOf : Matrix → Two → Type 0
 IsTwoOf m two = IsTwoSeparation (entry m) (first_lines (height m)) (first_lines m.width) (listed two.side.rows two.side.columns) two.row two.column
 
--- a three-separation of all lines of the matrix, with the sign of the corners where the form has them
+-- a three-separation of all lines of the matrix, with the sign of the corners if its form has corners
 pub record IsThreeOf (m : Matrix) (three : Three) : Type 0 where
   pub separation : IsThreeSeparation (entry m) (first_lines (height m)) (first_lines m.width) (listed three.side.rows three.side.columns) three.form three.first three.second
   pub corners : HaveCornerSign (entry m) three.form three.first three.second

@@ -32,7 +32,7 @@ sum_of YForm first second = three_sum form.YForm first second
 sum_of Mixed first second = three_sum form.Mixed first second
 sum_of Concentrated first second = three_sum form.Concentrated first second
 
--- how many rows, and columns, of the two matrices the sum has less
+-- the number of rows, and of columns, that the sum has less than its two matrices
 abbrev pub lost_rows : SumKind → ℕ
 lost_rows One = 0
 lost_rows Two = 1
@@ -49,7 +49,7 @@ lost_columns YForm = 2
 lost_columns Mixed = 3
 lost_columns Concentrated = 3
 
--- the sum has so many rows, and columns, less than the two matrices together
+-- the sum has `lost_rows` rows, and `lost_columns` columns, less than the two matrices together
 abbrev pub LosesRows : SumKind → Matrix → Matrix → Type 0
 LosesRows kind first second = height (sum_of kind first second) + lost_rows kind ≡ height first + height second
 
@@ -59,7 +59,7 @@ LosesColumns kind first second = (sum_of kind first second).width + lost_columns
 abbrev pub SumsLoseLines : Type 0
 SumsLoseLines = (kind : SumKind) (first second : Matrix) → HaveSum kind first second → LosesRows kind first second × LosesColumns kind first second
 
--- why there is no sum
+-- the reason why there is no sum
 abbrev pub IsCauseOf : SumKind → Matrix → Matrix → SumError → Type 0
 IsCauseOf One first second = IsCause (HaveSum One first second)
 IsCauseOf Two first second = IsCause (HaveSum Two first second)

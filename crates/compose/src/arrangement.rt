@@ -17,7 +17,7 @@ pub struct Arranged {
     pub columns: OrderList,
 }
 
-/// The lines of two matrices, as lines of the one of which they are parts, and an order of the lines of that one.
+/// The lines of the two submatrices of a matrix, and an order of the lines of the matrix.
 #[derive(Debug, Drop)]
 pub struct Arrangement {
     pub first_rows: SignedLineList,
@@ -29,7 +29,7 @@ pub struct Arrangement {
 }
 
 impl Arrangement {
-    /// The two matrices, with the order.
+    /// Makes the two matrices, with the order.
     pub fn of(self, alloc: Global, matrix: &Matrix) -> Result<Arranged, Memory>
         requires { HasSignedLines matrix.now self }
         ensures { IfOk result (λ both. both ≡ arranged matrix.now self) }

@@ -1,4 +1,4 @@
-//! The way back from a separation: the two matrices whose sum is the matrix.
+//! The inverse of sums: the two matrices of a separation whose sum is the matrix.
 #![tactic(auto)]
 
 mod arrangement;

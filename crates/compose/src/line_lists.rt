@@ -7,7 +7,7 @@ use crate::OrderList;
 use cmr_base::{ItemList, Memory};
 use std::alloc::Global;
 
-/// Those of some lines that are on a list, or that are not.
+/// Gives the lines that are on a list, or, without `inside`, the lines that are not.
 pub fn lines_on(
     alloc: Global,
     inside: bool,
@@ -35,7 +35,7 @@ fn is_on(inside: bool, list: &[u32], line: u32) -> bool
     }
 }
 
-/// One list after another.
+/// Joins two lists.
 pub fn joined(alloc: Global, first: &[u32], second: &[u32]) -> Result<OrderList, Memory>
     ensures { IfOk result (λ list. list ≡ first.now ++ second.now) }
 {
@@ -45,7 +45,7 @@ pub fn joined(alloc: Global, first: &[u32], second: &[u32]) -> Result<OrderList,
     Ok(list)
 }
 
-/// Three lists, one after another.
+/// Joins three lists.
 pub fn joined_three(
     alloc: Global,
     first: &[u32],

@@ -8,7 +8,7 @@ use crate::line_lists::lines_on;
 use cmr_base::{LineSet, Matrix, Memory};
 use std::alloc::Global;
 
-/// The rows and columns of both sides, increasing.
+/// The rows and columns of both sides, each list increasing.
 #[derive(Debug, Drop)]
 pub struct Sides {
     pub rows_one: OrderList,
@@ -18,7 +18,7 @@ pub struct Sides {
 }
 
 impl Sides {
-    /// Side one has the lines of the set, side two the others.
+    /// Gives side one the lines of the set, and side two the other lines.
     pub fn of(alloc: Global, matrix: &Matrix, one: &LineSet) -> Result<Sides, Memory>
         ensures sides { IfOk result (λ sides. sides ≡ sides_of matrix.now one.now) }
         ensures shape { IfOk result (λ _. IsMatrix matrix.now) }

@@ -1,4 +1,4 @@
-// Lines with the signs by which they are multiplied.
+// Lines with the signs that multiply them.
 ghost use Rattle.std.specs.Prelude.{◌≡◌, ◌<◌, ◌++◌, map, IfOk, OnOk};
 ghost use Rattle.cmr_base.specs.Matrix.{entry, height, IsEntry};
 ghost use Rattle.cmr_base.specs.Signing.{IsSign};
@@ -7,7 +7,7 @@ ghost use Rattle.compose.specs.Arrangements.{plain, framed, signed_entry, signed
 use cmr_base::{ItemList, Matrix, Memory, product};
 use std::alloc::Global;
 
-/// A row or a column, and 1 or -1.
+/// A row or a column, and the factor 1 or -1.
 #[derive(Clone, Copy, Debug, PartialEq, Eq)]
 pub struct SignedLine {
     pub line: u32,
@@ -17,14 +17,14 @@ pub struct SignedLine {
 /// Lines with their signs, in an order.
 pub type SignedLineList = ItemList<SignedLine>;
 
-/// The line itself.
+/// Gives the line the sign 1.
 pub fn plain(line: u32) -> SignedLine
     ensures { result ≡ plain line }
 {
     SignedLine { line, sign: 1 }
 }
 
-/// Some lines themselves, after some and before some more.
+/// Gives the lines the sign 1, after the lines of `first` and before the lines of `last`.
 pub fn framed(
     alloc: Global,
     first: &[SignedLine],
@@ -58,7 +58,7 @@ fn push_plain(list: &mut SignedLineList, lines: &[u32]) -> Result<(), Memory>
     Ok(())
 }
 
-/// The submatrix on these lines in their order, each line times its sign.
+/// Makes the submatrix on these lines in their order, each line multiplied by its sign.
 pub fn signed_submatrix(
     alloc: Global,
     matrix: &Matrix,

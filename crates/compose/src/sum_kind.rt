@@ -8,7 +8,7 @@ use cmr_base::{Form, MAX_COLUMNS, MAX_ROWS, Matrix};
 use std::alloc::Global;
 use sum_ops::{SumError, concentrated_sum, delta_sum, mixed_sum, one_sum, two_sum, y_sum};
 
-/// A sum of two matrices.
+/// The kind of a sum of two matrices.
 #[derive(Clone, Copy, Debug, PartialEq, Eq)]
 pub enum SumKind {
     One,
@@ -20,7 +20,7 @@ pub enum SumKind {
 }
 
 impl SumKind {
-    /// The sum of a form of three-separations.
+    /// Gives the kind of sum of a form of three-separations.
     pub fn of(form: Form) -> SumKind
         ensures { result ≡ kind_of_form form }
     {
@@ -32,7 +32,7 @@ impl SumKind {
         }
     }
 
-    /// How many rows the sum has less than the two matrices together.
+    /// The number of rows of both matrices together, minus the number of rows of the sum.
     pub fn lost_rows(self) -> u32
         ensures { result ≡ lost_rows self }
     {
@@ -45,7 +45,7 @@ impl SumKind {
         }
     }
 
-    /// How many columns the sum has less than the two matrices together.
+    /// The number of columns of both matrices together, minus the number of columns of the sum.
     pub fn lost_columns(self) -> u32
         ensures { result ≡ lost_columns self }
     {
@@ -59,8 +59,10 @@ impl SumKind {
     }
 }
 
-/// The sum of this kind. `BadConnector` comes exactly where the matrices have not the connecting lines of the sum,
-/// `BadEntry` exactly where they have and an entry of the sum, which is then the concentrated one, is not -1, 0 or 1.
+/// Makes the sum of this kind. Its errors, except an allocation failure:
+///
+/// * `BadConnector`: the matrices do not have the connecting lines of the sum.
+/// * `BadEntry`: they have these lines, but an entry of the concentrated sum is not -1, 0 or 1.
 pub fn sum_of(
     alloc: Global,
     kind: SumKind,

@@ -14,10 +14,11 @@ use crate::signed_line::{SignedLine, SignedLineList, framed, plain};
 use cmr_base::{Connector, Form, Matrix, Memory, Three, product};
 use std::alloc::Global;
 
-/// The two matrices of a three-separation, and the order of the lines in which their sum of its form is the matrix: side one
-/// before side two. The first is side one with the second connector, the second side two with the first one. Of the forms
-/// delta, y and mixed the lines of the connectors are multiplied so that they are those of the sum. Of the concentrated form
-/// both matrices have both connectors.
+/// Gives the two matrices of a three-separation, and the order of the lines in which their sum of its form is the
+/// matrix: side one before side two. The first matrix is side one with the second connector, and the second matrix is
+/// side two with the first connector. In the forms delta, Y and mixed, the lines of the connectors are multiplied by
+/// signs, so that they are the connecting lines of the sum. In the concentrated form, both matrices contain both
+/// connectors.
 pub fn arrange_three(alloc: Global, matrix: &Matrix, three: &Three) -> Result<Arranged, Memory>
     requires { IsThreeOf matrix.now three.now }
     ensures arranged { IfOk result (λ both. both ≡ arranged matrix.now (three_arrangement matrix.now
@@ -77,7 +78,7 @@ fn corner_lines(
     })
 }
 
-// The rows of side one, then those of the second connector.
+// Gives the rows of side one, then the rows of the second connector.
 fn last_rows(
     alloc: Global,
     matrix: &Matrix,
@@ -102,7 +103,7 @@ fn last_rows(
     }
 }
 
-// The columns of side one, then those of the second connector.
+// Gives the columns of side one, then the columns of the second connector.
 fn last_columns(
     alloc: Global,
     matrix: &Matrix,
@@ -127,7 +128,7 @@ fn last_columns(
     }
 }
 
-// The rows of the first connector, then those of side two.
+// Gives the rows of the first connector, then the rows of side two.
 fn begin_rows(
     alloc: Global,
     matrix: &Matrix,
@@ -156,7 +157,7 @@ fn begin_rows(
     }
 }
 
-// The columns of the first connector, then those of side two.
+// Gives the columns of the first connector, then the columns of side two.
 fn begin_columns(
     alloc: Global,
     matrix: &Matrix,

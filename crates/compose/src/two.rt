@@ -13,9 +13,9 @@ use crate::signed_line::{SignedLine, framed, plain};
 use cmr_base::{Matrix, Memory, Two};
 use std::alloc::Global;
 
-/// The two matrices of a two-separation, and the order of the lines in which their two-sum is the matrix: side two before
-/// side one. The first is side two with the column of the reference, the second side one with the row of the reference, times
-/// the entry where the two cross.
+/// Gives the two matrices of a two-separation, and the order of the lines in which their two-sum is the matrix: side
+/// two before side one. The first matrix is side two with the column of the reference. The second matrix is side one
+/// with the row of the reference, multiplied by its entry in that column.
 pub fn arrange_two(alloc: Global, matrix: &Matrix, two: &Two) -> Result<Arranged, Memory>
     requires { IsTwoOf matrix.now two.now }
     ensures arranged { IfOk result (λ both. both ≡ arranged matrix.now (two_arrangement matrix.now

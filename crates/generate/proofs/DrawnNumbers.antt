@@ -5,7 +5,7 @@ use Rattle.std.proofs.lemmas.Nat.{mod_below}
 use Rattle.std.proofs.Math.Nat.{suc-mul, zero-mul}
 use Rattle.generate.specs.Draws.{next_state, draw, draws}
 
--- the numbers so far and those that are drawn from here are all
+-- the numbers so far, followed by the numbers drawn from this state, are all numbers
 pub record AreDrawn (n bound step state : ℕ) (k bound' state' : ℕ) (drawn : List ℕ) : Type 0 where
   pub numbers_are : drawn ++ (draws (n - k) bound' step state').0 ≡ (draws n bound step state).0
   pub state_is : (draws (n - k) bound' step state').1 ≡ (draws n bound step state).1
@@ -35,7 +35,7 @@ drawn_on n bound step state k bound' state' number new numbers numbers' few h be
     (subst (λ (x : ℕ). AreDrawn n bound step state (k + 1) (bound' + step) (next_state state') (numbers ++ x ∷ [])) (sym e)
     (one_drawn n bound step state k bound' state' numbers few h before (subst (λ (now : ℕ). now < 2 ^ 31) f low))))
 
--- ---- how many, and how great
+-- ---- the count and the bounds of the numbers
 
 pub length-draws : (n bound step state : ℕ) → length (draws n bound step state).0 ≡ n
 length-draws zero bound step state = refl

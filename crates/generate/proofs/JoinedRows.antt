@@ -1,4 +1,4 @@
--- Cells that are made of whole rows.
+-- Cells of complete rows.
 use Rattle.std.proofs.Common.{◌≡◌, ◌<◌, ◌≤◌, ◌+◌, ◌-◌, ◌*◌, ◌∙◌, ◌++◌, ◌*ℤ◌, ℕ, zero, suc, ℤ, pos, negsuc, neg_ℤ, Bool, List, [], ◌∷◌, true, false, map, length, take, drop, get_or, refl, ap, ap₂, sym, subst, arith, length-append, if◌then◌else◌, ◌==◌}
 use Rattle.std.specs.List.{AllByRecursion}
 use Rattle.std.proofs.lemmas.Int.{ints}
@@ -28,19 +28,19 @@ pub record IsRow (width : ℕ) (row : List ℤ) : Type 0 where
   pub long : length row ≡ width
   pub small : AllByRecursion IsEntry row
 
--- what they make
+-- the cells of the rows, in a matrix of this width
 pub record AreCells (rows : List (List ℤ)) (width : ℕ) (cells : List ℤ) : Type 0 where
   pub whole : length cells ≡ length rows * width
   pub small : (k : ℕ) → IsEntry (get_or cells k (pos 0))
   pub cut : rows_of (length rows) width cells ≡ rows
 
--- the rows of a height and a width that cells make
+-- the rows of a given height and width, cut from the cells
 pub record AreRows (height width : ℕ) (cells : List ℤ) (rows : List (List ℤ)) : Type 0 where
   pub whole : length cells ≡ height * width
   pub small : (k : ℕ) → IsEntry (get_or cells k (pos 0))
   pub cut : rows_of height width cells ≡ rows
 
--- ---- what whole rows make
+-- ---- the cells of complete rows
 small_joined : (width : ℕ) (rows : List (List ℤ)) → AllByRecursion (IsRow width) rows → AllByRecursion IsEntry (joined rows)
 small_joined width [] all = all
 small_joined width (row ∷ rows) all = all-append IsEntry row (joined rows) all.0.small (small_joined width rows all.1)
@@ -93,7 +93,7 @@ minus_times : (row : List ℤ) → map (λ z. negsuc 0 *ℤ z) row ≡ map neg_�
 minus_times [] = refl
 minus_times (x ∷ xs) = ap₂ (λ y ys. y ∷ ys) (omega (arith, ints)) (minus_times xs)
 
--- the row times a sign
+-- the row multiplied by a sign
 abbrev pub times : ℤ → List ℤ → List ℤ
 times s row = map (λ z. s *ℤ z) row
 
@@ -104,7 +104,7 @@ one_more s row k old cells new value h so_far e pushed =
     pushed ∙ ap₂ (λ (xs : List ℤ) (v : ℤ). xs ++ v ∷ []) so_far e ∙ append_assoc old (times s (take k row)) ((s *ℤ get_or row k (pos 0)) ∷ [])
     ∙ ap (λ (xs : List ℤ). old ++ xs) (sym (ap (times s) (take_more row k (pos 0) h) ∙ map-append (λ z. s *ℤ z) (take k row) (get_or row k (pos 0) ∷ [])))
 
--- all of them
+-- all entries of the row
 pub all_taken : (s : ℤ) (row : List ℤ) (k : ℕ) (old cells : List ℤ) → length row ≤ k → cells ≡ old ++ times s (take k row) → cells ≡ old ++ times s row
 all_taken s row k old cells h so_far = so_far ∙ ap (λ (xs : List ℤ). old ++ times s xs) (take_all k row h)
 

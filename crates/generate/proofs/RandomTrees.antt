@@ -1,4 +1,4 @@
--- Random recursive trees are trees, and the random walks lead between their nodes.
+-- Random recursive trees are trees, and the random walks connect their nodes.
 use Rattle.std.proofs.Common.{◌≡◌, ◌<◌, ◌≤◌, ◌+◌, ◌∙◌, ℕ, zero, suc, List, [], ◌∷◌, false, length, get_or, refl, ap, ap₂, sym, subst, arith}
 use Rattle.cmr_base.specs.declared.network.Pair.{Pair}
 use Rattle.cmr_base.specs.Trees.{tail, head, IsTree, IsNetworkOf}

@@ -34,11 +34,11 @@ from_places n f xs count at =
 
 -- ---- rows of a two-sum with a circulant
 
--- what a row gains that ends in this entry
+-- the entries that a row with this last entry gains
 abbrev pub growth : ℤ → List ℤ
 growth x = neg_ℤ x ∷ pos 0 ∷ pos 0 ∷ neg_ℤ x ∷ []
 
--- the first row of a circulant, times x
+-- the first row of a circulant, multiplied by x
 product_at : (x : ℤ) (j : ℕ) → j < 5 → x *ℤ entry circulant 0 (0 + j) ≡ get_or (x ∷ growth x) j (pos 0)
 product_at x zero h = let e : x *ℤ pos 1 ≡ x = omega (arith, ints) in e
 product_at x (suc zero) h = let e : x *ℤ negsuc 0 ≡ neg_ℤ x = omega (arith, ints) in e
@@ -120,7 +120,7 @@ module _ (m : Matrix) (h w : ℕ) (tall : height m ≡ h) (wide : m.width ≡ w 
             ∙ sym (get_or-append_right (replicate w (pos 0)) (row_of circulant (1 + (r - h))) w k (pos 0) (length-replicate w (pos 0)) right)
       ]
 
--- ---- their entries are -1, 0 or 1
+-- ---- rows with entries -1, 0 and 1
 with_growth : (n : ℕ) (row : List ℤ) (x : ℤ) → IsRow n row → IsEntry x → IsRow (n + 4) (row ++ growth x)
 with_growth n row x is small = record {
   long = let e = is.long in let f = length-append row (growth x) in omega (arith, e, f);
@@ -142,7 +142,7 @@ row_more (suc n) r some long h =
     let e : suc n + 1 ≡ suc (suc n) = omega arith in
     ap (λ (k : ℕ). row_of (circulant_sum k) r) e ∙ old_row (circulant_sum (suc n)) (4 * suc n + 1) (4 * suc n) (sum_height (suc n) some) (sum_width (suc n) some) r h long
 
--- the circulant behind so many others brings a row
+-- the circulant after `s` others begins a row
 row_first : (s r : ℕ) → ((s ≡ 0) ⊎ (4 * s + 1 ≤ r)) → r < 4 * s + 5 → row_of (circulant_sum (s + 1)) r ≡ replicate (4 * s) (pos 0) ++ row_of circulant (r - 4 * s)
 row_first zero r from h = let e : r ≡ r - 0 = omega arith in ap (row_of circulant) e
 row_first (suc n) r (inl none) h = absurd (omega (arith, none))
@@ -182,7 +182,7 @@ is_row_of_sum (suc n) r some h =
 
 -- ---- a row that grows
 
--- The cells behind the old ones are the row in the sum of so many circulants, and its last entry is this one.
+-- The cells after the old ones are the row in the sum of `count` circulants, and its last entry is `last`.
 pub record IsGrowing (old cells : List ℤ) (count row : ℕ) (last : ℤ) : Type 0 where
   pub row_is : cells ≡ old ++ row_of (circulant_sum count) row
   pub last_is : last ≡ entry (circulant_sum count) row (4 * count)
@@ -204,7 +204,7 @@ grown_on old cells new count row last next some inside before pushed is_negated 
       small = subst IsEntry (sym is_negated) (negative_is_entry last before.small);
     }
 
--- the row as the circulant brings it, behind so many others
+-- a row begins as a row of its circulant, after zeros for the `before` circulants before it
 pub begun : (old cells new : List ℤ) (before row : ℕ) (last : ℤ) → ((before ≡ 0) ⊎ (4 * before + 1 ≤ row)) → row < 4 * before + 5 → cells ≡ old ++ replicate (4 * before) (pos 0)
     → new ≡ cells ++ times (pos 1) (row_of circulant (row - 4 * before)) → last ≡ entry circulant (row - 4 * before) 4 → IsGrowing old new (before + 1) row last
 begun old cells new before row last from inside zeros_pushed pushed is =
@@ -221,7 +221,7 @@ begun old cells new before row last from inside zeros_pushed pushed is =
       small = subst IsEntry (sym is) (entry_at (row_of circulant (row - 4 * before)) circular.small 4);
     }
 
--- ---- which circulant brings a row
+-- ---- the circulant that begins a row
 
 before_four : (q r d row : ℕ) → q * 4 + r ≡ d → d ≡ row - 1 → (q ≡ 0) ⊎ (4 * q + 1 ≤ row)
 before_four zero r d row e f = inl refl
@@ -236,7 +236,7 @@ brought_within d row e = let f = div-add-mod' d 4 in let g = mod_below d 4 (omeg
 pub brought_by_one : (d row size : ℕ) → d ≡ row - 1 → row < 4 * size + 1 → 1 ≤ size → d / 4 + 1 ≤ size
 brought_by_one d row size e h some = let f = div-add-mod' d 4 in omega (arith, e, f, h, some)
 
--- a byte that changes its sign
+-- a negated byte
 pub negated_byte : (x : ℤ) → IsEntry x → to_z w8 (of_z w8 (pos 0 -ℤ x)) ≡ neg_ℤ x
 negated_byte x small = let e : neg_ℤ x ≡ pos 0 -ℤ x = omega (arith, ints) in entry_as_byte (pos 0 -ℤ x) (subst IsEntry e (negative_is_entry x small)) ∙ sym e
 

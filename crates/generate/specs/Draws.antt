@@ -1,4 +1,4 @@
--- Numbers that are drawn one after another from a state.
+-- Pseudorandom numbers, drawn one after another from a state.
 use Rattle.std.specs.Prelude.{◌+◌, ◌*◌, ◌/◌, ◌%◌, ℕ, zero, suc, List, [], ◌∷◌}
 
 abbrev pub next_state : ℕ → ℕ
@@ -8,7 +8,7 @@ next_state state = (1103515245 * state + 12345) % 2147483648
 abbrev pub draw : ℕ → ℕ → ℕ × ℕ
 draw bound state = ((next_state state / 1024) % bound, next_state state)
 
--- so many numbers, the first below a bound, each next one below a bound that is greater by a step
+-- `count` numbers: the first is below a bound, and each next bound is greater by a step
 abbrev pub draws : ℕ → ℕ → ℕ → ℕ → List ℕ × ℕ
 draws zero bound step state = ([], state)
 draws (suc n) bound step state =

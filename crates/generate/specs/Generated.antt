@@ -14,13 +14,13 @@ abbrev pub arcs_to : ℕ → List ℕ → List Pair
 arcs_to node [] = []
 arcs_to node (tail ∷ tails) = record { tail = tail; head = node } ∷ arcs_to (node + 1) tails
 
--- each two numbers as a pair
+-- the numbers in pairs
 abbrev pub pairs_of : List ℕ → List Pair
 pairs_of [] = []
 pairs_of (first ∷ []) = []
 pairs_of (first ∷ last ∷ nodes) = record { tail = first; head = last } ∷ pairs_of nodes
 
--- a random recursive tree, whose arcs lead from an earlier node to each next one, and a random walk for each column
+-- a random recursive tree, with an arc from an earlier node to each next node, and a random walk for each column
 abbrev pub generated_network : ℕ → ℕ → Network
 generated_network size number =
     let tails = draws size 1 1 number in
@@ -40,13 +40,13 @@ circulant = record {
   width = 5;
 }
 
--- the two-sum of so many circulants, one after another
+-- the two-sum of a number of circulants, one after another; the number 0 counts as 1
 abbrev pub circulant_sum : ℕ → Matrix
 circulant_sum zero = circulant
 circulant_sum (suc zero) = circulant
 circulant_sum (suc (suc n)) = two_sum (circulant_sum (suc n)) circulant
 
--- each row negated where its number is 1
+-- each row with the number 1 negated
 abbrev pub negated_rows : List (List ℤ) → List ℕ → List (List ℤ)
 negated_rows [] signs = []
 negated_rows (row ∷ rows) [] = row ∷ negated_rows rows []

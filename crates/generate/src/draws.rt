@@ -1,4 +1,4 @@
-// Numbers that are drawn one after another from a state.
+// Pseudorandom numbers, drawn one after another from a state.
 ghost use Rattle.std.specs.Prelude.{◌≡◌, ◌≤◌, ◌<◌, ◌+◌, ◌*◌, ◌^◌, IfOk};
 ghost use Rattle.generate.specs.Draws.{next_state, draw, draws};
 
@@ -12,14 +12,14 @@ pub struct Drawn {
     pub state: u32,
 }
 
-/// A number that is drawn, and the state after it.
+/// A drawn number, and the state after it.
 #[derive(Clone, Copy, Debug, PartialEq, Eq)]
 pub struct DrawnNumber {
     pub number: u32,
     pub state: u32,
 }
 
-/// A number below a bound, drawn from a state.
+/// Draws a number below a bound from a state.
 pub fn draw_below(bound: u32, state: u32) -> DrawnNumber
     requires bound { 1 ≤ bound }
     requires state { state < 2 ^ 31 }
@@ -43,7 +43,7 @@ fn next_state(state: u32) -> u32
     ((1_103_515_245 * u64::from(state) + 12_345) % 2_147_483_648) as u32
 }
 
-/// So many numbers, the first below a bound, each next one below a bound that is greater by a step.
+/// Draws `count` numbers. The first is below `bound`, and each next bound is greater by `step`.
 pub fn draw(alloc: Global, count: u32, bound: u32, step: u32, state: u32) -> Result<Drawn, Memory>
     requires bound { 1 ≤ bound }
     requires low_bound { bound ≤ MAX_ROWS + 1 }

@@ -8,14 +8,14 @@ use crate::sums::generated_sum;
 use cmr_base::{MAX_ROWS, Matrix, Memory};
 use std::alloc::Global;
 
-/// What is generated.
+/// The kind of a generated matrix.
 #[derive(Clone, Copy, Debug, PartialEq, Eq)]
 pub enum MakeKind {
     Network,
     TwoSum,
 }
 
-/// The matrix of a kind, a size and a number.
+/// Makes the matrix of a kind, a size and a number.
 pub fn make(alloc: Global, what: MakeKind, size: u32, number: u32) -> Result<Matrix, Memory>
     requires positive { 1 ≤ size }
     requires size { size ≤ MAX_ROWS }

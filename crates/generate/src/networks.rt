@@ -6,7 +6,7 @@ use crate::draws::draw;
 use cmr_base::{MAX_COLUMNS, MAX_ROWS, Memory, Network, Pair, PairList};
 use std::alloc::Global;
 
-/// A random recursive tree of so many arcs, and as many random walks.
+/// Makes a random recursive tree of `size` arcs, and `size` random walks.
 pub fn generated_network(alloc: Global, size: u32, number: u32) -> Result<Network, Memory>
     requires size { size ≤ MAX_ROWS }
     requires number { number < 2 ^ 31 }
@@ -20,7 +20,7 @@ pub fn generated_network(alloc: Global, size: u32, number: u32) -> Result<Networ
     })
 }
 
-// An arc from each of these nodes to the next new node.
+// Makes an arc from each of these nodes to the next new node.
 fn arcs_from(alloc: Global, tails: &[u32]) -> Result<PairList, Memory>
     requires { length tails.now ≤ MAX_ROWS }
     ensures { IfOk result (λ arcs. arcs ≡ arcs_to 1 tails.now) }
@@ -35,7 +35,7 @@ fn arcs_from(alloc: Global, tails: &[u32]) -> Result<PairList, Memory>
     Ok(arcs)
 }
 
-// Each two of these nodes.
+// Pairs consecutive nodes.
 fn pairs_of(alloc: Global, nodes: &[u32], count: u32) -> Result<PairList, Memory>
     requires count { count ≤ MAX_COLUMNS }
     requires nodes { length nodes.now ≡ count + count }

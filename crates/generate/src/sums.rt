@@ -8,7 +8,7 @@ use crate::draws::draw;
 use cmr_base::{Matrix, Memory, product};
 use std::alloc::Global;
 
-/// The two-sum of so many R10 matrices, with rows that are negated by chance.
+/// Makes the two-sum of `size` R10 matrices, with rows negated at random.
 pub fn generated_sum(alloc: Global, size: u32, number: u32) -> Result<Matrix, Memory>
     requires positive { 1 ≤ size }
     requires size { size ≤ 249 }
@@ -43,8 +43,8 @@ fn circulant_sum(alloc: Global, size: u32) -> Result<Matrix, Memory>
     Matrix::from_cells(alloc, lines, lines, &cells)
 }
 
-// Pushes a row of the sum of so many circulants. One of them brings the row, behind zeros. In each sum with one circulant
-// more the last entry x gives way to its multiple of the first row: x, -x, 0, 0, -x.
+// Pushes a row of the sum of `size` circulants. One of the circulants begins the row, after zeros. Each later
+// circulant replaces the last entry x by the multiple x, -x, 0, 0, -x of its first row.
 fn push_sum_row(cells: &mut Vec<i8>, part: &Matrix, size: u32, row: u32) -> Result<(), Memory>
     requires part { part.now ≡ circulant }
     requires size { size ≤ 249 }
@@ -71,7 +71,7 @@ fn push_zeros(cells: &mut Vec<i8>, count: u32) -> Result<(), Memory>
     Ok(())
 }
 
-// Pushes a row of a matrix, times a sign.
+// Pushes a row of a matrix, multiplied by a sign.
 fn push_multiple(cells: &mut Vec<i8>, factor: i8, matrix: &Matrix, row: u32) -> Result<(), Memory>
     requires factor { IsEntry factor }
     requires row { row < height matrix.now }
@@ -84,7 +84,7 @@ fn push_multiple(cells: &mut Vec<i8>, factor: i8, matrix: &Matrix, row: u32) -> 
     Ok(())
 }
 
-// The rows whose number is 1 negated.
+// Negates each row with the number 1.
 fn negated(alloc: Global, matrix: &Matrix, signs: &[u32]) -> Result<Matrix, Memory>
     requires { length signs.now ≡ height matrix.now }
     ensures { IfOk result (λ m. m ≡ record {

@@ -1,4 +1,4 @@
--- Violators with lines added, each where a bit is set.
+-- Violators with added lines: a line is added if its bit is set.
 use Rattle.std.proofs.Common.{ℕ, ℤ, pos, Bool, true, false, cond, List, [], ◌∷◌, ◌≡◌, ◌+ℤ◌, ◌∙◌, sym, ap, ap₂, refl, arith, subst}
 use Rattle.std.specs.List.{AllByRecursion}
 use Rattle.cmr_base.specs.Sums.{sum_over, IsEven, IsTwoModFour}
@@ -50,7 +50,7 @@ module _ (M : ℕ → ℕ → ℤ) (R C : List ℕ) (k o j : ℕ) (a b s : Bool)
       plain : (x y z : ℤ) → x +ℤ (y +ℤ z) ≡ z +ℤ (x +ℤ y)
       plain x y z = omega (arith, sums)
 
-  -- a violator with the rows k and o and the column j, which is 0 in the rows before
+  -- a violator with the rows k and o and the column j added; column j is 0 in the rows before them
   pub with_lines_added : AllByRecursion (λ r. IsEven (sum_over C (λ c. M r c))) R → AllByRecursion (λ c. IsEven (sum_over R (λ r. M r c) +ℤ (when a (M k c) +ℤ when b (M o c)))) C
       → (a ≡ true → IsEven (sum_over C (λ c. M k c) +ℤ when s (M k j))) → (b ≡ true → IsEven (sum_over C (λ c. M o c) +ℤ when s (M o j))) → (s ≡ true → IsEven (when a (M k j) +ℤ when b (M o j)))
       → IsTwoModFour ((sum_over R (λ r. sum_over C (λ c. M r c)) +ℤ when a (sum_over C (λ c. M k c) +ℤ when s (M k j))) +ℤ when b (sum_over C (λ c. M o c) +ℤ when s (M o j)))
@@ -79,7 +79,7 @@ module _ (M : ℕ → ℕ → ℤ) (R C : List ℕ) (k o j : ℕ) (a b s : Bool)
       turn : (x y z : ℤ) → x +ℤ (y +ℤ z) ≡ (z +ℤ x) +ℤ y
       turn x y z = omega (arith, sums)
 
--- a violator of lines of the core
+-- a violator on lines of the core
 pub core_violator : (M : ℕ → ℕ → ℤ) (i k o j p q : ℕ) (s a b t e f : Bool)
     → (s ≡ true → IsEven (core_line (M i j) (M i p) (M i q) t e f)) → (a ≡ true → IsEven (core_line (M k j) (M k p) (M k q) t e f)) → (b ≡ true → IsEven (core_line (M o j) (M o p) (M o q) t e f))
     → (t ≡ true → IsEven (core_line (M i j) (M k j) (M o j) s a b)) → (e ≡ true → IsEven (core_line (M i p) (M k p) (M o p) s a b)) → (f ≡ true → IsEven (core_line (M i q) (M k q) (M o q) s a b))

@@ -1,4 +1,4 @@
--- The sum of two matrices free of violators is free.
+-- The sum of two matrices without violators has none.
 use Rattle.std.proofs.Common.{ℕ, suc, ◌+◌, ◌-◌, ◌<◌, ◌≤◌, ℤ, pos, Bool, true, false, nat_lt, ◌*ℤ◌, ◌∙◌, refl, arith, inl, inr}
 use Rattle.cmr_base.specs.Signing.{IsSign}
 use Rattle.cmr_base.specs.MatrixSums.{four_blocks, sum_along, connecting_rows, connecting_columns, EndsIn, BeginsWithConnector}

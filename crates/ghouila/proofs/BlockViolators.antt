@@ -30,7 +30,7 @@ pub all_pairs : (P Q : ℕ → Type 0) (xs : List ℕ) → AllByRecursion P xs �
 all_pairs P Q [] h k = tt
 all_pairs P Q (x ∷ xs) h k = ((h.0, k.0), all_pairs P Q xs h.1 k.1)
 
--- a sum is that of the one side and that of the other
+-- a sum is the sum over one side plus the sum over the other side
 pub line : (P : ℕ → Type 0) (p : ℕ → Bool) (g h : ℕ → ℕ) (F G H : ℕ → ℤ) → ((x : ℕ) → P x → p x ≡ true → F x ≡ G (g x)) → ((x : ℕ) → P x → p x ≡ false → F x ≡ H (h x))
     → (xs : List ℕ) → AllByRecursion P xs → sum_over xs F ≡ sum_over (kept p g xs) G +ℤ sum_over (kept (other p) h xs) H
 line P p g h F G H one two [] ps = refl
@@ -47,7 +47,7 @@ line P p g h F G H one two (x ∷ xs) ps = go (p x) refl (line P p g h F G H one
     go true e k = first (G (g x)) (sum_over xs F) (sum_over (kept p g xs) G) (sum_over (kept (other p) h xs) H) (F x) k (one x ps.0 e)
     go false e k = second (H (h x)) (sum_over xs F) (sum_over (kept p g xs) G) (sum_over (kept (other p) h xs) H) (F x) k (two x ps.0 e)
 
--- M is the matrix of the blocks M1, A; D, M2, by the names of its lines in them
+-- M is the matrix of the blocks M1, A; D, M2, by the names of its lines in the blocks
 pub record Blocks (M : ℕ → ℕ → ℤ) (P Q : ℕ → Type 0) (sr sc : ℕ → Bool) (f g h k : ℕ → ℕ) (M1 A D M2 : ℕ → ℕ → ℤ) : Type 0 where
   pub one : (r x : ℕ) → P r → Q x → sr r ≡ true → sc x ≡ true → M r x ≡ M1 (f r) (g x)
   pub right : (r x : ℕ) → P r → Q x → sr r ≡ true → sc x ≡ false → M r x ≡ A (f r) (k x)

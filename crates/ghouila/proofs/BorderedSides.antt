@@ -1,4 +1,4 @@
--- A grown side is a violator of a child, which has the lines that come in up to their signs.
+-- A grown side is a violator of a child, which contains the added lines up to their signs.
 use Rattle.std.proofs.Common.{ℕ, ℤ, pos, negsuc, Bool, true, false, List, [], ◌∷◌, ◌≡◌, ◌+ℤ◌, ◌*ℤ◌, ◌-ℤ◌, neg_ℤ, ◌∙◌, sym, ap, ap₂, refl, arith, subst, ◌⊎◌, inl, inr}
 use Rattle.std.specs.List.{AllByRecursion}
 use Rattle.cmr_base.specs.Sums.{sum_over, IsEven, IsTwoModFour}
@@ -10,7 +10,7 @@ use Rattle.ghouila.proofs.CountedSides.{grown, Lines}
 use Rattle.cmr_base.proofs.Lists.{all_weaker}
 use Rattle.ghouila.proofs.BlockViolators.{all_pairs}
 
--- a row that goes on as c and a column that goes on as a, up to their signs, with w where they cross
+-- a row that continues as c and a column that continues as a, up to their signs; w is the entry at their crossing
 pub record Edge (M : ℕ → ℕ → ℤ) (P Q S T : ℕ → Type 0) (a c : ℕ → ℤ) (w : ℤ) (s t : Bool) : Type 0 where
   pub row : ℕ
   pub column : ℕ

@@ -145,7 +145,7 @@ module _ (height width : ℕ) (M : ℕ → ℕ → ℤ) (r c : ℕ) (u : IsSign 
             violator = at true true (r ∷ odd_times v.rows) (c ∷ s.others) e f (one_more_first r (odd_times v.rows)) (one_more_first c s.others);
           }
 
-  -- the row's sign follows from those of the others
+  -- the row's sign follows from the signs of the other rows
   pivot_signed : (R : List ℕ) → IsOdd (sum_over R (λ i. M i c)) → SignsPairs width (pivoted M r c) R → SignsPairs width M (r ∷ R)
   pivot_signed R odd s =
       let sign = signed (λ p. p.1) s.pairs (λ p. pivoted M r c p.0 c) in
@@ -163,7 +163,7 @@ module _ (height width : ℕ) (M : ℕ → ℕ → ℤ) (r c : ℕ) (u : IsSign 
         ];
       }
 
--- where no column of the row is odd in the others, it is put aside
+-- a row is put aside if none of its columns has an odd sum in the other rows
 put_aside : (width : ℕ) (M : ℕ → ℕ → ℤ) (r : ℕ) (R : List ℕ) → IsTernaryRow width (M r) → ((j : ℕ) → j < width → (M r j ≡ pos 0) ⊎ IsEven (sum_over R (λ i. M i j))) → SignsPairs width M R → SignsPairs width M (r ∷ R)
 put_aside width M r R top quiet s = record {
   pairs = (r, pos 1) ∷ s.pairs;
@@ -177,7 +177,7 @@ put_aside width M r R top quiet s = record {
     one : (x w : ℤ) → x +ℤ w ≡ pos 1 *ℤ x +ℤ w
     one x w = simp products
 
--- a column to pivot at
+-- a column for the pivot
 record HasPivot (width : ℕ) (M : ℕ → ℕ → ℤ) (r : ℕ) (R : List ℕ) : Type 0 where
   column : ℕ
   inside : column < width

@@ -15,7 +15,7 @@ use Rattle.ghouila.specs.Laws.{ViolatorsHaveNoSigning}
 use Rattle.ghouila.proofs.SignedSums.{signed, even_change-signed, four_change-signed, signed-sum_over, even_entry}
 use Rattle.ghouila.proofs.Camion.{SignsPairs, HasViolatorIn, signed_or_violated}
 
--- ---- signs in a list beside the rows, and as pairs
+-- ---- signs in a list along the rows, and as pairs
 
 abbrev pairs_of : List ℕ → List ℤ → List (ℕ × ℤ)
 pairs_of [] signs = []

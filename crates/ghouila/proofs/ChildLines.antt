@@ -1,4 +1,4 @@
--- The children of a separation, as lines of one side and a few of the other.
+-- The children of a separation, as the lines of one side and a few lines of the other side.
 use Rattle.std.proofs.Common.{◌≡◌, ◌≢◌, ◌⊎◌, inl, inr, ◌||◌, not, nat_eq, ℕ, pos, negsuc, Bool, true, false, List, [], ◌∷◌, sym, subst, arith}
 use Rattle.std.specs.List.{Contains, list_any}
 use Rattle.std.proofs.lemmas.Bool.{false≢true}
@@ -77,7 +77,7 @@ module _ (m : Matrix) (rows columns : List ℕ) (side : Lines) (first second : L
     )),
   )
 
--- ---- lines among those of a connector
+-- ---- lines of a connector
 
 abbrev row_test : Lines → ℕ → Bool
 row_test side r = side (Row r)

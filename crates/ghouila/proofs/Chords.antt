@@ -1,4 +1,4 @@
--- Links of two columns by rows in turn, and what a chord of them cuts off.
+-- Links of two columns by a sequence of rows, and the rows that a chord of the sequence skips.
 use Rattle.std.proofs.Common.{◌≡◌, ◌≢◌, ◌<◌, ◌≤◌, ◌+◌, ◌⊎◌, inl, inr, ◌∙◌, ℕ, zero, suc, Bool, true, false, cond, nat_le, nat_lt, ℤ, pos, sym, ap, subst, arith}
 use Rattle.std.proofs.lemmas.Bool.{cases_lt}
 use Rattle.std.proofs.lemmas.Bool.Decides.{nat_tests}
@@ -7,7 +7,7 @@ use Rattle.cmr_base.specs.Matrix.{IsEntry}
 use Rattle.ghouila.proofs.SignedSums.{zero_or_sign}
 
 module _ (M : ℕ → ℕ → ℤ) (small : (i j : ℕ) → IsEntry (M i j)) (P : ℕ → Type 0) (Q : ℕ → Type 0) where
-  -- k rows, each of which joins two columns that follow each other; rows are in P, inner columns in Q
+  -- k rows, each of which joins two consecutive columns; the rows are in P and the inner columns in Q
   pub record Linked (x y k : ℕ) : Type 0 where
     pub row : ℕ → ℕ
     pub col : ℕ → ℕ
@@ -18,7 +18,7 @@ module _ (M : ℕ → ℕ → ℤ) (small : (i j : ℕ) → IsEntry (M i j)) (P 
     pub rows : (i : ℕ) → i < k → P (row i)
     pub inner : (j : ℕ) → 0 < j → j < k → Q (col j)
 
-  -- columns up to i, then from i + 1 + d on
+  -- columns up to i, then columns from i + 1 + d on
   column_jump : ℕ → ℕ → (ℕ → ℕ) → ℕ → ℕ
   column_jump i d f x = cond (nat_le x i) (f x) (f (x + d))
 
@@ -36,7 +36,7 @@ module _ (M : ℕ → ℕ → ℤ) (small : (i j : ℕ) → IsEntry (M i j)) (P 
       test : (x i : ℕ) → i < x → nat_le x i ≡ false
       test x i l = grind (arith, nat_tests)
 
-  -- rows before i, then from i + d on
+  -- rows before i, then rows from i + d on
   row_jump : ℕ → ℕ → (ℕ → ℕ) → ℕ → ℕ
   row_jump i d f x = cond (nat_lt x i) (f x) (f (x + d))
 
@@ -54,7 +54,7 @@ module _ (M : ℕ → ℕ → ℤ) (small : (i j : ℕ) → IsEntry (M i j)) (P 
       test : (x i : ℕ) → i ≤ x → nat_lt x i ≡ false
       test x i l = grind (arith, nat_tests)
 
-  -- row i reaches a later column i + 1 + d: the columns between are left out
+  -- row i reaches a later column i + 1 + d, so the link can skip the columns between
   pub forward : (x y n k i b d : ℕ) → n ≡ k + d → b ≡ suc i + d → (w : Linked x y n) → i < k → IsSign (M (w.row i) (w.col b)) → Linked x y k
   forward x y n k i b d long far w l chord = record {
     row = column_jump i d w.row;
@@ -86,7 +86,7 @@ module _ (M : ℕ → ℕ → ℤ) (small : (i j : ℕ) → IsEntry (M i j)) (P 
       shifted : (a : ℕ) → IsSign (M (w.row (a + d)) (w.col (suc (a + d)))) → IsSign (M (w.row (a + d)) (w.col (suc a + d)))
       shifted a h = let e : suc (a + d) ≡ suc a + d = omega arith in subst (λ (b : ℕ). IsSign (M (w.row (a + d)) (w.col b))) e h
 
-  -- row j + d reaches an earlier column j: the columns between are left out
+  -- row j + d reaches an earlier column j, so the link can skip the columns between
   pub backward : (x y n k j b d : ℕ) → n ≡ k + d → b ≡ j + d → (w : Linked x y n) → 0 < d → j < k → IsSign (M (w.row b) (w.col j)) → Linked x y k
   backward x y n k j b d long far w p l chord = record {
     row = row_jump j d w.row;
@@ -118,7 +118,7 @@ module _ (M : ℕ → ℕ → ℤ) (small : (i j : ℕ) → IsEntry (M i j)) (P 
       shifted : (a : ℕ) → IsSign (M (w.row (a + d)) (w.col (suc (a + d)))) → IsSign (M (w.row (a + d)) (w.col (suc a + d)))
       shifted a h = let e : suc (a + d) ≡ suc a + d = omega arith in subst (λ (b : ℕ). IsSign (M (w.row (a + d)) (w.col b))) e h
 
-  -- a chord: a row and a column that it reaches past its two
+  -- a chord: a row with a nonzero in a column that is not one of its two columns
   pub record Chord (row col : ℕ → ℕ) (k : ℕ) : Type 0 where
     pub at : ℕ
     pub to : ℕ

@@ -1,4 +1,4 @@
--- A matrix with a concentrated three-separation is free of violators exactly where both children are.
+-- A matrix with a concentrated three-separation has no violator if and only if neither child has one.
 use Rattle.std.proofs.Common.{ℕ, ℤ, Bool, true, false, sym, refl, subst, ◌⊎◌, inl, inr}
 use Rattle.ghouila.proofs.ViolatedLines.{ViolatedIn, FreeIn, narrower}
 use Rattle.ghouila.proofs.Sides.{On, With, determinant, IsConcentrated, ConnectorRow, ConnectorColumn}

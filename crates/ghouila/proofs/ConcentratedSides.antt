@@ -1,4 +1,4 @@
--- A violator of a matrix of four blocks, one zero and one made from two rows and two columns, gives one of a child.
+-- A violator of a matrix of four blocks gives one of a child, if one block is zero and one is made from two rows and two columns.
 use Rattle.std.proofs.Common.{ℕ, ℤ, pos, Bool, true, List, [], ◌∷◌, ◌≡◌, ◌+ℤ◌, ◌*ℤ◌, ◌-ℤ◌, ◌∙◌, sym, refl, arith, subst, ◌⊎◌, inl, inr}
 use Rattle.std.specs.List.{AllByRecursion}
 use Rattle.cmr_base.specs.Sums.{sum_over, IsEven, IsTwoModFour}
@@ -18,7 +18,7 @@ use Rattle.ghouila.proofs.AddedLines.{added, all-added, with_lines_added, core_v
 use Rattle.ghouila.proofs.SpreadSums.{first_column_count, second_column_count, first_row_count, second_row_count, column_sum, row_sum, spread_sum, even_count, times_square, first_row_solved, second_row_solved, first_column_solved, second_column_solved}
 use Rattle.ghouila.proofs.CoreLines.{even_bits, even_bits_right, incoming_even, added_even, core_even, last_core_line, inner_core_line, one_of_three}
 
--- The core stands in both matrices: as rows i, k, o and columns p, q, j of the first, with row i2 and columns p2, q2 of the second.
+-- Both matrices contain the core: the first as rows i, k, o and columns p, q, j, the second with row i2 and columns p2, q2.
 pub record HaveCore (M1 M2 : ℕ → ℕ → ℤ) (S1 T2 : ℕ → Type 0) (i p q k o j i2 p2 q2 : ℕ) (d : ℤ) : Type 0 where
   pub unit_ip : IsSign (M1 i p)
   pub unit_iq : IsSign (M1 i q)

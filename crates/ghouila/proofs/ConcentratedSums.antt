@@ -1,4 +1,4 @@
--- The concentrated sum of two matrices free of violators is free.
+-- The concentrated sum of two matrices without violators has none.
 use Rattle.std.proofs.Common.{ℕ, ◌+◌, ◌-◌, ◌<◌, ◌≤◌, ℤ, pos, nat_lt, ◌≡◌, ◌*ℤ◌, ◌-ℤ◌, ◌∙◌, sym, ap₂, refl, arith, subst, inl, inr}
 use Rattle.std.proofs.lemmas.Bool.{cases_lt}
 use Rattle.cmr_base.specs.Signing.{IsSign}
@@ -14,7 +14,7 @@ spread_same d x y z w x' y' z' w' a b c e f g h k = rw (f, g, h, k) refl
 pub determinant_same : (x y z w x' y' z' w' : ℤ) → x ≡ x' → y ≡ y' → z ≡ z' → w ≡ w' → x *ℤ w -ℤ y *ℤ z ≡ x' *ℤ w' -ℤ y' *ℤ z'
 determinant_same x y z w x' y' z' w' f g h k = rw (f, g, h, k) refl
 
--- the first ends in the core, which begins the second
+-- the core is the last lines of the first matrix and the first lines of the second
 module _ (m n u v : ℕ) (first second : ℕ → ℕ → ℤ) (long : (2 ≤ u) × (1 ≤ v)) (core : IsCore m n first) (same : (r c : ℕ) → r < 3 → c < 3 → second r c ≡ first (m + r) (n + c))
     (above : (r : ℕ) → r < m → first r (n + 2) ≡ pos 0) (right : (c : ℕ) → 3 ≤ c → c < 2 + v → second 0 c ≡ pos 0) where
   at : (r c a b : ℕ) → r < 3 → c < 3 → m + r ≡ a → n + c ≡ b → second r c ≡ first a b

@@ -1,4 +1,4 @@
--- A matrix has no violator exactly where none of its parts has one.
+-- A matrix has no violator if and only if none of its parts has one.
 use Rattle.std.proofs.Common.{◌≡◌, ◌≢◌, ◌<◌, ◌⊎◌, inl, inr, ◌∙◌, ℕ, zero, suc, ℤ, pos, Bool, true, false, List, [], ◌∷◌, ◌+ℤ◌, length, slice_index_or, sym, subst, refl, arith}
 use Rattle.std.proofs.lemmas.Bool.{false≢true}
 use Rattle.std.proofs.lemmas.List.{get_or_default}
@@ -18,7 +18,7 @@ use Rattle.ghouila.proofs.ViolatedLines.{ViolatedIn, FreeIn, narrower, widened, 
 use Rattle.ghouila.proofs.Sides.{On}
 use Rattle.ghouila.proofs.JoinedSides.{joined}
 
--- no nonzero stands between the two sides
+-- the blocks between the two sides are zero
 pub one_children : (M : ℕ → ℕ → ℤ) (P Q : ℕ → Type 0) (sr sc : ℕ → Bool) → ((r c : ℕ) → On P sr true r → On Q sc false c → M r c ≡ pos 0) → ((r c : ℕ) → On P sr false r → On Q sc true c → M r c ≡ pos 0)
     → ViolatedIn M P Q → ViolatedIn M (On P sr true) (On Q sc true) ⊎ ViolatedIn M (On P sr false) (On Q sc false)
 one_children M P Q sr sc right below = joined M M M P Q sr sc (λ x. x) (λ x. x) (λ x. x) (λ x. x) (λ r. pos 0) (λ c. pos 0) (λ c. pos 0) (λ r. pos 0) (pos 1)
@@ -89,7 +89,7 @@ record IsCutOff (M : ℕ → ℕ → ℤ) (P Q : ℕ → Type 0) (part : LineSet
   below : (r c : ℕ) → P r → Q c → row_of_part part r ≡ false → column_of_part part c ≡ true → M r c ≡ pos 0
 
 module _ (M : ℕ → ℕ → ℤ) where
-  -- a violator has its lines in one part
+  -- all lines of some violator are in one part
   in_a_part : (parts : List LineSet) (P Q : ℕ → Type 0) → ((a : ℕ) → a < length parts → IsCutOff M P Q (part_at parts a))
       → ((r : ℕ) → P r → (a : ℕ) × (a < length parts) × Contains (part_at parts a).rows r) → ((c : ℕ) → Q c → (a : ℕ) × (a < length parts) × Contains (part_at parts a).columns c)
       → ViolatedIn M P Q → (a : ℕ) × (a < length parts) × ViolatedIn M (Contains (part_at parts a).rows) (Contains (part_at parts a).columns)

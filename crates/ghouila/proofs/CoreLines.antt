@@ -1,4 +1,4 @@
--- Lines of the core that come in make even sums.
+-- Added lines of the core have even sums.
 use Rattle.std.proofs.Common.{ℕ, ℤ, pos, Bool, true, false, List, ◌≡◌, ◌+ℤ◌, ◌*ℤ◌, ◌-ℤ◌, ◌∙◌, sym, ap₂, refl, arith, subst, ◌⊎◌, inl, inr}
 use Rattle.std.specs.List.{AllByRecursion}
 use Rattle.cmr_base.specs.Sums.{sum_over, IsEven, IsTwoModFour}
@@ -35,7 +35,7 @@ even_bits_right n t o m l bt bo h = even_bits n t o m l bt bo (subst IsEven (sam
 pub less_even : (n m : ℤ) → IsEven n → IsEven (n +ℤ m) → IsEven m
 less_even n m (k, e) (l, f) = (l -ℤ k, omega (arith, sums))
 
--- the lines that come in have together an even sum
+-- the added lines together have an even sum
 pub incoming_even : (M : ℕ → ℕ → ℤ) (R C : List ℕ) (k o : ℕ) (a b : Bool) → AllByRecursion (λ r. IsEven (sum_over C (λ c. M r c))) R → AllByRecursion (λ c. IsEven (sum_over R (λ r. M r c) +ℤ (when a (M k c) +ℤ when b (M o c)))) C
     → IsEven (when a (sum_over C (λ c. M k c)) +ℤ when b (sum_over C (λ c. M o c)))
 incoming_even M R C k o a b rows columns = less_even (sum_over R (λ r. sum_over C (λ c. M r c))) (when a (sum_over C (λ c. M k c)) +ℤ when b (sum_over C (λ c. M o c))) (even-sum_over R (λ r. sum_over C (λ c. M r c)) rows)
@@ -59,7 +59,7 @@ core_even n m l s a b f g h = plain (when s n) (when a m) (when b l) (even_when 
     plain : (n m l : ℤ) → IsEven n → IsEven m → IsEven l → IsEven (n +ℤ (m +ℤ (l +ℤ pos 0)))
     plain n m l (k, e) (i, f) (j, g) = ((k +ℤ i) +ℤ j, omega (arith, sums))
 
--- the line of the core through its entry 0, where the two others that cross it have together an even sum
+-- the line of the core through its entry 0, if the two other lines that cross it together have an even sum
 pub last_core_line : (n m l : ℤ) (t e f : Bool) → n ≡ pos 0 → IsEven (when e m +ℤ when f l) → IsEven (core_line n m l t e f)
 last_core_line n m l t e f zero h = go t
   where

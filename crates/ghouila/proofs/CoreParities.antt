@@ -1,4 +1,4 @@
--- The lines of the core of a concentrated separation that come in, by the parities of four numbers.
+-- The added lines of the core of a concentrated separation, by the parities of four numbers.
 use Rattle.std.proofs.Common.{ℤ, pos, negsuc, Bool, true, false, cond, ◌≡◌, ◌+ℤ◌, ◌*ℤ◌, ◌-ℤ◌, ◌∙◌, ap, refl, arith, subst, inl, inr}
 use Rattle.std.proofs.lemmas.Bool.{false≢true}
 use Rattle.cmr_base.specs.Sums.{IsEven, IsTwoModFour}
@@ -7,7 +7,7 @@ use Rattle.cmr_base.proofs.Integers.{sums, products}
 use Rattle.cmr_base.proofs.Parity.{IsFour, even_or_odd, even-mul_right, four-mul_right}
 use Rattle.ghouila.proofs.ParityBits.{Bit, bit, when, even_bit, mixed_product}
 
--- A line comes in where both of two others do, and one of the two that it crosses.
+-- A line is added if both of two other lines are added, and also one of the two lines that it crosses.
 abbrev pub comes_in : Bool → Bool → Bool → Bool → Bool
 comes_in a b e f = cond a (cond b (cond e true f) false) false
 
@@ -23,7 +23,7 @@ even_of z b e = (b.half, b.is ∙ (ap (λ (s : Bool). bit s +ℤ (b.half +ℤ b.
     plain : (h : ℤ) → pos 0 +ℤ (h +ℤ h) ≡ h +ℤ h
     plain h = omega (arith, sums)
 
--- The sums v1 and v2 of two rows are those of x y; z w times p, q, which are even where these are.
+-- The sums v1 and v2 of two rows are the products of x y; z w with p, q. They are even if p and q are even.
 pub core_rows_even : (v1 v2 x y z w p q s t : ℤ) (a b : Bool) (bp : Bit p) (bq : Bit q) → v1 ≡ x *ℤ p +ℤ y *ℤ q → v2 ≡ z *ℤ p +ℤ w *ℤ q → (IsEven v1 → IsEven v2 → IsEven p × IsEven q)
     → IsEven (when a v1 +ℤ when b v2) → IsSign s → IsSign t
     → (a ≡ true → IsEven (v1 +ℤ when (comes_in a b bp.odd bq.odd) s)) × (b ≡ true → IsEven (v2 +ℤ when (comes_in a b bp.odd bq.odd) t))
@@ -66,7 +66,7 @@ core_rows_even v1 v2 x y z w p q s t a b bp bq is1 is2 back even us ut = go a b 
     go true true true f pe qf h = both_odd (λ k. not_both p bp pe k.0) h
     go true true false true pe qf h = both_odd (λ k. not_both q bq qf k.1) h
 
--- a sum and the two parts of it that count an odd number of times
+-- the sum x*p + y*q, plus x if p is odd and plus y if q is odd, is even
 pub even_with_parts : (v x y p q : ℤ) (bp : Bit p) (bq : Bit q) → v ≡ x *ℤ p +ℤ y *ℤ q → IsEven (v +ℤ (when bp.odd x +ℤ when bq.odd y))
 even_with_parts v x y p q bp bq e =
     let one : IsEven ((v +ℤ x *ℤ p) +ℤ when bq.odd y) = even_bit (v +ℤ x *ℤ p) y q bq (double v (x *ℤ p) (y *ℤ q) e) in
@@ -89,7 +89,7 @@ signs_even true true e f s t (inl i) (inr j) h = (pos 0, rw (i, j) refl)
 signs_even true true e f s t (inr i) (inl j) h = (pos 0, rw (i, j) refl)
 signs_even true true e f s t (inr i) (inr j) h = (negsuc 0, rw (i, j) refl)
 
--- t*x*s is, modulo 4, x*s where t is odd, and x*t where s is odd, less x where both are
+-- t*x*s is equal modulo 4 to the sum of x*s if t is odd, x*t if s is odd, and -x if both are odd
 term_four : (x t s : ℤ) (bt : Bit t) (bs : Bit s) → IsFour ((t *ℤ (x *ℤ s) +ℤ when bt.odd (when bs.odd x)) -ℤ (when bt.odd (x *ℤ s) +ℤ when bs.odd (x *ℤ t)))
 term_four x t s bt bs = go bt.odd bs.odd (mixed_product t s bt bs)
   where
@@ -115,7 +115,7 @@ when_add : (s : Bool) (v m n : ℤ) → v ≡ m +ℤ n → when s v ≡ when s m
 when_add false v m n e = refl
 when_add true v m n e = e
 
--- the sum of the core_line part, before the last lines come in
+-- the sum over the core, without the last lines
 abbrev pub core_sum : ℤ → ℤ → ℤ → ℤ → Bool → Bool → Bool → Bool → ℤ
 core_sum x y z w a b e f = (when a (when e x) +ℤ when a (when f y)) +ℤ (when b (when e z) +ℤ when b (when f w))
 
@@ -138,7 +138,7 @@ total_four x y z w t o p q v1 v2 u1 u2 bt bo bp bq e1 e2 f1 f2 =
         → IsFour (((s1 +ℤ s4) +ℤ ((x1 +ℤ x2) +ℤ (x3 +ℤ x4))) -ℤ ((a1 +ℤ b1) +ℤ (c1 +ℤ d1)))
     plain s1 s2 s3 s4 s5 s6 x1 x2 x3 x4 a1 a2 a3 b1 b2 b3 c1 c2 c3 d1 d2 d3 e1 e2 e3 e4 e5 e6 (k, f) (l, g) (m, h) (n, i) = (((k +ℤ l) +ℤ m) +ℤ n, omega (arith, sums))
 
--- a row of the core_line part
+-- a row of the core
 abbrev pub core_line : ℤ → ℤ → ℤ → Bool → Bool → Bool → ℤ
 core_line s x y j e f = when j s +ℤ (when e x +ℤ (when f y +ℤ pos 0))
 

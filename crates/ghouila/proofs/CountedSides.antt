@@ -1,4 +1,4 @@
--- One side of a matrix of blocks, with the lines of the other side as a column and a row that count more than once.
+-- One side of a matrix of blocks, and the lines of the other side as one column and one row with multiplicities.
 use Rattle.std.proofs.Common.{ℕ, ℤ, pos, negsuc, Bool, true, false, List, ◌≡◌, ◌+ℤ◌, ◌*ℤ◌, ◌-ℤ◌, ◌∙◌, sym, ap, ap₂, refl, arith, subst, inl, inr}
 use Rattle.std.specs.List.{AllByRecursion}
 use Rattle.cmr_base.specs.Sums.{sum_over, IsEven}
@@ -9,12 +9,12 @@ use Rattle.cmr_base.proofs.Parity.{even-sum_over}
 use Rattle.ghouila.proofs.ParityBits.{Bit, bit, when, even_bit, even_bit_left}
 use Rattle.cmr_base.proofs.Lists.{all_weaker}
 
--- the lines are even where the column a counts x times and the row c counts y times
+-- the lines have even sums if column a counts x times and row c counts y times
 pub record Counted (M : ℕ → ℕ → ℤ) (R C : List ℕ) (a : ℕ → ℤ) (x : ℤ) (c : ℕ → ℤ) (y : ℤ) : Type 0 where
   pub rows : AllByRecursion (λ r. IsEven (sum_over C (λ z. M r z) +ℤ a r *ℤ x)) R
   pub columns : AllByRecursion (λ z. IsEven (sum_over R (λ r. M r z) +ℤ y *ℤ c z)) C
 
--- the row c where s, the column a where t, and w where they cross
+-- the total with row c added if s, column a added if t, and w at their crossing
 abbrev pub grown : ℤ → ℤ → ℤ → ℤ → Bool → Bool → ℤ
 grown total column row w s t = (total +ℤ when t column) +ℤ when s (row +ℤ when t w)
 
@@ -79,7 +79,7 @@ grown_even total al ga w true t p q = plain (total +ℤ when t al) (ga +ℤ when
     plain : (n m : ℤ) → IsEven n → IsEven m → IsEven (n +ℤ m)
     plain n m (k, e) (l, f) = (k +ℤ l, omega (arith, sums))
 
--- ---- the lines that come in make all sums even
+-- ---- the added lines make all sums even
 
 module _ (M : ℕ → ℕ → ℤ) (R C : List ℕ) (a : ℕ → ℤ) (x : ℤ) (c : ℕ → ℤ) (y e : ℤ) (unit : IsSign e) (v : Counted M R C a x c y) (bx : Bit x) (by : Bit y) (ba : Bit (sum_over R a)) where
   pub by_rows : IsEven (sum_over R (λ r. sum_over C (λ z. M r z)) +ℤ when bx.odd (sum_over R a))

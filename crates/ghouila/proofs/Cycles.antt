@@ -1,4 +1,4 @@
--- Cycles without chords, by the places of their lines: their lines have even sums.
+-- Cycles without chords, by the positions of their lines: their lines have even sums.
 use Rattle.std.proofs.Common.{◌≡◌, ◌≢◌, ◌<◌, ◌≤◌, ◌⊎◌, inl, inr, ◌∙◌, ℕ, zero, suc, ℤ, pos, negsuc, ◌+ℤ◌, ◌-ℤ◌, List, [], ◌∷◌, map, refl, ap, sym, subst, arith}
 use Rattle.std.specs.List.{AllByRecursion}
 use Rattle.std.proofs.lemmas.Bool.{cases_lt}
@@ -94,7 +94,7 @@ module _ (M : ℕ → ℕ → ℤ) (t k : ℕ) (row col : ℕ → ℕ) (c : IsCy
       plain : (x y : ℤ) → IsEven (x +ℤ y) → IsEven (pos 0 +ℤ (x +ℤ y))
       plain x y (k, e) = (k, omega (arith, sums))
 
-  -- so a cycle whose sum is 2 modulo 4 is a violator
+  -- a cycle whose sum is 2 modulo 4 is a violator
   pub cycle_violates : IsTwoModFour (sum_over (t ∷ map row (below k)) (λ i. sum_over (map col (below (suc k))) (λ j. M i j))) → IsViolator M (t ∷ map row (below k)) (map col (below (suc k)))
   cycle_violates two = record {
     even_rows = (last_row, all-map (λ i. IsEven (sum_over (map col (below (suc k))) (λ j. M i j))) row k inner_row);
@@ -119,7 +119,7 @@ same_below (suc n) f g h = rw (h n (omega arith), same_below n f g (λ i l. h i 
 abbrev pub cycle_sum : (ℕ → ℕ → ℤ) → ℕ → ℕ → (ℕ → ℕ) → (ℕ → ℕ) → ℤ
 cycle_sum M t k row col = sum_over (t ∷ map row (below k)) (λ i. sum_over (map col (below (suc k))) (λ j. M i j))
 
--- the sum by places
+-- the sum by positions
 pub by_places : (M : ℕ → ℕ → ℤ) (t k : ℕ) (row col : ℕ → ℕ) → IsCycle M t k row col
     → cycle_sum M t k row col ≡ (M t (col k) +ℤ M t (col 0)) +ℤ sum_over (below k) (λ i. sum_over (below (suc k)) (λ j. M (row i) (col j)))
 by_places M t k row col c =

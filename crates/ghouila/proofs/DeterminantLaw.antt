@@ -28,7 +28,7 @@ one_row m row l = increasing_row_set m (row ∷ []) (omega arith, l, tt)
 one_column : (m : Matrix) (column : ℕ) → column < m.width → IsColumnSet m (column ∷ [])
 one_column m column l = increasing_column_set m (column ∷ []) (omega arith, l, tt)
 
--- entries are -1, 0 or 1 where rows alone have a signing, and where submatrices of one entry have these determinants
+-- entries are -1, 0 or 1 if single rows have a signing, and if submatrices of one entry have these determinants
 signed_entry : (m : Matrix) (row : ℕ) → (signs : List ℤ) × IsSigning m (row ∷ []) signs → IsTernaryRow m.width (entry m row)
 signed_entry m row ([], s) column l = absurd (let e = s.one_each in omega arith)
 signed_entry m row (sign ∷ signs, s) column l = entry_without_sign sign (entry m row column) s.each.0 (subst IsEntry (alone sign signs) (s.sums column l))

@@ -1,4 +1,4 @@
--- Systems of equations that pivots at signs solve, and their solutions.
+-- Systems of equations, solved by pivots at signs, and their solutions.
 use Rattle.std.proofs.Common.{◌≡◌, ◌≢◌, inl, inr, ◌+◌, ◌∙◌, ℕ, cond, nat_eq, ℤ, pos, neg_ℤ, ◌+ℤ◌, ◌*ℤ◌, ◌-ℤ◌, List, [], ◌∷◌, refl, ap, sym, arith}
 use Rattle.std.specs.List.{AllByRecursion}
 use Rattle.cmr_base.specs.Signing.{IsSign}
@@ -20,7 +20,7 @@ abbrev pub IsEliminated : List ℕ → (ℕ → ℕ → ℤ) → List ℕ → Ty
 IsEliminated [] M R = Unit {0}
 IsEliminated (c ∷ C) M R = (s : HasSignIn (λ i. M i c) R) × IsEliminated C (reduced M s.row c) s.others
 
--- ---- where the determinant is not 0
+-- ---- nonzero determinants
 
 pub eliminated_regular : (C R : List ℕ) (M : ℕ → ℕ → ℤ) → HasMinorsOn M R C → minor M C R ≢ pos 0 → IsEliminated C M R
 eliminated_regular [] R M minors regular = tt
@@ -36,7 +36,7 @@ eliminated_regular (c ∷ C) R M minors regular = elim (zeros_or_sign (λ i. M i
     zero : (s a z : ℤ) → z ≡ pos 0 → s *ℤ (a *ℤ z) ≡ pos 0
     zero s a z e = rw e (simp products)
 
--- ---- what solves the equations
+-- ---- solutions of the equations
 
 pub product_reduced : (M : ℕ → ℕ → ℤ) (r c i : ℕ) (y : ℕ → ℤ) (C : List ℕ)
     → sum_over C (λ j. reduced M r c i j *ℤ y j) ≡ sum_over C (λ j. M i j *ℤ y j) -ℤ M r c *ℤ (M i c *ℤ sum_over C (λ j. M r j *ℤ y j))
@@ -57,7 +57,7 @@ multiple_sum d f y (j ∷ C) h = let m = multiple_sum d f y C h.1 in (f j *ℤ h
     plain : (p t s d k l : ℤ) → t ≡ d *ℤ k → s ≡ d *ℤ l → p *ℤ t +ℤ s ≡ d *ℤ (p *ℤ k +ℤ l)
     plain p t s d k l e f = rw (e, f) (simp products)
 
--- solutions for multiples of d are multiples of d
+-- the solutions for multiples of d are multiples of d
 pub multiples : (C R : List ℕ) (M : ℕ → ℕ → ℤ) (b y : ℕ → ℤ) (d : ℤ) → IsEliminated C M R → AllByRecursion (λ i. sum_over C (λ j. M i j *ℤ y j) ≡ d *ℤ b i) R → AllByRecursion (λ j. IsMultiple d (y j)) C
 multiples [] R M b y d done h = tt
 multiples (c ∷ C) R M b y d (s, rest) h = all (multiples C s.others (reduced M s.row c) (λ i. b i -ℤ M s.row c *ℤ (M i c *ℤ b s.row)) y d rest others)
@@ -92,13 +92,13 @@ multiples (c ∷ C) R M b y d (s, rest) h = all (multiples C s.others (reduced M
     all : AllByRecursion (λ j. IsMultiple d (y j)) C → IsMultiple d (y c) × AllByRecursion (λ j. IsMultiple d (y j)) C
     all m = (first (M s.row c) (y c) (sum_over C (λ j. M s.row j *ℤ y j)) (b s.row) s.sign top (multiple_sum d (M s.row) y C m), m)
 
--- ---- where the columns are independent
+-- ---- independent columns
 
--- no numbers but 0, each times its column, add up to 0 in these rows
+-- a linear combination of the columns that is 0 in these rows has only coefficients 0
 abbrev pub IsIndependent : (ℕ → ℕ → ℤ) → List ℕ → List ℕ → Type 0
 IsIndependent M R C = (z : ℕ → ℤ) → AllByRecursion (λ i. sum_over C (λ j. M i j *ℤ z j) ≡ pos 0) R → AllByRecursion (λ j. z j ≡ pos 0) C
 
--- the numbers with another one at c
+-- the numbers with a new number at c
 abbrev pub placed : ℕ → ℤ → (ℕ → ℤ) → ℕ → ℤ
 placed c t z j = cond (nat_eq j c) t (z j)
 

@@ -9,7 +9,7 @@ use Rattle.cmr_base.proofs.Lists.{HasOneMore}
 use Rattle.ghouila.specs.Pivot.{reduced}
 use Rattle.cmr_base.proofs.SignEntries.{sign_square}
 
--- the entries of a column, each times what F gives for the rows without its own, added with signs that alternate
+-- the alternating sum of a column's entries, each times the value of F at the rows without the entry's row
 abbrev pub expansion : (ℕ → ℤ) → (List ℕ → ℤ) → List ℕ → ℤ
 expansion v F [] = pos 0
 expansion v F (i ∷ R) = v i *ℤ F R -ℤ expansion v (λ Q. F (i ∷ Q)) R
@@ -37,7 +37,7 @@ expansion-scale v k F (i ∷ R) = plain (v i) (F R) k (expansion v (λ Q. F (i �
     plain : (a p k x z : ℤ) → z ≡ k *ℤ x → a *ℤ (k *ℤ p) -ℤ z ≡ k *ℤ (a *ℤ p -ℤ x)
     plain a p k x z e = rw e (simp products (omega (arith, sums)))
 
--- a multiple of one column taken from another
+-- a multiple of one column subtracted from another column
 pub expansion_less : (v w : ℕ → ℤ) (k : ℤ) (F : List ℕ → ℤ) (R : List ℕ) → expansion (λ i. v i -ℤ k *ℤ w i) F R ≡ expansion v F R -ℤ k *ℤ expansion w F R
 expansion_less v w k F [] = simp products
 expansion_less v w k F (i ∷ R) = plain (v i) (w i) k (F R) (expansion v (λ Q. F (i ∷ Q)) R) (expansion w (λ Q. F (i ∷ Q)) R) (expansion (λ i'. v i' -ℤ k *ℤ w i') (λ Q. F (i ∷ Q)) R)
@@ -61,7 +61,7 @@ expansion_exchange v w F (i ∷ R) = plain (v i) (w i) (expansion v F R) (expans
     plain : (a b p q x y s t : ℤ) → s ≡ b *ℤ p -ℤ x → t ≡ a *ℤ q -ℤ y → x ≡ neg_ℤ y → a *ℤ q -ℤ s ≡ neg_ℤ (b *ℤ p -ℤ t)
     plain a b p q x y s t e f g = omega (arith, sums)
 
--- a column twice
+-- a column used twice
 pub expansion_twice : (v : ℕ → ℤ) (F : List ℕ → ℤ) (R : List ℕ) → expansion v (expansion v F) R ≡ pos 0
 expansion_twice v F R = plain (expansion v (expansion v F) R) (expansion_exchange v v F R)
   where
@@ -105,7 +105,7 @@ turned_sign : (s : ℤ) → IsSign s → IsSign (neg_ℤ s)
 turned_sign s (inl e) = inr (ap neg_ℤ e)
 turned_sign s (inr e) = inl (ap neg_ℤ e)
 
--- only the term of this row is left
+-- only the term of this row is nonzero
 expansion_at : (v : ℕ → ℤ) (r : ℕ) (prefix back : List ℕ) (F : List ℕ → ℤ) → VanishesWith r F → IsUpToSign (expansion v F (prefix ++ r ∷ back)) (v r *ℤ F (prefix ++ back))
 expansion_at v r [] back F h = record {
   sign = pos 1;
@@ -132,7 +132,7 @@ abbrev one_if_none : List ℕ → ℤ
 one_if_none [] = pos 1
 one_if_none (i ∷ R) = pos 0
 
--- the determinant, and 0 where there are not as many rows as columns
+-- the determinant, or 0 if the numbers of rows and columns differ
 abbrev pub minor : (ℕ → ℕ → ℤ) → List ℕ → List ℕ → ℤ
 minor M [] = one_if_none
 minor M (c ∷ C) = expansion (λ i. M i c) (minor M C)
@@ -161,7 +161,7 @@ pub minor_same : (M N : ℕ → ℕ → ℤ) (C : List ℕ) → AllByRecursion (
 minor_same M N [] same R = refl
 minor_same M N (c ∷ C) same R = expansion_same (λ i. M i c) (λ i. N i c) (minor M C) (minor N C) same.0 R (minor_same M N C same.1)
 
--- multiples of the first column taken from the others
+-- multiples of the first column subtracted from the other columns
 minor_step : (v : ℕ → ℤ) (M N : ℕ → ℕ → ℤ) (t : ℕ → ℤ) → ((i j : ℕ) → N i j ≡ M i j -ℤ t j *ℤ v i) → (C R : List ℕ) → expansion v (minor N C) R ≡ expansion v (minor M C) R
 minor_step v M N t less [] R = refl
 minor_step v M N t less (j ∷ C) R =
@@ -181,7 +181,7 @@ minor_zero_row N r zeros [] [] there = absurd there
 minor_zero_row N r zeros [] (i ∷ R) there = refl
 minor_zero_row N r zeros (c ∷ C) R there = expansion_zero_row (λ i. N i c) r (zeros c) (minor N C) (minor_zero_row N r zeros C) R there
 
--- the row and column of a sign taken away by a pivot: the determinant is its Schur complement's, up to sign
+-- a pivot at a sign removes its row and column: the determinant is the determinant of the Schur complement, up to sign
 pub schur : (M : ℕ → ℕ → ℤ) (r c : ℕ) (C fewer R : List ℕ) → IsSign (M r c) → HasOneMore r fewer R → IsUpToSign (minor M (c ∷ C) R) (M r c *ℤ minor (reduced M r c) C fewer)
 schur M r c C fewer R u more =
     let s = expansion_at (λ i. M i c) r more.prefix more.back (minor (reduced M r c) C) (minor_zero_row (reduced M r c) r (zeros (M r c) u) C) in

@@ -33,7 +33,7 @@ no_product d (negsuc n) l e = absurd (clash (d *ℤ negsuc n) (multiple_at_least
     clash : (s : ℤ) → d ≤ℤ (d *ℤ pos (suc n)) → d *ℤ pos (suc n) ≡ neg_ℤ s → s ≡ pos 0 → ⊥
     clash s k f e = omega (arith, sums)
 
--- 1 is no multiple of a number from 2 on
+-- 1 is not a multiple of a number above 1
 no_unit : (d k : ℤ) → pos 2 ≤ℤ d → pos 1 ≡ d *ℤ k → ⊥
 no_unit d (pos zero) l e = clash (e ∙ none d)
   where
@@ -51,7 +51,7 @@ no_unit d (negsuc n) l e = clash (d *ℤ negsuc n) (product_not_below d (pos (su
     clash : (s : ℤ) → pos 0 ≤ℤ (d *ℤ pos (suc n)) → d *ℤ pos (suc n) ≡ neg_ℤ s → pos 1 ≡ s → ⊥
     clash s l f e = omega (arith, sums)
 
--- up to sign, a number from 2 on
+-- a number above 1, up to sign
 record IsLarge (a : ℤ) : Type 0 where
   d : ℤ
   sign : ℤ
@@ -78,7 +78,7 @@ entry_or_large (negsuc (suc n)) = inr (record { d = pos (suc (suc n)); sign = ne
 abbrev pub HasSmallerMinorsOn : (ℕ → ℕ → ℤ) → List ℕ → List ℕ → Type 0
 HasSmallerMinorsOn M R C = (P Q : List ℕ) → IsSublist P R → IsSublist Q C → length P ≡ length Q → length Q < length C → IsEntry (minor M Q P)
 
--- y/d is not integral, its sums in the rows are, and the columns are independent
+-- y/d is not integral, its sums in the rows are integral, and the columns are independent
 pub record HasFraction (M : ℕ → ℕ → ℤ) (R C : List ℕ) : Type 0 where
   pub d : ℤ
   pub y : ℕ → ℤ
@@ -113,7 +113,7 @@ fraction_alone M r c h = record {
             plain : (x : ℤ) → x +ℤ pos 0 ≡ pos 0 → x ≡ pos 0
             plain x e = omega (arith, sums)
 
--- back through a pivot: the column's number solves the pivot's row
+-- a solution before a pivot: the number of the pivot's column solves the equation of the pivot's row
 module _ (M : ℕ → ℕ → ℤ) (r c high : ℕ) (R' R C : List ℕ) (u : IsSign (M r c)) (more : HasOneMore r R' R) (rises : RisesIn (c + 1) high C) where
   apart : AllByRecursion (λ j. j ≢ c) C
   apart = increasing_apart (c + 1) high c C (omega arith) rises
@@ -175,7 +175,7 @@ module _ (M : ℕ → ℕ → ℤ) (r c high : ℕ) (R' R C : List ℕ) (u : IsS
       other : (a p x w : ℤ) → p *ℤ neg_ℤ (a *ℤ w) +ℤ x ≡ x -ℤ a *ℤ (p *ℤ w)
       other a p x w = simp products (omega (arith, sums))
 
--- least ones by number of lines
+-- induction on the number of lines, to the smallest submatrices
 pub entry_or_fraction : (C R : List ℕ) (low high : ℕ) (M : ℕ → ℕ → ℤ) → RisesIn low high C → length R ≡ length C → HasSmallerMinorsOn M R C → IsEntry (minor M C R) ⊎ HasFraction M R C
 entry_or_fraction [] [] low high M rises e minors = inl (sign_is_entry (pos 1) (inl refl))
 entry_or_fraction [] (r ∷ R) low high M rises e minors = inl entry_zero

@@ -1,4 +1,4 @@
--- The theorem of Hoffman and Kruskal: where all vertices are integral, each square submatrix has the determinant -1, 0 or 1.
+-- The theorem of Hoffman and Kruskal: if all vertices are integral, each square submatrix has the determinant -1, 0 or 1.
 use Rattle.std.proofs.Common.{◌≡◌, ◌≢◌, ◌<◌, ◌≤◌, ◌+◌, inl, inr, ◌∙◌, ℕ, zero, suc, ℤ, pos, neg_ℤ, ◌+ℤ◌, ◌*ℤ◌, ◌-ℤ◌, ◌≤ℤ◌, ◌<ℤ◌, List, [], ◌∷◌, length, refl, ap, sym, subst, arith}
 use Rattle.std.specs.List.{AllByRecursion, range_with_len}
 use Rattle.cmr_base.specs.Matrix.{Matrix, height, entry, IsEntry}
@@ -19,7 +19,7 @@ use Rattle.ghouila.proofs.DeterminantLaw.{ghouila_houri}
 use Rattle.ghouila.proofs.Vertices.{HasBound, has_bound, size, size_bounds, product_not_below, multiple_at_least, integral_vertices}
 use Rattle.ghouila.proofs.Fractions.{no_product, HasFraction, entry_or_fraction}
 
--- the sum over all lines, where those outside a list give 0
+-- the sum over all lines is the sum over a list if the lines outside the list give 0
 sum_over_range : (from count : ℕ) (C : List ℕ) (f : ℕ → ℤ) → RisesIn from (from + count) C → ((j : ℕ) → from ≤ j → j < from + count → (IsIn j C → ⊥) → f j ≡ pos 0) → sum_over (range_with_len from count) f ≡ sum_over C f
 sum_over_range from zero [] f rises zeros = refl
 sum_over_range from zero (c ∷ C) f rises zeros = absurd (let l = rises.0 in let k = rises.1 in omega arith)
@@ -57,13 +57,13 @@ sum_first_lines count C f rises zeros = sum_over_range 0 count C f (subst (λ k.
     e : count ≡ 0 + count
     e = omega arith
 
--- a fractional solution on some rows and columns, moved to where it is feasible, is a vertex for some right-hand side
+-- a fractional solution on some rows and columns, moved to a feasible point, is a vertex for some right-hand side
 module _ (m : Matrix) (R C : List ℕ) (rows_rise : RisesIn 0 (height m) R) (columns_rise : RisesIn 0 m.width C) (f : HasFraction (entry m) R C) where
-  -- the fractions are raised by a whole number that makes none of them negative
+  -- the fractions plus an integer that makes none of them negative
   raise : HasBound m.width f.y
   raise = has_bound m.width f.y
 
-  -- the number in these columns, and 0 in the others
+  -- the raised number in these columns, and 0 in the other columns
   record IsRaised (j : ℕ) : Type 0 where
     value : ℤ
     inside : IsIn j C → value ≡ f.y j +ℤ f.d *ℤ raise.bound
@@ -84,7 +84,7 @@ module _ (m : Matrix) (R C : List ℕ) (rows_rise : RisesIn 0 (height m) R) (col
   row_in : (i : ℕ) → IsIn i R → i < height m
   row_in i g = all_in (λ i. i < height m) R (increasing_below 0 (height m) R rows_rise) i g
 
-  -- what is 0 outside the columns
+  -- row values of numbers that are 0 outside the columns
   value_is : (i : ℕ) (z : ℕ → ℤ) → ((j : ℕ) → j < m.width → (IsIn j C → ⊥) → z j ≡ pos 0) → row_value m (first_lines m.width) z i ≡ sum_over C (λ j. entry m i j *ℤ z j)
   value_is i z zeros = sum_first_lines m.width C (λ j. entry m i j *ℤ z j) columns_rise (λ j l n. nothing (entry m i j) (z j) (zeros j l n))
     where
@@ -105,7 +105,7 @@ module _ (m : Matrix) (R C : List ℕ) (rows_rise : RisesIn 0 (height m) R) (col
       grouped : (d n s : ℤ) → (d *ℤ n) *ℤ s ≡ d *ℤ (n *ℤ s)
       grouped d n s = simp products
 
-  -- the right-hand side: met in these rows, and large in the others
+  -- the right-hand side: tight in these rows, and large in the other rows
   record IsBound (i : ℕ) : Type 0 where
     b : ℤ
     above : row_value m (first_lines m.width) y i ≤ℤ (f.d *ℤ b)
@@ -173,7 +173,7 @@ module _ (m : Matrix) (R C : List ℕ) (rows_rise : RisesIn 0 (height m) R) (col
           turned : (n d : ℤ) → n *ℤ d ≡ d *ℤ n
           turned n d = simp products
 
-  -- two points whose midpoint it is
+  -- two points with this point as their midpoint
   module _ (u v : ℕ → ℤ) (e : ℤ) (p : IsFeasible m b u e) (q : IsFeasible m b v e) (middle : IsMidpoint m.width y f.d u v e) where
     outside : (j : ℕ) → j < m.width → (IsIn j C → ⊥) → u j -ℤ v j ≡ pos 0
     outside j l n = plain (u j) (v j) (no_product f.d (u j +ℤ v j) f.positive (sym (middle j l) ∙ nothing e (y j) ((raised j).outside n))) (p.columns j l) (q.columns j l)
@@ -184,7 +184,7 @@ module _ (m : Matrix) (R C : List ℕ) (rows_rise : RisesIn 0 (height m) R) (col
         plain : (u v : ℤ) → u +ℤ v ≡ pos 0 → pos 0 ≤ℤ u → pos 0 ≤ℤ v → u -ℤ v ≡ pos 0
         plain u v e l k = omega (arith, sums)
 
-    -- in a row that is met they meet it too
+    -- both points satisfy a tight row with equality
     both_values : (i : ℕ) → f.d *ℤ (row_value m (first_lines m.width) u i +ℤ row_value m (first_lines m.width) v i) ≡ pos 2 *ℤ (e *ℤ row_value m (first_lines m.width) y i)
     both_values i = go (first_lines m.width) (increasing_below 0 m.width (first_lines m.width) (rises-range 0 m.width m.width (omega arith)))
       where
@@ -264,7 +264,7 @@ module _ (m : Matrix) (R C : List ℕ) (rows_rise : RisesIn 0 (height m) R) (col
           back : (d k n : ℤ) → d *ℤ k -ℤ d *ℤ n ≡ d *ℤ (k -ℤ n)
           back d k n = simp products
 
--- by number of lines: the smaller square submatrices have the determinant -1, 0 or 1
+-- induction on the number of lines: smaller square submatrices have the determinant -1, 0 or 1
 entries_by_vertices : (m : Matrix) → HasIntegralVertices m → (n : ℕ) (C R : List ℕ) → RisesIn 0 (height m) R → RisesIn 0 m.width C → length R ≡ length C → length C < n → IsEntry (minor (entry m) C R)
 entries_by_vertices m integral zero C R rows columns e l = absurd (omega arith)
 entries_by_vertices m integral (suc n) C R rows columns e l = elim (entry_or_fraction C R 0 m.width (entry m) columns e

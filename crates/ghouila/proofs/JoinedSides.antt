@@ -1,4 +1,4 @@
--- A violator of a matrix of four blocks, two of them products, gives one of a child.
+-- A violator of a matrix of four blocks gives one of a child, if two of the blocks are products.
 use Rattle.std.proofs.Common.{ℕ, ℤ, pos, Bool, true, false, List, [], ◌∷◌, ◌≡◌, ◌+ℤ◌, ◌*ℤ◌, ◌-ℤ◌, ◌∙◌, ap, ap₂, refl, arith, subst, ◌⊎◌, inl, inr}
 use Rattle.std.specs.List.{AllByRecursion}
 use Rattle.cmr_base.specs.Sums.{sum_over, IsEven, IsTwoModFour}
@@ -76,7 +76,7 @@ module _ (M1 M2 : ℕ → ℕ → ℤ) (a b c d : ℕ → ℤ) (R1 C1 R2 C2 : Li
       product (r ∷ R) C f g = rw (product R C f g, sum_over-scale C (f r) g) (spread (f r) (sum_over C g) (sum_over R f))
 
 module _ (M M1 M2 : ℕ → ℕ → ℤ) (P Q : ℕ → Type 0) (sr sc : ℕ → Bool) (f g h k : ℕ → ℕ) (a b c d : ℕ → ℤ) (e : ℤ) (S1 T1 S2 T2 P1 Q1 P2 Q2 : ℕ → Type 0) where
-  -- in no block with a zero part a line comes in
+  -- no line is added to a block with a zero part
   pub joined : Blocks M P Q sr sc f g h k M1 (λ r x. a r *ℤ b x) (λ r x. d r *ℤ c x) M2 → Sides P Q sr sc f g h k S1 T1 S2 T2 P1 Q1 P2 Q2 → IsSign e
       → ((s t u : Bool) → (s ≡ true → ((x : ℕ) → d x ≡ pos 0) → ⊥) → (t ≡ true → ((x : ℕ) → b x ≡ pos 0) → ⊥) → Edge M1 P1 Q1 S1 T1 a c (when u e) s t)
       → ((s t u : Bool) → (s ≡ true → ((x : ℕ) → a x ≡ pos 0) → ⊥) → (t ≡ true → ((x : ℕ) → c x ≡ pos 0) → ⊥) → Edge M2 P2 Q2 S2 T2 d b (when u e) s t)

@@ -1,4 +1,4 @@
--- There cannot be no least list: a shortest one, and the least of these in lexicographic order.
+-- A nonempty set of lists has, up to double negation, a least list: the first in lexicographic order of the shortest lists.
 use Rattle.std.proofs.Common.{ℕ, zero, suc, List, [], ◌∷◌, ◌≡◌, ◌<◌, ◌≤◌, sym, ap, refl, arith, subst, ◌⊎◌, inl, inr, length}
 use Rattle.std.proofs.lemmas.Bool.{cases_lt}
 use Rattle.cmr_base.specs.CyclePlaces.{IsNotAfter}
@@ -35,7 +35,7 @@ first_list (suc m) P (x ∷ p) e h k = least_number (λ y. (ys : List ℕ) × (l
           inr (sym q, first o (omega arith) (subst (λ (v : ℕ). P (v ∷ o)) q h))
     ]
 
--- a shortest list that is the least of the shortest
+-- a shortest list that is the least of the shortest lists
 pub least_list : (P : List ℕ → Type 0) (p : List ℕ) → P p
     → ((q : List ℕ) → P q → ((o : List ℕ) → P o → (length q < length o) ⊎ ((length q ≡ length o) × IsNotAfter q o)) → ⊥) → ⊥
 least_list P p h k = shortest P (suc (length p)) p (omega arith) h

@@ -1,4 +1,4 @@
--- The rows that are left when one is taken away.
+-- The remaining rows after one row is removed.
 use Rattle.std.proofs.Common.{◌≡◌, ◌<◌, ◌+◌, ◌++◌, ◌∙◌, ◌⊎◌, inl, inr, ℕ, zero, suc, ℤ, pos, ◌+ℤ◌, ◌-ℤ◌, List, [], ◌∷◌, length, take, drop, get_or, refl, ap, sym, subst, arith}
 use Rattle.std.specs.List.{remove}
 use Rattle.std.proofs.lemmas.List.{take-append-drop}
@@ -40,7 +40,7 @@ row_set-remove m rows k h is = increasing_row_set m (remove rows k) (rises-remov
 pub outside-remove : (m : Matrix) (rows : List ℕ) (k : ℕ) → k < length rows → IsRowSet m rows → IsOutside (get_or rows k 0) (remove rows k)
 outside-remove m rows k h is = apart-remove 0 (height m) rows k h (row_set_rises m rows is)
 
--- where a pivot is made, the other rows have an odd sum
+-- the other rows have an odd sum in a pivot's column
 pub pivot_odd : (m : Matrix) (rows left : List ℕ) (row column : ℕ) → HasOneMore row left rows → IsSign (entry m row column) → IsEven (sum_over rows (λ r. entry m r column)) → IsOdd (sum_over left (λ r. entry m r column))
 pivot_odd m rows left row column more u even = go (entry m row column) (sum_over left (λ r. entry m r column)) u (subst IsEven (sum_over-one_more row left rows (λ r. entry m r column) more) even)
   where
@@ -48,7 +48,7 @@ pivot_odd m rows left row column more u even = go (entry m row column) (sum_over
     go a z (inl e) (k, f) = (k, omega (arith, sums))
     go a z (inr e) (k, f) = (k +ℤ pos 1, omega (arith, sums))
 
--- where none can be made, a nonzero of the row stands in an even column of the others
+-- if no pivot exists, each column with a nonzero of the row has an even sum in the other rows
 pub aside_quiet : (m : Matrix) (rows left : List ℕ) (row column : ℕ) → HasOneMore row left rows → IsEntry (entry m row column) → HasNoPivot m rows column → (entry m row column ≡ pos 0) ⊎ IsEven (sum_over left (λ r. entry m r column))
 aside_quiet m rows left row column more small (inl zeros) = inl (item_of_one_more (λ r. entry m r column ≡ pos 0) row left rows more zeros)
 aside_quiet m rows left row column more small (inr odd) = go (entry m row column) (sum_over left (λ r. entry m r column)) (zero_or_sign (entry m row column) small) (subst IsOdd (sum_over-one_more row left rows (λ r. entry m r column) more) odd)

@@ -1,4 +1,4 @@
--- Rows one after another: signs of the columns, and which columns the rows so far link.
+-- Rows in sequence: signs of the columns, and the columns that the rows so far link.
 use Rattle.std.proofs.Common.{ℕ, zero, suc, Bool, true, false, cond, ℤ, pos, List, [], ◌∷◌, ◌≡◌, ◌≢◌, ◌<◌, ◌*ℤ◌, ◌∙◌, sym, ap, refl, arith, subst, ◌⊎◌, inl, inr, nat_eq}
 use Rattle.std.proofs.lemmas.Bool.{cases_lt}
 use Rattle.cmr_base.specs.Signing.{IsSign}
@@ -12,7 +12,7 @@ use Rattle.ghouila.proofs.SignProducts.{sign-mul, sign_square, sign_nonzero}
 use Rattle.ghouila.proofs.Ratios.{ratio}
 use Rattle.cmr_base.proofs.Booleans.{eq_of, is_eq, is_nonzero_is, nonzero_is, true_is_false}
 
--- f at the greatest number below n that meets the test, and else 1
+-- f at the greatest number below n that satisfies the test, and 1 if there is none
 abbrev pub pick : (ℕ → Bool) → (ℕ → ℤ) → ℕ → ℤ
 pick test f zero = pos 1
 pick test f (suc n) = cond (test n) (f n) (pick test f n)
@@ -99,7 +99,7 @@ module _ (n : ℕ) (M N : ℕ → ℕ → ℤ)
   wider t zero c d h = h
   wider t (suc k) c d (r, j, l, a, b, rest) = (r, j, omega arith, a, b, wider t k j d rest)
 
-  -- the rows before t agree up to the signs of the columns; columns have one part where these rows link them
+  -- the rows before t agree up to the signs of the columns; columns have one part if these rows link them
   record Fitted (t : ℕ) : Type 0 where
     s : ℕ → ℤ
     units : (j : ℕ) → IsSign (s j)
@@ -119,7 +119,7 @@ module _ (n : ℕ) (M N : ℕ → ℕ → ℤ)
   }
 
   module _ (t : ℕ) (f : Fitted t) where
-    -- from column j, through columns in which row t is 0, to one with the ratio of d
+    -- a walk from column j, through columns in which row t is 0, to a column with the ratio of d
     record Reach (j d : ℕ) : Type 0 where
       e : ℕ
       touched : M t e ≢ pos 0
@@ -153,7 +153,7 @@ module _ (n : ℕ) (M N : ℕ → ℕ → ℤ)
           | inr p ↦ forced f.s t c w.e p.0 f.units f.rows h w.touched p.1 ∙ w.near
         ]
 
-    -- row t has a nonzero in column c, which is of part p
+    -- row t has a nonzero in column c, which is in part p
     abbrev hit : ℕ → ℕ → Bool
     hit p c = cond (is_nonzero (M t c)) (nat_eq (f.part c) p) false
 
@@ -163,7 +163,7 @@ module _ (n : ℕ) (M N : ℕ → ℕ → ℤ)
     is_hit : (p c : ℕ) → M t c ≢ pos 0 → f.part c ≡ p → hit p c ≡ true
     is_hit p c h e = both_and (is_nonzero (M t c)) (nat_eq (f.part c) p) (is_nonzero_is (M t c) h) (is_eq (f.part c) p e)
 
-    -- what the columns of part p are multiplied by
+    -- the factor of the columns of part p
     factor : ℕ → ℤ
     factor p = pick (hit p) (ratio M N f.s t) n
 
@@ -200,7 +200,7 @@ module _ (n : ℕ) (M N : ℕ → ℕ → ℤ)
     units' : (j : ℕ) → IsSign (s' j)
     units' j = sign-mul (f.s j) (factor (f.part j)) (f.units j) (factor_unit (f.part j))
 
-    -- the parts that row t meets become the part of c0
+    -- the parts in which row t has a nonzero become the part of c0
     module _ (c0 : ℕ) (first : M t c0 ≢ pos 0) where
       met : ℕ → Bool
       met p = found (hit p) n
@@ -281,7 +281,7 @@ module _ (n : ℕ) (M N : ℕ → ℕ → ℤ)
   fitted zero = start
   fitted (suc t) = more t (fitted t)
 
-  -- so all rows agree, up to signs of rows and columns
+  -- all rows agree, up to the signs of rows and columns
   pub agree : (m : ℕ) → ((i j : ℕ) → M i j ≢ pos 0 → i < m) → AgreeUpToSigns M N
   agree m rows_end = go (fitted m)
     where

@@ -1,4 +1,4 @@
--- The members of a list of marked places.
+-- The members of a list of marked positions.
 use Rattle.std.proofs.Common.{◌≡◌, ◌≢◌, ◌<◌, ◌+◌, ◌∙◌, inl, inr, ℕ, zero, suc, Bool, true, false, List, [], ◌∷◌, length, get_or, set, refl, sym, subst, arith}
 use Rattle.std.specs.Prelude.{◌↔◌}
 use Rattle.std.proofs.lemmas.Bool.{false≢true, cases_eq}
@@ -51,7 +51,7 @@ in_set_same marks k mark inside =
       λ e. (in_marked (set marks k mark) k).1 (same ∙ e),
     )
 
--- two marks among none
+-- two marks in a list without marks
 pub in_two_marks : (size first second : ℕ) → first < size → second < size → (n : ℕ) → IsIn n (marked (set (set (replicate size false) first true) second true)) ↔ IsIn n (first ∷ second ∷ [])
 in_two_marks size first second first_in second_in n = (to, from)
   where

@@ -1,4 +1,4 @@
--- Marked places as lists of numbers.
+-- Marked positions as lists of numbers.
 use Rattle.std.proofs.Common.{◌≡◌, ◌≢◌, ◌<◌, ◌≤◌, ◌+◌, ◌++◌, ◌∙◌, ℕ, zero, suc, Bool, true, false, not, cond, ℤ, pos, ◌+ℤ◌, List, [], ◌∷◌, length, take, get_or, set, replicate, refl, ap, sym, subst, arith}
 use Rattle.std.specs.List.{AllByRecursion}
 use Rattle.std.proofs.lemmas.Bool.{false≢true}
@@ -18,7 +18,7 @@ marked_from-append first [] false last e = refl
 marked_from-append first (true ∷ marks) mark last e = ap (λ xs. first ∷ xs) (marked_from-append (first + 1) marks mark last (omega arith))
 marked_from-append first (false ∷ marks) mark last e = marked_from-append (first + 1) marks mark last (omega arith)
 
--- one place more
+-- one position more
 pub marked_more : (marks : List Bool) (k : ℕ) (d : Bool) → k < length marks → marked (take (k + 1) marks) ≡ marked (take k marks) ++ cond (get_or marks k d) (k ∷ []) []
 marked_more marks k d h = ap marked (take_more marks k d h) ∙ marked_from-append 0 (take k marks) (get_or marks k d) k (omega (arith, length-take k marks))
 
@@ -36,7 +36,7 @@ marked_rises first high [] e = tt
 marked_rises first high (true ∷ marks) e = (omega arith, omega arith, marked_rises (first + 1) high marks (omega arith))
 marked_rises first high (false ∷ marks) e = rises_from_lower first (first + 1) high (marked_from (first + 1) marks) (omega arith) (marked_rises (first + 1) high marks (omega arith))
 
--- a place is marked anew
+-- a position is marked again
 pub joined_from : (mark : Bool) (first : ℕ) (marks : List Bool) (k n : ℕ) → n ≡ first + k → k < length marks → IsJoined mark n (marked_from first (set marks k false)) (marked_from first (set marks k mark))
 joined_from mark first [] k n e h = absurd (omega arith)
 joined_from true first (x ∷ marks) zero n e h = let same : first ≡ n = omega arith in subst (λ m. HasOneMore m (marked_from (first + 1) marks) (first ∷ marked_from (first + 1) marks)) same (one_more_first first (marked_from (first + 1) marks))
@@ -74,7 +74,7 @@ unmarked_there marks k inside e = marked_more marks k false inside ∙ ap (λ b.
 pub marked_below : (marks : List Bool) (k : ℕ) → k ≤ length marks → AllByRecursion (λ n. n < k) (marked (take k marks))
 marked_below marks k h = increasing_below 0 k (marked (take k marks)) (marked_rises 0 k (take k marks) (omega (arith, length-take k marks)))
 
--- ---- the parity of a sum over the marked places of a prefix
+-- ---- the parity of a sum over the marked positions of a prefix
 
 module _ (marks : List Bool) (k : ℕ) (f : ℕ → ℤ) (inside : k < length marks) where
   sum_there : get_or marks k false ≡ true → sum_over (marked (take (k + 1) marks)) f ≡ sum_over (marked (take k marks)) f +ℤ f k

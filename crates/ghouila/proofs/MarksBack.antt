@@ -26,7 +26,7 @@ use Rattle.ghouila.proofs.MarkedMembers.{iff_then, in_set_same, in_set_other}
 use Rattle.ghouila.proofs.Marks.{joined, all_marked, marked_rises, unmarked_apart, set_unmarked, set_same_mark}
 use Rattle.cmr_base.specs.Cuts.{bit}
 
--- among more rows
+-- the violator of more rows
 pub marks_among_more : (m : Matrix) (rows more : List ℕ) (row_marks column_marks odd : List Bool) → ((row : ℕ) → Contains rows row → Contains more row) → MarksViolator m rows row_marks column_marks odd → MarksViolator m more row_marks column_marks odd
 marks_among_more m rows more row_marks column_marks odd wider v = record {
   row_each = v.row_each;
@@ -66,7 +66,7 @@ parity_by_difference : (odd : Bool) (a b : ℤ) → IsEven (a -ℤ b) → HasPar
 parity_by_difference true a b (k, e) (l, f) = (l -ℤ k, omega (arith, sums))
 parity_by_difference false a b (k, e) (l, f) = (l -ℤ k, omega (arith, sums))
 
--- the sum of a column before the pivot, with the row where the pivot column's sum is odd, is as even as after it
+-- a column before the pivot, with the pivot's row if the pivot column's sum is odd, has a sum of the same parity as after the pivot
 column_parity : (odd odd' : Bool) (a g q y : ℤ) → IsSign a → HasParity odd g → HasParity odd' (y -ℤ a *ℤ (g *ℤ q)) → HasParity odd' (bit odd *ℤ q +ℤ y)
 column_parity true odd' a g q y u (k, e) p = parity_by_difference odd' (y -ℤ a *ℤ (g *ℤ q)) (bit true *ℤ q +ℤ y) (go u) p
   where
@@ -110,7 +110,7 @@ parity_odd : (odd : Bool) (z : ℤ) → HasParity odd z → (odd ≡ true) ↔ I
 parity_odd true z p = (λ e. p, λ q. refl)
 parity_odd false z p = (λ e. absurd (false≢true e), λ q. absurd (even_not_odd z p q))
 
--- before a pivot
+-- the violator before a pivot
 module _ (before after : Matrix) (row column : ℕ) (left : List ℕ) (row_in : row < height before) (column_in : column < before.width) (out : IsOutside row left) (u : IsSign (entry before row column))
     (same_height : height after ≡ height before) (same_width : after.width ≡ before.width) (pivots : PivotsRows before after row column left)
     (rows columns odd columns' : List Bool) (v : MarksViolator after left rows columns odd) (anew : MarksAnew (entry before row) column columns columns') where

@@ -40,7 +40,7 @@ entry_without_sign s z u h = subst IsEntry (sign_twice s z u) (entry_by_sign s (
 
 -- ---- minors on some rows and columns
 
--- the sign_square submatrices on some of these rows and columns have the determinant -1, 0 or 1
+-- the square submatrices on some of these rows and columns have the determinant -1, 0 or 1
 abbrev pub HasMinorsOn : (ℕ → ℕ → ℤ) → List ℕ → List ℕ → Type 0
 HasMinorsOn M R C = (P Q : List ℕ) → IsSublist P R → IsSublist Q C → length P ≡ length Q → IsEntry (minor M Q P)
 
@@ -58,7 +58,7 @@ first_column_entries M R c C minors = all_weaker (λ i. IsSublist (i ∷ []) R) 
 pub fewer_minors : (M : ℕ → ℕ → ℤ) (R : List ℕ) (c : ℕ) (C : List ℕ) → HasMinorsOn M R (c ∷ C) → HasMinorsOn M R C
 fewer_minors M R c C minors P Q h k e = minors P Q h (inl k) e
 
--- a determinant is -1, 0 or 1 exactly where its Schur complement is
+-- a determinant is -1, 0 or 1 if and only if the determinant of its Schur complement is
 pub entry_before : (M : ℕ → ℕ → ℤ) (r c : ℕ) (C R' R : List ℕ) → IsSign (M r c) → HasOneMore r R' R → IsEntry (minor (reduced M r c) C R') → IsEntry (minor M (c ∷ C) R)
 entry_before M r c C R' R u more h =
     let s = schur M r c C R' R u more in
@@ -76,7 +76,7 @@ pivoted_minors M r c R' R C u more minors P Q h k e =
 
 -- ---- a violator before a pivot gives one after it
 
--- an even row or column before the pivot; the pivot's own is even too
+-- a row or column that is even before the pivot is even after it, as the pivot's own line is even
 line_after : (a p h x : ℤ) → IsSign a → IsEven (a +ℤ h) → IsEven (p +ℤ x) → IsEven (x -ℤ a *ℤ (p *ℤ h))
 line_after a p h x u (l, f) (k, e) = (k -ℤ a *ℤ (p *ℤ l), plain a p h x k l (sign_square a u) f e)
   where
@@ -133,7 +133,7 @@ module _ (M : ℕ → ℕ → ℤ) (r c : ℕ) (u : IsSign (M r c)) (R' R C : Li
             (subst IsTwoModFour (sum_over-one_more r R' R (λ i. M i c +ℤ sum_over C (M i)) more ∙ ap (λ z. (M r c +ℤ sum_over C (M r)) +ℤ z) (sum_over-add R' (λ i. M i c) (λ i. sum_over C (M i)))) v.two_mod_four));
       }
 
--- without a column of zeros
+-- the violator without a column of zeros
 violator_without_zeros : (M : ℕ → ℕ → ℤ) (R : List ℕ) (c : ℕ) (C : List ℕ) → AllByRecursion (λ i. M i c ≡ pos 0) R → IsViolator M R (c ∷ C) → IsViolator M R C
 violator_without_zeros M R c C zeros v = record {
   even_rows = all_both (λ i. M i c ≡ pos 0) (λ i. IsEven (M i c +ℤ sum_over C (M i))) (λ i. IsEven (sum_over C (M i))) (λ i z e. subst IsEven (less (M i c) (sum_over C (M i)) z) e) R zeros v.even_rows;
@@ -147,7 +147,7 @@ violator_without_zeros M R c C zeros v = record {
     less : (p x : ℤ) → p ≡ pos 0 → p +ℤ x ≡ x
     less p x e = omega (arith, sums)
 
--- ---- unimodular minors exclude a violator: pivots in its columns leave nothing of it
+-- ---- unimodular minors exclude a violator: pivots in its columns remove all its lines
 
 pub no_violator_by_minors : (C R : List ℕ) (M : ℕ → ℕ → ℤ) → HasMinorsOn M R C → IsViolator M R C → ⊥
 no_violator_by_minors [] R M minors v = two_mod_four_not_four (sum_over R (λ i. pos 0)) v.two_mod_four (pos 0, sum_over-zero R)
@@ -157,7 +157,7 @@ no_violator_by_minors (c ∷ C) R M minors v = elim (zeros_or_sign (λ i. M i c)
       (violator_reduced M s.row c s.sign s.others R C s.more v)
 ]
 
--- ---- and where there is no violator, minors are unimodular
+-- ---- without violators, minors are unimodular
 
 pub minor_or_violator : (height width : ℕ) (C R : List ℕ) (low : ℕ) (M : ℕ → ℕ → ℤ) → RisesIn low width C → AllByRecursion (λ i. i < height) R → AllByRecursion (λ i. IsTernaryRow width (M i)) R
     → IsEntry (minor M C R) ⊎ HasViolatorIn height width M

@@ -1,4 +1,4 @@
--- What is found for rows of a matrix, by the rows' numbers.
+-- The results for rows of a matrix, by the rows' numbers.
 use Rattle.std.proofs.Common.{◌≡◌, ◌∙◌, ℕ, true, false, ℤ, pos, ◌+ℤ◌, ◌*ℤ◌, List, [], ◌∷◌, get_or, map, refl, ap, sym, subst, arith}
 use Rattle.std.specs.List.{Contains}
 use Rattle.std.proofs.lemmas.List.{length-map}

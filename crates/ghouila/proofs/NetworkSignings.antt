@@ -23,7 +23,7 @@ use Rattle.cmr_base.proofs.TreeCuts.{tail_side, tail_side_kept, tail_side-tail, 
 use Rattle.ghouila.specs.NetworkLaws.{NetworkMatricesAreUnimodular, ConetworkMatricesAreUnimodular}
 use Rattle.ghouila.proofs.CamionLaw.{camion}
 
--- ---- a function that is not 0 at one item alone
+-- ---- a function that is nonzero at only one item
 
 none_there : (rows : List ℕ) (f : ℕ → ℤ) (a : ℕ) (d : ℤ) → ¬ (IsIn a rows) → sum_over rows (λ r. f r *ℤ cond (nat_eq r a) d (pos 0)) ≡ pos 0
 none_there [] f a d n = refl
@@ -49,7 +49,7 @@ same_at_members rows f g h = sum_over_same rows f g (all_of_members (λ r. f r �
 -- ---- two colours of the nodes of a tree
 
 module _ (arcs : List Pair) (m : ℕ) (T : IsTree arcs m) where
-  -- whether a node lies on the tail's side of an odd number of the arcs
+  -- whether a node is on the tail's side of an odd number of the arcs
   abbrev colour : List ℕ → ℕ → Bool
   colour [] z = false
   colour (r ∷ rows) z = differ (cond (nat_lt r m) (tail_side arcs r z) false) (colour rows z)
@@ -57,12 +57,12 @@ module _ (arcs : List Pair) (m : ℕ) (T : IsTree arcs m) where
   in_range : (a : ℕ) → a < m → a < length arcs
   in_range a l = subst (λ (z : ℕ). a < z) (sym T.count) l
 
-  -- the ends of another arc have one colour
+  -- the ends of any other arc have one colour
   colour_other : (rows : List ℕ) (a : ℕ) → a < m → ¬ (IsIn a rows) → colour rows (tail arcs a) ≡ colour rows (head arcs a)
   colour_other [] a l n = refl
   colour_other (r ∷ rows) a l n = ap₂ differ (ap (λ (z : Bool). cond (nat_lt r m) z false) (tail_side_kept arcs r a (in_range a l) (λ e. n (inl e)))) (colour_other rows a l (λ h. n (inr h)))
 
-  -- and those of one of the arcs have both
+  -- the ends of one of these arcs have two colours
   colour_own : (rows : List ℕ) (a : ℕ) → a < m → IsDistinct rows → IsIn a rows → colour rows (head arcs a) ≡ not (colour rows (tail arcs a))
   colour_own [] a l o h = absurd h
   colour_own (r ∷ rows) a l o (inl e) = go (nat_lt r m) (is_lt r (subst (λ (z : ℕ). z < m) e l)) (colour rows (tail arcs a)) (colour rows (head arcs a)) (colour_other rows a l (λ h. o.0 (subst (λ (z : ℕ). IsIn z rows) e h)))
@@ -87,7 +87,7 @@ module _ (arcs : List Pair) (m : ℕ) (T : IsTree arcs m) where
       go true y = refl
       go false y = refl
 
-  -- the sign of an arc: the colour at its head less that at its tail
+  -- the sign of an arc: the colour at its head minus the colour at its tail
   abbrev sign : List ℕ → ℕ → ℤ
   sign rows r = bit (colour rows (head arcs r)) -ℤ bit (colour rows (tail arcs r))
 

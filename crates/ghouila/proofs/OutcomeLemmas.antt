@@ -1,4 +1,4 @@
--- What is found for some rows, with one row more.
+-- The results for some rows, with one row more.
 use Rattle.std.proofs.Common.{◌≡◌, List, ◌∷◌, ℕ, Result, Ok, Err, refl}
 use Rattle.std.specs.Prelude.{IfOk}
 use Rattle.cmr_base.specs.Matrix.{Matrix}
@@ -18,7 +18,7 @@ pub found_reordered : {E : Type 0} (m : Matrix) (row : ℕ) (left rows : List �
 found_reordered m row left rows more (Ok outcome) is = outcome_reordered m row left rows more outcome is
 found_reordered m row left rows more (Err e) is = is
 
--- a violator is one among more rows
+-- a violator of fewer rows is one of more rows
 pub violated_with_row : (m : Matrix) (row : ℕ) (left : List ℕ) (outcome : MarkedSigning) → ((s : RowSigns) → outcome ≡ Signed s → ⊥) → IsOutcome m left outcome → IsOutcome m (row ∷ left) outcome
 violated_with_row m row left (Signed s) other is = absurd (other s refl)
 violated_with_row m row left (Violated v) other is = marks_among_more m left (row ∷ left) v.rows.items v.columns.items v.odd.items (λ r there. contains_later r row left there) is

@@ -4,7 +4,7 @@ use Rattle.cmr_base.specs.Sums.{IsEven}
 use Rattle.cmr_base.proofs.Integers.{sums, products}
 use Rattle.cmr_base.proofs.Parity.{IsFour, even_or_odd}
 
--- the number where the bit is set, else 0
+-- the number if the bit is set, otherwise 0
 abbrev pub when : Bool → ℤ → ℤ
 when s z = cond s z (pos 0)
 
@@ -28,7 +28,7 @@ bit_of z = elim (even_or_odd z) [
     one : (z k : ℤ) → z +ℤ pos 1 ≡ k +ℤ k → z ≡ pos 1 +ℤ ((k -ℤ pos 1) +ℤ (k -ℤ pos 1))
     one z k e = omega (arith, sums)
 
--- a number that counts x times in an even sum counts x modulo 2 times
+-- a multiplicity x in an even sum can be replaced by x modulo 2
 pub even_bit : (y a x : ℤ) (b : Bit x) → IsEven (y +ℤ a *ℤ x) → IsEven (y +ℤ when b.odd a)
 even_bit y a x b h = go b.odd b.half b.is
   where
@@ -60,7 +60,7 @@ even_bit_left y x a b h = even_bit y a x b (subst IsEven (same y x a) h)
     same : (y x a : ℤ) → y +ℤ x *ℤ a ≡ y +ℤ a *ℤ x
     same y x a = simp products
 
--- x*y is, modulo 4, x where y is odd, and y where x is odd, less 1 where both are
+-- x*y is equal modulo 4 to the sum of x if y is odd, y if x is odd, and -1 if both are odd
 pub mixed_product : (x y : ℤ) (p : Bit x) (q : Bit y) → IsFour ((x *ℤ y +ℤ when p.odd (when q.odd (pos 1))) -ℤ (when q.odd x +ℤ when p.odd y))
 mixed_product x y p q = go p.odd q.odd p.half q.half p.is q.is
   where

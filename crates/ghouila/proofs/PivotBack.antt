@@ -1,4 +1,4 @@
--- From a violator after a pivot to one before it.
+-- A violator after a pivot is mapped back to one before it.
 use Rattle.std.proofs.Common.{◌≡◌, ◌≢◌, ◌⊎◌, inl, inr, ◌∙◌, ℕ, Bool, true, false, ℤ, pos, negsuc, neg_ℤ, ◌+ℤ◌, ◌*ℤ◌, ◌-ℤ◌, List, [], ◌∷◌, refl, ap, sym, subst, arith}
 use mathlib.Core.Path.{ap₂}
 use Rattle.std.specs.List.{AllByRecursion}
@@ -15,8 +15,8 @@ use Rattle.ghouila.proofs.PivotSums.{pivoted_at, sum_over_row, sum_over_column, 
 use Rattle.cmr_base.proofs.SignEntries.{sign_square}
 use Rattle.cmr_base.specs.Cuts.{bit}
 
--- A violator on R and C after the pivot at r and c, which are counted apart: the rows have g times row r added or taken away, the
--- columns h times column c. Where g is odd, h is the sum of row r in C, and where h is odd, g is that of column c in R.
+-- A violator on R and C after the pivot at r and c, which are counted separately: row r counts g times and column c counts h times. If g is
+-- odd, h is the sum of row r over C. If h is odd, g is the sum of column c over R.
 pub record IsViolatorAfter (M : ℕ → ℕ → ℤ) (r c : ℕ) (R C : List ℕ) (g h : ℤ) : Type 0 where
   pub rows : AllByRecursion (λ i. IsEven (sum_over C (M i) -ℤ M r c *ℤ (M i c *ℤ h))) R
   pub columns : AllByRecursion (λ j. IsEven (sum_over R (λ i. M i j) -ℤ M r c *ℤ (g *ℤ M r j))) C
@@ -152,7 +152,7 @@ module _ (M : ℕ → ℕ → ℤ) (r c : ℕ) (u : IsSign (M r c)) (R C : List 
             (total_odd_odd (M r c) g h (sum_over R (λ i. sum_over C (M i))) u odd odd' v.total);
       }
 
-  -- the row goes in where g is odd, the column where h is odd
+  -- the row is added if g is odd, and the column if h is odd
   pub violator_before : (row_in column_in : Bool) (R' C' : List ℕ) → HasParity row_in g → HasParity column_in h → IsJoined row_in r R R' → IsJoined column_in c C C' → IsViolatorAfter M r c R C g h → IsViolator M R' C'
   violator_before false false R' C' e f join join' v = subst (λ Q. IsViolator M Q C') (sym join) (subst (λ D. IsViolator M R D) (sym join') (even_even e f v))
   violator_before false true R' C' e f join join' v = subst (λ Q. IsViolator M Q C') (sym join) (even_odd C' join' e f v)
@@ -199,7 +199,7 @@ module _ (M : ℕ → ℕ → ℤ) (r c : ℕ) where
   columns_after R C others even = all_both (λ j. j ≢ c) (λ j. IsEven (sum_over R (λ i. pivoted M r c i j))) (λ j. IsEven (sum_over R (λ i. M i j) -ℤ M r c *ℤ (sum_over R (λ i. M i c) *ℤ M r j)))
       (λ j other e. subst IsEven (sum_over_column M r c j R other) e) C others even
 
-  -- the pivot's own column is counted apart
+  -- the pivot's own column is counted separately
   pub violator_after : (t : Bool) (R C D : List ℕ) → IsSign (M r c) → IsJoined t c C D → AllByRecursion (λ j. j ≢ c) C → IsViolator (pivoted M r c) R D
       → IsViolatorAfter M r c R C (sum_over R (λ i. M i c)) (sum_over C (M r) +ℤ bit t)
   violator_after t R C D u join others v = record {

@@ -47,9 +47,9 @@ xor_one a word i e = ap (λ (n : ℕ). eqb n 1) (bit_at_xor a word i ∙ ap (λ 
 bits_and : (some odd i : ℕ) → odd < 2 ^ 64 → i < 64 → bit_at (bit_and some (bit_not w64 odd)) i ≡ min (bit_at some i) (1 - bit_at odd i)
 bits_and some odd i fits low = bit_at_and some (bit_not w64 odd) i ∙ ap (min (bit_at some i)) (bit_at_not w64 odd i fits low)
 
--- ---- the words of the rows gone through
+-- ---- the words of the rows scanned so far
 
--- after the first k rows: which columns have a nonzero, and which an odd number of them
+-- after the first k rows: the columns with a nonzero, and the columns with an odd number of nonzeros
 abbrev pub AreScanned : Matrix → List ℕ → ℕ → ℕ → ℕ → ℕ → Type 0
 AreScanned m rows chunk k some odd = (i : ℕ) → i < 64 → (first : Option ℕ) × IsScanned m rows (64 * chunk + i) k first (has_bit odd i) × (has_bit some i ≡ is_some first)
 
@@ -151,7 +151,7 @@ module _ (m : Matrix) (rows : List ℕ) (chunk k some odd : ℕ) (is : IsMatrix 
         ]);
   }
 
--- the lowest bit is that of the first column with a pivot
+-- the lowest bit belongs to the first column with a pivot
 module _ (m : Matrix) (rows : List ℕ) (chunk word : ℕ) (some : 0 < word) (fits : word < 2 ^ 64) (are : ArePivotColumns m rows chunk word) where
   abbrev column : ℕ
   column = 64 * chunk + trailing_zeros w64 word

@@ -1,4 +1,4 @@
--- What the pivot of a whole matrix keeps.
+-- The properties that the pivot of a whole matrix keeps.
 use Rattle.std.proofs.Common.{◌≡◌, ◌≢◌, ◌<◌, ◌↔◌, ◌⊎◌, inl, inr, ◌∙◌, ℕ, Bool, true, false, ℤ, pos, neg_ℤ, ◌*ℤ◌, ◌-ℤ◌, List, [], ◌∷◌, map, get_or, cond, not, eqb, ◌≤◌, eqb-true, refl, ap, sym, subst, arith}
 use mathlib.Core.Path.{ap₂}
 use Rattle.std.specs.List.{AllByRecursion}
@@ -162,7 +162,7 @@ pivots_undo_themselves m r c rectangular place =
     sym (filled_again m (height (pivot_at m r c)) m.width (pivot_entry (entry (pivot_at m r c)) r c) rectangular (sym (same_height m r c place)) refl
     (λ i j hi hj. sym (entry_twice m r c place i j (let e = same_height m r c place in omega arith) hj)))
 
--- ---- the entries after it
+-- ---- the entries after the pivot
 
 pub entries_after : (m : Matrix) (r c : ℕ) → HasTernaryEntries m → IsPivotPlace m r c → HasNoViolator m → (i j : ℕ) → i < height m → j < m.width → IsEntry (pivot_entry (entry m) r c i j)
 entries_after m r c small place free i j hi hj = elim (cases_eq i r) [
@@ -192,7 +192,7 @@ entries_after m r c small place free i j hi hj = elim (cases_eq i r) [
       ]
     ]
 
--- entries of a filled matrix, also outside
+-- the entries of a filled matrix, also outside its sizes
 small_filled : (h w : ℕ) (entries : ℕ → ℕ → ℤ) → ((i j : ℕ) → i < h → j < w → IsEntry (entries i j)) → HasTernaryEntries (filled h w entries)
 small_filled h w entries small i j = elim (cases_lt i h) [
   | inr past ↦ subst IsEntry (sym (entry-past (filled h w entries) i j (let e = height-filled h w entries in omega arith))) zero_is_entry
@@ -218,9 +218,9 @@ pivots_decide m r c ternary place = (
   λ after. (camion m ternary.small).1 ((pivots_keep_violators m r c place).1 ((camion (pivot_at m r c) after.0).0 after.1)),
 )
 
--- ---- the lines before it
+-- ---- the lines before the pivot
 
--- a list is the one without a number, with it or not
+-- a list is the list without a number, with the number added or not
 with_or_without : (n : ℕ) (xs : List ℕ) → IsDistinct xs → (there : Bool) × IsJoined there n (without xs n) xs × ((there ≡ true) ↔ IsIn n xs)
 with_or_without n [] d = (false, refl, ((λ e. true_is_false (sym e)), (λ h. absurd h)))
 with_or_without n (x ∷ xs) d = go (eqb x n) refl (with_or_without n xs d.1)
@@ -241,7 +241,7 @@ same_without n xs ys rises rises' same =
     (λ x h. let w = without_in n x xs h in in_without n x ys ((same x w.1).0 w.0) w.1)
     (λ x h. let w = without_in n x ys h in in_without n x xs ((same x w.1).1 w.0) w.1)
 
--- a list joined with the number where the sum is odd
+-- a list joined with the number if the sum is odd
 joined_by_parity : (n : ℕ) (xs fewer : List ℕ) (z : ℤ) → IsDistinct xs → without xs n ≡ fewer → IsIn n xs ↔ IsOdd z → (b : Bool) × HasParity b z × IsJoined b n fewer xs
 joined_by_parity n xs fewer z d same odd = go (with_or_without n xs d)
   where

@@ -30,21 +30,21 @@ pub record IsReduced (before now : Matrix) (row column other k : ℕ) : Type 0 w
 pub reduced_none : (m : Matrix) (row column other : ℕ) → IsMatrix m → IsReduced m m row column other 0
 reduced_none m row column other is = record { shape = is; others = keeps_all m (other ∷ []); done = λ j h. absurd (omega arith); ahead = λ j h. refl }
 
--- a column in which the pivot's row is 0 stays as it is
+-- a column with 0 in the pivot's row does not change
 pub reduced_beside : (M : ℕ → ℕ → ℤ) (row column i j : ℕ) → M row j ≡ pos 0 → reduced M row column i j ≡ M i j
 reduced_beside M row column i j e = ap (λ (q : ℤ). M i j -ℤ M row column *ℤ (M i column *ℤ q)) e ∙ less_nothing (M i j) (M row column) (M i column)
   where
     less_nothing : (x a p : ℤ) → x -ℤ a *ℤ (p *ℤ pos 0) ≡ x
     less_nothing x a p = simp products (omega (arith, sums))
 
--- where the pivot's row is 0, the pivot gives no 2 and no -2
+-- the pivot gives no 2 and no -2 in a column with 0 in the pivot's row
 pub small_over : (m : Matrix) (row column other k next : ℕ) → IsMatrix m → IsTernaryRow k (reduced (entry m) row column other) → ((j : ℕ) → k ≤ j → j < next → support m row j ≡ false) → IsTernaryRow next (reduced (entry m) row column other)
 small_over m row column other k next is small zeros = λ j h. elim (cases_lt j k) [
   | inl earlier ↦ small j earlier
   | inr later ↦ subst IsEntry (sym (reduced_beside (entry m) row column other j (zero_is (entry m row j) (zeros j later h)))) (is.small other j)
 ]
 
--- columns in which the pivot's row is 0 are done
+-- columns with 0 in the pivot's row are already reduced
 pub reduced_over : (before now : Matrix) (row column other k next : ℕ) → IsOutside row (other ∷ []) → k ≤ next → IsReduced before now row column other k
     → ((j : ℕ) → k ≤ j → j < next → support now row j ≡ false) → IsReduced before now row column other next
 reduced_over before now row column other k next apart low r zeros = record {

@@ -1,4 +1,4 @@
--- A column's nonzeros in the rows gone through so far.
+-- A column's nonzeros in the rows scanned so far.
 use Rattle.std.proofs.Common.{◌≡◌, ◌<◌, ◌≤◌, ◌+◌, ◌∙◌, inl, inr, ℕ, Bool, true, false, not, Option, Some, None, ℤ, pos, ◌+ℤ◌, ◌-ℤ◌, List, [], ◌∷◌, length, take, get_or, refl, ap, sym, subst, arith}
 use Rattle.std.specs.Prelude.{IfSome, IfNone, is_some}
 use Rattle.std.specs.List.{AllByRecursion}
@@ -34,7 +34,7 @@ sum_over_more rows k f h = ap (λ xs. sum_over xs f) (take_more rows k 0 h) ∙ 
 pub all_more : (P : ℕ → Type 0) (rows : List ℕ) (k : ℕ) → k < length rows → AllByRecursion P (take k rows) → P (get_or rows k 0) → AllByRecursion P (take (k + 1) rows)
 all_more P rows k h all p = subst (AllByRecursion P) (sym (take_more rows k 0 h)) (all-append P (take k rows) (get_or rows k 0 ∷ []) all (p, tt))
 
--- after the first k rows: the parity of their nonzeros, and the first of them
+-- after the first k rows: the parity of the number of nonzeros, and the first nonzero
 pub record IsScanned (m : Matrix) (rows : List ℕ) (column k : ℕ) (first : Option ℕ) (odd : Bool) : Type 0 where
   pub parity : HasParity odd (sum_over (take k rows) (λ row. entry m row column))
   pub found : IfSome first (λ place. (place < length rows) × IsSign (entry m (get_or rows place 0) column))
@@ -89,7 +89,7 @@ scanned_even m rows column k (Some place) inside h s = (
   tt,
 )
 
--- a column with a pivot is none without one
+-- a column with a pivot is not one without a pivot
 pub pivot_there : (m : Matrix) (rows : List ℕ) (place column : ℕ) → IsPivot m rows place column → HasNoPivot m rows column → ⊥
 pivot_there m rows place column is (inl zeros) = sign_nonzero (entry m (get_or rows place 0) column) is.nonzero (all_at (λ row. entry m row column ≡ pos 0) rows place 0 zeros is.within)
 pivot_there m rows place column is (inr odd) = even_not_odd (sum_over rows (λ row. entry m row column)) is.even odd

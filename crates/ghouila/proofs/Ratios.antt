@@ -1,4 +1,4 @@
--- A cycle whose sum is not 2 modulo 4 in two matrices: where their ratios are one in each row but the last, they are one in the last.
+-- A cycle whose sum is not 2 modulo 4 in two matrices: if their ratios agree in each row except the last, they agree in the last row.
 use Rattle.std.proofs.Common.{◌≡◌, ◌<◌, ◌⊎◌, inl, inr, ℕ, zero, suc, ℤ, pos, ◌+ℤ◌, ◌*ℤ◌, ◌-ℤ◌, List, ◌∷◌, map, sym, refl, subst, arith}
 use Rattle.std.specs.List.{AllByRecursion}
 use Rattle.cmr_base.specs.Signing.{IsSign}
@@ -30,7 +30,7 @@ four_change-columns M s R C signs even =
 zero_right : (s x : ℤ) → x ≡ pos 0 → s *ℤ x ≡ pos 0
 zero_right s x e = rw e (simp products)
 
--- the same cycle after columns are multiplied by signs
+-- the same cycle after its columns are multiplied by signs
 signed_cycle : (M : ℕ → ℕ → ℤ) (s : ℕ → ℤ) (t k : ℕ) (row col : ℕ → ℕ) → ((j : ℕ) → IsSign (s j)) → IsCycle M t k row col → IsCycle (λ i j. s j *ℤ M i j) t k row col
 signed_cycle M s t k row col signs c = record {
   long = c.long;
@@ -42,7 +42,7 @@ signed_cycle M s t k row col signs c = record {
   inner = λ j l m. zero_right (s (col j)) (M t (col j)) (c.inner j l m);
 }
 
--- two cycles at the same places, with one ratio in each row but t
+-- two cycles on the same lines, with one ratio in each row except t
 module _ (M N : ℕ → ℕ → ℤ) (t k : ℕ) (row col : ℕ → ℕ) (c : IsCycle M t k row col) (d : IsCycle N t k row col)
     (ratios : (i : ℕ) → i < k → M (row i) (col (suc i)) *ℤ N (row i) (col (suc i)) ≡ M (row i) (col i) *ℤ N (row i) (col i)) where
   four_change-inside : IsFour (sum_over (below k) (λ i. sum_over (below (suc k)) (λ j. M (row i) (col j))) -ℤ sum_over (below k) (λ i. sum_over (below (suc k)) (λ j. N (row i) (col j))))

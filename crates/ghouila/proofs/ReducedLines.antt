@@ -1,4 +1,4 @@
--- Removing a reducible line neither makes nor loses a violator.
+-- A set of lines has a violator if and only if it has one after a reducible line is removed.
 use Rattle.std.proofs.Common.{ℕ, ℤ, pos, negsuc, Bool, true, false, cond, nat_eq, map, List, [], ◌∷◌, ◌≡◌, ◌≢◌, ◌+ℤ◌, ◌*ℤ◌, ◌-ℤ◌, neg_ℤ, ◌∙◌, sym, ap, ap₂, refl, arith, subst, ◌⊎◌, inl, inr}
 use Rattle.std.specs.List.{AllByRecursion}
 use Rattle.cmr_base.specs.Sums.{sum_over, IsEven, IsTwoModFour}
@@ -135,7 +135,7 @@ every : (xs : List ℕ) → AllByRecursion (λ x. Unit {0}) xs
 every [] = tt
 every (x ∷ xs) = (tt, every xs)
 
--- how often the line stands in the list
+-- the number of times that the list contains the line
 abbrev times : ℕ → List ℕ → ℤ
 times r xs = sum_over (kept (hit r) itself xs) (λ x. pos 1)
 
@@ -146,7 +146,7 @@ split : (r : ℕ) (F : ℕ → ℤ) (xs : List ℕ) → sum_over xs F ≡ times 
 split r F xs = line (λ x. Unit {0}) (hit r) itself itself F F F (λ x _ _. refl) (λ x _ _. refl) xs (every xs)
     ∙ ap (λ (z : ℤ). z +ℤ sum_over (rest r xs) F) (heap r F (kept (hit r) itself xs) (all_kept (λ x. Unit {0}) (λ x. x ≡ r) (hit r) itself (λ x _ e. eq_of x r e) xs (every xs)))
 
--- the line does not stand there, or what holds of each line holds of it
+-- the list does not contain the line, or the line has the property that all lines of the list have
 some : (P : ℕ → Type 0) (r : ℕ) (xs : List ℕ) → AllByRecursion P xs → (times r xs ≡ pos 0) ⊎ P r
 some P r [] h = inl refl
 some P r (x ∷ xs) h = go (nat_eq x r) refl (some P r xs h.1)
@@ -161,7 +161,7 @@ all_rest P r xs h = all_other P (But P r) (hit r) itself (λ x p e. (p, ne_of x 
 sum_zero : (P : ℕ → Type 0) (F : ℕ → ℤ) (xs : List ℕ) → ((x : ℕ) → P x → F x ≡ pos 0) → AllByRecursion P xs → sum_over xs F ≡ pos 0
 sum_zero P F xs e h = same_over xs P F (λ x. pos 0) e h ∙ sum_over-zero xs
 
--- x is y and a multiple of 0
+-- x is y plus a multiple of 0
 drop_zero : (x k z y : ℤ) → x ≡ k *ℤ z +ℤ y → z ≡ pos 0 → y ≡ x
 drop_zero x k z y e f = plain x (k *ℤ z) y e (ap (λ (w : ℤ). k *ℤ w) f ∙ none k)
   where
@@ -190,7 +190,7 @@ drop_even x k z y e (l, f) (m, g) = (m -ℤ l *ℤ z, plain x (k *ℤ z) (l *ℤ
     plain x p q y m e f g = omega (arith, sums)
 
 module _ (M : ℕ → ℕ → ℤ) (P Q : ℕ → Type 0) (r : ℕ) where
-  -- row r counts for nothing
+  -- row r adds 0 to all sums
   without_row : (v : ViolatedIn M P Q) → ((c : ℕ) → Q c → sum_over (rest r v.R) (λ x. M x c) ≡ sum_over v.R (λ x. M x c))
       → sum_over (rest r v.R) (λ x. sum_over v.C (λ c. M x c)) ≡ sum_over v.R (λ x. sum_over v.C (λ c. M x c)) → ViolatedIn M (But P r) Q
   without_row v column whole = record {

@@ -1,4 +1,4 @@
--- Row r among the rows P and the columns Q, and why it is reducible.
+-- Row r of the rows P and the columns Q, and the reason why it is reducible.
 use Rattle.std.proofs.Common.{◌≡◌, ◌≢◌, ◌⊎◌, ℕ, ℤ, pos, neg_ℤ}
 use Rattle.cmr_base.specs.Signing.{IsSign}
 
@@ -20,6 +20,6 @@ IsReducibleRow M P Q r = IsZeroRow M Q r ⊎ (IsUnitRow M Q r ⊎ (IsCopyRow M P
 abbrev pub crossed : (ℕ → ℕ → ℤ) → ℕ → ℕ → ℤ
 crossed M c r = M r c
 
--- without the line
+-- the lines without this line
 abbrev pub But : (ℕ → Type 0) → ℕ → ℕ → Type 0
 But P r x = P x × (x ≢ r)

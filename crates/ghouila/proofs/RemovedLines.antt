@@ -1,4 +1,4 @@
--- Removing a reducible line neither makes nor loses a violator.
+-- A submatrix has a violator if and only if it has one after a reducible line is removed.
 use Rattle.std.proofs.Common.{◌≡◌, ◌≢◌, ◌⊎◌, inl, inr, ◌∙◌, ℕ, ℤ, pos, negsuc, neg_ℤ, ◌*ℤ◌, Bool, false, List, IsSome, ap, sym, arith}
 use Rattle.std.specs.List.{Contains}
 use Rattle.cmr_base.specs.declared.line.Line.{Line}

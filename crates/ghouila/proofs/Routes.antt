@@ -1,4 +1,4 @@
--- Paths as lists of line numbers, and as functions of the place.
+-- Paths as lists of line numbers, and as functions of the position.
 use Rattle.std.proofs.Common.{ℕ, zero, suc, ℤ, pos, List, [], ◌∷◌, ◌≡◌, ◌≢◌, ◌<◌, ◌≤◌, ◌+◌, ◌-◌, ◌+ℤ◌, ◌∙◌, sym, ap, refl, arith, subst, ◌⊎◌, inl, inr, length, map}
 use Rattle.std.proofs.lemmas.Bool.{cases_lt}
 use Rattle.std.specs.List.{AllByRecursion}
@@ -37,7 +37,7 @@ module _ (M : ℕ → ℕ → ℤ) (small : (i j : ℕ) → IsEntry (M i j)) (t 
   abbrev Way : ℕ → ℕ → ℕ → Type 0
   Way x y k = Linked M small (λ r. r < t) (λ j. M t j ≡ pos 0) x y k
 
-  -- a path by places
+  -- a path by positions
   pub record Route (c d : ℕ) (path : List ℕ) : Type 1 where
     pub k : ℕ
     pub way : Way c d k
@@ -157,7 +157,7 @@ module _ (M : ℕ → ℕ → ℤ) (small : (i j : ℕ) → IsEntry (M i j)) (t 
   route c d (r ∷ []) (l, a, b) = single c d r l a b
   route c d (r ∷ j ∷ rest) (l, a, b, z, h) = longer c d r j rest l a b z (route j d rest h)
 
-  -- and back
+  -- the list of a path that functions describe
   pub path_of : (k x y : ℕ) → Way x y (suc k) → (path : List ℕ) × IsPath M t x y path × (length path ≡ suc (k + k))
   path_of zero x y w = (
     w.row 0 ∷ [],
@@ -195,7 +195,7 @@ module _ (M : ℕ → ℕ → ℤ) (small : (i j : ℕ) → IsEntry (M i j)) (t 
         omega arith,
       )
 
-  -- the path the other way
+  -- the reversed path
   back : (k x y : ℕ) → Way x y k → Way y x k
   back k x y w = record {
     row = λ i. w.row (k - suc i);
@@ -276,7 +276,7 @@ module _ (M : ℕ → ℕ → ℤ) (small : (i j : ℕ) → IsEntry (M i j)) (t 
           inside' : (a b k : ℕ) → a < k → b ≤ a → b < k - (a - b)
           inside' a b k l q = omega arith
 
-  -- so a place has a cycle without chords
+  -- each cycle place gives a cycle without chords
   pub place_cycle : (c d : ℕ) (path : List ℕ) → IsCyclePlace M t c d path → (q : Route c d path) → IsCycle M t q.k q.way.row q.way.col
   place_cycle c d path h q = record {
     long = q.long;
@@ -288,7 +288,7 @@ module _ (M : ℕ → ℕ → ℤ) (small : (i j : ℕ) → IsEntry (M i j)) (t 
     inner = q.way.inner;
   }
 
-  -- its lines are distinct
+  -- the lines of the cycle are distinct
   pub rows_apart : (c d : ℕ) (path : List ℕ) → IsCyclePlace M t c d path → (q : Route c d path) → IsDistinct (cycle_rows t path)
   rows_apart c d path h q = (
     (λ g. let l : t < t = all_in (λ x. x < t) (path_rows path) (q.rows_all (λ x. x < t) q.way.rows) t g in omega arith),
@@ -299,7 +299,7 @@ module _ (M : ℕ → ℕ → ℤ) (small : (i j : ℕ) → IsEntry (M i j)) (t 
   pub columns_apart : (c d : ℕ) (path : List ℕ) → IsCyclePlace M t c d path → (q : Route c d path) → IsDistinct (cycle_columns c d path)
   columns_apart c d path h q = q.columns_distinct (λ i j l m. apart (place_cycle c d path h q) i j l (omega arith))
     where
-      -- row i meets column i; it meets column j only where j is i + 1, and then the row after it or row t tells them apart
+      -- row i meets column i; it meets column j only if j is i + 1, and then the row after it or row t separates the columns
       apart : IsCycle M t q.k q.way.row q.way.col → (i j : ℕ) → i < j → j ≤ q.k → q.way.col i ≢ q.way.col j
       apart y zero j l m e = elim (cases_lt j q.k) [
         | inl lt ↦ sign_nonzero (M t (q.way.col 0)) y.first (subst (λ (x : ℕ). M t x ≡ pos 0) (sym e) (y.inner j l lt))
@@ -310,7 +310,7 @@ module _ (M : ℕ → ℕ → ℤ) (small : (i j : ℕ) → IsEntry (M i j)) (t 
           first_last y j l m e f = let o = h.order in let g : c ≡ d = sym q.way.starts ∙ e ∙ ap q.way.col f ∙ q.way.ends in omega arith
       apart y (suc i) j l m e = sign_nonzero (M (q.way.row i) (q.way.col (suc i))) (y.next i (omega arith)) (subst (λ (x : ℕ). M (q.way.row i) x ≡ pos 0) (sym e) (y.none i j (omega arith) m (omega arith) (omega arith)))
 
-  -- the sums of any function are the same by places
+  -- the sums of any function are the same by positions
   pub sum_by_places : (c d : ℕ) (path : List ℕ) (q : Route c d path) (N : ℕ → ℕ → ℤ)
       → sum_over (cycle_rows t path) (λ i. sum_over (cycle_columns c d path) (λ j. N i j)) ≡ cycle_sum N t q.k q.way.row q.way.col
   sum_by_places c d path q N =
@@ -319,7 +319,7 @@ module _ (M : ℕ → ℕ → ℤ) (small : (i j : ℕ) → IsEntry (M i j)) (t 
       ∙ ap (λ (z : ℤ). sum_over (map q.way.col (below (suc q.k))) (λ j. N t j) +ℤ z)
       (q.rows_are (λ i. sum_over (map q.way.col (below (suc q.k))) (λ j. N i j)) ∙ sym (sum_over-map q.way.row (below q.k) (λ i. sum_over (map q.way.col (below (suc q.k))) (λ j. N i j))))
 
-  -- the sum of a cycle is that of row t and of the path
+  -- the sum of a cycle is the sum of row t plus the sum of the path
   pub place_sum : (c d : ℕ) (path : List ℕ) → IsCyclePlace M t c d path → (q : Route c d path)
       → sum_over (cycle_rows t path) (λ i. sum_over (cycle_columns c d path) (λ j. M i j)) ≡ (M t c +ℤ M t d) +ℤ path_sum M c d path
   place_sum c d path h q =

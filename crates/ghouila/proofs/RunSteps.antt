@@ -1,4 +1,4 @@
--- A run with one step more in front.
+-- A run with one step more at its start.
 use Rattle.std.proofs.Common.{◌≡◌, ◌≢◌, ◌<◌, ◌++◌, ◌∙◌, ℕ, Option, Some, None, ℤ, pos, neg_ℤ, ◌+ℤ◌, ◌*ℤ◌, List, [], ◌∷◌, length, get_or, set, refl, ap, sym, subst, arith}
 use Rattle.std.specs.List.{AllByRecursion, remove}
 use Rattle.std.proofs.lemmas.List.{get_or-set_same, get_or-set_other, append_assoc}
@@ -42,7 +42,7 @@ signs_first steps s s' others row None m rows same (left, (aside, one, rest)) =
 signs_first steps s s' others row (Some column) m rows same (left, (next, sign, (after, made, rest))) =
     let all = next_same m rows left row column (λ r. s' r ≡ s r) next same in (left, (next, all.0 ∙ sign ∙ pivot_sign_same m row column left s s' all.1, (after, made, others after left all.1 rest)))
 
--- a run depends on the signs of its rows alone
+-- a run depends only on the signs of its rows
 pub signs_same : (steps : List Pivot) (s s' : ℕ → ℤ) (m : Matrix) (rows : List ℕ) → AllByRecursion (λ r. s' r ≡ s r) rows → SignsBySteps m rows steps s → SignsBySteps m rows steps s'
 signs_same [] s s' m rows same run = run
 signs_same (step ∷ steps) s s' m rows same run = signs_first steps s s' (signs_same steps s s') step.row step.column m rows same run
@@ -89,7 +89,7 @@ first_and_others (row ∷ rows) h = refl
 pub steps_later : (before middle : List Pivot) (step : Pivot) (steps : List Pivot) → middle ≡ before ++ step ∷ [] → middle ++ steps ≡ before ++ step ∷ steps
 steps_later before middle step steps e = ap (λ xs. xs ++ steps) e ∙ append_assoc before (step ∷ []) steps
 
--- a violator is one after a row was put aside
+-- a violator of the remaining rows is one after a row was put aside
 pub violated_aside : (m : Matrix) (rows left : List ℕ) (row : ℕ) (before middle after : List Pivot) (outcome : MarkedSigning) → ((s : RowSigns) → outcome ≡ Signed s → ⊥) → IsPutAside m rows row left
     → middle ≡ before ++ record { row = row; column = None } ∷ [] → AddsRun m left middle after outcome → AddsRun m rows before after outcome
 violated_aside m rows left row before middle after (Signed s) other aside e run = absurd (other s refl)

@@ -1,4 +1,4 @@
--- The sum of a violator of four blocks is that of the two grown sides, modulo 4.
+-- The sum of a violator of four blocks is equal modulo 4 to the sum of the two grown sides.
 use Rattle.std.proofs.Common.{ℤ, pos, Bool, true, false, ◌≡◌, ◌+ℤ◌, ◌*ℤ◌, ◌-ℤ◌, arith, inl, inr}
 use Rattle.cmr_base.specs.Sums.{IsEven, IsTwoModFour}
 use Rattle.cmr_base.specs.Signing.{IsSign}

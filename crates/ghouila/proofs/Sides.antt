@@ -1,4 +1,4 @@
--- Separations of the rows P and columns Q: side one has the lines where the test is true.
+-- Separations of the rows P and columns Q: side one contains the lines for which the test is true.
 use Rattle.std.proofs.Common.{◌≡◌, ◌⊎◌, ◌*ℤ◌, ◌-ℤ◌, ℕ, ℤ, pos, Bool, true, false}
 use Rattle.cmr_base.specs.Signing.{IsSign}
 use Rattle.cmr_base.specs.Separations.{spread}
@@ -7,7 +7,7 @@ use Rattle.cmr_base.specs.Separations.{spread}
 abbrev pub On : (ℕ → Type 0) → (ℕ → Bool) → Bool → ℕ → Type 0
 On P side s x = P x × (side x ≡ s)
 
--- a two-separation, of any number of lines
+-- a two-separation of any number of lines
 pub record IsTwo (M : ℕ → ℕ → ℤ) (P Q : ℕ → Type 0) (sr sc : ℕ → Bool) (i j : ℕ) : Type 0 where
   pub row : On P sr false i
   pub column : On Q sc true j
@@ -15,7 +15,7 @@ pub record IsTwo (M : ℕ → ℕ → ℤ) (P Q : ℕ → Type 0) (sr sc : ℕ �
   pub zero : (r c : ℕ) → On P sr true r → On Q sc false c → M r c ≡ pos 0
   pub product : (r c : ℕ) → On P sr false r → On Q sc true c → M r c ≡ M r j *ℤ (M i c *ℤ M i j)
 
--- the other line of the first connector: a column where it is flat, a row where it is tall
+-- the other line of the first connector: a column if the connector is flat, a row if it is tall
 abbrev pub IsFirstOther : (ℕ → ℕ → ℤ) → (ℕ → Type 0) → (ℕ → Type 0) → (ℕ → Bool) → (ℕ → Bool) → Bool → ℕ → ℕ → ℕ → ℕ → ℕ → Type 0
 IsFirstOther M P Q sr sc true i p k j q = On Q sc true q × (M i q ≡ pos 0) × IsSign (M k q)
 IsFirstOther M P Q sr sc false i p k j q = On P sr true q × (M q p ≡ pos 0) × IsSign (M q j)
@@ -72,6 +72,6 @@ abbrev pub ConnectorColumn : Bool → ℕ → ℕ → ℕ → Type 0
 ConnectorColumn true column line c = (c ≡ column) ⊎ (c ≡ line)
 ConnectorColumn false column line c = c ≡ column
 
--- the lines of a side, and these
+-- the lines of a side, and these lines
 abbrev pub With : (ℕ → Type 0) → (ℕ → Bool) → Bool → (ℕ → Type 0) → ℕ → Type 0
 With P side s More x = On P side s x ⊎ More x

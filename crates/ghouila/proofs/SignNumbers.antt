@@ -40,7 +40,7 @@ low_bit_back sign k (inl e) =
 low_bit_back sign k (inr e) =
     subst (λ s. low_sign (sign_bit s + 2 * k) ≡ s) (sym e) (let odd : (1 + 2 * k) % 2 ≡ 1 = omega arith in rw odd refl)
 
--- each choice of signs has a number of its own
+-- the number of a list of signs gives that list
 pub signs_numbered-sign_number : (signs : List ℤ) → AllByRecursion IsSign signs → signs_numbered (length signs) (sign_number signs) ≡ signs
 signs_numbered-sign_number [] all = refl
 signs_numbered-sign_number (sign ∷ signs) all =
@@ -52,7 +52,7 @@ signs_numbered_step prefix n k number h =
     let e : n - k ≡ suc (n - (k + 1)) = omega arith in
     rw (append_assoc, e) refl
 
--- a later number, where this one is no signing's
+-- if the signings have no smaller number than this one, and this one gives no signing, all their numbers are larger
 pub no_lesser : (m : Matrix) (rows : List ℕ) (number : ℕ) → (IsSigning m rows (signs_numbered (length rows) number) → ⊥) → ((others : List ℤ) → IsSigning m rows others → number ≤ sign_number others) → (others : List ℤ) → IsSigning m rows others → number + 1 ≤ sign_number others
 no_lesser m rows number not before others signs =
     elim (cases_lt number (sign_number others)) [

@@ -6,7 +6,7 @@ use Rattle.cmr_base.proofs.Integers.{sums, products, mul_comm}
 use Rattle.cmr_base.proofs.Parity.{IsFour}
 pub use Rattle.cmr_base.proofs.SignEntries.{sign-mul, sign_nonzero, sign_square}
 
--- a sum of two signs is 2 modulo 4 where they are equal, and else 0
+-- a sum of two signs is 2 modulo 4 if they are equal, otherwise 0
 pub pair_kind : (x y : ℤ) → IsSign x → IsSign y → ((x ≡ y) × IsTwoModFour (x +ℤ y)) ⊎ ((x ≡ neg_ℤ y) × (x +ℤ y ≡ pos 0))
 pair_kind x y (inl e) (inl f) = inl (e ∙ sym f, (pos 0, rw (e, f) refl))
 pair_kind x y (inl e) (inr f) = inr (rw (e, f) refl, rw (e, f) refl)
@@ -19,7 +19,7 @@ negated_differs b y (inl e) (inr f) q = let p : b *ℤ neg_ℤ y ≡ pos 1 = rw 
 negated_differs b y (inr e) (inl f) q = let p : b *ℤ neg_ℤ y ≡ pos 1 = rw (e, f) refl in let r : b *ℤ y ≡ negsuc 0 = rw (e, f) refl in omega (arith, sums)
 negated_differs b y (inr e) (inr f) q = let p : b *ℤ neg_ℤ y ≡ negsuc 0 = rw (e, f) refl in let r : b *ℤ y ≡ pos 1 = rw (e, f) refl in omega (arith, sums)
 
--- equal products make the sums differ by a multiple of 4
+-- sums of signs with equal products differ by a multiple of 4
 pub products_four : (a b x y : ℤ) → IsSign a → IsSign b → IsSign x → IsSign y → a *ℤ x ≡ b *ℤ y → IsFour ((a +ℤ b) -ℤ (x +ℤ y))
 products_four a b x y u v w z q = go (pair_kind a b u v) (pair_kind x y w z)
   where
@@ -29,7 +29,7 @@ products_four a b x y u v w z q = go (pair_kind a b u v) (pair_kind x y w z)
     go (inl (e, i)) (inr (f, j)) = absurd (let p : a *ℤ x ≡ b *ℤ neg_ℤ y = rw (e, f) refl in negated_differs b y v z (sym p ∙ q))
     go (inr (e, i)) (inl (f, j)) = absurd (let p : a *ℤ x ≡ neg_ℤ b *ℤ y = rw (e, f) refl in negated_differs y b z v (mul_comm y (neg_ℤ b) ∙ sym p ∙ q ∙ mul_comm b y))
 
--- and the other way round
+-- signs whose sums differ by a multiple of 4 have equal products
 pub four_products : (a b x y : ℤ) → IsSign a → IsSign b → IsSign x → IsSign y → IsFour ((a +ℤ b) -ℤ (x +ℤ y)) → a *ℤ x ≡ b *ℤ y
 four_products a b x y u v w z (k, q) = go (pair_kind a b u v) (pair_kind x y w z)
   where
@@ -42,7 +42,7 @@ four_products a b x y u v w z (k, q) = go (pair_kind a b u v) (pair_kind x y w z
     go (inl (e, (l, i))) (inr (f, j)) = absurd (omega (arith, sums))
     go (inr (e, i)) (inl (f, (l, j))) = absurd (omega (arith, sums))
 
--- signs are equal where they cannot differ
+-- signs are equal if they cannot differ
 pub signs_stable : (x y : ℤ) → IsSign x → IsSign y → ((x ≡ y → ⊥) → ⊥) → x ≡ y
 signs_stable x y (inl e) (inl f) h = e ∙ sym f
 signs_stable x y (inr e) (inr f) h = e ∙ sym f

@@ -37,7 +37,7 @@ even_change-signed sign (x ∷ xs) f u = add (f x) (sign x) (sum_over xs f) (sig
     add x s y w (inl e) (k, h) = (k, rw e (simp products (omega (arith, sums))))
     add x s y w (inr e) (k, h) = (x +ℤ k, rw e (simp products (omega (arith, sums))))
 
--- and a sum of even numbers by a multiple of four
+-- signs change a sum of even numbers by a multiple of four
 pub four_change-signed : {A : Type 0} (sign : A → ℤ) (xs : List A) (f : A → ℤ) → AllByRecursion (λ x. IsSign (sign x)) xs → AllByRecursion (λ x. IsEven (f x)) xs → IsFour (sum_over xs f -ℤ signed sign xs f)
 four_change-signed sign [] f u even = (pos 0, refl)
 four_change-signed sign (x ∷ xs) f u even = add (f x) (sign x) (sum_over xs f) (signed sign xs f) u.0 even.0 (four_change-signed sign xs f u.1 even.1)
@@ -69,7 +69,7 @@ signed_pivot_column sign row M r c (x ∷ xs) = rw (pivoted_at M r c (row x), si
     add : (s a p w : ℤ) → s *ℤ neg_ℤ (a *ℤ p) +ℤ neg_ℤ (a *ℤ w) ≡ neg_ℤ (a *ℤ (s *ℤ p +ℤ w))
     add s a p w = simp products (omega (arith, sums))
 
--- the row taken away gets the signed sum of the pivot's column; then that column adds up to 0 and the others keep their sums
+-- the removed row gets the signed sum of the pivot's column; then that column's sum is 0 and the other columns keep their sums
 module _ {A : Type 0} (sign : A → ℤ) (row : A → ℕ) (M : ℕ → ℕ → ℤ) (r c : ℕ) (xs : List A) (u : IsSign (M r c)) where
   pub pivot_sign : AllByRecursion (λ x. IsSign (sign x)) xs → IsOdd (sum_over xs (λ x. M (row x) c)) → IsEntry (signed sign xs (λ x. pivoted M r c (row x) c)) → IsSign (signed sign xs (λ x. pivoted M r c (row x) c))
   pivot_sign signs odd entry = odd_entry _ entry (subst IsOdd (sym (signed_pivot_column sign row M r c xs))

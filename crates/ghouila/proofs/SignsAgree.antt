@@ -1,4 +1,4 @@
--- Two matrices of one support without cycle fault agree up to the signs of lines.
+-- Two matrices with one support and without cycle faults agree up to the signs of lines.
 use Rattle.std.proofs.Common.{ℕ, suc, ℤ, pos, List, [], ◌∷◌, ◌≡◌, ◌≢◌, ◌<◌, ◌↔◌, ◌*ℤ◌, ◌∙◌, sym, ap, arith, subst, inl, inr}
 use Rattle.std.proofs.lemmas.Bool.{cases_lt}
 use Rattle.cmr_base.specs.Sums.{IsTwoModFour}
@@ -25,7 +25,7 @@ path_same M N same t c d (r ∷ j ∷ rest) (l, a, b, z, h) = (l, (λ e. a ((sam
 turn : (M N : ℕ → ℕ → ℤ) → SameSupport M N → SameSupport N M
 turn M N same i j = ((same i j).1, (same i j).0)
 
--- places are places of the support
+-- the cycle places of a matrix are the cycle places of its support
 pub place_same : (M N : ℕ → ℕ → ℤ) → SameSupport M N → (t c d : ℕ) (path : List ℕ) → IsCyclePlace M t c d path → IsCyclePlace N t c d path
 place_same M N same t c d path p = record {
   order = p.order;
@@ -57,7 +57,7 @@ module _ (M N : ℕ → ℕ → ℤ) (small_m : (i j : ℕ) → IsEntry (M i j))
   unit_ratio s units i j h = let u = unit M small_m i j h in sign-mul (s j *ℤ M i j) (N i j) (sign-mul (s j) (M i j) (units j) u) (unit_over i j u)
 
   module _ (s : ℕ → ℤ) (t : ℕ) (units : (j : ℕ) → IsSign (s j)) (rows : (i : ℕ) → i < t → (a b : ℕ) → M i a ≢ pos 0 → M i b ≢ pos 0 → ratio M N s i a ≡ ratio M N s i b) where
-    -- at a place
+    -- the ratios at a cycle place
     at_place : (c d : ℕ) (path : List ℕ) → IsCyclePlace M t c d path → ratio M N s t c ≡ ratio M N s t d
     at_place c d path p = go (route M small_m t c d path p.is_path)
       where

@@ -30,7 +30,7 @@ module _ (m : Matrix) (row : ℕ) (left : List ℕ) (out : IsOutside row left) (
   here : get_or signs' row (pos 0) ≡ sign
   here = get_or-set_same signs row sign (pos 0) (omega arith)
 
-  -- the signs of the others stay
+  -- the signs of the other rows do not change
   others : AllByRecursion (λ r. get_or signs' r (pos 0) ≡ get_or signs r (pos 0)) left
   others = all_weaker (λ r. r ≢ row) (λ r. get_or signs' r (pos 0) ≡ get_or signs r (pos 0)) (λ r apart. get_or-set_other signs row r sign (pos 0) apart) left out
 
@@ -46,7 +46,7 @@ module _ (m : Matrix) (row : ℕ) (left : List ℕ) (out : IsOutside row left) (
       ∙ ap (λ z. sign *ℤ f row +ℤ z) (sum_over_same left (λ r. get_or signs' r (pos 0) *ℤ f r) (λ r. get_or signs r (pos 0) *ℤ f r)
       (all_weaker (λ r. get_or signs' r (pos 0) ≡ get_or signs r (pos 0)) (λ r. get_or signs' r (pos 0) *ℤ f r ≡ get_or signs r (pos 0) *ℤ f r) (λ r e. ap (λ z. z *ℤ f r) e) left others))
 
--- before a pivot
+-- the signs before a pivot
 pub signs_before_pivot : (before after : Matrix) (row column : ℕ) (left : List ℕ) (signs sums : List ℤ) → height after ≡ height before → after.width ≡ before.width → row < height before → column < before.width → IsOutside row left
     → IsSign (entry before row column) → IsOdd (sum_over left (λ r. entry before r column)) → PivotsRows before after row column left → SignsRows after left signs sums
     → SignsRows before (row ∷ left) (set signs row (get_or sums column (pos 0))) (set sums column (pos 0))
@@ -90,7 +90,7 @@ signs_before_pivot before after row column left signs sums same_height same_widt
         ∙ ap (λ z. z *ℤ entry before row column +ℤ signed (λ r. get_or signs r (pos 0)) left (λ r. entry before r column)) sigma
         ∙ pivot_column_vanishes (λ r. get_or signs r (pos 0)) (λ r. r) (entry before) row column left u)
 
--- with a row that was put aside
+-- the signs with a row that was put aside
 pub signs_with_aside : (m : Matrix) (row : ℕ) (left : List ℕ) (signs sums sums' : List ℤ) → row < height m → IsOutside row left → IsTernaryRow m.width (entry m row)
     → ((column : ℕ) → column < m.width → (entry m row column ≡ pos 0) ⊎ IsEven (sum_over left (λ r. entry m r column))) → SignsRows m left signs sums
     → length sums' ≡ length sums → ((column : ℕ) → column < m.width → get_or sums' column (pos 0) ≡ get_or sums column (pos 0) +ℤ entry m row column) → SignsRows m (row ∷ left) (set signs row (pos 1)) sums'

@@ -41,7 +41,7 @@ violator_same M N rows columns same v = record {
     row : (i : ℕ) → sum_over columns (λ j. M i j) ≡ sum_over columns (λ j. N i j)
     row i = sum_over_same columns (λ j. M i j) (λ j. N i j) (all_of _ (λ j. same i j) columns)
 
--- a violator stays one where lines are multiplied by -1
+-- the lines of a violator are a violator after lines are multiplied by -1
 pub violator_up_to_signs : (M N : ℕ → ℕ → ℤ) (rows columns : List ℕ) → AgreeUpToSigns M N → IsViolator M rows columns → IsViolator N rows columns
 violator_up_to_signs M N rows columns w v = violator_same (λ i j. w.row_sign i *ℤ (w.column_sign j *ℤ M i j)) N rows columns (λ i j. sym (w.entries i j))
     (violator-transposed (λ j i. w.row_sign i *ℤ (w.column_sign j *ℤ M i j)) columns rows

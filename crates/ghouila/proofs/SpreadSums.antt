@@ -1,4 +1,4 @@
--- Sums over the block that two rows and two columns make, where these cross in x y; z w.
+-- Sums over the block that two rows and two columns make; the entries at their crossings are x y; z w.
 use Rattle.std.proofs.Common.{ℕ, ℤ, pos, List, [], ◌∷◌, ◌≡◌, ◌+ℤ◌, ◌*ℤ◌, ◌-ℤ◌, ◌∙◌, sym, ap, ap₂, arith}
 use Rattle.cmr_base.specs.Sums.{sum_over, IsEven}
 use Rattle.cmr_base.specs.Signing.{IsSign}
@@ -8,14 +8,14 @@ use Rattle.cmr_base.proofs.Parity.{even-mul_right, even-sub}
 use Rattle.cmr_base.proofs.SignedProducts.{sign_square}
 
 module _ (d x y z w : ℤ) where
-  -- how often each of the two columns counts in the sum of columns in which the two rows have the sums v1 and v2
+  -- the multiplicity of each of the two columns in the sum of columns in which the two rows have the sums v1 and v2
   abbrev pub first_column_count : ℤ → ℤ → ℤ
   first_column_count v1 v2 = d *ℤ (w *ℤ v1 -ℤ y *ℤ v2)
 
   abbrev pub second_column_count : ℤ → ℤ → ℤ
   second_column_count v1 v2 = d *ℤ (x *ℤ v2 -ℤ z *ℤ v1)
 
-  -- how often each of the two rows counts in the sum of rows in which the two columns have the sums u1 and u2
+  -- the multiplicity of each of the two rows in the sum of rows in which the two columns have the sums u1 and u2
   abbrev pub first_row_count : ℤ → ℤ → ℤ
   first_row_count u1 u2 = d *ℤ (w *ℤ u1 -ℤ z *ℤ u2)
 
@@ -56,14 +56,14 @@ module _ (d x y z w : ℤ) where
   pub even_count : (m n a b : ℤ) → IsEven m → IsEven n → IsEven (d *ℤ (a *ℤ m -ℤ b *ℤ n))
   even_count m n a b h k = even-mul_right d (a *ℤ m -ℤ b *ℤ n) (even-sub (a *ℤ m) (b *ℤ n) (even-mul_right a m h) (even-mul_right b n k))
 
--- a determinant that is 1 or -1, twice
+-- a determinant that is 1 or -1, used twice
 pub times_square : (d n v : ℤ) → IsSign d → d ≡ n → v ≡ (d *ℤ n) *ℤ v
 times_square d n v sign e = plain v ∙ ap (λ (m : ℤ). m *ℤ v) (sym (ap (λ (m : ℤ). d *ℤ m) (sym e) ∙ sign_square d sign))
   where
     plain : (v : ℤ) → v ≡ pos 1 *ℤ v
     plain v = simp products
 
--- the sums from how often the lines count
+-- the sums from the multiplicities of the lines
 pub first_row_solved : (d x y z w v1 v2 : ℤ) → (d *ℤ (x *ℤ w -ℤ y *ℤ z)) *ℤ v1 ≡ x *ℤ (d *ℤ (w *ℤ v1 -ℤ y *ℤ v2)) +ℤ y *ℤ (d *ℤ (x *ℤ v2 -ℤ z *ℤ v1))
 first_row_solved d x y z w v1 v2 = simp products (omega (arith, sums))
 

@@ -15,7 +15,7 @@ use Rattle.ghouila.proofs.Square.{square_violator}
 use Rattle.ghouila.proofs.Marks.{joined, marked-replicate, marked_at, set_unmarked}
 use Rattle.cmr_base.proofs.SignEntries.{sign_square}
 
--- whether one of two entries is 0 and the other not, as the code tests it
+-- whether one of two entries is 0 and the other is not, as the code tests it
 pub odd_pair : (x y : ℤ) → IsEntry x → IsEntry y → HasParity (not (beq (not (eqb (of_z w8 x) 0)) (not (eqb (of_z w8 y) 0)))) (x +ℤ y)
 odd_pair x y hx hy = go (zero_or_sign x hx) (zero_or_sign y hy)
   where
@@ -56,7 +56,7 @@ columns_apart m row column other_row other_column s e =
     (record { corner = s.square.corner; below = s.square.beside; beside = s.square.below; across = s.square.across; opposite = s.square.opposite ∙ ap (λ z. neg_ℤ (entry m row column *ℤ z)) (mul_comm (entry m other_row column) (entry m row other_column)) })
     (ap (λ j. entry m row j) e, ap (λ j. entry m other_row j) e)
 
--- two marks among none
+-- two marks in a list without marks
 two_marks : (size first second : ℕ) → first < size → second < size → second ≢ first → HasOneMore second (first ∷ []) (marked (set (set (replicate size false) first true) second true))
 two_marks size first second first_in second_in apart = subst (λ xs. HasOneMore second xs (marked (set (set blank first true) second true))) one (subst (λ marks. HasOneMore second (marked marks) (marked (set (set blank first true) second true))) unmarked both)
   where

@@ -1,4 +1,4 @@
--- Lists with some items left out.
+-- Lists with some items removed.
 use Rattle.std.proofs.Common.{◌≡◌, ◌⊎◌, inl, inr, ◌++◌, ◌+◌, ◌∙◌, ℕ, suc, ℤ, pos, List, [], ◌∷◌, length, refl, ap, sym, subst, arith}
 use Rattle.std.specs.List.{AllByRecursion}
 use Rattle.cmr_base.specs.Matrix.{IsEntry}
@@ -7,7 +7,7 @@ use Rattle.cmr_base.proofs.Lists.{HasOneMore, one_more_first, one_more_later, al
 use Rattle.cmr_base.proofs.IncreasingLists.{RisesIn, rises_from_lower}
 use Rattle.ghouila.proofs.SignedSums.{zero_or_sign}
 
--- the first list is the second with some items left out
+-- the first list is the second list with some items removed
 abbrev pub IsSublist : List ℕ → List ℕ → Type 0
 IsSublist P [] = P ≡ []
 IsSublist P (x ∷ R) = IsSublist P R ⊎ ((Q : List ℕ) × (P ≡ x ∷ Q) × IsSublist Q R)
@@ -16,7 +16,7 @@ pub sublist_none : (R : List ℕ) → IsSublist [] R
 sublist_none [] = refl
 sublist_none (x ∷ R) = inl (sublist_none R)
 
--- each item alone
+-- the list of a single item
 pub sublist_each : (R : List ℕ) → AllByRecursion (λ x. IsSublist (x ∷ []) R) R
 sublist_each [] = tt
 sublist_each (x ∷ R) = (inr ([], refl, sublist_none R), all_weaker (λ y. IsSublist (y ∷ []) R) (λ y. IsSublist (y ∷ []) (x ∷ R)) (λ y h. inl h) R (sublist_each R))
@@ -26,7 +26,7 @@ sublist_rises low high [] P rises e = subst (RisesIn low high) (sym e) tt
 sublist_rises low high (x ∷ R) P rises (inl h) = rises_from_lower low (x + 1) high P (omega (arith, rises.0)) (sublist_rises (x + 1) high R P rises.2 h)
 sublist_rises low high (x ∷ R) P rises (inr h) = subst (RisesIn low high) (sym h.1) (rises.0, rises.1, sublist_rises (x + 1) high R h.0 rises.2 h.2)
 
--- a sublist with one item more, in its place
+-- a sublist with one item more, in its order
 pub record IsSublistWith (item : ℕ) (fewer R : List ℕ) : Type 0 where
   pub list : List ℕ
   pub more : HasOneMore item fewer list

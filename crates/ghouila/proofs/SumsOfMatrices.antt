@@ -26,7 +26,7 @@ module _ (m n : ℕ) (entries : ℕ → ℕ → ℤ) where
             (all_weaker (λ r. r < m) (λ r. _) (λ r l. all_weaker (λ c. c < n) (λ c. entry (filled m n entries) r c ≡ entries r c) (λ c k. entry-filled m n entries r c l k) v.C v.columns) v.R inside) v.violator;
       }))
 
--- the same sizes, written otherwise
+-- the same sizes, written differently
 resized : (M : ℕ → ℕ → ℤ) (m n m' n' : ℕ) → m' ≤ m → n' ≤ n → Free m n M → Free m' n' M
 resized M m n m' n' l k = narrower M (λ r. r < m) (λ c. c < n) (λ r. r < m') (λ c. c < n') (λ r h. omega arith) (λ c h. omega arith)
 

@@ -1,4 +1,4 @@
--- A matrix with an embedded three-separation is free of violators exactly where both children are.
+-- A matrix with an embedded three-separation has no violator if and only if neither child has one.
 use Rattle.std.proofs.Common.{ℕ, ℤ, pos, negsuc, Bool, true, false, ◌≡◌, ◌*ℤ◌, neg_ℤ, ◌∙◌, sym, ap, ap₂, refl, arith, subst, ◌⊎◌, inl, inr}
 use Rattle.cmr_base.specs.Signing.{IsSign}
 use Rattle.ghouila.proofs.ViolatedLines.{ViolatedIn, FreeIn, narrower}
@@ -25,7 +25,7 @@ corner_one u x (inr e) = rw e (plain x)
     plain : (x : ℤ) → x ≡ negsuc 0 *ℤ (pos 1 *ℤ (negsuc 0 *ℤ x))
     plain x = simp products (omega (arith, sums))
 
--- what is 1 times w, with units u, is u times w
+-- a unit x is u*w, with a unit u, if x*u*w is 1
 corner_two : (x u w : ℤ) → IsSign x → IsSign u → (x *ℤ u) *ℤ w ≡ pos 1 → x ≡ u *ℤ (pos 1 *ℤ w)
 corner_two x u w (inl e) (inl f) h = plain x u w e f (sym (one w) ∙ ap (λ (n : ℤ). n *ℤ w) (sym (ap₂ (λ (n m : ℤ). n *ℤ m) e f)) ∙ h)
   where

@@ -1,4 +1,4 @@
--- A matrix with a two-separation is free of violators exactly where both children are.
+-- A matrix with a two-separation has no violator if and only if neither child has one.
 use Rattle.std.proofs.Common.{ℕ, ℤ, pos, Bool, true, false, ◌≡◌, ◌*ℤ◌, sym, refl, subst, ◌⊎◌, inl, inr}
 use Rattle.ghouila.proofs.ViolatedLines.{ViolatedIn, FreeIn, narrower}
 use Rattle.ghouila.proofs.Sides.{On, With, IsTwo}

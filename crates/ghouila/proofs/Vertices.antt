@@ -41,7 +41,7 @@ chosen_rises p low high (x ∷ xs) rises = go (p x) (chosen_rises p (x + 1) high
     go true h = (rises.0, rises.1, h)
     go false h = rises_from_lower low (x + 1) high (chosen p xs) (omega (arith, rises.0)) h
 
--- what holds of all chosen ones
+-- all chosen lines have a property
 all_chosen : (P : ℕ → Type 0) (p : ℕ → Bool) (xs : List ℕ) → AllByRecursion (λ x. p x ≡ true → P x) xs → AllByRecursion P (chosen p xs)
 unfolding chosen
 all_chosen P p [] h = tt
@@ -67,7 +67,7 @@ from_chosen P p (x ∷ xs) h = (first (p x) refl h, from_chosen P p xs (rest (p 
     rest true all = all.1
     rest false all = all
 
--- the others are 0
+-- the lines that are not chosen give 0
 sum_chosen : (p : ℕ → Bool) (f : ℕ → ℤ) → ((x : ℕ) → p x ≡ false → f x ≡ pos 0) → (xs : List ℕ) → sum_over xs f ≡ sum_over (chosen p xs) f
 unfolding chosen
 sum_chosen p f zeros [] = refl
@@ -80,7 +80,7 @@ sum_chosen p f zeros (x ∷ xs) = go (p x) refl (sum_chosen p f zeros xs)
     go true e same = ap (λ z. f x +ℤ z) same
     go false e same = less (f x) (sum_over xs f) (sum_over (chosen p xs) f) (zeros x e) same
 
--- ---- whole numbers
+-- ---- integers
 
 positive_by_test : (s : ℤ) → pos 0 ≤ℤ s → is_nonzero s ≡ true → pos 1 ≤ℤ s
 positive_by_test (pos zero) l e = cc
@@ -92,7 +92,7 @@ product_not_below (pos a) (pos b) l k = omega (arith, sums)
 product_not_below (pos a) (negsuc b) l k = absurd (omega (arith, sums))
 product_not_below (negsuc a) b l k = absurd (omega (arith, sums))
 
--- a positive multiple is no smaller
+-- a positive multiple is not smaller
 pub multiple_at_least : (e s : ℤ) → pos 0 ≤ℤ e → pos 1 ≤ℤ s → e ≤ℤ (e *ℤ s)
 multiple_at_least e s l k = plain e s (product_not_below e (s -ℤ pos 1) l (omega (arith, sums))) (split e s)
   where
@@ -102,7 +102,7 @@ multiple_at_least e s l k = plain e s (product_not_below e (s -ℤ pos 1) l (ome
     plain : (e s : ℤ) → pos 0 ≤ℤ (e *ℤ (s -ℤ pos 1)) → e *ℤ (s -ℤ pos 1) ≡ e *ℤ s -ℤ e → e ≤ℤ (e *ℤ s)
     plain e s l f = omega (arith, sums)
 
--- a number that none of the first ones exceeds, up or down
+-- a bound on the absolute values of the first n numbers
 pub record HasBound (n : ℕ) (f : ℕ → ℤ) : Type 0 where
   pub bound : ℤ
   pub positive : pos 1 ≤ℤ bound
@@ -145,7 +145,7 @@ module _ (m : Matrix) (unimodular : IsTotallyUnimodular m) (b y : ℕ → ℤ) (
   abbrev all_columns : List ℕ
   all_columns = first_lines m.width
 
-  -- what a row falls short of its bound
+  -- the difference between the row's bound and its value
   abbrev slack : ℕ → ℤ
   slack i = d *ℤ b i -ℤ row_value m (first_lines m.width) y i
 
@@ -170,7 +170,7 @@ module _ (m : Matrix) (unimodular : IsTotallyUnimodular m) (b y : ℕ → ℤ) (
   rows_rise : RisesIn 0 (height m) R
   rows_rise = chosen_rises is_tight 0 (height m) (first_lines (height m)) (rises-range 0 (height m) (height m) (omega arith))
 
-  -- a move that keeps the tight rows and the zeros keeps the point feasible, if it is small
+  -- a small move that keeps the tight rows and the zeros also keeps the point feasible
   moved : (e : ℤ) (z : ℕ → ℤ) → pos 1 ≤ℤ e
       → ((j : ℕ) → j < m.width → neg_ℤ e ≤ℤ z j) → ((j : ℕ) → is_nonzero (y j) ≡ false → z j ≡ pos 0)
       → ((i : ℕ) → i < height m → row_value m (first_lines m.width) z i ≤ℤ e) → ((i : ℕ) → i < height m → is_tight i ≡ true → row_value m (first_lines m.width) z i ≡ pos 0)
@@ -225,7 +225,7 @@ module _ (m : Matrix) (unimodular : IsTotallyUnimodular m) (b y : ℕ → ℤ) (
           plain : (x a z s t : ℤ) → x ≡ a +ℤ z → s ≡ t -ℤ a → z ≡ pos 0 → s ≡ pos 0 → x ≤ℤ t
           plain x a z s t f g h k = omega (arith, sums)
 
-  -- so no such move is left
+  -- the only such move is 0
   unmoved : (e : ℤ) (z : ℕ → ℤ) → IsFeasible m b (λ j. e *ℤ y j +ℤ z j) (e *ℤ d) → IsFeasible m b (λ j. e *ℤ y j -ℤ z j) (e *ℤ d) → (j : ℕ) → j < m.width → z j ≡ pos 0
   unmoved e z p q j l = plain (e *ℤ y j) (z j) (v.extreme (λ j. e *ℤ y j +ℤ z j) (λ j. e *ℤ y j -ℤ z j) (e *ℤ d) p q (λ j l. middle (y j) (z j)) j l)
     where
@@ -236,7 +236,7 @@ module _ (m : Matrix) (unimodular : IsTotallyUnimodular m) (b y : ℕ → ℤ) (
       plain x z e = omega (arith, sums)
 
   module _ (z : ℕ → ℤ) (h : AllByRecursion (λ i. sum_over C (λ j. entry m i j *ℤ z j) ≡ pos 0) R) where
-    -- 0 outside the columns
+    -- the numbers, with 0 outside the columns
     abbrev z' : ℕ → ℤ
     z' j = cond (is_nonzero (y j)) (z j) (pos 0)
 

@@ -1,4 +1,4 @@
--- Violators among some rows and columns, in which lines may stand more than once.
+-- Violators on some rows and columns, in which lines may be repeated.
 use Rattle.std.proofs.Common.{◌≡◌, ◌<◌, ◌∙◌, ℕ, ℤ, List, [], ◌∷◌, map, length, get_or, subst, sym, ap₂, refl}
 use Rattle.std.specs.List.{AllByRecursion, Contains}
 use Rattle.std.proofs.lemmas.List.{get_or_default, length-map}
@@ -48,7 +48,7 @@ module _ (m : Matrix) where
     violator = violator;
   })
 
--- ---- rows and columns by their places in lists
+-- ---- rows and columns by their positions in lists
 
 module _ (M : ℕ → ℕ → ℤ) (f g : ℕ → ℕ) (I J : List ℕ) where
   whole : sum_over (map f I) (λ r. sum_over (map g J) (λ c. M r c)) ≡ sum_over I (λ i. sum_over J (λ j. M (f i) (g j)))
@@ -76,7 +76,7 @@ places rows (r ∷ R) h = let more = places rows R h.1 in
 pairwise : (M N : ℕ → ℕ → ℤ) (P Q : ℕ → Type 0) (I J : List ℕ) → ((i j : ℕ) → P i → Q j → M i j ≡ N i j) → AllByRecursion P I → AllByRecursion Q J → AllByRecursion (λ i. AllByRecursion (λ j. M i j ≡ N i j) J) I
 pairwise M N P Q I J same in_rows in_columns = all_weaker P (λ i. AllByRecursion (λ j. M i j ≡ N i j) J) (λ i p. all_weaker Q (λ j. M i j ≡ N i j) (λ j q. same i j p q) J in_columns) I in_rows
 
--- a submatrix has no violator exactly where none stands among its lines
+-- a submatrix has no violator if and only if its lines contain none
 module _ (m : Matrix) (rows columns : List ℕ) where
   sub_height : height (submatrix m rows columns) ≡ length rows
   sub_height = length-map rows (λ row. map (entry m row) columns)

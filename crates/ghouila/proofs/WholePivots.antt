@@ -1,4 +1,4 @@
--- Sums of rows and columns after the pivot of a whole matrix, and from a violator after it to one before it.
+-- Sums of rows and columns after the pivot of a whole matrix, and a violator after it mapped back to one before it.
 use Rattle.std.proofs.Common.{◌≡◌, ◌≢◌, ◌⊎◌, inl, inr, ◌∙◌, ℕ, Bool, true, false, ℤ, pos, negsuc, neg_ℤ, ◌+ℤ◌, ◌*ℤ◌, ◌-ℤ◌, List, refl, ap, subst, arith}
 use mathlib.Core.Path.{ap₂}
 use Rattle.std.specs.List.{AllByRecursion}
@@ -17,7 +17,7 @@ use Rattle.ghouila.proofs.PivotSums.{sum_over_column, sum_over_pivot_column}
 use Rattle.ghouila.proofs.PivotBack.{IsViolatorAfter, violator_before, even_back, row_after, total_after}
 use Rattle.cmr_base.specs.Cuts.{bit}
 
--- what holds of each item of the longer list holds of each of the shorter one
+-- all items of the longer list have a property, so all items of the shorter list have it
 pub all_fewer : {A : Type 0} (P : A → Type 0) (there : Bool) (item : A) (fewer more : List A) → IsJoined there item fewer more → AllByRecursion P more → AllByRecursion P fewer
 all_fewer P false item fewer more e all = subst (AllByRecursion P) e all
 all_fewer P true item fewer more join all = all_without P item fewer more join all
@@ -148,7 +148,7 @@ module _ (M : ℕ → ℕ → ℤ) (r c : ℕ) where
       at_column true more all = inr (even_product (M r c) (sum_over C (M r) +ℤ bit t) u
           (subst IsEven (row_sum t C D join' others) (item_of_one_more (λ i. IsEven (sum_over D (pivot_entry M r c i))) r R P more all)))
 
-  -- a sum with or without the pivot's entry is as even as with 1 in its place, or -1
+  -- a sum with or without the pivot's entry keeps its parity if 1 or -1 replaces the entry
   sign_even : (a : ℤ) → IsSign a → IsEven (a -ℤ pos 1)
   sign_even a (inl e) = (pos 0, omega (arith, sums))
   sign_even a (inr e) = (negsuc 0, omega (arith, sums))
@@ -184,7 +184,7 @@ module _ (M : ℕ → ℕ → ℤ) (r c : ℕ) where
       parity_by_difference true x y d p = odd_by_difference x y d p
       parity_by_difference false x y d p = even_by_difference x y d p
 
-  -- the row goes in where the rows have an odd sum in the column, the column where the columns have one in the row
+  -- the row is added if the rows have an odd sum in the column, and the column if the columns have an odd sum in the row
   pub whole_before : (s t row_in column_in : Bool) (R P C D R' C' : List ℕ) → IsSign (M r c) → IsJoined s r R P → AllByRecursion (λ i. i ≢ r) R → IsJoined t c C D → AllByRecursion (λ j. j ≢ c) C
       → HasParity row_in (sum_over P (λ i. M i c)) → HasParity column_in (sum_over D (M r)) → IsJoined row_in r R R' → IsJoined column_in c C C' → IsViolator (pivot_entry M r c) P D → IsViolator M R' C'
   whole_before s t row_in column_in R P C D R' C' u join apart join' others odd odd' before before' v =

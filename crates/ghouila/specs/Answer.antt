@@ -10,14 +10,14 @@ use Rattle.ghouila.specs.declared.by_pivots.SigningOrViolator.{SigningOrViolator
 use Rattle.ghouila.specs.declared.by_pivots.SigningOrViolator.TheVariants.{Signed, Violated}
 use Rattle.ghouila.specs.SignRuns.{SignsBySteps, ViolatesBySteps}
 
--- a violator with rows among these
+-- a violator whose rows are among these
 pub record IsViolatorAmong (m : Matrix) (rows violator_rows violator_columns : List ℕ) : Type 0 where
   pub row_set : IsRowSet m violator_rows
   pub column_set : IsColumnSet m violator_columns
   pub among : All (Contains rows) violator_rows
   pub violator : IsViolator (entry m) violator_rows violator_columns
 
--- the answer is right: a signing of these rows, or a violator among them
+-- the answer is right: a signing of these rows, or a violator whose rows are among them
 abbrev pub SignsOrViolates : Matrix → List ℕ → SigningOrViolator → Type 0
 SignsOrViolates m rows (Signed signs) = IsSigning m rows signs
 SignsOrViolates m rows (Violated lines) = IsViolatorAmong m rows lines.rows lines.columns

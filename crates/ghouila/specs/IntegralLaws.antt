@@ -1,4 +1,4 @@
--- Integral solutions of linear programs, said in whole numbers. The point y/d has the rational coordinates y column / d.
+-- Integral solutions of linear programs, stated in integers. The point y/d has the rational coordinates y column / d.
 use Rattle.std.specs.Prelude.{◌≡◌, ◌≢◌, ◌<◌, ◌≤ℤ◌, ◌<ℤ◌, ◌↔◌, ℕ, ℤ, pos, ◌+ℤ◌, ◌*ℤ◌, List, length}
 use Rattle.std.specs.List.{AllByRecursion}
 use Rattle.cmr_base.specs.Matrix.{Matrix, height, entry}
@@ -7,16 +7,16 @@ use Rattle.cmr_base.specs.Signing.{IsTotallyUnimodular}
 use Rattle.cmr_base.specs.Sums.{sum_over}
 use Rattle.cmr_base.specs.Determinants.{determinant}
 
--- a multiple of d: the fraction z/d is a whole number
+-- a multiple of d: the fraction z/d is an integer
 abbrev pub IsMultiple : ℤ → ℤ → Type 0
 IsMultiple d z = (k : ℤ) × (z ≡ d *ℤ k)
 
--- the row's entries in these columns, each times the column's number, added: A y in this row
+-- A y in this row: the sum of the row's entries in these columns, each times the number of its column
 abbrev pub row_value : Matrix → List ℕ → (ℕ → ℤ) → ℕ → ℤ
 row_value m columns y row = sum_over columns (λ column. entry m row column *ℤ y column)
 
--- The point y/d, which is 0 outside these columns, meets the right-hand sides b in these rows, and it is the only one:
--- the square submatrix has a determinant other than 0.
+-- The point y/d is 0 outside these columns and satisfies the equations with right-hand sides b in these rows. It is the only such point:
+-- the square submatrix has a nonzero determinant.
 pub record IsBasicSolution (m : Matrix) (rows columns : List ℕ) (b y : ℕ → ℤ) (d : ℤ) : Type 0 where
   pub row_set : IsRowSet m rows
   pub column_set : IsColumnSet m columns
@@ -47,6 +47,6 @@ pub record IsVertex (m : Matrix) (b y : ℕ → ℤ) (d : ℤ) : Type 0 where
 abbrev pub HasIntegralVertices : Matrix → Type 0
 HasIntegralVertices m = (b y : ℕ → ℤ) (d : ℤ) → IsVertex m b y d → (column : ℕ) → column < m.width → IsMultiple d (y column)
 
--- a matrix is totally unimodular exactly where it has integral vertices
+-- a matrix is totally unimodular if and only if it has integral vertices
 abbrev pub HoffmanKruskalEquivalence : Type 0
 HoffmanKruskalEquivalence = (m : Matrix) → IsTotallyUnimodular m ↔ HasIntegralVertices m

@@ -5,7 +5,7 @@ use Rattle.cmr_base.specs.LineSets.{IsColumnSet}
 use Rattle.cmr_base.specs.Signing.{IsTotallyUnimodular, HasNoSigning}
 use Rattle.cmr_base.specs.Violator.{IsViolator, HasNoViolator}
 
--- each set of rows has a signing exactly where no submatrix is a violator
+-- each set of rows has a signing if and only if no submatrix is a violator
 abbrev pub CamionEquivalence : Type 0
 CamionEquivalence = (m : Matrix) → IsTernary m → IsTotallyUnimodular m ↔ HasNoViolator m
 

@@ -8,6 +8,6 @@ use Rattle.cmr_base.specs.Trees.{IsNetworkMatrix, IsConetworkMatrix}
 abbrev pub NetworkMatricesAreUnimodular : Type 0
 NetworkMatricesAreUnimodular = (m : Matrix) → IsTernary m → IsNetworkMatrix m → IsTotallyUnimodular m × HasNoViolator m
 
--- and so where the transposed matrix is a network matrix
+-- the same law if the transposed matrix is a network matrix
 abbrev pub ConetworkMatricesAreUnimodular : Type 0
 ConetworkMatricesAreUnimodular = (m : Matrix) → IsTernary m → IsConetworkMatrix m → IsTotallyUnimodular m × HasNoViolator m

@@ -1,4 +1,4 @@
--- Pivots that take a row away from a matrix.
+-- Pivots that remove a row from a matrix.
 use Rattle.std.specs.Prelude.{◌≡◌, ◌≢◌, ◌<◌, ◌⊎◌, ℕ, ℤ, pos, ◌+◌, ◌*◌, ◌-ℤ◌, ◌*ℤ◌, neg_ℤ, true, false, ◌==◌, if◌then◌else◌, List, length, slice_index}
 use Rattle.std.specs.List.{AllByRecursion}
 use Rattle.cmr_base.specs.Matrix.{Matrix, height, entry, IsEntry}
@@ -6,23 +6,23 @@ use Rattle.cmr_base.specs.Planes.{has_bit}
 use Rattle.cmr_base.specs.Signing.{IsSign}
 use Rattle.cmr_base.specs.Sums.{sum_over, IsEven, IsOdd}
 
--- the row is none of these
+-- the row is not in the list
 abbrev pub IsOutside : ℕ → List ℕ → Type 0
 IsOutside row rows = AllByRecursion (λ other. other ≢ row) rows
 
--- what the pivot at a row and a column leaves of an entry
+-- an entry after the pivot at a row and a column, outside the pivot's column
 abbrev pub reduced : (ℕ → ℕ → ℤ) → ℕ → ℕ → ℕ → ℕ → ℤ
 reduced M row column i j = M i j -ℤ M row column *ℤ (M i column *ℤ M row j)
 
--- the matrix after the pivot, without that row; in the pivot's column the entries are negated
+-- the matrix after the pivot, without the pivot's row; the entries of the pivot's column are negated
 abbrev pub pivoted : (ℕ → ℕ → ℤ) → ℕ → ℕ → ℕ → ℕ → ℤ
 pivoted M row column i j = if j == column then neg_ℤ (M row column *ℤ M i column) else reduced M row column i j
 
--- -1, 0 or 1 in each of the first columns
+-- the first `width` entries are -1, 0 or 1
 abbrev pub IsTernaryRow : ℕ → (ℕ → ℤ) → Type 0
 IsTernaryRow width f = (column : ℕ) → column < width → IsEntry (f column)
 
--- a nonzero in a column with an even number of them: where entries are -1, 0 and 1, the sum is as even as their number
+-- a nonzero in a column with an even number of nonzeros: the sum of entries -1, 0 and 1 has the parity of their number
 pub record IsPivot (m : Matrix) (rows : List ℕ) (place column : ℕ) : Type 0 where
   pub within : place < length rows
   pub column_in : column < m.width
@@ -38,7 +38,7 @@ pub record ArePivotColumns (m : Matrix) (rows : List ℕ) (chunk word : ℕ) : T
   pub pivots : (i : ℕ) → i < 64 → has_bit word i ≡ true → (place : ℕ) × IsPivot m rows place (64 * chunk + i)
   pub others : (i : ℕ) → i < 64 → has_bit word i ≡ false → HasNoPivot m rows (64 * chunk + i)
 
--- four signs, in two rows and two columns, whose product is -1: alone they are a violator
+-- four signs, in two rows and two columns, whose product is -1: they are a violator without other lines
 pub record IsSquareViolator (a p q x : ℤ) : Type 0 where
   pub corner : IsSign a
   pub below : IsSign p
@@ -46,13 +46,13 @@ pub record IsSquareViolator (a p q x : ℤ) : Type 0 where
   pub across : IsSign x
   pub opposite : x ≡ neg_ℤ (a *ℤ (p *ℤ q))
 
--- the entries in these two rows and columns are one
+-- the entries in these two rows and columns are such a violator
 pub record HasSquareViolator (m : Matrix) (row column other_row other_column : ℕ) : Type 0 where
   pub row_in : other_row < height m
   pub column_in : other_column < m.width
   pub square : IsSquareViolator (entry m row column) (entry m other_row column) (entry m row other_column) (entry m other_row other_column)
 
--- a matrix of the same size, the same but for these rows
+-- a matrix of the same size that differs only in these rows
 pub record KeepsRowsElsewhere (before after : Matrix) (rows : List ℕ) : Type 0 where
   pub same_height : height after ≡ height before
   pub same_width : after.width ≡ before.width
@@ -62,13 +62,13 @@ pub record KeepsRowsElsewhere (before after : Matrix) (rows : List ℕ) : Type 0
 abbrev pub PivotsRows : Matrix → Matrix → ℕ → ℕ → List ℕ → Type 0
 PivotsRows before after row column rows = AllByRecursion (λ i. (j : ℕ) → j < before.width → entry after i j ≡ pivoted (entry before) row column i j) rows
 
--- the first column with a pivot, and in it the first of these rows with a nonzero
+-- the first column with a pivot, and the first of these rows with a nonzero in it
 pub record IsFirstPivot (m : Matrix) (rows : List ℕ) (place column : ℕ) : Type 0 where
   pub pivot : IsPivot m rows place column
   pub first_column : (j : ℕ) → j < column → HasNoPivot m rows j
   pub first_row : (k : ℕ) → k < place → entry m (slice_index rows k) column ≡ pos 0
 
--- the first entry, by these rows and then by columns, at which the pivot would give a 2 or a -2; in its own column it gives none
+-- the first entry, by these rows and then by columns, at which the pivot would give a 2 or a -2; it gives none in its own column
 pub record IsFirstTwoEntry (m : Matrix) (rows : List ℕ) (row column place last : ℕ) : Type 0 where
   pub within : place < length rows
   pub column_in : last < m.width

@@ -15,26 +15,26 @@ use crate::row_signs::RowSigns;
 use cmr_base::{Indices, ItemList, LineSet, MAX_COLUMNS, MAX_ROWS, Matrix, Memory, SignList};
 use std::alloc::Global;
 
-/// What is found for a set of rows.
+/// The result for a set of rows.
 #[derive(Debug, Drop)]
 pub enum SigningOrViolator {
-    /// A signing of the rows, one sign for each in their order.
+    /// A signing of the rows: the sign of each row, in the order of the rows.
     Signed(SignList),
-    /// A violator of the matrix with rows among these. The rows may still have a signing.
+    /// A violator of the matrix, with rows from the set. The rows may still have a signing.
     Violated(LineSet),
 }
 
-/// A step by which one row fewer is left: a pivot at the row and a column, or the row is put aside.
+/// A step that removes one row: a pivot at the row and a column, or the row is put aside.
 #[derive(Debug, Clone, Copy)]
 pub struct Pivot {
     pub row: u32,
     pub column: Option<u32>,
 }
 
-/// The steps that were made, the first one first.
+/// The steps, in the order in which they were made.
 pub type PivotList = ItemList<Pivot>;
 
-/// What is found for a set of rows, with the steps that led to it.
+/// The result for a set of rows, with the steps that led to it.
 #[derive(Debug, Drop)]
 pub struct SignRun {
     pub steps: PivotList,
@@ -47,7 +47,7 @@ enum MarkedSigning {
     Violated(MarkedLines),
 }
 
-/// A signing of the rows or a violator.
+/// Gives a signing of the rows, or a violator. It can fail only by an allocation failure.
 pub fn sign_or_violate(
     alloc: Global,
     matrix: &Matrix,
@@ -60,9 +60,9 @@ pub fn sign_or_violate(
     Ok(run.signing)
 }
 
-/// The same with its steps. Each pivot takes a row away from a copy of the matrix; the sign of that row, or its
-/// part in a violator, follows from what is found for the others. The time is at most the number of rows squared
-/// times the number of columns, and a copy of the matrix.
+/// Does the same as `sign_or_violate`, and also gives the steps. Each pivot removes a row from a copy of the matrix.
+/// The sign of that row, or its part in a violator, follows from the result for the other rows. The time is at most
+/// the number of rows squared times the number of columns, plus the copy of the matrix.
 pub fn sign_by_steps(alloc: Global, matrix: &Matrix, rows: &Indices) -> Result<SignRun, Memory>
     requires { AllBelow (height matrix.now) rows.now }
     ensures right { IfOk result (λ run. SignsOrViolates matrix.now rows.now run.signing) }
@@ -88,7 +88,7 @@ fn copy_of_rows(alloc: Global, rows: &Indices) -> Result<Vec<u32>, Memory>
     Ok(left)
 }
 
-// The signs of the rows, or the marked lines.
+// Gives the signs of the rows, or the marked lines.
 fn named(
     alloc: Global,
     matrix: &Matrix,
@@ -109,7 +109,7 @@ fn named(
     }
 }
 
-// What is found for the rows left. The other rows of `work` stay as they are.
+// Gives the result for the remaining rows. The other rows of `work` do not change.
 #[cycle(sign_rows)]
 fn sign_left(
     alloc: Global,
@@ -137,7 +137,7 @@ fn sign_left(
     }
 }
 
-// The same for one row more, at which a pivot is made.
+// Gives the result for the remaining rows and one more row, at which it makes a pivot.
 #[cycle(sign_rows)]
 fn sign_by_pivot(
     alloc: Global,
@@ -179,7 +179,8 @@ fn sign_by_pivot(
     }
 }
 
-// The same for one row more, in whose columns the others have no odd sum.
+// Gives the result for the remaining rows and one more row. The remaining rows have an even sum in each column with a
+// nonzero of that row.
 #[cycle(sign_rows)]
 fn sign_aside(
     alloc: Global,

@@ -9,7 +9,7 @@ use crate::pivots::Corner;
 use cmr_base::{Indices, LineSet, MAX_COLUMNS, MAX_ROWS, Matrix, Memory};
 use std::alloc::Global;
 
-/// A violator by marks on its rows and columns, and whether its rows add up to an odd number in each column.
+/// A violator as marks on its rows and columns, with the parity of the sum of its rows in each column.
 #[derive(Debug, Drop)]
 pub struct MarkedLines {
     rows: Vec<bool>,
@@ -18,7 +18,7 @@ pub struct MarkedLines {
 }
 
 impl MarkedLines {
-    /// No line is marked.
+    /// Marks no line.
     fn new(alloc: Global, work: &Matrix) -> Result<MarkedLines, Memory>
         ensures rows { IfOk result (λ lines. lines.rows.items ≡ replicate (height work.now) false) }
         ensures columns { IfOk result (λ lines. lines.columns.items
@@ -32,7 +32,7 @@ impl MarkedLines {
         })
     }
 
-    /// The violator of two rows and two columns.
+    /// Marks the two rows and two columns of a violator.
     pub fn of_square(
         alloc: Global,
         work: &Matrix,
@@ -63,7 +63,7 @@ impl MarkedLines {
         Ok(lines)
     }
 
-    /// From the matrix after a pivot to the one before it.
+    /// Maps the violator of the matrix after a pivot back to a violator of the matrix before it.
     pub fn undo_pivot(&mut self, work: &Matrix, row: u32, column: u32)
         requires row { row < height work.now }
         requires column { column < work.now.width }
@@ -83,7 +83,7 @@ impl MarkedLines {
         self.columns[column as usize] = is_odd_row(work, row, &self.columns) != was_there;
     }
 
-    /// The marked lines.
+    /// Gives the marked lines.
     pub fn to_lines(&self, alloc: Global) -> Result<LineSet, Memory>
         requires few_rows { length self.now.rows.items ≤ MAX_ROWS }
         requires few_columns { length self.now.columns.items ≤ MAX_COLUMNS }
@@ -97,7 +97,7 @@ impl MarkedLines {
     }
 }
 
-// Whether the entries of the row in the marked columns add up to an odd number.
+// Decides whether the entries of the row in the marked columns have an odd sum.
 fn is_odd_row(work: &Matrix, row: u32, marks: &[bool]) -> bool
     requires row { row < height work.now }
     requires column_each { length marks.now ≡ work.now.width }

@@ -7,21 +7,22 @@ ghost use Rattle.ghouila.specs.Pivot.{IsOutside, reduced, IsTernaryRow, IsPivot,
 
 use cmr_base::{MAX_COLUMNS, Matrix, product};
 
-/// Where a pivot is made: the place of the row among the rows that are left, and the column.
+/// The position of a pivot: the index of its row in the list of the remaining rows, and its column.
 #[derive(Debug, Clone, Copy)]
 pub struct PivotPlace {
     pub place: usize,
     pub column: u32,
 }
 
-/// A row and a column that are a violator with those of a pivot.
+/// A row and a column that are a violator together with the row and the column of a pivot.
 #[derive(Debug, Clone, Copy)]
 pub struct Corner {
     pub row: u32,
     pub column: u32,
 }
 
-/// The first column with an even number, at least two, of nonzeros in the rows left, at the first of them.
+/// Gives the first column with a positive even number of nonzeros in the remaining rows, and the first of these rows
+/// with a nonzero in it.
 pub fn first_pivot(work: &Matrix, left: &[u32]) -> Option<PivotPlace>
     requires { AllBelow (height work.now) left.now }
     ensures some { IfSome result (λ pivot.
@@ -42,7 +43,7 @@ pub fn first_pivot(work: &Matrix, left: &[u32]) -> Option<PivotPlace>
     None
 }
 
-// The columns of a chunk, by their bits, with an even number, at least two, of nonzeros in the rows left.
+// Gives the columns of a chunk of 64, as bits, that have a positive even number of nonzeros in the remaining rows.
 fn pivot_columns(work: &Matrix, left: &[u32], chunk: u32) -> u64
     requires shape { IsMatrix work.now }
     requires rows { AllBelow (height work.now) left.now }
@@ -59,7 +60,7 @@ fn pivot_columns(work: &Matrix, left: &[u32], chunk: u32) -> u64
     some & !odd
 }
 
-// The place of the first nonzero of the column, where the column has an even number of them.
+// Gives the index of the row with the column's first nonzero, if the column has a positive even number of nonzeros.
 fn pivot_in(work: &Matrix, left: &[u32], column: u32) -> Option<usize>
     requires rows { AllBelow (height work.now) left.now }
     requires column { column < work.now.width }
@@ -81,7 +82,8 @@ fn pivot_in(work: &Matrix, left: &[u32], column: u32) -> Option<usize>
     if odd { None } else { first }
 }
 
-/// The first row left, and column, at which the pivot would give a 2 or a -2.
+/// Gives the first entry in the remaining rows, by rows and then by columns, at which the pivot would give a 2 or a
+/// -2.
 pub fn first_square_violator(work: &Matrix, left: &[u32], row: u32, column: u32) -> Option<Corner>
     requires rows { AllBelow (height work.now) left.now }
     requires row { row < height work.now }
@@ -151,7 +153,7 @@ fn reduced(entry: i8, factor: i8, top: i8) -> i8
     entry - product(factor, top)
 }
 
-/// Makes the pivot in the rows left.
+/// Makes the pivot in the remaining rows.
 pub fn make_pivot(work: &mut Matrix, left: &[u32], row: u32, column: u32)
     requires rows { IsRowSet work.old left.now }
     requires row { row < height work.old }

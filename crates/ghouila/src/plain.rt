@@ -7,7 +7,7 @@ ghost use Rattle.ghouila.specs.Numbered.{low_sign, signs_numbered, IsChoice};
 use cmr_base::{Indices, MAX_LINES, Matrix, Memory, SignList};
 use std::alloc::Global;
 
-/// The first signing of the rows in the order of the signs' numbers, or `None` where they have none.
+/// Gives the first signing of the rows in the order of the signs' numbers, and `None` if and only if there is none.
 pub fn plain_signing(
     alloc: Global,
     matrix: &Matrix,
@@ -28,7 +28,7 @@ pub fn plain_signing(
     Ok(None)
 }
 
-// How many choices of signs there are.
+// The number of choices of signs.
 fn choices(count: usize) -> u32
     requires { count ≤ MAX_LINES }
     ensures { result ≡ 2 ^ count }
@@ -36,7 +36,7 @@ fn choices(count: usize) -> u32
     2u32.pow(count as u32)
 }
 
-// The signs with this number.
+// Gives the `count` signs with this number.
 fn signs_with_number(alloc: Global, count: usize, number: u32) -> Result<SignList, Memory>
     ensures { IfOk result (λ signs. signs ≡ signs_numbered count number) }
 {
@@ -49,14 +49,14 @@ fn signs_with_number(alloc: Global, count: usize, number: u32) -> Result<SignLis
     Ok(signs)
 }
 
-// The sign that stands for the lowest bit.
+// The sign that the lowest bit represents.
 fn low_sign(number: u32) -> i8
     ensures { result ≡ low_sign number }
 {
     if number % 2 == 1 { -1 } else { 1 }
 }
 
-// Whether each column's sum is -1, 0 or 1.
+// Decides whether each column's signed sum is -1, 0 or 1.
 fn is_signing(matrix: &Matrix, rows: &Indices, signs: &SignList) -> bool
     requires { IsChoice matrix.now rows.now signs.now }
     ensures yes { IsTrue result → IsSigning matrix.now rows.now signs.now }
@@ -71,7 +71,7 @@ fn is_signing(matrix: &Matrix, rows: &Indices, signs: &SignList) -> bool
     true
 }
 
-// The sum of the rows in a column, each times its sign.
+// The signed sum of the rows in a column.
 fn column_sum(matrix: &Matrix, rows: &Indices, signs: &SignList, column: u32) -> i32
     requires choice { IsChoice matrix.now rows.now signs.now }
     requires column { column < matrix.now.width }

@@ -6,7 +6,7 @@ ghost use Rattle.ghouila.specs.Pivot.{IsTernaryRow};
 use cmr_base::{Matrix, Memory, SignList};
 use std::alloc::Global;
 
-/// Signs of some rows, and what the signed rows add up to in each column.
+/// Signs of some rows, with the sum of the signed rows in each column.
 #[derive(Debug, Drop)]
 pub struct RowSigns {
     signs: Vec<i8>,
@@ -14,7 +14,7 @@ pub struct RowSigns {
 }
 
 impl RowSigns {
-    /// No row has a sign yet.
+    /// Gives no row a sign.
     pub fn new(alloc: Global, work: &Matrix) -> Result<RowSigns, Memory>
         ensures signs { IfOk result (λ s. s.signs.items ≡ replicate (height work.now) (pos 0)) }
         ensures sums { IfOk result (λ s. s.sums.items ≡ replicate work.now.width (pos 0)) }
@@ -25,7 +25,7 @@ impl RowSigns {
         })
     }
 
-    /// The row that a pivot took away gets the sum of the pivot's column, which then adds up to 0.
+    /// Gives the pivot's row the sum of the pivot's column as its sign. The sum of that column then is 0.
     pub fn sign_pivot(&mut self, row: u32, column: u32)
         requires row { row < length self.old.signs.items }
         requires column { column < length self.old.sums.items }
@@ -38,7 +38,7 @@ impl RowSigns {
         self.sums[column as usize] = 0;
     }
 
-    /// A row that was put aside gets +1.
+    /// Gives the sign +1 to a row that was put aside.
     pub fn sign_aside(&mut self, work: &Matrix, row: u32)
         requires row { row < height work.now }
         requires row_each { length self.old.signs.items ≡ height work.now }
@@ -57,7 +57,7 @@ impl RowSigns {
         }
     }
 
-    /// The signs of these rows, in their order.
+    /// Gives the signs of these rows, in their order.
     pub fn of_rows(&self, alloc: Global, rows: &[u32]) -> Result<SignList, Memory>
         requires { AllBelow (length self.now.signs.items) rows.now }
         ensures { IfOk result (λ list. list ≡ map

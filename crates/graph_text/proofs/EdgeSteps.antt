@@ -20,7 +20,7 @@ use Rattle.graph_text.specs.GraphReading.{edge_behind, edges_from, element_in, n
 abbrev Rest : Type 0
 Rest = (Element × Edge) × Text
 
--- all edges, after the one behind a first node
+-- all edges, from the next edge and the words after it
 abbrev and_more : ℕ → Edges → Rest → Result Edges (Fault GraphKind)
 and_more size edges next = edges_from size (with_edge edges (next.0).0 (next.0).1) (next.1).words
 
@@ -37,7 +37,7 @@ whole_edge size edges tail name words (Ok x) (Ok e) is = rw is refl
 whole_edge size edges tail name words (Ok x) (Err f) is = rw is refl
 whole_edge size edges tail name words (Err f) element is = refl
 
--- the edge of the first words, and then the others
+-- the edge of the first words, and then the other edges
 pub first_edge : (size : ℕ) (edges : Edges) (word : ℕ × List ℕ) (words : List (ℕ × List ℕ))
     → edges_from size edges (word ∷ words) ≡ (node_at word >>= λ (tail : NodeWord). edge_behind edges tail (record { size = size; words = words }) >>= and_more size edges)
 first_edge size edges word [] = refl
@@ -71,12 +71,12 @@ module _ (size : ℕ) (edges : Edges) (word : ℕ × List ℕ) (text : Text) (ta
   pub edge_read : (found : Element × Edge) (rest : Text) → edge_behind edges tail text ≡ Ok (found, rest) → edges_from size (with_edge edges found.0 found.1) rest.words ≡ total
   edge_read found rest is = sym (ap (λ (r : Result Rest (Fault GraphKind)). r >>= and_more size edges) is) ∙ behind
 
-  -- an edge's fault is the fault of all
+  -- the fault of an edge is the fault of all edges
   pub edge_fails : (e : FieldError GraphKind) → Fails e (edge_behind edges tail text) → Fails e total
   edge_fails errors.Memory fails = tt
   edge_fails (errors.Fault kind place) fails = sym behind ∙ ap (λ (r : Result Rest (Fault GraphKind)). r >>= and_more size edges) fails
 
--- there are not too many edges
+-- the number of edges is within the limits
 pub edges_few : (edges : Edges) (element : Element) (edge : Edge) → length edges.rows ≤ 1000 → length edges.columns ≤ 1000 → (element ≡ Row → length edges.rows < 1000) → (element ≡ Column → length edges.columns < 1000)
     → (length (with_edge edges element edge).rows ≤ 1000) × (length (with_edge edges element edge).columns ≤ 1000)
 edges_few edges Row edge rows columns row column = (let h = row refl in omega (arith, h, length_push edges.rows edge), columns)

@@ -1,4 +1,4 @@
--- What is read as a network has the words of a graph text.
+-- A text that is read as a network has the words of a graph text.
 use Rattle.std.proofs.Common.{◌≡◌, ◌<◌, ◌≤◌, ◌∙◌, ℕ, zero, suc, Bool, true, false, cond, eqb, leb, ltb, List, [], ◌∷◌, ◌++◌, length, map, Result, Ok, Err, refl, sym, ap, subst, append_assoc, bytes_eq, arith}
 use Rattle.std.specs.Prelude.{◌&&◌}
 use Rattle.std.proofs.lemmas.Bool.Decides.{Decides-eqb, Decides-ltb, nat_tests}
@@ -32,7 +32,7 @@ node_ok word node h =
     let made : NodeWord = record { number = b.0; place = word.0 } in
     renamed_ok graph_kind (count_in word.1) b.0 (placed_ok word.0 (graph_number_in word.1) b.0 b.1) ∙ ap (λ (n : NodeWord). Ok n.number) (ok_same made node b.2)
 
--- the name is that of the next line
+-- the name is the name of the next line
 abbrev IsNext : Edges → List ℕ → Element → Type 0
 IsNext edges name Row = (length edges.columns ≡ 0) × (name ≡ lettered_name row_letter (length edges.rows)) × (length edges.rows < 1000)
 IsNext edges name Column = (name ≡ lettered_name column_letter (length edges.columns)) × (length edges.columns < 1000)
@@ -72,7 +72,7 @@ record AreFound (edges total : Edges) (words : List (ℕ × List ℕ)) : Type 0 
   columns_are : total.columns ≡ edges.columns ++ columns
   rows_in : length total.rows ≤ 1000
   columns_in : length total.columns ≤ 1000
-  -- no row comes behind a column
+  -- no row follows a column
   late : 0 < length edges.columns → (row_words ≡ []) × (rows ≡ [])
 
 one_found : (edges total : Edges) (a b c : ℕ × List ℕ) (words : List (ℕ × List ℕ)) (edge : Edge) (element : Element) → count_in a.1 ≡ Ok (edge.tail).number → count_in b.1 ≡ Ok (edge.head).number
@@ -162,7 +162,7 @@ nodes_in last (edge ∷ edges) x h k l =
     go zero l here others = here
     go (suc k) l here others = others k (omega (arith, l))
 
--- a network that is read, and whose arcs are a tree
+-- a network that is read from a text, with arcs that are a tree
 pub graph_found : (size : ℕ) (words : List (ℕ × List ℕ)) (net : SizedNetwork) → network_in (record { size = size; words = words }) ≡ Ok net → IsTree net.net.arcs net.rows → IsGraphText (texts_of words) net
 graph_found size words net h tree =
     let b = bind_ok (edges_from size no_edges words) (λ (e : Edges). all_within (length e.rows) e.rows >>= λ (_ : Unit {0}). all_within (length e.rows) e.columns >>= λ (_ : Unit {0}). Ok (sized e)) net h in

@@ -9,7 +9,7 @@ use Rattle.graph_text.specs.declared.read.SizedNetwork.{SizedNetwork}
 use Rattle.graph_text.specs.Laws.{ReadingsAreOne}
 use Rattle.graph_text.specs.GraphReading.{HasNoTree, IsGraph, network_in}
 
--- there is no tree where there is one
+-- the arcs of a network are not both a tree and not a tree
 tree_and_none : (text : Text) (net : SizedNetwork) → IsGraph text (Ok net) → HasNoTree text → ⊥
 tree_and_none text net is (other, read, none) = none (subst (λ (n : SizedNetwork). IsTree n.net.arcs n.rows) (ok_same net other (sym is.0 ∙ read)) is.1)
 

@@ -1,4 +1,4 @@
--- Words that stand for edges are read as these edges.
+-- Words that represent edges are read as these edges.
 use Rattle.std.proofs.Common.{◌≡◌, ◌<◌, ◌≤◌, ◌+◌, ◌∙◌, ℕ, suc, Bool, true, false, eqb, leb, ltb, List, [], ◌∷◌, ◌++◌, length, map, Result, Ok, refl, sym, ap, subst, append_assoc, bytes_eq, arith}
 use Rattle.std.proofs.lemmas.Slice.Eq.{bytes_eq-Decides}
 use Rattle.std.proofs.lemmas.Bool.{le-leb}
@@ -29,7 +29,7 @@ abbrev pub count_of : Element → Edges → ℕ
 count_of Row edges = length edges.rows
 count_of Column edges = length edges.columns
 
--- an edge of this sort may come next
+-- an edge of this sort may be next
 abbrev pub MayCome : Element → Edges → Type 0
 MayCome Row edges = edges.columns ≡ []
 MayCome Column edges = Unit {0}
@@ -41,7 +41,7 @@ with_edges edges Column more = record { rows = edges.rows; columns = edges.colum
 name_same : (letter line : ℕ) → bytes_eq (lettered_name letter line) (lettered_name letter line) ≡ true
 name_same letter line = (bytes_eq-Decides (lettered_name letter line) (lettered_name letter line)).1 refl
 
--- the name of the next line is known
+-- the reader knows the name of the next line
 element_again : (element : Element) (edges : Edges) → MayCome element edges → count_of element edges < 1000 → element_in edges (lettered_name (letter_of element) (count_of element edges)) ≡ Ok element
 element_again Row edges none few =
     let below : ltb (length edges.rows) 1000 ≡ true = (Decides-ltb (length edges.rows) 1000).1 few in

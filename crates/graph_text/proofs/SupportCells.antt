@@ -17,7 +17,7 @@ use Rattle.cmr_base.proofs.ReproducedCuts.{support_realised}
 use Rattle.cmr_base.proofs.SmallEntries.{zero_is_entry}
 use Rattle.graph_text.specs.SupportMatrix.{one_at}
 
--- what each entry and 0 has, each entry has, past the last row and column too
+-- each entry and 0 have a property, so all cells have it, also outside the sizes
 each_filled : (P : ℤ → Type 0) (f : ℕ → ℕ → ℤ) (columns rows : List ℕ) → P (pos 0) → ((r c : ℕ) → P (f r c)) → (r c : ℕ) → P (get_or (get_or (map (λ row. map (f row) columns) rows) r []) c (pos 0))
 each_filled P f columns [] none each r c = none
 each_filled P f columns (x ∷ rows) none each zero c = each-map P (f x) columns none (each x) c

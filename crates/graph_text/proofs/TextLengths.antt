@@ -1,4 +1,4 @@
--- How long the text of a graph is at most.
+-- The greatest length of the text of a graph.
 use Rattle.std.proofs.Common.{◌<◌, ◌≤◌, ◌+◌, ◌*◌, ◌++◌, ℕ, List, [], ◌∷◌, length, ap, arith, length-append}
 use Rattle.std.specs.Fmt.{decimal}
 use Rattle.std.proofs.lemmas.Fmt.{length-decimal-le_succ}
@@ -29,7 +29,7 @@ lines_short letter line (edge ∷ edges) few small =
     let both = length-append (text_line (edge_words letter line edge)) (text_of_lines (edge_lines letter (line + 1) edges)) in
     omega arith
 
--- no more than a file of a matrix may have
+-- at most the length of a file of a matrix
 pub graph_text_within : (net : SizedNetwork) → net.rows ≤ 1000 → net.columns ≤ 1000 → IsNetworkOf net.net net.rows net.columns → length (graph_text net.net) ≤ 16777216
 graph_text_within net few near is =
     let arcs = net.net.arcs in

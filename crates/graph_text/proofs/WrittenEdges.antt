@@ -39,7 +39,7 @@ edge_pushed letter line edges edge old now new inside is before pushed =
 
 -- ---- the words
 
--- the nodes can be read
+-- the nodes are within the limits of the reader
 abbrev pub AreSmall : List Pair → Type 0
 AreSmall edges = AllByRecursion (λ (edge : Pair). (edge.tail ≤ 1000) × (edge.head ≤ 1000)) edges
 

@@ -1,4 +1,4 @@
--- Reading a graph text, with its fault.
+-- The reading of a graph text, with its fault.
 use Rattle.std.specs.Prelude.{◌≡◌, ◌⊎◌, ◌++◌, ◌==◌, ◌&&◌, nat_le, nat_lt, if◌then◌else◌, ℕ, List, [], ◌∷◌, length, map, Result, Ok, Err, bytes_eq}
 use Rattle.cmr_base.specs.declared.limits.TheConstants.{MAX_COLUMNS, MAX_ROWS}
 use Rattle.cmr_base.specs.declared.network.Pair.{Pair}
@@ -23,13 +23,13 @@ use Rattle.graph_text.specs.GraphTexts.{row_letter, column_letter, lettered_name
 abbrev pub graph_number_in : List ℕ → Result ℕ GraphKind
 graph_number_in word = renamed graph_kind (count_in word)
 
--- the node of a word, with the word's place
+-- the node of a word, with the word's position
 abbrev pub node_at : ℕ × List ℕ → Result NodeWord (Fault GraphKind)
 node_at word = do
   number ← placed word.0 (graph_number_in word.1)
   Ok (record { number = number; place = word.0 })
 
--- The line that a word names: the next row, where there is no column yet, or the next column.
+-- The line that a word names: the next row if no column has been read, or the next column.
 abbrev pub element_in : Edges → List ℕ → Result Element GraphKind
 element_in edges name =
     if (length edges.columns == 0) && bytes_eq name (lettered_name row_letter (length edges.rows))
@@ -45,7 +45,7 @@ abbrev pub with_edge : Edges → Element → Edge → Edges
 with_edge edges Row edge = record { rows = edges.rows ++ edge ∷ []; columns = edges.columns }
 with_edge edges Column edge = record { rows = edges.rows; columns = edges.columns ++ edge ∷ [] }
 
--- the edges of the words of a text of this size, three words each, behind those that were read
+-- the edges of the words of a text of this size, three words each, after the edges that were read
 abbrev pub edges_from : ℕ → Edges → List (ℕ × List ℕ) → Result Edges (Fault GraphKind)
 edges_from size edges [] = Ok edges
 edges_from size edges (tail ∷ []) = do
@@ -68,7 +68,7 @@ next_node text = do
   node ← node_at word.0
   Ok (node, word.1)
 
--- what the words behind the first node of an edge give: what it stands for, and the edge
+-- the words after the first node of an edge: the element that the edge represents, and the edge
 abbrev pub edge_behind : Edges → NodeWord → Text → Result ((Element × Edge) × Text) (Fault GraphKind)
 edge_behind edges tail text = do
   head ← next_node text
@@ -78,7 +78,7 @@ edge_behind edges tail text = do
 abbrev pub node_within : ℕ → NodeWord → Result (Unit {0}) (Fault GraphKind)
 node_within last node = if nat_le node.number last then Ok tt else Err (OutOfRange, node.place)
 
--- the first node above a number is at fault
+-- the first node above the last number is the fault
 abbrev pub all_within : ℕ → List Edge → Result (Unit {0}) (Fault GraphKind)
 all_within last [] = Ok tt
 all_within last (edge ∷ edges) = do
@@ -96,7 +96,7 @@ sized edges = record {
   columns = length edges.columns;
 }
 
--- the arcs and walks of a text, which need not be a tree, or its first fault
+-- the arcs and walks of a text, or its first fault; the arcs need not be a tree
 abbrev pub network_in : Text → Result SizedNetwork (Fault GraphKind)
 network_in text = do
   edges ← edges_from text.size no_edges text.words
@@ -104,16 +104,16 @@ network_in text = do
   _ ← all_within (length edges.rows) edges.columns
   Ok (sized edges)
 
--- arcs and walks are read, but the arcs are no tree
+-- arcs and walks are read, but the arcs are not a tree
 abbrev pub HasNoTree : Text → Type 0
 HasNoTree text = (net : SizedNetwork) × (network_in text ≡ Ok net) × (¬ (IsTree net.net.arcs net.rows))
 
--- What a text gives: a tree with its walks, or a fault, where the tree comes last.
+-- The result for a text: a tree with its walks, or a fault. The test for a tree is the last test.
 abbrev pub IsGraph : Text → Result SizedNetwork (Fault GraphKind) → Type 0
 IsGraph text (Ok net) = (network_in text ≡ Ok net) × IsTree net.net.arcs net.rows
 IsGraph text (Err fault) = (network_in text ≡ Err fault) ⊎ ((fault ≡ (NotTree, text.size)) × HasNoTree text)
 
--- A function's result is what a text gives, unless memory ran out.
+-- The result of a function is the result for the text, unless memory is exhausted.
 abbrev pub IsReading : Text → Result SizedNetwork (FieldError GraphKind) → Type 0
 IsReading text (Ok net) = IsGraph text (Ok net)
 IsReading text (Err errors.Memory) = Unit {0}

@@ -19,14 +19,14 @@ column_letter = 99
 abbrev pub lettered_name : ℕ → ℕ → List ℕ
 lettered_name letter line = letter ∷ decimal (line + 1)
 
--- each three words stand for an edge: two counts, and the name of the next line
+-- each three words represent an edge: two node numbers, and the name of the next line
 abbrev pub SpellEdges : ℕ → ℕ → List (List ℕ) → List Pair → Type 0
 SpellEdges letter line [] [] = Unit {0}
 SpellEdges letter line (tail ∷ head ∷ name ∷ words) (edge ∷ edges) =
     (count_in tail ≡ Ok edge.tail) × (count_in head ≡ Ok edge.head) × (name ≡ lettered_name letter line) × SpellEdges letter (line + 1) words edges
 SpellEdges letter line _ _ = ⊥
 
--- These words are a text of a tree and walks in it: the arcs of the rows, and then the walks of the columns.
+-- These words are a text of a tree and walks in it: first the arcs of the rows, then the walks of the columns.
 pub record IsGraphText (words : List (List ℕ)) (sized : SizedNetwork) : Type 0 where
   pub row_words : List (List ℕ)
   pub column_words : List (List ℕ)
@@ -47,13 +47,13 @@ abbrev pub edge_lines : ℕ → ℕ → List Pair → List (List (List ℕ))
 edge_lines letter line [] = []
 edge_lines letter line (edge ∷ edges) = edge_words letter line edge ∷ edge_lines letter (line + 1) edges
 
--- the edges of the tree with one letter, and the others with the other
+-- the edges of the tree with one letter, and the walks with the other letter
 abbrev pub lettered_text : ℕ → ℕ → Network → List ℕ
 lettered_text arc_letter walk_letter net = text_of_lines (edge_lines arc_letter 0 net.arcs ++ edge_lines walk_letter 0 net.walks)
 
 abbrev pub graph_text : Network → List ℕ
 graph_text net = lettered_text row_letter column_letter net
 
--- the same where the network is one of the transposed matrix, so that the edges of the tree stand for its columns
+-- the text if the network is a network of the transposed matrix: the edges of the tree represent its columns
 abbrev pub transposed_graph_text : Network → List ℕ
 transposed_graph_text net = lettered_text column_letter row_letter net

@@ -1,4 +1,4 @@
--- Laws on graph texts and on the matrices of networks.
+-- Laws about graph texts and the matrices of networks.
 use Rattle.std.specs.Prelude.{◌≡◌, Result}
 use Rattle.cmr_base.specs.declared.network.Network.{Network}
 use Rattle.cmr_base.specs.Matrix.{Matrix, height, IsMatrix}

@@ -1,4 +1,4 @@
-//! The edges of a graph text as far as it was read.
+//! The edges that have been read from a graph text.
 ghost use Rattle.std.specs.Prelude.{◌≡◌, OnOk};
 ghost use Rattle.graph_text.specs.GraphReading.{ends, no_edges, with_edge};
 
@@ -19,14 +19,14 @@ pub struct Edge {
     pub head: NodeWord,
 }
 
-/// What an edge stands for.
+/// The line that an edge represents.
 #[derive(Clone, Copy, Debug, PartialEq, Eq)]
 pub enum Element {
     Row,
     Column,
 }
 
-/// The edges of rows and those of columns, in their orders.
+/// The edges of the rows and the edges of the columns, in their orders.
 #[derive(Debug, Drop)]
 pub struct Edges {
     pub rows: ItemList<Edge>,

@@ -3,29 +3,29 @@ ghost use Rattle.graph_text.specs.GraphKinds.{graph_kind};
 
 use text_fields::{FieldError, NumberFault};
 
-/// What is wrong with a graph text.
+/// The kind of a fault of a graph text.
 #[derive(Clone, Copy, Debug, PartialEq, Eq)]
 pub enum GraphKind {
-    /// A node has not the form of a number.
+    /// A node is not a number.
     NotNumber,
     /// A node is above 2^31 - 1.
     TooBig,
-    /// The third word of an edge is neither the name of the next row, where no column came before, nor that of the next
-    /// column.
+    /// The third word of an edge is neither the name of the next row nor the name of the next column. After a column
+    /// the name of a row is also wrong.
     BadElement,
-    /// The next row is one more than a matrix has.
+    /// The text has more rows than a matrix can have.
     TooManyRows,
-    /// The next column is one more than a matrix has.
+    /// The text has more columns than a matrix can have.
     TooManyColumns,
     /// The text ends inside an edge.
     Short,
     /// A node is above the number of rows.
     OutOfRange,
-    /// The edges of the rows are no tree.
+    /// The edges of the rows are not a tree.
     NotTree,
 }
 
-/// Why a graph text was not read: its fault with its place, or want of memory.
+/// The reason why a graph text was not read: its fault with its position, or an allocation failure.
 pub type GraphError = FieldError<GraphKind>;
 
 impl From<NumberFault> for GraphKind {

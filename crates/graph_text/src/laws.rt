@@ -1,7 +1,7 @@
-//! Laws over the definitions alone. Each is a function that does nothing: its contract is the law.
+//! Laws about the definitions. Each law is a function that does nothing: its contract is the law.
 ghost use Rattle.graph_text.specs.Laws.{BinaryMatricesAreOne, MatricesAreOne, ReadingsAreOne};
 
-/// A text has one reading: one network, or one fault at one place.
+/// A text has one reading: one network, or one fault at one position.
 pub fn readings_are_one()
     ensures { ReadingsAreOne }
 {}

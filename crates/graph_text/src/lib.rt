@@ -1,5 +1,5 @@
-//! The text of a graph in which the edges of a tree stand for the rows of a matrix and further edges for its columns: read
-//! to the first fault, written, and made into the matrix again.
+//! The text of a graph: the edges of a tree represent the rows of a matrix, and further edges represent its columns.
+//! The crate reads a text up to its first fault, writes a text, and makes the matrix of a text.
 #![tactic(auto)]
 
 mod edges;

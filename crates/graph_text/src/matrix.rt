@@ -9,8 +9,9 @@ ghost use Rattle.graph_text.specs.SupportMatrix.{one_at};
 use cmr_base::{MAX_COLUMNS, MAX_ROWS, Matrix, Memory, Network};
 use std::alloc::Global;
 
-/// The matrix of the paths between the nodes of the walks, in which the rows are the arcs. With `directed` an entry is 1
-/// where the path uses the arc forwards and -1 where it uses it backwards; else it is 1 in both cases.
+/// Makes the matrix of the paths between the ends of the walks, with a row for each arc. With `directed`, an entry is
+/// 1 if the path uses the arc forwards and -1 if the path uses it backwards. Without `directed` it is 1 in both
+/// cases.
 pub fn matrix_of(
     alloc: Global,
     net: &Network,
@@ -37,7 +38,7 @@ pub fn matrix_of(
     }
 }
 
-// The matrix of the same sizes with 1 at each nonzero.
+// Makes the matrix of the same sizes with 1 at each nonzero.
 fn support_of(alloc: Global, matrix: &Matrix) -> Result<Matrix, Memory>
     ensures { IfOk result (λ made. made ≡ filled (height matrix.now) matrix.now.width
         (one_at matrix.now)) }

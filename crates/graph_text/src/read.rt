@@ -1,4 +1,4 @@
-//! Graph texts, read.
+//! The reader of graph texts.
 ghost use Rattle.std.specs.Prelude.{◌≡◌, ◌≤◌, ◌<◌, IfOk, Ok, bytes_eq, length, map};
 ghost use Rattle.text_fields.specs.Reading.{Gives, Reads, field};
 ghost use Rattle.text_fields.specs.Spelling.{words_in};
@@ -24,9 +24,10 @@ pub struct SizedNetwork {
     pub columns: u32,
 }
 
-/// The network that a graph text stands for, or the text's fault: its kind, and the byte at which its word begins, or the
-/// text's length where a word is missing or the edges of the rows are no tree. The nodes are compared with the number of
-/// rows only once all edges are read, and the tree is tested last.
+/// Reads the network that a graph text represents, or gives the text's first fault: its kind and its position. The
+/// position is the byte at which the faulty word begins, or the length of the text if a word is missing or the edges
+/// of the rows are not a tree. After all edges are read, the nodes are compared with the number of rows. The test for
+/// a tree is the last test.
 pub fn read_graph(alloc: Global, bytes: &[u8]) -> Result<SizedNetwork, GraphError>
     ensures exact { IsReading (text_of bytes.now) result }
     ensures found { IfOk result (IsGraphText (words_in bytes.now)) }
@@ -44,7 +45,7 @@ pub fn read_graph(alloc: Global, bytes: &[u8]) -> Result<SizedNetwork, GraphErro
     }
 }
 
-// Arcs and walks. The arcs need not be a tree.
+// Reads arcs and walks. The arcs need not be a tree.
 fn read_network(alloc: Global, bytes: &[u8]) -> Result<SizedNetwork, GraphError>
     ensures { Gives (λ sized. sized) result (network_in (text_of bytes.now)) }
 {
@@ -111,7 +112,7 @@ fn read_edges(alloc: Global, words: &mut Words<'_>) -> Result<Edges, GraphError>
     Ok(edges)
 }
 
-// The edge with this first node, and what it stands for behind these edges.
+// Reads the edge with this first node, and the line that it represents after these edges.
 fn read_edge(
     words: &mut Words<'_>,
     edges: &Edges,
@@ -189,7 +190,7 @@ fn element_in(word: &[u8], edges: &Edges) -> Result<Element, GraphKind>
     }
 }
 
-// Whether a word is the name of a line.
+// Decides whether a word is the name of a line.
 fn is_named(word: &[u8], letter: u8, line: usize) -> bool
     requires { line ≤ MAX_ROWS }
     ensures { result ≡ bytes_eq word.now (lettered_name letter line) }

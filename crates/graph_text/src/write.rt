@@ -1,4 +1,4 @@
-//! Graph texts, written.
+//! The writer of graph texts.
 ghost use Rattle.std.specs.Prelude.{◌≡◌, ◌≤◌, ◌<◌, ◌+◌, ◌++◌, IfOk, Ok, OnOk, codes, length};
 ghost use Rattle.std.specs.Fmt.{decimal};
 ghost use Rattle.cmr_base.specs.Trees.{IsNetworkOf};
@@ -17,12 +17,13 @@ pub const ROW: u8 = b'r';
 /// The letter of columns.
 pub const COLUMN: u8 = b'c';
 
-/// The text of the graph of a network with so many arcs, which stand for rows, and so many walks, which stand for columns.
+/// Writes the text of the graph of a network with `rows` arcs, which represent rows, and `columns` walks, which
+/// represent columns.
 pub fn write_graph(alloc: Global, net: &Network, rows: u32, columns: u32) -> Result<Vec<u8>, Memory>
     requires rows { length net.now.arcs ≡ rows }
     requires columns { length net.now.walks ≡ columns }
     ensures text { IfOk result (λ text. text.items ≡ graph_text net.now) }
-    // Within the limits a tree with its walks is read again as the same.
+    // A reader gives the same tree and walks again, if the network is within the limits.
     ensures again { IfOk result (λ text. rows ≤ MAX_ROWS → columns ≤ MAX_COLUMNS
         → IsNetworkOf net.now rows columns
         → IsGraph
@@ -35,8 +36,8 @@ pub fn write_graph(alloc: Global, net: &Network, rows: u32, columns: u32) -> Res
     Ok(text)
 }
 
-/// The text of the graph of a network for the transposed matrix: its arcs stand for the columns and come first, and its
-/// walks stand for the rows.
+/// Writes the text of the graph of a network for the transposed matrix: first its arcs, which represent columns, and
+/// then its walks, which represent rows.
 pub fn write_transposed_graph(
     alloc: Global,
     net: &Network,

@@ -1,4 +1,4 @@
--- The search by row sets, or by those of the transposed matrix, gives the least violator.
+-- The search by the row sets of the matrix, or of the transposed matrix, gives the least violator.
 use Rattle.std.proofs.Common.{◌^◌, ℕ, Result, Ok, Err, IfOk, inl, inr, refl, arith}
 use Rattle.std.proofs.lemmas.Bool.{cases_lt}
 use Rattle.cmr_base.specs.Matrix.{Matrix, height, transposed, IsMatrix}

@@ -1,4 +1,4 @@
--- Row sets gone through by their numbers.
+-- Row sets in the order of their numbers.
 use Rattle.std.proofs.Common.{◌≡◌, ◌<◌, ◌+◌, ◌^◌, ◌∙◌, ℕ, List, sym, subst, inl, inr, arith, Result, Ok, Err, IfOk}
 use Rattle.std.proofs.lemmas.Bool.{cases_lt}
 use Rattle.cmr_base.specs.Matrix.{Matrix, height, entry}
@@ -9,7 +9,7 @@ use Rattle.cmr_base.proofs.SetNumbers.{number_of_numbered, numbered_same, row_se
 use Rattle.first_hit.specs.First.{NoneBetween}
 use Rattle.leaf_enumerate.specs.RowSets.{HasColumnSet}
 
--- a row set with a column set has its number
+-- the number of a row set with a column set has a column set
 pub has_column_set : (m : Matrix) (rows columns : List ℕ) → IsRowSet m rows → IsColumnSet m columns → IsViolator (entry m) rows columns → HasColumnSet m (set_number rows)
 has_column_set m rows columns row_set column_set v =
     record { columns = columns; column_set = column_set; violator = subst (λ (set : List ℕ). IsViolator (entry m) set columns) (sym (numbered_same (height m) rows (row_set_rises m rows row_set))) v }

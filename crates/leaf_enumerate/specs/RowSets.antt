@@ -1,4 +1,4 @@
--- What is asked of the numbers of row sets.
+-- The predicate on the numbers of row sets that a search tests.
 use Rattle.std.specs.Prelude.{ℕ, List}
 use Rattle.cmr_base.specs.Matrix.{Matrix, height, entry}
 use Rattle.cmr_base.specs.LineSets.{IsColumnSet, set_numbered}

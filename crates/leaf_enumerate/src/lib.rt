@@ -1,5 +1,5 @@
-//! The least submatrix of a kind in matrices with a short side, by trying the sets of that side one after another: of
-//! violators, and of what other crates look for.
+//! The least submatrix of a kind in a matrix with a short side: the search tries the sets of that side one after
+//! another. Violators are one kind, and other crates define other kinds.
 #![tactic(auto)]
 
 mod row_probe;

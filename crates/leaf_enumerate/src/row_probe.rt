@@ -1,13 +1,14 @@
-// The question that the workers ask.
+// The question that each worker answers.
 use crate::sought::Sought;
 use cmr_base::{Matrix, Memory};
 use first_hit::Probe;
 use std::alloc::Global;
 
-/// How many row sets a worker asks in one run. It is no power of two, so that the runs of each worker have large and small sets alike.
+/// The number of row sets in one run of a worker. It is not a power of two, so each worker's runs contain both large
+/// and small sets.
 const RUN_SIZE: u64 = 1000;
 
-/// The question whether the row set with a number holds.
+/// The question whether the row set with a number satisfies the predicate.
 #[derive(Drop)]
 pub struct RowProbe<'a, S> {
     pub matrix: &'a Matrix,

@@ -12,20 +12,20 @@ use first_hit::{Workers, first_hit};
 use std::alloc::Global;
 use std::thread::Threads;
 
-/// What a search for the least submatrix of a kind finds.
+/// The result of a search for the least submatrix of a kind.
 #[derive(Debug, Drop)]
 pub enum LeastSubmatrix {
-    /// There is none.
+    /// The matrix has no such submatrix.
     Clean,
-    /// The least one.
+    /// The least submatrix.
     Found(LineSet),
-    /// The shorter side, which this is, has more lines than the limit.
+    /// The shorter side has more lines than the limit. `shorter` is its number of lines.
     TooMany { shorter: u32 },
 }
 
-/// The least violator of a matrix whose shorter side has at most `limit` lines. The sets of the shorter side, rows in
-/// a tie, are gone through by increasing number, and for each the least set of the other side is found. The answer is the
-/// same for every number of workers.
+/// Gives the least violator of a matrix whose shorter side has at most `limit` lines. The search tries the sets of
+/// the shorter side, rows in a tie, by increasing number, and for each set it finds the least set of the other side.
+/// The answer does not depend on the number of workers.
 pub fn least_violator<R: Threads + Sync>(
     rt: &R,
     alloc: Global,
@@ -41,7 +41,7 @@ pub fn least_violator<R: Threads + Sync>(
     least_violator_of(rt, alloc, &both, limit, workers)
 }
 
-/// The same, of a matrix by its rows and its columns.
+/// Gives the least violator of a matrix that is available by rows and by columns.
 pub fn least_violator_of<R: Threads + Sync>(
     rt: &R,
     alloc: Global,
@@ -56,9 +56,9 @@ pub fn least_violator_of<R: Threads + Sync>(
     least_submatrix(rt, alloc, matrix, &Violators, limit, workers)
 }
 
-/// The least submatrix of a kind in a matrix whose shorter side has at most `limit` lines. The sets of the shorter side,
-/// rows in a tie, are asked by increasing number. The answer is the same for every number of workers. The time doubles with
-/// each line of the shorter side.
+/// Gives the least submatrix of a kind in a matrix whose shorter side has at most `limit` lines. The search tests the
+/// sets of the shorter side, rows in a tie, by increasing number. The answer does not depend on the number of
+/// workers. The time doubles with each line of the shorter side.
 pub fn least_submatrix<R: Threads + Sync, S: Sought>(
     rt: &R,
     alloc: Global,
@@ -106,10 +106,10 @@ fn least<R: Threads + Sync, S: Sought>(
     }
 }
 
-/// How many row sets are gone through sooner than other workers are started.
+/// The number of row sets that one worker tests in less time than the start of other workers takes.
 const FEW_SETS: u64 = 2048;
 
-// The one with the least row set, and among these the one with the least column set.
+// Gives the submatrix with the least row set, and among these submatrices the one with the least column set.
 fn least_by_rows<R: Threads + Sync, S: Sought>(
     rt: &R,
     alloc: Global,

@@ -1,4 +1,4 @@
-// Violators as what is looked for.
+// Violators as a kind of submatrix.
 ghost use Rattle.std.specs.Prelude.{◌≡◌, ◌≤◌, IfOk};
 ghost use Rattle.cmr_base.specs.Violator.{IsLeastByRows};
 ghost use Rattle.first_hit.specs.First.{IsFirst};
@@ -10,7 +10,7 @@ use cmr_base::{LineSet, Matrix, Memory, write_set};
 use parity::{ColumnSearch, first_column_set};
 use std::alloc::Global;
 
-/// Violators: a row set holds where it makes one with some column set.
+/// Violators: a row set satisfies the predicate if it makes a violator with some column set.
 #[derive(Clone, Copy)]
 pub struct Violators;
 
@@ -25,7 +25,7 @@ impl Sought for Violators {
         Ok(columns.is_some())
     }
 
-    // The room for a search is taken once.
+    // The room for all searches is allocated once.
     fn first(
         &self,
         alloc: Global,
@@ -47,7 +47,7 @@ impl Sought for Violators {
     }
 }
 
-// The least number of a range whose row set makes a violator with some column set. The list is room for a row set.
+// Gives the least number of a range whose row set makes a violator with some column set. `set` is room for a row set.
 fn first_row_set(
     matrix: &Matrix,
     search: &mut ColumnSearch<'_>,

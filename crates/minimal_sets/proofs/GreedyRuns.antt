@@ -1,4 +1,4 @@
--- Greedy sets: many lines are left out at once.
+-- Greedy sets: many lines are removed at once.
 use Rattle.std.proofs.Common.{◌++◌, inl, inr, ℕ, List, [], ◌∷◌, refl, subst}
 use Rattle.std.specs.List.Sorted.{IsStrictlyIncreasing}
 use Rattle.cmr_base.specs.declared.line.Line.{Line}
@@ -28,13 +28,13 @@ columns_left-within [] columns x h = h
 columns_left-within (line ∷ lines) columns x h = columns_within line columns x (columns_left-within lines (columns_without columns line) x h)
 
 module _ (P : Matrix → Type 0) (m : Matrix) where
-  -- one pass and then another
+  -- one pass followed by another pass
   pub greedy-append : (xs ys : List Line) (R C R₁ C₁ R₂ C₂ : List ℕ) → IsGreedyFrom P m xs R C R₁ C₁ → IsGreedyFrom P m ys R₁ C₁ R₂ C₂ → IsGreedyFrom P m (xs ++ ys) R C R₂ C₂
   greedy-append [] ys R C R₁ C₁ R₂ C₂ (r, c) next = subst (λ (rows : List ℕ). IsGreedyFrom P m ys rows C R₂ C₂) r (subst (λ (columns : List ℕ). IsGreedyFrom P m ys R₁ columns R₂ C₂) c next)
   greedy-append (x ∷ xs) ys R C R₁ C₁ R₂ C₂ (inl (p, g)) next = inl (p, greedy-append xs ys R C R₁ C₁ R₂ C₂ g next)
   greedy-append (x ∷ xs) ys R C R₁ C₁ R₂ C₂ (inr (p, g)) next = inr (p, greedy-append xs ys (rows_without R x) (columns_without C x) R₁ C₁ R₂ C₂ g next)
 
-  -- where they can all go together, each can go in its turn
+  -- if lines can be removed together, each line can be removed in turn
   pub greedy_left : IsInherited P m → (lines : List Line) (R C : List ℕ) → IsStrictlyIncreasing R → IsStrictlyIncreasing C → ¬ P (submatrix m (rows_left R lines) (columns_left C lines))
       → IsGreedyFrom P m lines R C (rows_left R lines) (columns_left C lines)
   greedy_left inherits [] R C r c lacks = (refl, refl)
@@ -48,6 +48,6 @@ module _ (P : Matrix → Type 0) (m : Matrix) where
         greedy_left inherits xs R' C' r' c' lacks,
       )
 
-  -- a line that cannot go stays
+  -- a line that cannot be removed remains
   pub greedy_kept : (line : Line) (R C : List ℕ) → P (submatrix m (rows_without R line) (columns_without C line)) → IsGreedyFrom P m (line ∷ []) R C R C
   greedy_kept line R C p = inl (p, (refl, refl))

@@ -1,4 +1,4 @@
--- A pass over the lines of a matrix, in which some are left out.
+-- A pass over the lines of a matrix that removes some of them.
 use Rattle.std.proofs.Common.{Less, Equal, Greater, ◌<◌, ◌≤◌, ◌-◌, nat_lt, eqb, true, false, cond, arith, ◌≡◌, ◌+◌, ℕ, Bool, List, refl, sym, subst}
 use Rattle.std.specs.Ordering.{ord_min, nat_cmp, is_lt}
 use Rattle.std.proofs.lemmas.Bool.Decides.{nat_tests}
@@ -30,7 +30,7 @@ all_rows m = row_set_from_within m (first_lines (height m)) (first_lines_increas
 pub all_columns : (m : Matrix) → IsColumnSet m (first_lines m.width)
 all_columns m = column_set_from_within m (first_lines m.width) (first_lines_increase m.width) (λ x h. h)
 
--- so many lines have had their turn, and some rows and columns stay
+-- the first `turns` lines have been tried, and these rows and columns remain
 pub record IsPass (P : Matrix → Type 0) (m : Matrix) (R C : List ℕ) (turns : ℕ) (R' C' : List ℕ) : Type 0 where
   pub row_set : IsRowSet m R'
   pub column_set : IsColumnSet m C'
@@ -47,7 +47,7 @@ module _ (P : Matrix → Type 0) (m : Matrix) (R C : List ℕ) where
         subst (λ (lines : List Line). IsGreedyFrom P m lines R C R₂ C₂) (sym (lines_between-append (height m) turns count))
         (greedy-append P m (lines_between (height m) 0 turns) (lines_between (height m) turns count) R C R' C' R₂ C₂ p.greedy g)
 
-    -- the next ones can go together
+    -- the next lines can be removed together
     pub pass_left : IsInherited P m → ¬ P (submatrix m (rows_left R' (lines_between (height m) turns count)) (columns_left C' (lines_between (height m) turns count)))
         → IsPass P m R C (turns + count) (rows_left R' (lines_between (height m) turns count)) (columns_left C' (lines_between (height m) turns count))
     pass_left inherited lacks = let lines = lines_between (height m) turns count in record {
@@ -57,7 +57,7 @@ module _ (P : Matrix → Type 0) (m : Matrix) (R C : List ℕ) where
       greedy = more_turns (rows_left R' lines) (columns_left C' lines) (greedy_left P m inherited lines R' C' p.row_set.increasing p.column_set.increasing lacks);
     }
 
-  -- the next one cannot go
+  -- the next line cannot be removed
   pub pass_kept : (turns : ℕ) (R' C' : List ℕ) → IsPass P m R C turns R' C'
       → P (submatrix m (rows_left R' (lines_between (height m) turns 1)) (columns_left C' (lines_between (height m) turns 1))) → IsPass P m R C (turns + 1) R' C'
   pass_kept turns R' C' p has = record {
@@ -75,7 +75,7 @@ greedy_from_all P m R C R' C' r c g =
     (subst (λ (columns : List ℕ). IsGreedyFrom P m (lines_of (first_lines (height m)) (first_lines m.width)) R columns R' C') c
     (subst (λ (lines : List Line). IsGreedyFrom P m lines R C R' C') (all_lines (height m) m.width) g))
 
--- ---- how many are tried at once
+-- ---- the number of lines that are tried at once
 
 pub record IsCount (tried end next count : ℕ) : Type 0 where
   pub some : 1 ≤ count

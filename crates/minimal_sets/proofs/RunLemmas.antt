@@ -1,4 +1,4 @@
--- A run of lines, left out at once or one after another.
+-- A run of lines, removed at once or one after another.
 use Rattle.std.proofs.Common.{◌≡◌, ◌<◌, ◌≤◌, ◌+◌, ◌-◌, ◌++◌, ◌&&◌, ◌∙◌, ◌⊎◌, inl, inr, ℕ, zero, suc, Bool, true, false, cond, not, eqb, nat_lt, List, [], ◌∷◌, filter, map, refl, ap, ap₂, sym, arith}
 use Rattle.std.specs.List.{range_with_len}
 use Rattle.std.proofs.lemmas.Bool.{cases_lt}
@@ -27,7 +27,7 @@ filter_all : (p : ℕ → Bool) (xs : List ℕ) → ((x : ℕ) → p x ≡ true)
 filter_all p [] all = refl
 filter_all p (x ∷ xs) all = rw (all x, filter_all p xs all) refl
 
--- a row or column is not among some lines
+-- a row, or a column, is not among these lines
 abbrev pub row_stays : List Line → ℕ → Bool
 row_stays [] row = true
 row_stays (Row gone ∷ lines) row = not (eqb row gone) && row_stays lines row

@@ -1,4 +1,4 @@
--- A search that finds nothing exactly where a property fails decides the property.
+-- A search that gives nothing if and only if a property fails decides the property.
 use Rattle.std.proofs.Common.{◌↔◌, Option, Some, None, is_some, MatchOption, IsTrue, refl, sym}
 use Rattle.std.proofs.lemmas.Bool.{true≢false}
 

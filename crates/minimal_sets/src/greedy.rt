@@ -10,8 +10,9 @@ use crate::property::Property;
 use cmr_base::{Indices, LineSet, MAX_COLUMNS, MAX_ROWS, Matrix, Memory};
 use std::alloc::Global;
 
-/// The lines of a minimal submatrix that lacks a property: all lines are gone through once, rows first, and each is left
-/// out where what then stays still lacks it. `None` where the matrix has the property.
+/// Gives the lines of a minimal submatrix that lacks a property, and `None` if and only if the matrix has the
+/// property. The search tries all lines once, rows first, and removes each line if the remaining submatrix still
+/// lacks the property.
 pub fn minimal_without<P: Property>(
     alloc: Global,
     matrix: &Matrix,
@@ -34,8 +35,8 @@ pub fn minimal_without<P: Property>(
     Ok(Some(left))
 }
 
-// Each line is left out in its turn where what then stays still lacks the property. Many are tried at once: where they can
-// go together, each of them can go in its turn.
+// Removes each line in turn if the remaining submatrix still lacks the property. It tries many lines at once: if they
+// can be removed together, each of them can be removed in turn.
 fn leave_out<P: Property>(
     alloc: Global,
     matrix: &Matrix,
@@ -73,7 +74,7 @@ fn leave_out<P: Property>(
     Ok(left)
 }
 
-// The set without so many lines from a number on, where what then stays still lacks the property.
+// Gives the set without the `count` lines from a number on, if the remaining submatrix still lacks the property.
 fn lacking_without<P: Property>(
     alloc: Global,
     matrix: &Matrix,
@@ -98,7 +99,7 @@ fn lacking_without<P: Property>(
     Ok(Some(fewer))
 }
 
-// The set without so many lines from a number on, where the columns are counted on after the rows.
+// Gives the set without the `count` lines from a number on. The columns are numbered after the rows.
 fn without_run(
     alloc: Global,
     lines: &LineSet,
@@ -123,7 +124,7 @@ fn without_run(
     })
 }
 
-// The numbers that, counted on after others, are none of so many from one on.
+// Gives each number with `before + number` not among the `count` numbers from `from` on.
 fn outside(
     alloc: Global,
     numbers: &[u32],

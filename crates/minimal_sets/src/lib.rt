@@ -1,4 +1,4 @@
-//! Minimal submatrices that lack a property which submatrices inherit.
+//! Minimal submatrices that lack a hereditary property: a property that submatrices inherit.
 #![tactic(auto)]
 
 mod greedy;

@@ -6,15 +6,15 @@ ghost use Rattle.cmr_base.specs.LineSets.{IsRowSet, IsColumnSet, submatrix};
 use cmr_base::{LineSet, Matrix, Memory};
 use std::alloc::Global;
 
-/// A property of matrices, and a test of it.
+/// A property of matrices, with a test of it.
 pub trait Property {
-    /// That a matrix has the property.
+    /// The definition of the property.
     ghost holds: { Self → Matrix → Type 0 };
 
     /// The matrices whose submatrices may be tested.
     ghost domain: { Self → Matrix → Type 0 };
 
-    /// Whether the submatrix on some lines has the property.
+    /// Decides whether the submatrix on these lines has the property.
     fn holds_on(&self, alloc: Global, matrix: &Matrix, lines: &LineSet) -> Result<bool, Memory>
         requires shape { IsMatrix matrix.now }
         requires domain { domain self.now matrix.now }

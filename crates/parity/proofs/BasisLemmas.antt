@@ -1,4 +1,4 @@
--- Equations that lie one after another.
+-- Equations in consecutive words.
 use Rattle.std.proofs.Common.{◌≡◌, ◌<◌, ◌≤◌, ◌+◌, ◌*◌, ◌∙◌, ◌++◌, ℕ, zero, suc, List, [], ◌∷◌, length, take, drop, get_or, refl, ap, sym, arith, Some}
 use Rattle.std.specs.Prelude.{slice_get}
 use Rattle.std.proofs.lemmas.List.{drop-append-le, drop-drop, length-drop, length-take-le, take-append-le, take_all}
@@ -34,13 +34,13 @@ equation_inside words pivots flat k whole h =
     let up : k + 1 ≤ length pivots = omega arith in
     omega (arith, whole, mul-le-mul_right words up, suc-mul k words)
 
--- one equation more is taken off
+-- one equation more is dropped
 pub drop-equation : (es : List Equation) (k : ℕ) (e : Equation) → slice_get es k ≡ Some e → drop k es ≡ e ∷ drop (k + 1) es
 drop-equation [] k e at = cc
 drop-equation (f ∷ es) zero e at = let same : f ≡ e = cc in ap (λ (g : Equation). g ∷ es) same
 drop-equation (f ∷ es) (suc k) e at = let next : suc k + 1 ≡ suc (k + 1) = omega arith in drop-equation es k e at ∙ ap (λ n. e ∷ drop n (f ∷ es)) (sym next)
 
--- ---- what the fields say
+-- ---- the fields of a basis
 pub count_is : (a : Inside) (s : System) → system_of a ≡ s → length s.equations ≡ length a.pivots.items
 count_is a s e = ap (λ (t : System). length t.equations) (sym e) ∙ length-paired a.words a.pivots.items a.equations.items
 

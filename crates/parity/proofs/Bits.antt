@@ -1,4 +1,4 @@
--- Laws of bits: common columns, and where two numbers differ.
+-- Laws of bits: common columns, and the bits in which two numbers differ.
 use Rattle.std.proofs.Common.{◌≡◌, ◌≢◌, ◌<◌, ◌≤◌, ◌+◌, ◌*◌, ◌/◌, ◌%◌, ◌^◌, ◌∙◌, ◌⊎◌, ℕ, zero, suc, ap, ap₂, sym, subst, inl, inr, arith, min}
 use Rattle.std.specs.Prelude.{bit_and, bit_xor, count_ones}
 use Rattle.std.specs.Int.{bit_at}
@@ -21,7 +21,7 @@ low_xor a b = sym (bit_at_lowest (bit_xor a b)) ∙ bit_at_xor a b 0 ∙ ap₂ (
 pub ones-zero : count_ones 0 ≡ 0
 ones-zero = omega (arith, ones-le 0 0 (omega arith))
 
--- the number of ones is even or odd as the two numbers' together
+-- the numbers of ones of two numbers, added, have the parity of the number of ones of their difference
 ones-xor_in : (k a b : ℕ) → a ≤ k → b ≤ k → count_ones (bit_xor a b) % 2 ≡ (count_ones a + count_ones b) % 2
 ones-xor_in zero a b ha hb =
     let a_is : a ≡ 0 = omega arith in
@@ -69,7 +69,7 @@ common-pow a k =
 pub common-lt : (a b : ℕ) → common a b < 2
 common-lt a b = omega arith
 
--- a greater number has a bit that the lesser lacks, and above it the two have the same bits
+-- the larger number has a bit that the smaller one lacks, and both have the same higher bits
 pub record DiffersAt (more less place : ℕ) : Type 0 where
   pub has : bit_at more place ≡ 1
   pub lacks : bit_at less place ≡ 0
@@ -107,7 +107,7 @@ differs_in (suc k) more less hk h = elim (cases_eq (more / 2) (less / 2)) [
 pub differs : (more less : ℕ) → less < more → (place : ℕ) × DiffersAt more less place
 differs more less h = differs_in more more less (omega arith) h
 
--- an equation whose least column is where two sets differ last holds for one of them only
+-- an equation whose least column is the highest difference of two sets holds for only one of them
 pub lowest_differs : (b more less place : ℕ) → IsLowest b place → DiffersAt more less place → (common b more + common b less) % 2 ≡ 1
 lowest_differs b more less place low d =
     sym (common-xor_right b more less)

@@ -1,4 +1,4 @@
--- Column sums modulo 4, one row after another.
+-- Column sums modulo 4, row by row.
 use Rattle.std.proofs.Common.{◌≡◌, ◌<◌, ◌+◌, ◌/◌, ◌%◌, ◌^◌, ◌∙◌, ℕ, ℤ, pos, neg_ℤ, ◌+ℤ◌, List, [], length, take, get_or, ap, ap₂, sym, subst, arith, min}
 use Rattle.std.specs.Prelude.{bit_and, bit_xor}
 use Rattle.std.specs.Int.{bit_at}
@@ -14,7 +14,7 @@ use Rattle.parity.proofs.Systems.{entry_bits, minus_of-lt, support_of-lt}
 pub no_sums : (m : Matrix) → AreSums m [] 0 0
 no_sums m = record { each = λ column. record { fours = pos 0; is = ap₂ (λ (a b : ℕ). (pos a +ℤ (pos b +ℤ pos b)) +ℤ pos 0) (sym (bit_at-zero column)) (sym (bit_at-zero column)) } }
 
--- an entry of so many ones, less twice so many, added to a sum
+-- an entry s - 2 m, with bits s and m, added to a sum
 residue_more : (sum z : ℤ) (low high s m : ℕ) → low < 2 → high < 2 → s < 2 → m < 2 → HasResidue sum low high → z ≡ pos s +ℤ (neg_ℤ (pos m) +ℤ neg_ℤ (pos m)) → HasResidue (sum +ℤ z) ((low + s) % 2) ((high + (min low s + m) % 2) % 2)
 residue_more sum z low high s m hl hh hs hm h e =
     let total = high + min low s + m in

@@ -1,4 +1,4 @@
--- Elimination over two values: what reducing by a basis leaves, and the least solution.
+-- Elimination over GF(2): the remainder after reduction by a basis, and the least solution.
 use Rattle.std.proofs.Common.{◌≡◌, ◌≢◌, ◌<◌, ◌≤◌, ◌^◌, ◌∙◌, ◌⊎◌, ◌++◌, ℕ, List, [], ◌∷◌, refl, ap, ap₂, sym, subst, inl, inr, arith}
 use Rattle.std.specs.Prelude.{bit_and, bit_xor}
 use Rattle.std.specs.List.{AllByRecursion}
@@ -42,7 +42,7 @@ pub reduced_by-append : (es fs : List Equation) (number : ℕ) → reduced_by (e
 reduced_by-append [] fs number = refl
 reduced_by-append (e ∷ es) fs number = reduced_by-append es fs (cleared_by e number)
 
--- adding equations that hold for a set changes no parity of what is common with it
+-- equations that hold for a set do not change the parity of a number's intersection with the set
 common-reduced_by : (es : List Equation) (number set : ℕ) → AllByRecursion (λ e. common e.columns set ≡ 0) es → common (reduced_by es number) set ≡ common number set
 common-reduced_by [] number set hold = refl
 common-reduced_by (e ∷ es) number set hold = common-reduced_by es (cleared_by e number) set hold.1 ∙ elim (bit_cases number e.pivot) [
@@ -95,7 +95,7 @@ basis_push width gone rows es row pivot basis apart small low = record {
     e : Equation
     e = record { pivot = pivot; columns = reduced_by es row }
 
--- what is reduced to nothing has an even number in common with each set for which the rows hold
+-- a number that is reduced to 0 has an even number of columns in common with each set for which the rows hold
 pub even_where_cleared : (width gone : ℕ) (rows : List ℕ) (es : List Equation) (number set : ℕ) → IsBasis width gone rows es → reduced_by es number ≡ 0 → AllByRecursion (λ row. common row set ≡ 0) rows → common number set ≡ 0
 even_where_cleared width gone rows es number set basis none hold =
     sym (common-reduced_by es number set (basis.follow set hold)) ∙ ap (λ n. common n set) none ∙ common-zero set
@@ -104,7 +104,7 @@ even_where_cleared width gone rows es number set basis none hold =
     common-zero b = omega (arith, common-xor 0 0 b)
 
 -- ---- solving
--- what is common with the solved set is what the reduced number has in common with the set before
+-- a number and the solved set have the same parity of common columns as the reduced number and the first set
 common-solved : (es : List Equation) (number start : ℕ) → common number (solved es start) ≡ common (reduced_by es number) start
 common-solved [] number start = refl
 common-solved (e ∷ es) number start =
@@ -127,7 +127,7 @@ common-solved (e ∷ es) number start =
     by set later (inr even) (inr none) =
         ap (common number) (corrected_even e set even) ∙ ap (λ n. common n set) (sym (cleared_clear e number none)) ∙ later
 
--- the solved set has pivots and the column that it began with
+-- the solved set contains only pivots and the column of the first set
 solved_at : (P : ℕ → Type 0) (es : List Equation) (free column : ℕ) → P free → AllByRecursion (λ e. P e.pivot) es → bit_at (solved es (2 ^ free)) column ≡ 1 → P column
 solved_at P [] free column at_free all one = elim (cases_eq column free) [
   | inl same ↦ subst P (sym same) at_free

@@ -1,4 +1,4 @@
--- Words reduced by those before them, one word after another.
+-- Words reduced by the words before them, one after another.
 use Rattle.std.proofs.Common.{◌≡◌, ◌<◌, ◌+◌, ◌-◌, ◌^◌, ◌∙◌, ◌++◌, ◌∷◌, [], inl, inr, ℕ, List, length, take, get_or, refl, ap, sym, subst, arith}
 use Rattle.std.specs.Prelude.{bit_and}
 use Rattle.std.proofs.lemmas.List.{take_more, get_or-append_right, length-append, length-map}
@@ -15,7 +15,7 @@ use Rattle.parity.proofs.Systems.{support_of-lt, without_columns_apart, without_
 pub reduced_none : (words : List ℕ) → AreReduced 0 words words
 reduced_none words width gone all = record { equations = []; basis = basis_none width gone; rest = λ at le lt. refl }
 
--- one word more is added to those behind it
+-- one word more is added to the words after it
 pub reduced_more : (place : ℕ) (words before after : List ℕ) → place < length words → length before ≡ length words → AreReduced place words before → AreCleared place before after → AreReduced (place + 1) words after
 reduced_more place words before after lt len so_far (inl (none, same)) width gone all =
     let is = so_far width gone all in record {
@@ -40,7 +40,7 @@ reduced_more place words before after lt len so_far (inr (pivot, low, added)) wi
           ∙ sym (reduced_by-append is.equations (e ∷ []) (get_or words at 0));
     }
 
--- the equations of rows, and behind them a set without the columns that are gone
+-- the equations of rows, followed by a set without the columns that are gone
 pub reduced_by_rows : (m : Matrix) (gone number : ℕ) (rows after : List ℕ) → IsMatrix m → AllBelow (height m) rows → number < 2 ^ m.width → AreReduced (length rows) (equations_of m gone rows ++ without_columns gone number ∷ []) after
     → (es : List Equation) × IsBasis m.width gone (equations_of m gone rows) es × (get_or after (length rows) 0 ≡ reduced_by es (without_columns gone number))
 reduced_by_rows m gone number rows after is below small are_reduced = (

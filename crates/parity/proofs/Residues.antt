@@ -12,12 +12,12 @@ use Rattle.cmr_base.specs.Sums.{sum_over, IsEven, IsTwoModFour}
 use Rattle.cmr_base.proofs.Integers.{sums}
 use Rattle.parity.proofs.Bits.{ones-zero}
 
--- even or odd as a count is
+-- the sum has the parity of the count
 pub record HasParity (sum : ℤ) (count : ℕ) : Type 0 where
   pub twos : ℤ
   pub is : sum ≡ pos count +ℤ (twos +ℤ twos)
 
--- twice a count, but for fours
+-- the sum is twice the count modulo 4
 pub record HasDouble (sum : ℤ) (count : ℕ) : Type 0 where
   pub fours : ℤ
   pub is : sum ≡ (pos count +ℤ pos count) +ℤ ((fours +ℤ fours) +ℤ (fours +ℤ fours))
@@ -65,7 +65,7 @@ low_cases number = elim (cases_eq (number % 2) 1) [
   | inr other ↦ inr (omega arith)
 ]
 
--- what holds of each line of the set holds at each bit
+-- a property of the bits of the number is a property of the lines of the set
 pub all_numbered : (P : ℕ → Type 0) (count first number : ℕ) → ((place : ℕ) → place < count → bit_at number place ≡ 1 → P (first + place)) → AllByRecursion P (set_numbered count first number)
 all_numbered P zero first number h = tt
 all_numbered P (suc count) first number h =
@@ -92,7 +92,7 @@ at_numbered P (suc count) first number all (suc place) lt one =
     rest (inl odd) = (subst (AllByRecursion P) (numbered_with count first number odd) all).1
     rest (inr even) = subst (AllByRecursion P) (numbered_without count first number even) all
 
--- ---- sums over it
+-- ---- sums over the set
 later_parity : (f : ℕ → ℤ) (u first place : ℕ) → HasParity (f (first + suc place)) (bit_at u (suc place)) → HasParity (f ((first + 1) + place)) (bit_at (u / 2) place)
 later_parity f u first place h =
     let next : first + suc place ≡ (first + 1) + place = omega arith in

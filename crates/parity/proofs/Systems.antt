@@ -1,4 +1,4 @@
--- A column set makes a violator with some rows exactly where its number solves their equations.
+-- A column set makes a violator with some rows if and only if its number solves their equations.
 use Rattle.std.proofs.Common.{◌≡◌, ◌<◌, ◌≤◌, ◌+◌, ◌%◌, ◌^◌, ◌∙◌, ◌⊎◌, ℕ, zero, suc, ℤ, pos, negsuc, neg_ℤ, ◌+ℤ◌, cond, List, [], ◌∷◌, ◌++◌, take, length, get_or, refl, ap, ap₂, sym, subst, inl, inr, arith, min}
 use Rattle.std.specs.Prelude.{bit_and, count_ones}
 use Rattle.std.specs.List.{AllByRecursion}
@@ -32,7 +32,7 @@ support_of-lt m row is h = subst (λ n. support_of m row < 2 ^ n) (is.rectangula
 pub minus_of-lt : (m : Matrix) (row : ℕ) → IsMatrix m → row < height m → minus_of m row < 2 ^ m.width
 minus_of-lt m row is h = subst (λ n. minus_of m row < 2 ^ n) (is.rectangular row h) (bits_of-lt is_minus (row_of m row))
 
--- an entry is its support less twice its minus
+-- an entry is its support bit minus twice its minus bit
 entry_split : (z : ℤ) → IsEntry z → z ≡ pos (cond (is_nonzero z) 1 0) +ℤ (neg_ℤ (pos (cond (is_minus z) 1 0)) +ℤ neg_ℤ (pos (cond (is_minus z) 1 0)))
 entry_split (pos zero) is = omega (arith, ints)
 entry_split (pos (suc n)) is = omega (arith, ints, is.high)
@@ -62,7 +62,7 @@ common-without_columns gone number set apart =
         let at : min (bit_at set i) (bit_at gone i) ≡ 0 = sym (bit_at_and set gone i) ∙ ap (λ n. bit_at n i) apart ∙ bit_at-zero i in
         bit_at_and (bit_and number gone) set i ∙ omega (arith, bit_at_and number gone i, at, bit_at-zero i))
 
--- a set without the columns of odd sum has equations in which these are left out
+-- a set without columns of odd sum solves the equations without these columns
 pub record Solves (m : Matrix) (rows : List ℕ) (ones twos set : ℕ) : Type 0 where
   pub apart : bit_and set ones ≡ 0
   pub hold : AllByRecursion (λ row. common (without_columns ones (support_of m row)) set ≡ 0) rows

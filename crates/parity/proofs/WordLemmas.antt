@@ -1,4 +1,4 @@
--- The number that words make, bit by bit.
+-- The number of a list of words, bit by bit.
 use Rattle.std.proofs.Common.{◌≡◌, ◌≢◌, ◌<◌, ◌≤◌, ◌+◌, ◌-◌, ◌*◌, ◌/◌, ◌%◌, ◌^◌, ◌∙◌, ◌⊎◌, ℕ, zero, suc, List, [], ◌∷◌, length, get_or, set, drop, replicate, refl, ap, ap₂, sym, subst, inl, inr, arith, min, get_or-set_same, get_or-set_other}
 use Rattle.std.specs.Prelude.{bit_and, bit_xor, count_ones}
 use Rattle.std.specs.Int.{bit_at}
@@ -38,7 +38,7 @@ number_of-xor_each xs ys zs x_words y_words each = same_from_bits (number_of zs)
     ∙ ap₂ (λ (a b : ℕ). (a + b) % 2) (sym (bit_at-number_of xs i x_words)) (sym (bit_at-number_of ys i y_words))
     ∙ sym (bit_at_xor (number_of xs) (number_of ys) i))
 
--- words that hold, place by place, what is in one of the two and not in both
+-- the words of the symmetric difference of two sets
 pub number_of-xor : (xs ys zs : List ℕ) → AreWords xs → AreWords ys → length ys ≡ length xs → length zs ≡ length xs → ((k : ℕ) → k < length xs → get_or zs k 0 ≡ bit_xor (get_or xs k 0) (get_or ys k 0)) → number_of zs ≡ bit_xor (number_of xs) (number_of ys)
 number_of-xor xs ys zs x_words y_words y_long z_long each = number_of-xor_each xs ys zs x_words y_words (λ k. by k (cases_lt k (length xs)))
   where
@@ -46,7 +46,7 @@ number_of-xor xs ys zs x_words y_words y_long z_long each = number_of-xor_each x
     by k (inl lt) = each k lt
     by k (inr past) = get_or_past zs k 0 (omega arith) ∙ sym (ap₂ bit_xor (get_or_past xs k 0 past) (get_or_past ys k 0 (omega arith)))
 
--- the second bits of sums modulo 4, after one row more
+-- the high bits of sums modulo 4, with one row added
 pub number_of-carry : (ones twos support minus after : List ℕ) → AreWords ones → AreWords twos → AreWords support → AreWords minus → length twos ≡ length ones → length support ≡ length ones → length minus ≡ length ones → length after ≡ length ones
     → ((k : ℕ) → k < length ones → get_or after k 0 ≡ bit_xor (get_or twos k 0) (bit_xor (bit_and (get_or ones k 0) (get_or support k 0)) (get_or minus k 0)))
     → number_of after ≡ bit_xor (number_of twos) (bit_xor (bit_and (number_of ones) (number_of support)) (number_of minus))
@@ -78,7 +78,7 @@ number_of-carry ones twos support minus after o_words t_words s_words m_words t_
     joined : {o o' t t' s s' m m' : ℕ} → o' ≡ o → t' ≡ t → s' ≡ s → m' ≡ m → carried o t s m ≡ carried o' t' s' m'
     joined eo et es em = cc
 
--- words without those of a second list
+-- the words of the difference of two sets
 pub number_of-without_columns : (bits gone after : List ℕ) → AreWords bits → AreWords gone → length bits ≡ length after → length gone ≡ length after
     → ((k : ℕ) → k < length after → get_or after k 0 ≡ bit_xor (get_or bits k 0) (bit_and (get_or bits k 0) (get_or gone k 0)))
     → number_of after ≡ without_columns (number_of gone) (number_of bits)
@@ -101,7 +101,7 @@ number_of-without_columns bits gone after b_words g_words b_long g_long each =
     bits_are : (b g i : ℕ) → bit_at (bit_xor b (bit_and b g)) i ≡ (bit_at b i + min (bit_at b i) (bit_at g i)) % 2
     bits_are b g i = bit_at_xor b (bit_and b g) i ∙ ap (λ n. (bit_at b i + n) % 2) (bit_at_and b g i)
 
--- a column put in or taken out
+-- a column toggled
 pub number_of-toggle : (words : List ℕ) (column : ℕ) → AreWords words → column / 64 < length words → number_of (set words (column / 64) (bit_xor (get_or words (column / 64) 0) (2 ^ (column % 64)))) ≡ bit_xor (number_of words) (2 ^ column)
 number_of-toggle words column are h = same_from_bits (number_of after) (bit_xor (number_of words) (2 ^ column)) (λ i.
     bit_at-number_of after i (λ k. fits k (cases_eq k (column / 64))) ∙ at i (cases_eq (i / 64) (column / 64)) ∙ sym (bit_at_xor (number_of words) (2 ^ column) i ∙ ap (λ n. (n + bit_at (2 ^ column) i) % 2) (bit_at-number_of words i are)))
@@ -135,7 +135,7 @@ number_of-toggle words column are h = same_from_bits (number_of after) (bit_xor 
         ap (λ n. bit_at n (i % 64)) (get_or-set_other words (column / 64) (i / 64) (bit_xor word (2 ^ (column % 64))) 0 ne)
         ∙ omega (arith, bit_at-pow_other column i other, bit_at-lt (get_or words (i / 64) 0) (i % 64))
 
--- the least column, by the first word that is not 0
+-- the least column, by the first nonzero word
 pub number_of-lowest : (words : List ℕ) (place bit : ℕ) → AreWords words → bit < 64 → bit_at (get_or words place 0) bit ≡ 1 → ((i : ℕ) → i < bit → bit_at (get_or words place 0) i ≡ 0) → ((k : ℕ) → k < place → get_or words k 0 ≡ 0) → IsLowest (number_of words) (64 * place + bit)
 number_of-lowest words place bit are in_word one below before = record {
   there =
@@ -158,7 +158,7 @@ number_of-none words are none = same_from_bits (number_of words) 0 (λ i. bit_at
     by k (inl lt) = none k lt
     by k (inr past) = get_or_past words k 0 past
 
--- what two sets have in common, word by word
+-- the intersection of two sets, word by word
 pub ones-number_of : (x y : ℕ) (xs ys : List ℕ) → AreWords (x ∷ xs) → AreWords (y ∷ ys) → count_ones (bit_and (number_of (x ∷ xs)) (number_of (y ∷ ys))) ≡ count_ones (bit_and (number_of xs) (number_of ys)) + count_ones (bit_and x y)
 ones-number_of x y xs ys x_words y_words =
     ap count_ones (and_block 64 (number_of xs) (number_of ys) x y (x_words 0) (y_words 0))

@@ -3,7 +3,7 @@ use Rattle.parity.specs.declared.basis.Basis.TheInside.{Inside}
 use Rattle.parity.specs.declared.narrow.Equation.{Equation}
 use Rattle.parity.specs.Equations.{System, number_of}
 
--- pivots beside the words that hold their equations, one after another
+-- pivots with the words of their equations, which are consecutive
 abbrev pub paired : ℕ → List ℕ → List ℕ → List Equation
 paired words [] flat = []
 paired words (pivot ∷ pivots) flat = record { pivot = pivot; columns = number_of (take words flat) } ∷ paired words pivots (drop words flat)

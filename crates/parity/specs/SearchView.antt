@@ -7,7 +7,7 @@ use Rattle.cmr_base.specs.Planes.{words_for}
 abbrev pub matrix_of : Inside → Matrix
 matrix_of a = a.matrix.now
 
--- all sets in the room have so many words
+-- all sets in the room have `words` words
 pub record IsRoomFor (words : ℕ) (room : WideRoom) : Type 0 where
   pub sums_words : room.sums.words ≡ words
   pub basis_words : room.basis.words ≡ words

@@ -6,7 +6,7 @@ use cmr_base::{MAX_COLUMNS, MAX_ROWS, Memory};
 use std::alloc::Global;
 use std::marker::Model;
 
-/// Equations over two values, each with a pivot, which is one of its columns. Room is taken once.
+/// Equations over GF(2), each with a pivot, which is one of its columns. The memory is allocated once.
 #[derive(Drop)]
 pub struct Basis {
     words: usize,
@@ -27,7 +27,7 @@ impl Model for Basis {
 }
 
 impl Basis {
-    /// No equations yet, with room for so many of so many words.
+    /// Makes a basis without equations, with room for `most` equations of `words` words.
     pub fn new(alloc: Global, words: usize, most: usize) -> Result<Basis, Memory>
         requires words { words ≤ MAX_COLUMNS }
         requires most { most ≤ MAX_ROWS }
@@ -40,7 +40,7 @@ impl Basis {
         })
     }
 
-    /// Takes all equations out and keeps the room.
+    /// Removes all equations and keeps the room.
     pub fn clear(&mut self)
         ensures { self.new ≡ record { words = self.old.words; equations = [] } }
     {
@@ -67,7 +67,8 @@ impl Basis {
         Ok(())
     }
 
-    /// Adds to a set of columns the equations of the basis, in their order, each where its pivot is in the set then.
+    /// Adds equations of the basis to a set of columns, in their order: each equation whose pivot is in the set at
+    /// that time.
     pub fn reduce(&self, columns: &mut [u64])
         requires { length columns.old ≡ self.now.words }
         ensures { number_of columns.new ≡ reduced_by self.now.equations (number_of columns.old) }
@@ -78,7 +79,7 @@ impl Basis {
         }
     }
 
-    /// Takes in or out the pivots, from the last to the first, so that an even number of the set's columns is in each
+    /// Toggles pivots, from the last to the first, so that the set has an even number of columns in common with each
     /// equation.
     pub fn solve(&self, columns: &mut [u64])
         requires { length columns.old ≡ self.now.words }
@@ -97,7 +98,7 @@ impl Basis {
         self.pivots.len()
     }
 
-    // A pivot and its equation.
+    // Gives a pivot and its equation.
     fn get(&self, place: usize) -> (u32, &[u64])
         requires { place < length self.now.equations }
         ensures equation { slice_get self.now.equations place

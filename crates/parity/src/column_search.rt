@@ -16,8 +16,8 @@ use cmr_base::{Indices, Matrix, Memory, words_for};
 use std::alloc::Global;
 use std::marker::Model;
 
-/// The column set of least number that makes a violator with exactly these rows, or `None` where no column set
-/// does. Column c, counted from 0, adds 2^c to a set's number.
+/// Gives the column set of least number that makes a violator with exactly these rows, and `None` if and only if
+/// there is none. The number of a set is the sum of 2^c over its columns c, counted from 0.
 pub fn first_column_set(
     alloc: Global,
     matrix: &Matrix,
@@ -30,8 +30,8 @@ pub fn first_column_set(
     ColumnSearch::new(alloc, matrix)?.first(alloc, rows.as_slice())
 }
 
-/// The search for column sets of one matrix, for many row sets in turn. Room is taken once, so that a search which
-/// finds nothing takes none. Contracts see the matrix.
+/// The search for column sets of one matrix, for many row sets in turn. Room is allocated once, so a search without a
+/// result allocates nothing. Contracts see only the matrix.
 #[derive(Drop)]
 pub struct ColumnSearch<'a> {
     matrix: &'a Matrix,
@@ -39,7 +39,7 @@ pub struct ColumnSearch<'a> {
     narrow: Vec<u64>,
 }
 
-// Room for the search in a matrix of any number of columns.
+// The room for a search in a matrix of any number of columns.
 #[derive(Drop)]
 struct WideRoom {
     sums: Sums,
@@ -60,7 +60,7 @@ impl<'a> Model for ColumnSearch<'a> {
 }
 
 impl<'a> ColumnSearch<'a> {
-    /// A search in this matrix.
+    /// Makes a search in this matrix.
     pub fn new(alloc: Global, matrix: &'a Matrix) -> Result<ColumnSearch<'a>, Memory>
         ensures { IfOk result (λ search. search ≡ matrix.entry.now) }
     {
@@ -73,8 +73,8 @@ impl<'a> ColumnSearch<'a> {
         })
     }
 
-    /// Whether some column set makes a violator with exactly these rows. A matrix of at most 64 columns is searched by
-    /// single words.
+    /// Decides whether some column set makes a violator with exactly these rows. A matrix of at most 64 columns is
+    /// searched with one word for each row.
     pub fn has(&mut self, rows: &[u32]) -> Result<bool, Memory>
         requires { AllBelow (height self.old) rows.now }
         ensures same { self.new ≡ self.old }
@@ -88,8 +88,8 @@ impl<'a> ColumnSearch<'a> {
         has_wide(self.matrix, &mut self.wide, rows)
     }
 
-    /// The column set of least number that makes a violator with exactly these rows, or `None` where no column
-    /// set does.
+    /// Gives the column set of least number that makes a violator with exactly these rows, and `None` if and only if
+    /// there is none.
     pub fn first(&mut self, alloc: Global, rows: &[u32]) -> Result<Option<Indices>, Memory>
         requires { AllBelow (height self.old) rows.now }
         ensures same { self.new ≡ self.old }
@@ -114,7 +114,7 @@ fn wide_room(alloc: Global, matrix: &Matrix) -> Result<WideRoom, Memory>
     })
 }
 
-// Whether some column set makes a violator with exactly these rows.
+// Decides whether some column set makes a violator with exactly these rows.
 fn has_wide(matrix: &Matrix, room: &mut WideRoom, rows: &[u32]) -> Result<bool, Memory>
     requires rows { AllBelow (height matrix.now) rows.now }
     requires shape { IsMatrix matrix.now }
@@ -129,7 +129,7 @@ fn has_wide(matrix: &Matrix, room: &mut WideRoom, rows: &[u32]) -> Result<bool, 
     }
 }
 
-// The column set of least number that makes a violator with exactly these rows, or `None` where no column set does.
+// Gives the column set of least number that makes a violator with exactly these rows, and `None` if there is none.
 fn first_wide(
     alloc: Global,
     matrix: &Matrix,
@@ -151,7 +151,7 @@ fn first_wide(
     Ok(Some(columns))
 }
 
-// The column that is no pivot and leads to the solution of least number, or `None` where there is no solution.
+// Gives the column, not a pivot, that leads to the solution of least number, and `None` if there is no solution.
 fn free_column(matrix: &Matrix, room: &mut WideRoom, rows: &[u32]) -> Result<Option<u32>, Memory>
     requires rows { AllBelow (height matrix.now) rows.now }
     requires shape { IsMatrix matrix.now }
@@ -174,7 +174,7 @@ fn free_column(matrix: &Matrix, room: &mut WideRoom, rows: &[u32]) -> Result<Opt
     Ok(lowest_left(&room.sums, &room.basis, &mut room.equation))
 }
 
-// The sums of the rows in each column, modulo 4.
+// Computes the sum of the rows in each column, modulo 4.
 fn sum_columns(matrix: &Matrix, sums: &mut Sums, rows: &[u32])
     requires rows { AllBelow (height matrix.now) rows.now }
     requires words { sums.old.words ≡ words_for matrix.now.width }
@@ -189,7 +189,7 @@ fn sum_columns(matrix: &Matrix, sums: &mut Sums, rows: &[u32])
     }
 }
 
-// One equation for each row: the chosen columns have an even number of its nonzeros.
+// Fills the basis with the equations of the rows: the chosen columns contain an even number of the row's nonzeros.
 fn eliminate(
     matrix: &Matrix,
     sums: &Sums,
@@ -217,8 +217,8 @@ fn eliminate(
     Ok(())
 }
 
-// The least column in what the equations leave of the columns whose sum is 2 modulo 4, of which a solution has an odd
-// number. Where they leave none, there is no solution.
+// Reduces the set of the columns with sum 2 modulo 4 by the equations, and gives its least column. A solution has an
+// odd number of columns in common with this set, so there is no solution if the reduced set is empty.
 fn lowest_left(sums: &Sums, basis: &Basis, equation: &mut [u64]) -> Option<u32>
     requires basis { basis.now.words ≡ sums.now.words }
     requires equation { length equation.old ≡ sums.now.words }
@@ -234,7 +234,7 @@ fn lowest_left(sums: &Sums, basis: &Basis, equation: &mut [u64]) -> Option<u32>
     lowest(equation)
 }
 
-// The columns that solve the equations of the basis, from one column on that is no pivot.
+// Gives the columns that solve the equations of the basis, from one column that is not a pivot.
 fn solution(
     alloc: Global,
     basis: &Basis,

@@ -1,4 +1,4 @@
-//! Sums of submatrices by parity: violators, and the least column set that makes one with given rows.
+//! Sums of submatrices by parity: violators, and the least column set that makes a violator with given rows.
 #![tactic(auto)]
 
 mod basis;

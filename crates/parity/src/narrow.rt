@@ -24,7 +24,7 @@ struct Residues {
     twos: u64,
 }
 
-/// Whether some column set makes a violator with exactly these rows. The words are room for the search.
+/// Decides whether some column set makes a violator with exactly these rows. `words` is room for the search.
 pub fn has_column_set(matrix: &Matrix, rows: &[u32], words: &mut Vec<u64>) -> Result<bool, Memory>
     requires rows { AllBelow (height matrix.now) rows.now }
     requires columns { 0 < matrix.now.width }
@@ -46,7 +46,7 @@ pub fn has_column_set(matrix: &Matrix, rows: &[u32], words: &mut Vec<u64>) -> Re
     }
 }
 
-// The sums of the rows in each column.
+// Gives the sum of the rows in each column.
 fn sum_rows(matrix: &Matrix, rows: &[u32]) -> Residues
     requires rows { AllBelow (height matrix.now) rows.now }
     requires columns { 0 < matrix.now.width }
@@ -65,8 +65,8 @@ fn sum_rows(matrix: &Matrix, rows: &[u32]) -> Residues
     Residues { ones, twos }
 }
 
-// Writes the equation of each row: the chosen columns, none of which has an odd sum, have an even number of the row's
-// nonzeros.
+// Writes the equation of each row: the chosen columns contain an even number of the row's nonzeros. No column with an
+// odd sum is chosen.
 fn write_equations(
     matrix: &Matrix,
     rows: &[u32],
@@ -86,7 +86,7 @@ fn write_equations(
     Ok(())
 }
 
-// Reduces the words behind the first ones by a basis of these, and answers what is left of the next one.
+// Reduces the words after the first `count` words by a basis of these, and gives the first reduced word.
 fn eliminate(words: &mut [u64], count: usize) -> u64
     requires { count < length words.old }
     ensures reduced { AreReduced count words.old words.new }
@@ -98,7 +98,7 @@ fn eliminate(words: &mut [u64], count: usize) -> u64
     words[count]
 }
 
-// Adds a word to the words behind it that have its least column.
+// Adds a word to the words after it that contain its least column.
 fn clear_behind(words: &mut [u64], place: usize)
     requires { place < length words.old }
     ensures len { length words.new ≡ length words.old }
@@ -114,7 +114,8 @@ fn clear_behind(words: &mut [u64], place: usize)
     }
 }
 
-// The columns with the equation added where its pivot is among them. Whether it is cannot be foretold, so no branch is taken.
+// Adds the equation to the columns if they contain its pivot. The condition is unpredictable, so the code has no
+// branch.
 fn cleared_by(equation: Equation, columns: u64) -> u64
     requires { equation.pivot < 64 }
     ensures { result ≡ cleared_by equation columns }
@@ -129,7 +130,7 @@ fn without(columns: u64, others: u64) -> u64
     columns ^ (columns & others)
 }
 
-// The least of the columns, or `None` where there is none.
+// The least of the columns, and `None` if there is none.
 fn lowest(columns: u64) -> Option<u32>
     ensures some { IfSome result (IsLowest columns) }
     ensures inside { IfSome result (λ column. column < 64) }

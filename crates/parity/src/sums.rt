@@ -27,7 +27,7 @@ impl Model for Sums {
 }
 
 impl Sums {
-    /// Sums of no rows, over so many words.
+    /// Makes the sums of no rows, in `words` words.
     pub fn new(alloc: Global, words: usize) -> Result<Sums, Memory>
         ensures { IfOk result (λ sums. sums ≡ record { words = words; ones = 0; twos = 0 }) }
     {
@@ -37,7 +37,7 @@ impl Sums {
         })
     }
 
-    /// Goes back to the sums of no rows.
+    /// Resets to the sums of no rows.
     pub fn clear(&mut self)
         ensures { self.new ≡ record { words = self.old.words; ones = 0; twos = 0 } }
     {
@@ -45,7 +45,7 @@ impl Sums {
         clear(&mut self.twos);
     }
 
-    /// Adds a row, given by where it is not 0 and where it is -1.
+    /// Adds a row, given by the columns in which it is nonzero and the columns in which it is -1.
     pub fn add_row(&mut self, support: &[u64], minus: &[u64])
         requires support { length support.now ≡ self.old.words }
         requires minus { length minus.now ≡ self.old.words }

@@ -7,7 +7,8 @@ ghost use Rattle.cmr_base.specs.Violator.{IsViolator};
 
 use cmr_base::{LineSet, MAX_COLUMNS, MAX_ROWS, Matrix};
 
-/// Whether the submatrix on these lines is a violator: even row sums, even column sums, and a sum of 2 modulo 4.
+/// Decides whether the submatrix on these lines is a violator: it has even row sums, even column sums, and a sum of 2
+/// modulo 4.
 pub fn is_violator(matrix: &Matrix, lines: &LineSet) -> bool
     requires rows { AllBelow (height matrix.now) lines.now.rows }
     requires columns { AllBelow matrix.now.width lines.now.columns }
@@ -62,7 +63,7 @@ fn is_even(sum: i32) -> bool
     sum.rem_euclid(2) == 0
 }
 
-/// Whether a sum is 2 modulo 4.
+/// Decides whether a sum is 2 modulo 4.
 pub fn is_two_mod_four(sum: i32) -> bool
     ensures { IsTrue result ↔ IsTwoModFour sum }
 {

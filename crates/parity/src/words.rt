@@ -7,7 +7,7 @@ ghost use Rattle.parity.specs.Equations.{number_of, common, IsLowest};
 use cmr_base::{Memory, xor_words};
 use std::alloc::Global;
 
-/// The words at a place, where each place has so many.
+/// Gives the words of the set at a position, if each set has `words` words.
 pub fn words_at(flat: &[u64], place: usize, words: usize) -> &[u64]
     requires { place * words + words ≤ length flat.now }
     ensures { result.now ≡ take words (drop (place * words) flat.now) }
@@ -16,7 +16,7 @@ pub fn words_at(flat: &[u64], place: usize, words: usize) -> &[u64]
     &flat[from..from + words]
 }
 
-/// The empty set, in so many words.
+/// Gives the empty set, in `words` words.
 pub fn empty_set(alloc: Global, words: usize) -> Result<Vec<u64>, Memory>
     ensures len { IfOk result (λ set. length set.items ≡ words) }
     ensures none { IfOk result (λ set. number_of set.items ≡ 0) }
@@ -24,14 +24,14 @@ pub fn empty_set(alloc: Global, words: usize) -> Result<Vec<u64>, Memory>
     Ok(vec![in alloc; 0u64; words]?)
 }
 
-/// Takes all columns out of the set.
+/// Removes all columns from the set.
 pub fn clear(words: &mut [u64])
     ensures { number_of words.new ≡ 0 }
 {
     words.fill(0);
 }
 
-/// Whether a column is in the set.
+/// Decides whether a column is in the set.
 pub fn is_set(words: &[u64], column: u32) -> bool
     requires { column / 64 < length words.now }
     ensures { IsTrue result ↔ (bit_at (number_of words.now) column ≡ 1) }
@@ -39,7 +39,7 @@ pub fn is_set(words: &[u64], column: u32) -> bool
     (words[column as usize / 64] >> (column % 64)) & 1 == 1
 }
 
-/// Puts a column into the set, or takes it out where it is in it.
+/// Adds a column to the set, or removes it if the set contains it.
 pub fn toggle(words: &mut [u64], column: u32)
     requires { column / 64 < length words.old }
     ensures { number_of words.new ≡ bit_xor (number_of words.old) (2 ^ column) }
@@ -47,7 +47,7 @@ pub fn toggle(words: &mut [u64], column: u32)
     words[column as usize / 64] ^= 1u64 << (column % 64);
 }
 
-/// Exchanges the set for those columns that are in one of the two sets and not in both.
+/// Replaces the set by the symmetric difference of both sets.
 pub fn add(words: &mut [u64], other: &[u64])
     requires { length words.old ≡ length other.now }
     ensures { number_of words.new ≡ bit_xor (number_of words.old) (number_of other.now) }
@@ -55,7 +55,7 @@ pub fn add(words: &mut [u64], other: &[u64])
     xor_words(words, other);
 }
 
-/// The least column of the set, or `None` where it is empty.
+/// Gives the least column of the set, and `None` if the set is empty.
 pub fn lowest(words: &[u64]) -> Option<u32>
     requires { 64 * length words.now < 2 ^ 32 }
     ensures some { IfSome result (IsLowest (number_of words.now)) }
@@ -70,7 +70,7 @@ pub fn lowest(words: &[u64]) -> Option<u32>
     None
 }
 
-/// Whether the two sets have an odd number of columns in common.
+/// Decides whether the two sets have an odd number of columns in common.
 pub fn have_odd_common(left: &[u64], right: &[u64]) -> bool
     requires { length left.now ≡ length right.now }
     ensures { IsTrue result ↔ (common (number_of left.now) (number_of right.now) ≡ 1) }

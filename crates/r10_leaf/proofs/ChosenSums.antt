@@ -54,7 +54,7 @@ sum_over_chosen xs [] f = refl
 sum_over_chosen xs (x ∷ lines) f = ap (λ z. cond (has xs x) (f x) (pos 0) +ℤ z) (sum_over_chosen xs lines f)
 
 module _ (n : ℕ) (lines : List ℕ) (order : IsOrder n lines) where
-  -- a set's sum
+  -- the sum over a set
   pub chosen : (xs : List ℕ) → IsDistinct xs → ((x : ℕ) → IsIn x xs → x < n) → (f : ℕ → ℤ) → sum_over xs f ≡ chosen_sum (map (has xs) lines) (map f lines)
   chosen xs distinct below f =
       sum_over_members xs (filter (has xs) lines) f distinct (filter_distinct (has xs) lines order.distinct)
@@ -67,7 +67,7 @@ map_same : {A B : Type 0} (f g : A → B) (xs : List A) → ((x : A) → f x ≡
 map_same f g [] h = refl
 map_same f g (x ∷ xs) h = rw (h x, map_same f g xs h) refl
 
--- the rows' sums
+-- the sums of the rows
 row_sums_are : (E : ℕ → ℕ → ℤ) (bs : List Bool) (rows columns : List ℕ) → row_sums (map (λ i. map (E i) columns) rows) bs ≡ map (λ i. chosen_sum bs (map (E i) columns)) rows
 row_sums_are E bs [] columns = refl
 row_sums_are E bs (i ∷ rows) columns = ap (λ zs. chosen_sum bs (map (E i) columns) ∷ zs) (row_sums_are E bs rows columns)
@@ -82,7 +82,7 @@ nothing_added f xs = map_same f (λ x. pos 0 +ℤ f x) xs (λ x. plus (f x))
     plus : (z : ℤ) → z ≡ pos 0 +ℤ z
     plus z = omega (arith, sums)
 
--- the columns' sums
+-- the sums of the columns
 column_sums_are : (E : ℕ → ℕ → ℤ) (b : ℕ → Bool) (rows columns : List ℕ)
     → column_sums (map (λ j. pos 0) columns) (map (λ i. map (E i) columns) rows) (map b rows) ≡ map (λ j. chosen_sum (map b rows) (map (λ i. E i j) rows)) columns
 column_sums_are E b [] columns = refl
@@ -117,7 +117,7 @@ chosen_are_even xs (x ∷ lines) f h = go (has xs x) refl (chosen_are_even xs li
 length-map_has : (xs lines : List ℕ) → length (map (has xs) lines) ≡ length lines
 length-map_has xs lines = length-map lines (has xs)
 
--- a table without violators: no sets of lines are a violator of a matrix that has it in some order of its lines
+-- a table without violators: a matrix that has the table in some order of its lines has no violator
 pub table_clean : (E : ℕ → ℕ → ℤ) (table : List (List ℤ)) (rows columns : List ℕ) → IsOrder 5 rows → IsOrder 5 columns → length rows ≡ 5 → length columns ≡ 5
     → map (λ i. map (E i) columns) rows ≡ table → always 5 (λ bs. always 5 (λ cs. is_clean table bs cs)) ≡ true
     → (R C : List ℕ) → IsDistinct R → IsDistinct C → ((i : ℕ) → IsIn i R → i < 5) → ((j : ℕ) → IsIn j C → j < 5) → ¬ (IsViolator E R C)

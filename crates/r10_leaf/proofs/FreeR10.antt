@@ -1,4 +1,5 @@
--- An R10 matrix has the support of a matrix without violators: a free signing of its table, with the lines in the matrix's order.
+-- An R10 matrix has the support of a matrix without violators: a signing of its table without violators, with the lines in the order of the
+-- matrix.
 use Rattle.std.proofs.Common.{◌≡◌, ◌≢◌, ◌∙◌, ◌<◌, ◌⊎◌, ℕ, zero, suc, ℤ, pos, negsuc, Bool, true, false, cond, nat_eq, List, [], ◌∷◌, map, length, get_or, drop, inl, inr, refl, sym, ap, subst, arith}
 use Rattle.std.specs.List.{AllByRecursion}
 use Rattle.std.proofs.lemmas.Bool.{cases_lt}
@@ -25,7 +26,7 @@ use Rattle.r10_leaf.proofs.ChosenSums.{table_clean}
 zero_is_entry : IsEntry (pos 0)
 zero_is_entry = record { low = omega (arith, ints); high = omega (arith, ints) }
 
--- the value beside a number
+-- the value in the second list at the position of a number in the first list
 abbrev pub beside : {A : Type 0} → List ℕ → List A → A → ℕ → A
 beside [] values other x = other
 beside (y ∷ ys) [] other x = other
@@ -50,7 +51,7 @@ each_beside P (y ∷ ys) (v ∷ values) other h o x = go (nat_eq x y) (each_besi
     go true k = h.0
     go false k = k
 
--- the table's matrix, with its lines in these places
+-- the table's matrix, with its lines in these positions
 module _ (table : List (List ℤ)) (rows columns : List ℕ) where
   abbrev pub value : ℕ → ℕ → ℤ
   value i j = beside columns (beside rows table [] i) (pos 0) j
@@ -68,7 +69,7 @@ module _ (table : List (List ℤ)) (rows columns : List ℕ) where
   rectangular-arranged i h = ap length (row-arranged i h) ∙ length-map-range_with_len (value i) 0 5
 
   module _ (row_order : IsOrder 5 rows) (column_order : IsOrder 5 columns) (many_rows : length table ≡ length rows) (many_columns : AllByRecursion (λ line. length line ≡ length columns) table) where
-    -- in this order the matrix is the table
+    -- the matrix in this order is the table
     pub arranged_is : map (λ i. map (entry arranged i) columns) rows ≡ table
     arranged_is = map_members (λ i. map (entry arranged i) columns) (beside rows table []) rows (λ i h. row i h) ∙ map-beside rows table [] row_order.distinct many_rows
       where
@@ -124,7 +125,7 @@ zero_or_not (pos zero) = inl refl
 zero_or_not (pos (suc n)) = inr (λ e. let f : 1 ≡ 0 = ap mark e in omega arith)
 zero_or_not (negsuc n) = inr (λ e. let f : 1 ≡ 0 = ap mark e in omega arith)
 
--- a matrix of five rows and five columns, whose support is that of a table without violators
+-- a matrix of five rows and five columns with the support of a table without violators
 free_by_table : (m : Matrix) → IsRectangular m → HasTernaryEntries m → height m ≡ 5 → m.width ≡ 5 → HasNoCycleFault (entry m)
     → (supports : List (List ℕ)) (table : List (List ℤ)) (rows columns : List ℕ) → IsOrder 5 rows → IsOrder 5 columns → length rows ≡ 5 → length columns ≡ 5
     → marks m rows columns ≡ supports → map (map mark) table ≡ supports → length table ≡ 5 → AllByRecursion (λ line. length line ≡ 5) table → AllByRecursion (AllByRecursion IsEntry) table

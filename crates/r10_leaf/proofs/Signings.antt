@@ -1,4 +1,4 @@
--- One signing of each table, and that it has no violator: all sets of its rows and of its columns are tried.
+-- One signing of each table, which has no violator: the proof tries all sets of its rows and of its columns.
 use Rattle.std.proofs.Common.{◌≡◌, ℕ, zero, suc, ℤ, pos, negsuc, ◌+◌, ◌%◌, ◌+ℤ◌, Bool, true, false, not, cond, ◌&&◌, nat_eq, List, [], ◌∷◌, map, length, refl, arith}
 use Rattle.cmr_base.proofs.Booleans.{and_is}
 
@@ -56,12 +56,12 @@ zeros = pos 0 ∷ pos 0 ∷ pos 0 ∷ pos 0 ∷ pos 0 ∷ []
 abbrev pub is_clean : List (List ℤ) → List Bool → List Bool → Bool
 is_clean table rows columns = not (chosen_even rows (row_sums table columns) && chosen_even columns (column_sums zeros table rows) && rests (chosen_sum rows (row_sums table columns)) 4 2)
 
--- all choices of so many
+-- the test holds for all choices of `n` booleans
 abbrev pub always : ℕ → (List Bool → Bool) → Bool
 always zero test = test []
 always (suc n) test = always n (λ bs. test (true ∷ bs)) && always n (λ bs. test (false ∷ bs))
 
--- what always holds holds of each choice
+-- a test that always holds is true for each choice
 pub always_holds : (n : ℕ) (test : List Bool → Bool) → always n test ≡ true → (bs : List Bool) → length bs ≡ n → test bs ≡ true
 always_holds zero test h [] e = h
 always_holds zero test h (b ∷ bs) e = absurd (omega arith)

@@ -1,4 +1,4 @@
--- Lists of rows that fit a table are orders of the rows, and each order has its number.
+-- Lists of rows that fit a table are orders of the rows, and each order has a number.
 use Rattle.std.proofs.Common.{◌≡◌, ◌∙◌, ◌<◌, ◌≤◌, ◌⊎◌, ◌+◌, ◌*◌, ◌/◌, ◌%◌, ℕ, zero, suc, Bool, true, false, cond, nat_eq, List, [], ◌∷◌, map, length, get_or, drop, inl, inr, refl, sym, ap, subst, arith}
 use Rattle.std.proofs.lemmas.Bool.{cases_lt}
 use Rattle.std.proofs.lemmas.List.{ext_get_or, get_or-map, length-map}
@@ -29,7 +29,7 @@ every_true : (n : ℕ) (test : ℕ → Bool) → ((i : ℕ) → i < n → test i
 every_true zero test h = refl
 every_true (suc n) test h = rw (h n (omega arith)) (every_true n test (λ i l. h i (omega arith)))
 
--- ---- the lines of a table are not alike
+-- ---- the lines of a table differ
 
 abbrev same_rows : List (List ℕ) → ℕ → ℕ → Bool
 same_rows table i k = every 5 (λ j. nat_eq (table_at table i j) (table_at table k j))
@@ -94,7 +94,7 @@ order_by_places xs long below injective = record { distinct = distinct; all = λ
         either x (inl e) = omega arith
         either x (inr i) = below_five x i
 
--- ---- from a list of rows that fits
+-- ---- an order from a list of rows that fits
 
 below_none : 0 < 5
 below_none = omega arith
@@ -157,9 +157,9 @@ module _ (m : Matrix) (table : List (List ℕ)) (is : IsTable table) (rows : Lis
   pub has_table : HasTable m table
   has_table = record { rows = rows; columns = columns; row_order = row_order; column_order = column_order; marks_are = marks_are }
 
--- ---- to the number of an order
+-- ---- the number of an order
 
--- as many lines as the table has
+-- the matrix has as many lines as the table
 pub sizes : (m : Matrix) (rows columns : List ℕ) (line : List ℕ) (lines : List (List ℕ)) → length line ≡ 5 → length lines ≡ 4 → marks m rows columns ≡ line ∷ lines → (length rows ≡ 5) × (length columns ≡ 5)
 sizes m [] columns line lines e f h = absurd (let g : 0 ≡ suc (length lines) = ap length h in omega arith)
 sizes m (r ∷ rows) columns line lines e f h = (

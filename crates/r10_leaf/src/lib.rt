@@ -1,4 +1,4 @@
-//! The R10 matrices: the totally unimodular matrices that come neither from networks nor from sums (Seymour; Schrijver,
+//! The R10 matrices: the totally unimodular matrices that neither networks nor sums produce (Seymour; Schrijver,
 //! Theory of Linear and Integer Programming, chapter 19).
 #![tactic(auto)]
 

@@ -1,4 +1,4 @@
-// Whether a matrix is an R10 matrix.
+// The test for R10 matrices.
 ghost use Rattle.std.specs.Prelude.{◌≡◌, ◌<◌, ◌↔◌, ℕ, IsTrue, slice_index};
 ghost use Rattle.cmr_base.specs.Matrix.{height, entry};
 ghost use Rattle.cmr_base.specs.R10.{IsR10, HasTable, mark};
@@ -22,7 +22,8 @@ const BORDERED: [[u8; 5]; 5] = [
     [1, 1, 0, 0, 1],
 ];
 
-/// Whether the matrix has five rows and five columns and, in some order of them, one of the two supports of R10.
+/// Decides whether the matrix has five rows and five columns and, in some order of them, one of the two supports of
+/// R10.
 pub fn is_r10(matrix: &Matrix) -> bool
     ensures { IsTrue result ↔ IsR10 matrix.now }
 {
@@ -31,8 +32,8 @@ pub fn is_r10(matrix: &Matrix) -> bool
         && (has_table(matrix, &CIRCULANT) || has_table(matrix, &BORDERED))
 }
 
-// Whether in some order of its rows and of its columns the matrix has the table's support. All lists of five rows are
-// tried; in those that fit, no row stands twice, because no two rows of a table are alike.
+// Decides whether the matrix has the table's support in some order of its rows and columns. The test tries all lists
+// of five rows. A list that fits has no row twice, because the rows of a table are distinct.
 fn has_table(matrix: &Matrix, table: &[[u8; 5]; 5]) -> bool
     requires rows { height matrix.now ≡ 5 }
     requires columns { matrix.now.width ≡ 5 }
@@ -59,7 +60,7 @@ fn rows_numbered(number: u32) -> [u32; 5]
     ]
 }
 
-// Whether each column of the table is one of the matrix, with its rows in this order.
+// Decides whether each column of the table is a column of the matrix, with its rows in this order.
 fn fits(matrix: &Matrix, table: &[[u8; 5]; 5], rows: &[u32; 5]) -> bool
     requires rows { height matrix.now ≡ 5 }
     requires columns { matrix.now.width ≡ 5 }

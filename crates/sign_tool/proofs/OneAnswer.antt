@@ -24,7 +24,7 @@ use Rattle.sign_tool.proofs.StepRows.{in_left, in_rows, one_more_next}
 abbrev step_at : ℕ → Option ℕ → Pivot
 step_at row column = record { row = row; column = column }
 
--- a row that is put aside is the first one
+-- a row that is put aside is the first row
 first_is : (rows : List ℕ) (row row' : ℕ) (left left' : List ℕ) → rows ≡ row ∷ left → rows ≡ row' ∷ left' → (row' ≡ row) × (left' ≡ left)
 first_is rows row row' left left' e f = let g : row' ∷ left' ≡ row ∷ left = sym f ∙ e in (cc, cc)
 
@@ -41,12 +41,12 @@ same_left rows left row m m' are same = record { width = same.width; entries = (
 pivot_steps : (row row' column column' : ℕ) (steps steps' : List Pivot) → row' ≡ row → column' ≡ column → steps' ≡ steps → step_at row' (Some column') ∷ steps' ≡ step_at row (Some column) ∷ steps
 pivot_steps row row' column column' steps steps' e f g = rw (e, f, g) refl
 
--- a pivot is next in the one matrix, so no row is put aside in the other
+-- a pivot is next in one matrix, so no row is put aside in the other matrix
 next_or_aside : (rows : List ℕ) (m m' : Matrix) (row row' column : ℕ) (left left' : List ℕ) → AreSame rows m m' → IsPivotNext m rows row column left → IsPutAside m' rows row' left' → ⊥
 next_or_aside rows m m' row row' column left left' same next aside =
     pivot_there m rows next.place column next.first.pivot (no_pivot_same rows m m' same column next.first.pivot.column_in (aside.no_pivot column (subst (λ n. column < n) (sym same.width) next.first.pivot.column_in)))
 
--- the matrices after a pivot that is next in both
+-- the matrices after a pivot that is next in both matrices
 module _ (rows : List ℕ) (m m' after after' : Matrix) (row row' column column' : ℕ) (left left' : List ℕ) (same : AreSame rows m m') (next : IsPivotNext m rows row column left) (next' : IsPivotNext m' rows row' column' left') where
   next_is : AreOneNext row row' column column' left left'
   next_is = one_next m rows row column row' column' left left' next (next_same rows m m' same row' column' left' next')
@@ -182,7 +182,7 @@ record AreOneViolator (steps steps' : List Pivot) (rows columns rows' columns' :
 both : {A B X : Type 0} → (A ↔ X) → (B ↔ X) → A ↔ B
 both f g = (λ a. g.1 (f.0 a), λ b. f.1 (g.0 b))
 
--- the first 2 or -2 of a pivot is one place
+-- the position of the first 2 or -2 of a pivot is unique
 module _ (rows : List ℕ) (m m' : Matrix) (same : AreSame rows m m') (row column : ℕ) (left : List ℕ) (next : IsPivotNext m rows row column left) (place last place' last' : ℕ) (two : IsFirstTwoEntry m left row column place last) (two' : IsFirstTwoEntry m' left row column place' last') where
   left_at : (k : ℕ) → k < length left → (j : ℕ) → j < m.width → reduced (entry m') row column (get_or left k 0) j ≡ reduced (entry m) row column (get_or left k 0) j
   left_at k h = reduced_same rows m m' same row column left next (get_or left k 0) (all_at (λ i. (j : ℕ) → j < m.width → entry m' i j ≡ entry m i j) left k 0 (left_same rows m m' same row column left next) h)
@@ -216,7 +216,7 @@ square_once rows m m' violator_rows violator_columns violator_rows' violator_col
       columns_are = λ j. both (subst (λ xs. IsIn j violator_columns' ↔ IsIn j xs) (ap₂ (λ (a b : ℕ). a ∷ b ∷ []) are.one_column (sym last)) (s'.columns_are j)) (s.columns_are j);
     }
 
--- violators of one set of lines after a pivot are taken back to those of one set
+-- violators on one set of lines after a pivot are mapped back to violators on one set of lines
 module _ (rows : List ℕ) (m m' after : Matrix) (same : AreSame rows m m') (row column : ℕ) (left : List ℕ) (next : IsPivotNext m rows row column left) (same_width : after.width ≡ m.width)
     (after_rows after_columns violator_rows violator_columns violator_rows' violator_columns' : List ℕ) (lines : AreAmong after left after_rows after_columns)
     (back : IsTakenBack m row column after_rows after_columns violator_rows violator_columns) (back' : IsTakenBack m' row column after_rows after_columns violator_rows' violator_columns') where
@@ -246,7 +246,7 @@ abbrev ViolatesOnce : List Pivot → Type 0
 ViolatesOnce steps = (rows : List ℕ) (m m' : Matrix) (steps' : List Pivot) (violator_rows violator_columns violator_rows' violator_columns' : List ℕ) → AreSame rows m m'
     → ViolatesBySteps m rows steps violator_rows violator_columns → ViolatesBySteps m' rows steps' violator_rows' violator_columns' → AreOneViolator steps steps' violator_rows violator_columns violator_rows' violator_columns'
 
--- a pivot that is not made in the one matrix is not made in the other
+-- a pivot that is not made in one matrix is not made in the other matrix
 square_or_step : (rows : List ℕ) (m m' : Matrix) (row : ℕ) (column : Option ℕ) (steps : List Pivot) (violator_rows violator_columns violator_rows' violator_columns' : List ℕ) → AreSame rows m m'
     → IsFirstSquare m' rows violator_rows' violator_columns' → ViolatesBySteps m rows (step_at row column ∷ steps) violator_rows violator_columns → ⊥
 square_or_step rows m m' row None steps violator_rows violator_columns violator_rows' violator_columns' same s (left, (aside, rest)) =

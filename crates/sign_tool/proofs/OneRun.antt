@@ -14,7 +14,7 @@ use Rattle.ghouila.specs.SignRuns.{IsPivotNext, IsPutAside, IsPivotMade, SignsBy
 use Rattle.ghouila.proofs.LeftRows.{one_more-remove}
 use Rattle.ghouila.proofs.PivotSearch.{pivot_there}
 
--- two matrices of one width are the same in these rows
+-- two matrices of one width are equal in these rows
 pub record AreSame (rows : List ℕ) (m m' : Matrix) : Type 0 where
   pub width : m'.width ≡ m.width
   pub entries : AllByRecursion (λ i. (j : ℕ) → j < m.width → entry m' i j ≡ entry m i j) rows
@@ -52,7 +52,7 @@ module _ (rows : List ℕ) (m m' : Matrix) (same : AreSame rows m m') where
   pub inside_too : (column : ℕ) → column < m'.width → column < m.width
   inside_too column h = subst (λ n. column < n) same.width h
 
-  -- a pivot of the one is one of the other
+  -- a pivot of one matrix is a pivot of the other matrix
   pivot_same : (place column : ℕ) → IsFirstPivot m' rows place column → IsFirstPivot m rows place column
   pivot_same place column is =
       let inside = inside_too column is.pivot.column_in in
@@ -73,7 +73,7 @@ module _ (rows : List ℕ) (m m' : Matrix) (same : AreSame rows m m') where
   pub next_same : (row column : ℕ) (left : List ℕ) → IsPivotNext m' rows row column left → IsPivotNext m rows row column left
   next_same row column left next = record { place = next.place; first = pivot_same next.place column next.first; row_is = next.row_is; left_is = next.left_is }
 
--- there is one next pivot
+-- the next pivot is unique
 one_column : (m : Matrix) (rows : List ℕ) (place column place' column' : ℕ) → IsFirstPivot m rows place column → IsFirstPivot m rows place' column' → column ≡ column'
 one_column m rows place column place' column' f g = neither column column'
     (λ h. pivot_there m rows place column f.pivot (g.first_column column h))
@@ -99,7 +99,7 @@ one_next m rows row column row' column' left left' f g =
       one_left = g.left_is ∙ ap (remove rows) places ∙ sym f.left_is;
     }
 
--- a row is put aside only where no pivot is next
+-- a row is put aside only if no pivot is next
 pub aside_or_next : (m : Matrix) (rows : List ℕ) (row row' column : ℕ) (left left' : List ℕ) → IsPutAside m rows row left → IsPivotNext m rows row' column left' → ⊥
 aside_or_next m rows row row' column left left' aside next = pivot_there m rows next.place column next.first.pivot (aside.no_pivot column next.first.pivot.column_in)
 
@@ -134,7 +134,7 @@ module _ (rows : List ℕ) (m m' : Matrix) (same : AreSame rows m m') (row colum
         (λ i a b. (a, b)) left made.made made'.made);
   }
 
-  -- a pivot is not made where it gives a 2 or a -2
+  -- a pivot that gives a 2 or a -2 is not made
   pub made_or_two : (after : Matrix) (place last : ℕ) → IsPivotMade m after row column left → IsFirstTwoEntry m' left row column place last → ⊥
   made_or_two after place last made two =
       let inside = inside_too rows m m' same last two.column_in in
@@ -157,7 +157,7 @@ without_rows m' (step ∷ steps') violator_rows violator_columns run = first ste
     first row None (left, (aside, rest)) = let e = ap length aside.rows_are in omega arith
     first row (Some column) (left, (next, rest)) = none_next m' row column left next
 
--- behind a row that is put aside
+-- after a row that is put aside
 after_aside : (steps : List Pivot) → Excludes steps → (sign : ℕ → ℤ) (rows : List ℕ) (m m' : Matrix) (row : ℕ) (left : List ℕ) (steps' : List Pivot) (violator_rows violator_columns : List ℕ) → AreSame rows m m'
     → IsPutAside m rows row left → SignsBySteps m left steps sign → ViolatesBySteps m' rows steps' violator_rows violator_columns → ⊥
 after_aside steps excludes sign rows m m' row left [] violator_rows violator_columns same aside run square =
@@ -175,7 +175,7 @@ after_aside steps excludes sign rows m m' row left (step ∷ steps') violator_ro
         excludes sign left m m' steps' violator_rows violator_columns left_same run (subst (λ l. ViolatesBySteps m' l steps' violator_rows violator_columns) (left_is row' left' aside'.rows_are) rest)
     first row' (Some column') (left', (next', rest)) = aside_or_next m rows row row' column' left left' aside (next_same rows m m' same row' column' left' next')
 
--- behind a pivot
+-- after a pivot
 after_pivot : (steps : List Pivot) → Excludes steps → (sign : ℕ → ℤ) (rows : List ℕ) (m m' after : Matrix) (row column : ℕ) (left : List ℕ) (steps' : List Pivot) (violator_rows violator_columns : List ℕ) → AreSame rows m m'
     → IsPivotNext m rows row column left → IsPivotMade m after row column left → SignsBySteps after left steps sign → ViolatesBySteps m' rows steps' violator_rows violator_columns → ⊥
 after_pivot steps excludes sign rows m m' after row column left [] violator_rows violator_columns same next made run square =

@@ -9,18 +9,18 @@ use cmr_base::{Indices, LineSet, Matrix, Memory, SignList};
 use ghouila::{PivotList, SignRun, SigningOrViolator, sign_by_steps};
 use std::alloc::Global;
 
-/// What is found for a set of rows.
+/// The answer for a set of rows.
 #[derive(Debug, Drop)]
 pub enum SetSigning {
     /// A signing of the rows, one sign for each in their order, and the steps that led to it.
     Signed { signs: SignList, steps: PivotList },
-    /// A violator of the matrix with rows among these. The rows may still have a signing.
+    /// A violator of the matrix, with rows from the set. The rows may still have a signing.
     Violated(LineSet),
 }
 
-/// A signing of the rows, or a violator. The run makes pivots while some column has an even number, at least two, of
-/// nonzeros in the rows that are left, and else puts rows aside; the signs follow on the way back. It ends with a
-/// violator where a pivot would give a 2 or a -2.
+/// Gives a signing of the rows, or a violator. The run makes pivots while some column has a positive even number of
+/// nonzeros in the remaining rows, and otherwise puts rows aside. The signs follow when the run undoes its steps. The
+/// run ends with a violator if a pivot would give a 2 or a -2.
 pub fn sign_set(alloc: Global, matrix: &Matrix, rows: &Indices) -> Result<SetSigning, Memory>
     requires { AllBelow (height matrix.now) rows.now }
     ensures right { IfOk result (SignsSetOrViolates matrix.now rows.now) }

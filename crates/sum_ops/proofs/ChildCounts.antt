@@ -48,7 +48,7 @@ one_few k (x ∷ xs) d = go (nat_eq k x) refl (one_few k xs d.1)
         apart y i false f = f
     go false e h = h
 
--- a list of lines names at most as many
+-- a list of lines names at most as many rows and columns as it has items
 named_few : (more : List Line) (rows columns : List ℕ) → IsDistinct rows → IsDistinct columns
     → length (filter (λ r. list_any (is_same_line (Row r)) more) rows) + length (filter (λ c. list_any (is_same_line (Column c)) more) columns) ≤ length more
 named_few [] rows columns dr dc =
@@ -66,7 +66,7 @@ named_few (Column k ∷ more) rows columns dr dc =
     let b = one_few k columns dc in
     omega arith
 
--- enough lines are not on a side
+-- enough lines are not on the given side
 others_enough : (inside : Bool) (side : Lines) (rows columns : List ℕ) (least : ℕ) → AreEnough rows columns side least → least ≤ count_lines_in (opposite (on_side inside side)) rows columns
 others_enough true side rows columns least enough = enough.two
 others_enough false side rows columns least enough =

@@ -1,4 +1,4 @@
--- The concentrated sum, by the core that both matrices have.
+-- The concentrated sum, from the core of both matrices.
 use Rattle.std.proofs.Common.{◌≡◌, ◌<◌, ◌≤◌, ◌+◌, ◌-◌, ◌∙◌, ◌-ℤ◌, ◌*ℤ◌, ℕ, ℤ, true, false, nat_lt, ap, ap₂, sym, subst, refl, arith, w8, to_z, of_z}
 use Rattle.std.proofs.lemmas.Bool.Decides.{nat_tests}
 use Rattle.cmr_base.specs.Matrix.{Matrix, height, entry, IsEntry, HasTernaryEntries}
@@ -12,7 +12,7 @@ use Rattle.sum_ops.specs.SumCores.{core_determinant_at, IsLastCore, IsFirstCore}
 use Rattle.sum_ops.specs.declared.spread.Spread.{Spread}
 use Rattle.sum_ops.specs.Spreads.{spread_entry}
 
--- what an `i8` keeps of a number
+-- the value of a number as an `i8`
 abbrev pub byte : ℤ → ℤ
 byte z = to_z w8 (of_z w8 z)
 
@@ -35,7 +35,7 @@ module _ (first second : Matrix) where
     right = two.right;
   }
 
-  -- the determinant is a sign, which a byte keeps
+  -- the determinant is a sign, so its byte has the same value
   pub last_core_of_byte : (determinant : ℤ) → IsLastCore first determinant → IsLastCore first (byte determinant)
   last_core_of_byte determinant one =
       subst (IsLastCore first) (sym (entry_as_byte determinant (sign_is_entry determinant (subst IsSign (sym one.determinant_is) one.core.determinant)))) one
@@ -80,7 +80,7 @@ module _ (first second : Matrix) where
         ∙ ap (λ (d : ℤ). whole (height first - 2) (first.width - 1) d block.model (block.model + 1)) determinant_is
         ∙ ap₂ (λ (k l : ℕ). whole (height first - 2) (first.width - 1) second_determinant k l) model_at next_at
 
-    -- the entries of the block stand in the sum
+    -- the entries of the block are entries of the sum
     pub small_in_sum : HasTernaryEntries (concentrated_sum first second) → (r c : ℕ) → 1 ≤ r → r < height second → c < first.width - 1 → IsEntry (spread_entry block first second r c)
     small_in_sum small r c l k m = subst IsEntry (sum_entry ∙ sym (entry_is r c)) (small row c)
       where

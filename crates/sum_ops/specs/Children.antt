@@ -10,16 +10,16 @@ abbrev pub on_side : Bool → Lines → Lines
 on_side true side = side
 on_side false side = opposite side
 
--- a number is in the list, or is not
+-- a number is on the list, or is not
 abbrev pub on_list : Bool → List ℕ → ℕ → Bool
 on_list true list number = list_any (λ other. other == number) list
 on_list false list number = not (list_any (λ other. other == number) list)
 
--- those of some lines of one kind that are on the list, or not, or are named
+-- the lines of one kind that are on the list, or, without `inside`, not on it, and the lines that `more` names
 abbrev pub chosen : (ℕ → Line) → Bool → List ℕ → List Line → List ℕ → List ℕ
 chosen kind inside side more lines = filter (λ line. on_list inside side line || list_any (is_same_line (kind line)) more) lines
 
--- those of some lines that are in the set
+-- the child has the lines that are in the set
 pub record AreOfChild (lines : LineSet) (set : Lines) (child : LineSet) : Type 0 where
   pub rows : child.rows ≡ rows_in set lines.rows
   pub columns : child.columns ≡ columns_in set lines.columns

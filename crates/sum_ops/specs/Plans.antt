@@ -16,7 +16,7 @@ columns_of plan second = plan.columns + (second.width - plan.left)
 abbrev pub upper_entry : Plan → Matrix → Matrix → ℕ → ℕ → ℤ
 upper_entry plan first second r c = cond plan.upper (entry first r plan.columns *ℤ entry second 0 c) (pos 0)
 
--- after so many rows of the first matrix
+-- the block after the first `rows` rows of the first matrix
 abbrev pub lower_entry : LowerBlock → (rows : ℕ) (first second : Matrix) → ℕ → ℕ → ℤ
 lower_entry Zero rows first second r c = pos 0
 lower_entry Product rows first second r c = entry second r 0 *ℤ entry first rows c
@@ -32,7 +32,7 @@ LowerFits Product plan first second = (plan.rows < height first) × (0 < second.
 LowerFits (Spread block) plan first second =
     LinesAreThere block first second × ((r c : ℕ) → plan.up ≤ r → r < height second → c < plan.columns → IsEntry (spread_entry block first second r c))
 
--- the lines that the plan takes are lines of the matrices
+-- the lines that the plan uses are lines of the matrices
 pub record FitsPlan (plan : Plan) (first second : Matrix) : Type 0 where
   pub rows : plan.rows ≤ height first
   pub columns : plan.columns ≤ first.width

@@ -1,4 +1,4 @@
--- The block that two columns and two rows make.
+-- The block made from two columns and two rows.
 use Rattle.std.specs.Prelude.{◌<◌, ◌≤◌, ◌+◌, ℕ, ℤ}
 use Rattle.cmr_base.specs.Matrix.{Matrix, height, entry, IsEntry, IsMatrix}
 use Rattle.cmr_base.specs.Separations.{spread}

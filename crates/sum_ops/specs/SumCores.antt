@@ -4,7 +4,7 @@ use Rattle.cmr_base.specs.Matrix.{Matrix, height, entry}
 use Rattle.cmr_base.specs.Signing.{IsSign}
 use Rattle.cmr_base.specs.MatrixSums.{IsCore}
 
--- the entries of a core after so many rows and columns that are 1 or -1
+-- the entries of a core after `row` rows and `column` columns that are 1 or -1
 pub record HaveSigns (row column : ℕ) (entries : ℕ → ℕ → ℤ) : Type 0 where
   pub g : IsSign (entries row column)
   pub h : IsSign (entries row (column + 1))
@@ -15,7 +15,7 @@ pub record HaveSigns (row column : ℕ) (entries : ℕ → ℕ → ℤ) : Type 0
 abbrev pub core_determinant_at : Matrix → (row column : ℕ) → ℤ
 core_determinant_at m row column = entry m (row + 1) column *ℤ entry m (row + 2) (column + 1) -ℤ entry m (row + 1) (column + 1) *ℤ entry m (row + 2) column
 
--- the matrix ends in a core with this determinant, above which its last column is 0
+-- the matrix ends with a core with this determinant, and its last column is 0 above the core
 pub record IsLastCore (m : Matrix) (determinant : ℤ) : Type 0 where
   pub rows : 3 ≤ height m
   pub columns : 3 ≤ m.width
@@ -23,7 +23,7 @@ pub record IsLastCore (m : Matrix) (determinant : ℤ) : Type 0 where
   pub determinant_is : determinant ≡ core_determinant_at m (height m - 3) (m.width - 3)
   pub above : (r : ℕ) → r < height m - 3 → entry m r (m.width - 1) ≡ pos 0
 
--- the second matrix begins with the last three rows and columns of the first, and after three columns its first row is 0
+-- the second matrix begins with the last three rows and columns of the first, and its first row is 0 after three columns
 pub record IsFirstCore (first second : Matrix) : Type 0 where
   pub rows : 3 ≤ height second
   pub columns : 3 ≤ second.width

@@ -1,4 +1,4 @@
-// The children of a separation: each side, with a few lines of the other.
+// The children of a separation: each side, with a few lines of the other side.
 ghost use Rattle.std.specs.Prelude.{◌≡◌, ◌<◌, ℕ, [], ◌∷◌, length, IfOk, true, false};
 ghost use Rattle.std.specs.List.{list_any};
 ghost use Rattle.std.specs.List.Sorted.{IsStrictlyIncreasing};
@@ -9,8 +9,8 @@ ghost use Rattle.sum_ops.specs.Children.{on_side, on_list, chosen, AreOfChild, H
 use cmr_base::{Indices, Line, LineSet, LineSetPair, Memory, Three, Two};
 use std::alloc::Global;
 
-/// The lines of the children of a two-separation of some lines: those of side one with the row of side two, and those of
-/// side two with the column of side one. Each child has fewer lines.
+/// Gives the lines of the children of a two-separation of these lines: side one with the row of side two, and side
+/// two with the column of side one. Each child has fewer lines.
 pub fn two_parts(alloc: Global, lines: &LineSet, two: &Two) -> Result<LineSetPair, Memory>
     requires { AreEnough lines.now.rows lines.now.columns
         (listed two.now.side.rows two.now.side.columns) 2 }
@@ -29,8 +29,8 @@ pub fn two_parts(alloc: Global, lines: &LineSet, two: &Two) -> Result<LineSetPai
     })
 }
 
-/// The lines of the children of a three-separation of some lines: those of side one with the second connector, and those of
-/// side two with the first. Each child has fewer lines.
+/// Gives the lines of the children of a three-separation of these lines: side one with the second connector, and side
+/// two with the first connector. Each child has fewer lines.
 pub fn three_parts(alloc: Global, lines: &LineSet, three: &Three) -> Result<LineSetPair, Memory>
     requires { AreEnough lines.now.rows lines.now.columns
         (listed three.now.side.rows three.now.side.columns) 4 }
@@ -55,7 +55,7 @@ pub fn three_parts(alloc: Global, lines: &LineSet, three: &Three) -> Result<Line
     })
 }
 
-// The lines of a side, side one where `inside` holds, with some lines more.
+// Gives the lines of a side and the lines that `more` names. The side is side one if `inside` is true.
 fn child(
     alloc: Global,
     lines: &LineSet,

@@ -13,14 +13,18 @@ use crate::spread::Spread;
 use cmr_base::Matrix;
 use std::alloc::Global;
 
-/// The concentrated three-sum `[A 0; K B]` (Seymour; Truemper, Matroid Decomposition; the library CMR). The first matrix ends
-/// in three rows and columns `[g h 0; x y s; z w t]`, where g, h, s, t and x w - y z are 1 or -1, and is 0 above them in its
-/// last column; the second begins with the same and is 0 after them in its first row. A is the first matrix without its last
-/// two rows and its last column, B the second without its first row and its first two columns. The rows of K are made from
-/// the first matrix's last two rows as those of the second are from its second and third row in its first two columns.
+/// Makes the concentrated three-sum `[A 0; K B]` (Seymour; Truemper, Matroid Decomposition; the library CMR).
 ///
-/// `BadConnector` comes where the matrices have not this form, or differ in these three rows and columns. `BadEntry` comes
-/// where they have it and an entry of K is not -1, 0 or 1.
+/// * The core is `[g h 0; x y s; z w t]`, with g, h, s, t and x w - y z equal to 1 or -1.
+/// * The first matrix ends with the core, and its last column is 0 above the core. A is the first matrix without its
+///   last two rows and its last column.
+/// * The second matrix begins with the core, and its first row is 0 after the core. B is the second matrix without
+///   its first row and its first two columns.
+/// * Each row of K combines the last two rows of the first matrix. The same row of the second matrix, in its first
+///   two columns, combines its second and third row with the same coefficients.
+///
+/// `BadConnector`: the matrices do not have this form, or their cores differ. `BadEntry`: they have this form, but an
+/// entry of K is not -1, 0 or 1.
 pub fn concentrated_sum(alloc: Global, first: &Matrix, second: &Matrix) -> Result<Matrix, SumError>
     requires rows { height first.now + height second.now ≤ 1003 }
     requires columns { first.now.width + second.now.width ≤ 1003 }
@@ -52,7 +56,7 @@ pub fn concentrated_sum(alloc: Global, first: &Matrix, second: &Matrix) -> Resul
     Ok(plan.sum(alloc, first, second)?)
 }
 
-// The determinant of the core in which the first matrix ends and with which the second begins.
+// Gives the determinant of the core with which the first matrix ends and the second matrix begins.
 fn shared_core(first: &Matrix, second: &Matrix) -> Option<i8>
     ensures { MatchOption result
         (HaveConcentratedSum first.now second.now → ⊥)

@@ -1,4 +1,4 @@
-// Cores of concentrated sums: `[g h 0; x y s; z w t]`, where g, h, s, t and x w - y z are 1 or -1.
+// Cores of concentrated sums: `[g h 0; x y s; z w t]`, with g, h, s, t and x w - y z equal to 1 or -1.
 ghost use Rattle.std.specs.Prelude.{◌≡◌, ◌<◌, ◌≤◌, ◌+◌, ◌-◌, ◌↔◌, ℕ, ℤ, pos, IsTrue, MatchOption};
 ghost use Rattle.cmr_base.specs.Cores.{IsBounded};
 ghost use Rattle.cmr_base.specs.Matrix.{height, entry, IsMatrix};
@@ -8,7 +8,8 @@ ghost use Rattle.sum_ops.specs.SumCores.{HaveSigns, core_determinant_at, IsLastC
 
 use cmr_base::{Core, Matrix};
 
-/// The determinant x w - y z of the core in which a matrix ends, `None` where it does not end in a core with zeros above.
+/// Gives the determinant x w - y z of the core with which a matrix ends, and `None` if it does not end with a core
+/// below zeros.
 pub fn last_core(matrix: &Matrix) -> Option<i8>
     ensures { MatchOption result ((determinant : ℤ) → IsLastCore matrix.now determinant → ⊥)
         (λ determinant. IsLastCore matrix.now determinant) }
@@ -25,7 +26,8 @@ pub fn last_core(matrix: &Matrix) -> Option<i8>
     }
 }
 
-/// Whether a matrix begins with the last three rows and columns of another, and its first row is 0 after these.
+/// Decides whether the second matrix begins with the last three rows and columns of the first, and has a first row of
+/// zeros after them.
 pub fn is_first_core(first: &Matrix, second: &Matrix) -> bool
     requires rows { 3 ≤ height first.now }
     requires columns { 3 ≤ first.now.width }
@@ -37,7 +39,7 @@ pub fn is_first_core(first: &Matrix, second: &Matrix) -> bool
         && is_zero_after(second, 3)
 }
 
-// Whether a core stands after so many rows and columns.
+// Decides whether the matrix has a core after `row` rows and `column` columns.
 fn is_core(matrix: &Matrix, row: u32, column: u32) -> bool
     requires row { row + 2 < height matrix.now }
     requires column { column + 2 < matrix.now.width }
@@ -49,7 +51,7 @@ fn is_core(matrix: &Matrix, row: u32, column: u32) -> bool
         && has_sign_determinant(matrix, row, column)
 }
 
-// Whether the four corners of a core stand there, which are 1 or -1.
+// Decides whether g, h, s and t of such a core are 1 or -1.
 fn have_signs(matrix: &Matrix, row: u32, column: u32) -> bool
     requires row { row + 2 < height matrix.now }
     requires column { column + 2 < matrix.now.width }

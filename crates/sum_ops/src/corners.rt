@@ -1,11 +1,12 @@
-// Connecting lines of sums: a row and two columns that are equal but in that row (flat), or two rows and a column (tall).
+// Connecting lines of sums: a row and two columns that are equal outside that row (flat), or a column and two rows
+// that are equal outside that column (tall).
 ghost use Rattle.std.specs.Prelude.{◌≡◌, ◌<◌, ◌≤◌, ◌↔◌, ℕ, ℤ, IsTrue, MatchOption, true, false};
 ghost use Rattle.cmr_base.specs.Matrix.{height, entry};
 ghost use Rattle.sum_ops.specs.Corners.{IsLastCorner, IsFirstCorner};
 
 use cmr_base::Matrix;
 
-/// The corner of the connecting lines in which a matrix ends, `None` where it does not end in such lines.
+/// Gives the corner of the connecting lines with which a matrix ends, and `None` if it does not end with such lines.
 pub fn last_corner(matrix: &Matrix, flat: bool) -> Option<i8>
     ensures { MatchOption result ((corner : ℤ) → IsLastCorner flat matrix.now corner → ⊥)
         (λ corner. IsLastCorner flat matrix.now corner) }
@@ -17,7 +18,8 @@ pub fn last_corner(matrix: &Matrix, flat: bool) -> Option<i8>
     }
 }
 
-/// The corner of the connecting lines with which a matrix begins, `None` where it does not begin with such lines.
+/// Gives the corner of the connecting lines with which a matrix begins, and `None` if it does not begin with such
+/// lines.
 pub fn first_corner(matrix: &Matrix, flat: bool) -> Option<i8>
     ensures { MatchOption result ((corner : ℤ) → IsFirstCorner flat matrix.now corner → ⊥)
         (λ corner. IsFirstCorner flat matrix.now corner) }

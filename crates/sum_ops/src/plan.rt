@@ -9,8 +9,8 @@ use crate::spread::Spread;
 use cmr_base::{MAX_COLUMNS, MAX_ROWS, Matrix, Memory, product};
 use std::alloc::Global;
 
-/// The block below the first matrix: zero, the product of column 0 of the second matrix with the next row of the first, or
-/// what two columns and two rows make.
+/// The block below the first matrix: zero, the product of column 0 of the second matrix with the next row of the
+/// first matrix, or a block made from two columns and two rows.
 #[derive(Clone, Copy, Debug)]
 pub enum LowerBlock {
     Zero,
@@ -18,9 +18,9 @@ pub enum LowerBlock {
     Spread(Spread),
 }
 
-/// The blocks of a sum: the first so many rows and columns of the first matrix, and the second matrix from a row and a
-/// column on. The upper block, where it is not zero, is the product of the next column of the first matrix with row 0 of
-/// the second.
+/// The blocks of a sum: the first `rows` rows and `columns` columns of the first matrix, and the second matrix from
+/// row `up` and column `left` on. The upper block is zero, or, if `upper` is true, the product of the next column of
+/// the first matrix with row 0 of the second matrix.
 #[derive(Clone, Copy, Debug)]
 pub struct Plan {
     pub rows: u32,
@@ -32,7 +32,7 @@ pub struct Plan {
 }
 
 impl Plan {
-    /// The matrix of the four blocks.
+    /// Makes the matrix of the four blocks.
     pub fn sum(self, alloc: Global, first: &Matrix, second: &Matrix) -> Result<Matrix, Memory>
         requires fits { FitsPlan self first.now second.now }
         requires rows { rows_of_sum self second.now ≤ MAX_ROWS }

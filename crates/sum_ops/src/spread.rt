@@ -1,4 +1,4 @@
-// The block that two columns and two rows make.
+// The block made from two columns and two rows.
 ghost use Rattle.std.specs.Prelude.{◌≡◌, ◌<◌, ◌≤◌, ◌↔◌, ℕ, IsTrue};
 ghost use Rattle.cmr_base.specs.Cores.{IsBounded};
 ghost use Rattle.cmr_base.specs.Matrix.{height, IsEntry};
@@ -6,9 +6,11 @@ ghost use Rattle.sum_ops.specs.Spreads.{LinesAreThere, spread_entry};
 
 use cmr_base::{Core, Matrix};
 
-/// The block of columns 0 and 1 of a second matrix and of two rows of a first one, `model` and the next, which go on there as
-/// rows 1 and 2 of the second. Each row of the block is made from the two rows as its entries in the two columns are. The
-/// four entries where the two rows cross the two columns have the determinant `determinant`, which is 1 or -1.
+/// The block made from columns 0 and 1 of the second matrix and from rows `model` and `model + 1` of the first
+/// matrix. These rows continue as rows 1 and 2 of the second matrix. Each row of the block combines the two rows of
+/// the first matrix. The same row of the second matrix, in columns 0 and 1, combines its rows 1 and 2 with the same
+/// coefficients. `determinant` is the determinant of the four entries in rows 1 and 2 and columns 0 and 1. In a
+/// concentrated sum it is 1 or -1.
 #[derive(Clone, Copy, Debug)]
 pub struct Spread {
     pub determinant: i8,
@@ -16,7 +18,7 @@ pub struct Spread {
 }
 
 impl Spread {
-    /// The entry in a row of the second matrix and a column of the first.
+    /// Gives the entry in a row of the second matrix and a column of the first matrix.
     pub fn entry(self, first: &Matrix, second: &Matrix, row: u32, column: u32) -> i8
         requires lines { LinesAreThere self first.now second.now }
         requires row { row < height second.now }
@@ -31,7 +33,7 @@ impl Spread {
         factors.entry(one, other)
     }
 
-    /// Whether all entries are -1, 0 or 1, but for those in row 0, in the first so many columns.
+    /// Decides whether all entries in the first `columns` columns are -1, 0 or 1, except in row 0.
     pub fn has_small_entries(self, first: &Matrix, second: &Matrix, columns: u32) -> bool
         requires lines { LinesAreThere self first.now second.now }
         requires columns { columns ≤ first.now.width }

@@ -13,7 +13,7 @@ use crate::plan::{LowerBlock, Plan};
 use cmr_base::{MAX_COLUMNS, MAX_ROWS, Matrix, Memory};
 use std::alloc::Global;
 
-/// The one-sum: the two matrices as diagonal blocks.
+/// Makes the one-sum: the two matrices as diagonal blocks.
 pub fn one_sum(alloc: Global, first: &Matrix, second: &Matrix) -> Result<Matrix, Memory>
     requires rows { height first.now + height second.now ≤ MAX_ROWS }
     requires columns { first.now.width + second.now.width ≤ MAX_COLUMNS }
@@ -30,8 +30,8 @@ pub fn one_sum(alloc: Global, first: &Matrix, second: &Matrix) -> Result<Matrix,
     plan.sum(alloc, first, second)
 }
 
-/// The two-sum `[A ab; 0 B]` of `[A a]` and `[b; B]`. There is none where the first matrix has no column or the second
-/// no row.
+/// Makes the two-sum `[A ab; 0 B]` of `[A a]` and `[b; B]`. `BadConnector`: the first matrix has no column, or the
+/// second matrix has no row.
 pub fn two_sum(alloc: Global, first: &Matrix, second: &Matrix) -> Result<Matrix, SumError>
     requires rows { height first.now + height second.now ≤ MAX_ROWS + 1 }
     requires columns { first.now.width + second.now.width ≤ MAX_COLUMNS + 1 }
@@ -53,8 +53,8 @@ pub fn two_sum(alloc: Global, first: &Matrix, second: &Matrix) -> Result<Matrix,
     Ok(plan.sum(alloc, first, second)?)
 }
 
-/// The delta sum `[A ab; dc B]` of `[A a a; c 0 e]` and `[e 0 b; d d B]`, where e is 1 or -1. `BadConnector` comes where
-/// the matrices have not this form, or have different e.
+/// Makes the delta sum `[A ab; dc B]` of `[A a a; c 0 e]` and `[e 0 b; d d B]`, with e equal to 1 or -1.
+/// `BadConnector`: the matrices do not have this form, or they have different e.
 pub fn delta_sum(alloc: Global, first: &Matrix, second: &Matrix) -> Result<Matrix, SumError>
     requires rows { height first.now + height second.now ≤ 1002 }
     requires columns { first.now.width + second.now.width ≤ 1004 }
@@ -65,7 +65,8 @@ pub fn delta_sum(alloc: Global, first: &Matrix, second: &Matrix) -> Result<Matri
     corner_sum(alloc, true, true, first, second)
 }
 
-/// The Y sum `[A ab; dc B]` of `[A a; c 0; c e]` and `[e b; 0 b; d B]`, in the same way.
+/// Makes the Y sum `[A ab; dc B]` of `[A a; c 0; c e]` and `[e b; 0 b; d B]`. Its errors are the errors of
+/// `delta_sum`.
 pub fn y_sum(alloc: Global, first: &Matrix, second: &Matrix) -> Result<Matrix, SumError>
     requires rows { height first.now + height second.now ≤ 1004 }
     requires columns { first.now.width + second.now.width ≤ 1002 }
@@ -76,7 +77,8 @@ pub fn y_sum(alloc: Global, first: &Matrix, second: &Matrix) -> Result<Matrix, S
     corner_sum(alloc, false, false, first, second)
 }
 
-/// The mixed sum `[A ab; dc B]` of `[A a; c 0; c e]` and `[e 0 b; d d B]`, in the same way.
+/// Makes the mixed sum `[A ab; dc B]` of `[A a; c 0; c e]` and `[e 0 b; d d B]`. Its errors are the errors of
+/// `delta_sum`.
 pub fn mixed_sum(alloc: Global, first: &Matrix, second: &Matrix) -> Result<Matrix, SumError>
     requires rows { height first.now + height second.now ≤ 1003 }
     requires columns { first.now.width + second.now.width ≤ 1003 }
@@ -99,8 +101,8 @@ fn connecting_columns(flat: bool) -> u32
     if flat { 2 } else { 1 }
 }
 
-// The sum of a first matrix that ends in connecting lines of the kind of the second connector of a separation, and a second
-// one that begins with those of the kind of the first connector.
+// Makes the sum of two matrices with connecting lines: the first matrix ends with lines of the kind `second_flat`,
+// and the second matrix begins with lines of the kind `first_flat`.
 fn corner_sum(
     alloc: Global,
     first_flat: bool,
@@ -132,7 +134,8 @@ fn corner_sum(
     Ok(plan.sum(alloc, first, second)?)
 }
 
-// Whether the first matrix ends in connecting lines of a kind, and the second begins with such lines, with one corner.
+// Decides whether the first matrix ends with connecting lines of a kind, the second begins with connecting lines of a
+// kind, and both have one corner.
 fn have_one_corner(first: &Matrix, second: &Matrix, last: bool, begin: bool) -> bool
     ensures { IsTrue result ↔ HaveOneCorner last begin first.now second.now }
 {

@@ -265,7 +265,7 @@ sign_left-returns-in-None-clause-run t c =
     let row : call.result ≡ get_or left 0 0 = get_or_read left 0 call.result within call.ensures.value 0 in
     c.sign_aside.ensures.run left (record { no_pivot = none; rows_are = first_and_others left within ∙ ap₂ (λ (r : ℕ) (xs : List ℕ). r ∷ xs) (sym row) (sym call.ensures.items) })
 
--- ---- what the calls require, and the other rows
+-- ---- the preconditions of the calls, and the other rows
 
 keeps_through : (first middle last : Matrix) (rows : List ℕ) → KeepsRowsElsewhere first middle rows → KeepsRowsElsewhere middle last rows → KeepsRowsElsewhere first last rows
 keeps_through first middle last rows one two = record {
@@ -274,7 +274,7 @@ keeps_through first middle last rows one two = record {
   others = λ i j out. two.others i j out ∙ one.others i j out;
 }
 
--- what stays when fewer rows change stays when one more may change
+-- entries that do not change if fewer rows may change do not change if one more row may change
 keeps_with_more : (before after : Matrix) (row : ℕ) (fewer more : List ℕ) → HasOneMore row fewer more → KeepsRowsElsewhere before after fewer → KeepsRowsElsewhere before after more
 keeps_with_more before after row fewer more one keeps = record {
   same_height = keeps.same_height;

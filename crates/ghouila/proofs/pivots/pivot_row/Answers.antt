@@ -67,7 +67,7 @@ pub returns-clause-others : goal.returns-clause-others
 returns-clause-others c = subst (λ (m : Matrix). KeepsRowsElsewhere c.args.work.now m (c.args.other ∷ [])) (sym c.set-2.ensures)
     (keeps_with_entry c.args.work.now c.loop-last.work c.args.other c.args.column (to_z w8 (of_z w8 (pos 0 -ℤ to_z w8 (of_z w8 c.product-factor.result)))) c.loop-last.invariant.reduced.others)
 
--- ---- what the calls require, and a row with 0 in the pivot's column
+-- ---- the preconditions of the calls, and a row with 0 in the pivot's column
 
 negated_fits : (z : ℤ) → IsEntry z → SFits w8 (pos 0 -ℤ to_z w8 (of_z w8 z))
 negated_fits z small = let low = small.low in let high = small.high in omega (arith, ints)

@@ -56,7 +56,7 @@ pub returns-clause-none : goal.returns-clause-none
 returns-clause-none c =
     small_over c.args.work.now c.args.row c.args.column c.args.other c.loop-last.from c.args.work.now.width c.columns.ensures.shape c.loop-last.invariant.small (λ j low high. c.in_default.ensures.first j low)
 
--- ---- what the calls require, and a row with 0 in the pivot's column
+-- ---- the preconditions of the calls, and a row with 0 in the pivot's column
 
 pub product-factor-requires-clause-first : goal.product-factor-requires-clause-first
 product-factor-requires-clause-first c = entry_byte c.entry.result c.entry.ensures.small

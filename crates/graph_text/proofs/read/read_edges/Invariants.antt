@@ -2,7 +2,7 @@ use Rattle.std.proofs.Common.{◌≡◌, ◌≤◌, length}
 use Rattle.graph_text.specs.GraphReading.{edges_from, no_edges}
 use Rattle.graph_text.proofs.read.read_edges.Given as goal
 
--- what is left makes the whole
+-- the reading of the remaining words gives the whole reading
 abbrev pub invariant-edges : goal.invariant-edges
 invariant-edges l = record {
   size : l.words.size ≡ l.fn.words.size;

@@ -3,7 +3,7 @@ use Rattle.std.specs.Prelude.{bit_and, count_ones}
 use Rattle.parity.specs.Equations.{number_of, common}
 use Rattle.parity.proofs.words.have_odd_common.Given as goal
 
--- what is odd so far, with what is left
+-- the parity so far and the parity of the remaining words give the parity of all words
 abbrev pub invariant-loop-place : goal.invariant-loop-place
 invariant-loop-place l = record {
   bit : l.odd < 2;

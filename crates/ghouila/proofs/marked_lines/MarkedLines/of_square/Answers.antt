@@ -11,7 +11,7 @@ use Rattle.ghouila.proofs.MarkedMembers.{in_two_marks}
 use Rattle.ghouila.proofs.SquareMarks.{odd_pair, square_marks}
 use Rattle.ghouila.proofs.marked_lines.MarkedLines.of_square.Goals as goal
 
--- so many marks
+-- the number of marks
 marks_length : (marks : List Bool) (n : ℕ) → marks ≡ replicate n false → length marks ≡ n
 marks_length marks n is = ap length is ∙ length-replicate n false
 

@@ -8,7 +8,7 @@ use Rattle.ghouila.specs.Found.{HasParity, marked}
 use Rattle.ghouila.proofs.marked_lines.MarkedLines.undo_pivot.Goals as goal
 use Rattle.cmr_base.specs.Cuts.{bit}
 
--- one more where it was there
+-- the parity with one more if the bit is set
 parity-add_bit : (odd there : Bool) (z : ℤ) → HasParity odd z → HasParity (not (beq odd there)) (z +ℤ bit there)
 parity-add_bit true true z (k, e) = (k, omega (arith, sums))
 parity-add_bit true false z (k, e) = (k, omega (arith, sums))

@@ -12,7 +12,7 @@ sum_fits a b one two = let p = one.low in let q = one.high in let r = two.low in
 byte_sum : (a b : ℤ) → IsEntry a → IsEntry b → to_z w8 (of_z w8 a) +ℤ to_z w8 (of_z w8 b) ≡ a +ℤ b
 byte_sum a b one two = ap₂ (λ (x y : ℤ). x +ℤ y) (kept_entry a one) (kept_entry b two)
 
--- one more sum has its part of the row
+-- one more sum contains its entry of the row
 sums_more : (first sums : List ℤ) (row : ℕ → ℤ) (k : ℕ) (value : ℤ) → k < length sums → ((j : ℕ) → j < k → get_or sums j (pos 0) ≡ get_or first j (pos 0) +ℤ row j)
     → value ≡ get_or first k (pos 0) +ℤ row k → (j : ℕ) → j < k + 1 → get_or (set sums k value) j (pos 0) ≡ get_or first j (pos 0) +ℤ row j
 sums_more first sums row k value inside done is j h = elim (cases_eq j k) [
