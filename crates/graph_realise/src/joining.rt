@@ -204,8 +204,8 @@ fn add_part(joint: &Joint, arc: u32, part: usize, sides: &mut ArcSides)
     sides.last.add(arc, &joint.column_marks, line);
 }
 
-// Puts the ends of the columns that the row and the arc have in common on the sides of the arc. Such a column leaves the part
-// at the row's arc.
+// Puts one end of each column that the row and the arc have in common on the side `true` of the arc: the end that lies on the
+// part's side of the row's arc.
 fn add_used(matrix: &Matrix, joint: &Joint, arc: u32, own: usize, sides: &mut ArcSides)
     requires arc { arc < height matrix.now }
     requires own { own < length joint.now.branches.items }

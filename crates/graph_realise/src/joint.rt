@@ -17,9 +17,9 @@ use cmr_base::columns::{add_common, add_outside, clear_set, empty_set, next_colu
 use cmr_base::{Indices, MAX_ROWS, Matrix, Memory, PartList, SideList, words_for};
 use std::alloc::Global;
 
-/// A row and the parts of the other rows: the part of each row, the branch of each part, and for each column without the row
-/// the part that has it. The chunks are the chunks of 64 columns in which the row is not 0. The tables have a line for each
-/// part, which marks its rows and these columns.
+/// A row and the parts of the other rows: the part of each row, the branch of each part, and for each column in which the row
+/// is 0 the part with its nonzeros. The chunks are the chunks of 64 columns in which the row is not 0. The tables have a line
+/// for each part, which marks its rows and these columns.
 #[derive(Debug, Drop)]
 pub struct Joint {
     pub row: u32,
@@ -125,7 +125,7 @@ fn number_rows(numbers: &mut Vec<Option<usize>>, part: &Indices, number: usize)
     }
 }
 
-// For each column without `row` the part with a row that has it.
+// For each column in which `row` is 0 the part with its nonzeros.
 fn parts_with_columns(
     alloc: Global,
     matrix: &Matrix,

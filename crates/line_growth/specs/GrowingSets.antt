@@ -54,16 +54,16 @@ pub record Leaves (m : Matrix) (out : List Line) (least : ℕ) (S : Lines) : Typ
   pub none : HasNone S out
   pub enough : least ≤ count_lines_in (opposite S) (first_lines (height m)) (first_lines m.width)
 
--- no closed set with the start leaves these lines outside
+-- no closed set with the start satisfies `Leaves`
 abbrev pub HasNoLeaving : Matrix → GrowthRule → (start out : List Line) → ℕ → Type 0
 HasNoLeaving m rule start out least = (T : Lines) → IsClosedIn m (upper_of m rule) (lower_of m rule) T → HasAll T start → ¬ (Leaves m out least T)
 
--- the least closed set with the start, if it leaves these lines outside
+-- the set is the least closed set with the start, and it satisfies `Leaves`
 pub record IsLeaving (m : Matrix) (rule : GrowthRule) (start out : List Line) (least : ℕ) (S : Lines) : Type 0 where
   pub grown : IsGrown (height m) m.width (entry m) (upper_of m rule) (lower_of m rule) start S
   pub leaves : Leaves m out least S
 
--- the set is the least closed set and leaves these lines outside, or no closed set does
+-- the set is the least closed set with the start and satisfies `Leaves`, or no closed set with the start does
 abbrev pub TellsClosed : Matrix → GrowthRule → (start out : List Line) → ℕ → Bool → Lines → Type 0
 TellsClosed m rule start out least true S = IsLeaving m rule start out least S
 TellsClosed m rule start out least false S = HasNoLeaving m rule start out least

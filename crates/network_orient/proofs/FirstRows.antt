@@ -1,5 +1,5 @@
--- A row that agrees with a row of a matrix without violator has no cycle fault. First rows without fault are the rows of such a
--- matrix with their support.
+-- First rows that are the first rows of a matrix without violator have no cycle fault. Conversely, first rows without fault are
+-- the first rows of such a matrix with their support.
 use Rattle.std.proofs.Common.{zero, suc, [], ◌∷◌, refl, ◌≡◌, ◌≢◌, ◌<◌, ◌≤◌, ◌↔◌, ◌⊎◌, inl, inr, ◌∙◌, ℕ, ℤ, pos, ◌*ℤ◌, List, get_or, ap, sym, subst, arith}
 use Rattle.std.specs.List.{AllByRecursion}
 use Rattle.std.proofs.lemmas.Bool.{cases_lt}

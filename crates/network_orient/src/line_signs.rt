@@ -17,7 +17,7 @@ pub struct LineSigns {
 /// Whether signs of the lines turn one matrix into another.
 #[derive(Debug, Drop)]
 pub enum SignsBetween {
-    /// These signs do.
+    /// Signs that turn the first matrix into the second.
     Found(LineSigns),
     /// No signs turn the rows up to this row. If the first matrix has no violator, this is the first row of the second matrix
     /// with a cycle fault.
