@@ -1,4 +1,4 @@
--- The columns that a row has in common with some rows, word by word.
+-- The columns that a row has in common with a list of rows, word by word.
 use Rattle.std.proofs.Common.{ℕ, ◌+◌, ◌*◌, ◌/◌, ◌%◌, Bool, true, false, List, ◌≡◌, ◌<◌, ◌≤◌, ◌∙◌, sym, arith, subst, ◌⊎◌, inl, inr, length, get_or, set, ap, ap₂, ◌&&◌, ◌||◌}
 use Rattle.std.specs.Prelude.{◌↔◌}
 use Rattle.std.proofs.lemmas.Bool.{cases_lt}
@@ -38,14 +38,14 @@ module _ (M : ℕ → ℕ → Bool) (i : ℕ) (P : List ℕ) (chunk : ℕ) where
     ];
   }
 
-  -- all rows were gone through
+  -- the loop has read all rows
   pub word_ends : (word place : ℕ) → IsCollectingWord M i P chunk word place → length P ≤ place → IsCommonWord M i P chunk word
   word_ends word place w l k s = (w.into k s, λ (mi, (r, hr, mr)). at mi r mr (found_at P r hr))
     where
       at : M i (64 * chunk + k) ≡ true → (r : ℕ) → M r (64 * chunk + k) ≡ true → (p : ℕ) × (p < length P) × (get_or P p 0 ≡ r) → has_bit word k ≡ true
       at mi r mr (p, h, e) = w.from p k (omega arith) s mi (ap (λ (z : ℕ). M z (64 * chunk + k)) e ∙ mr)
 
-  -- all columns of the row were met
+  -- the loop has found all columns of the row
   pub word_full : (word place : ℕ) → IsCollectingWord M i P chunk word place → ((k : ℕ) → k < 64 → has_bit word k ≡ M i (64 * chunk + k)) → IsCommonWord M i P chunk word
   word_full word place w own k s = (w.into k s, λ common. own k s ∙ common.0)
 

@@ -1,4 +1,4 @@
--- What the tests of cuts say, and the table of them.
+-- The tests of cuts, and their table.
 use Rattle.std.proofs.Common.{ℕ, ◌+◌, ◌*◌, Bool, true, false, List, [], ◌∷◌, ◌++◌, ◌≡◌, ◌<◌, ◌∙◌, sym, refl, arith, subst, ◌⊎◌, inl, inr, length, get_or, ◌&&◌}
 use Rattle.std.specs.Prelude.{◌↔◌}
 use Rattle.std.proofs.lemmas.Bool.{cases_lt}
@@ -81,7 +81,7 @@ module _ (M : ℕ → ℕ → Bool) where
       ];
     }
 
-    -- what the table says of two parts
+    -- the entries of the table for two parts
     module _ (cuts : List Bool) (w : IsCutTable M i parts (length parts) cuts) (a b : ℕ) (la : a < length parts) (lb : b < length parts) where
       pub disagree_true : disagree cuts (length parts) a b ≡ true → ¬ (Agree M i (rows_at_part parts a) (rows_at_part parts b))
       disagree_true e = go (get_or cuts (a * length parts + b) false) (get_or cuts (b * length parts + a) false) e (w.right a b la lb) (w.right b a lb la)
@@ -99,7 +99,7 @@ module _ (M : ℕ → ℕ → Bool) where
           go true false e n m = inl m
           go false t e n m = inr n
 
--- disagreement goes both ways
+-- disagreement is symmetric
 pub disagree_back : (cuts : List Bool) (count a b : ℕ) → disagree cuts count a b ≡ true → disagree cuts count b a ≡ true
 disagree_back cuts count a b e =
     let both = and_is (get_or cuts (a * count + b) false) (get_or cuts (b * count + a) false) e in

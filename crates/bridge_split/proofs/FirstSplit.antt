@@ -11,7 +11,7 @@ use Rattle.bridge_split.specs.PartNumbers.{number_at, ArePartNumbers, HasPartRoo
 use Rattle.bridge_split.proofs.NumberedParts.{linked_number}
 use Rattle.bridge_split.proofs.PartWalks.{same_number}
 
--- a list at a place
+-- a list cut at a position
 cut_at : (xs : List ℕ) (p : ℕ) → p < length xs → xs ≡ take p xs ++ get_or xs p 0 ∷ drop (suc p) xs
 cut_at xs p l = sym (take-append-drop p xs) ∙ ap (λ (ys : List ℕ). take p xs ++ ys) (drop-cons xs p 0 l)
 

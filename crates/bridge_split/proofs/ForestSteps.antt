@@ -39,7 +39,7 @@ module _ (table : CutTable) where
     head_now : head < length reached
     head_now = let a = w.extends.longer in let b = w.head_in in omega arith
 
-    -- one more part is reached
+    -- the search reaches another part
     pub reaching_more : (depths' parents' reached' : List ℕ) (far : ℕ) → upto < table.count → joins table part upto ≡ true → far ≡ get_or depths upto far → far ≡ 4294967295
         → depths' ≡ set depths upto (depth + 1) → parents' ≡ set parents upto part → reached' ≡ reached ++ upto ∷ [] → IsReachingFrom table before depths' parents' reached' head part depth (upto + 1)
     reaching_more depths' parents' reached' far inside join f far_top p q r = rw (p, q, r) (record {
@@ -66,7 +66,7 @@ module _ (table : CutTable) where
             let n = none in
             let h = head_now in omega arith
 
-    -- one that need not be reached
+    -- a part that the search need not reach
     pub reaching_passes : (depths' parents' reached' : List ℕ) → (upto ≡ part) ⊎ ((joins table part upto ≡ false) ⊎ ((far : ℕ) × (far ≡ get_or depths upto far) × (far ≢ 4294967295) × (far % 2 ≢ depth % 2) × (upto < table.count)))
         → depths' ≡ depths → parents' ≡ parents → reached' ≡ reached → IsReachingFrom table before depths' parents' reached' head part depth (upto + 1)
     reaching_passes depths' parents' reached' h p q r = rw (p, q, r) (record {

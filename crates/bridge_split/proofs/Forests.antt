@@ -12,11 +12,11 @@ use Rattle.bridge_split.specs.Forests.{IsForest, IsSettledPair, AreSettledPairs,
 use Rattle.bridge_split.proofs.GrowingLists.{once-append}
 
 module _ (D : ℕ → ℕ → Bool) (count : ℕ) where
-  -- no more are reached than there are
+  -- the search reaches at most all numbers
   pub few_reached : (depth parent : ℕ → ℕ) (reached : List ℕ) → IsForest D count depth parent reached → length reached ≤ count
   few_reached depth parent reached are = distinct_few count reached are.once are.inside
 
-  -- what was not reached, and what was
+  -- numbers that are reached, and numbers that are not
   pub not_reached : (depth parent : ℕ → ℕ) (reached : List ℕ) (x : ℕ) → IsForest D count depth parent reached → depth x ≡ 4294967295 → ¬ (IsIn x reached)
   not_reached depth parent reached x are e h = go (place_is x reached h)
     where
@@ -128,10 +128,10 @@ module _ (D : ℕ → ℕ → Bool) (count : ℕ) where
           fits = let f = len in omega arith;
         }
 
-  -- ---- in the middle of the numbers joined to the one at head
+  -- ---- among the numbers joined to the number at head
 
   module _ (depth parent : ℕ → ℕ) (reached : List ℕ) (head upto : ℕ) (w : IsReachingForest D count depth parent reached head upto) (l : head < length reached) where
-    -- one more is reached
+    -- the search reaches another number
     pub joined_reached : (k d : ℕ) (depth' parent' : ℕ → ℕ) → upto < count → depth upto ≡ 4294967295 → depth' upto ≡ d → ((z : ℕ) → z ≢ upto → depth' z ≡ depth z) → parent' upto ≡ k → ((z : ℕ) → z ≢ upto → parent' z ≡ parent z)
         → k ≡ get_or reached head 0 → d ≡ suc (depth k) → D upto k ≡ true → IsReachingForest D count depth' parent' (reached ++ upto ∷ []) head (suc upto)
     joined_reached k d depth' parent' inside none now same now_up same_up k_is d_is join =
@@ -169,7 +169,7 @@ module _ (D : ℕ → ℕ → Bool) (count : ℕ) where
         odd : (n : ℕ) → suc n % 2 ≡ n % 2 → ⊥
         odd n e = omega arith
 
-    -- one that is not joined, or is settled
+    -- a number that is not joined, or is settled
     pub passes : (get_or reached head 0 ≡ upto) ⊎ ((D (get_or reached head 0) upto ≡ false) ⊎ IsSettledPair D count depth reached (get_or reached head 0) upto) → IsReachingForest D count depth parent reached head (suc upto)
     passes h = record {
       growing = w.growing;
@@ -187,7 +187,7 @@ module _ (D : ℕ → ℕ → Bool) (count : ℕ) where
       ];
     }
 
-    -- all are settled
+    -- all numbers are settled
     pub head_settled : count ≤ upto → IsGrowingForest D count depth parent reached (suc head)
     head_settled m = record {
       are = w.growing.are;
@@ -203,7 +203,7 @@ module _ (D : ℕ → ℕ → Bool) (count : ℕ) where
       fits = omega arith;
     }
 
-    -- one with a depth of the same parity
+    -- a number with a depth of the same parity
     pub conflict_here : D (get_or reached head 0) upto ≡ true → D upto (get_or reached head 0) ≡ true → get_or reached head 0 ≢ upto → depth upto ≢ 4294967295 → depth upto % 2 ≡ depth (get_or reached head 0) % 2
         → IsConflict D count depth parent reached (get_or reached head 0) upto
     conflict_here join back other some parity =
@@ -224,7 +224,7 @@ module _ (D : ℕ → ℕ → Bool) (count : ℕ) where
           | inr ge ↦ ap w.growing.are.root (sym p.there) ∙ w.growing.current (place_of upto reached) ge p.in_range
         ]
 
-  -- ---- from tree to tree
+  -- ---- from one tree to the next
 
   pub none_reached : (depth parent : ℕ → ℕ) → count ≤ 1000 → ((x : ℕ) → depth x ≡ 4294967295) → IsGrownForest D count depth parent []
   none_reached depth parent few free = record {

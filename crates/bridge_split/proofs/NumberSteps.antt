@@ -1,4 +1,4 @@
--- The walk over joined rows as it is kept in lists.
+-- The walk over joined rows, with its state in lists.
 use Rattle.std.proofs.Common.{ℕ, ◌+◌, Bool, true, not, List, ◌≡◌, ◌≢◌, ◌<◌, ◌∙◌, ◌&&◌, ◌||◌, ap, arith, ◌⊎◌, inl, inr, length, get_or, set, Option, Some, None}
 use Rattle.std.proofs.lemmas.List.{get_or-set_same, get_or-set_other}
 use Rattle.std.specs.List.Sorted.{IsStrictlyIncreasing}
@@ -52,7 +52,7 @@ passes_one m S i number before part reached met place w free = record {
   few = let f = w.few in omega arith;
 }
 
--- the rows up to a place more were met
+-- the walk has met the rows up to the next position
 pub passed_more : (M : ℕ → ℕ → Bool) (S : List ℕ) (i place : ℕ) (part part' : ℕ → Option ℕ) → ArePassedRows M S i part place → KeepsParts part part' → (get_or S place 0 ≡ i) ⊎ ((a : ℕ) × (part' (get_or S place 0) ≡ Some a))
     → ArePassedRows M S i part' (place + 1)
 passed_more M S i place part part' before keeps here = record {

@@ -1,4 +1,4 @@
--- The parts by their numbers, as lists.
+-- The parts as lists, in the order of their numbers.
 use Rattle.std.proofs.Common.{ℕ, Bool, true, List, [], ◌∷◌, ◌≡◌, ◌≢◌, ◌<◌, ◌≤◌, ◌∙◌, sym, ap, refl, arith, subst, inl, inr, length, get_or, eqb-true, Option, Some, None}
 use Rattle.std.specs.List.Sorted.{IsStrictlyIncreasing}
 use Rattle.std.proofs.lemmas.Bool.{cases_eq}
@@ -22,7 +22,7 @@ is_the_number : (a : ℕ) (o : Option ℕ) → is_number a o ≡ true → o ≡ 
 is_the_number a None e = cc
 is_the_number a (Some n) e = ap Some (eqb-true n a e)
 
--- the first of a increasing list is its least
+-- the first number of an increasing list is its least
 pub first_least : (xs : List ℕ) → IsStrictlyIncreasing xs → (x : ℕ) → IsIn x xs → get_or xs 0 0 ≤ x
 first_least xs rises x h = go (place_is x xs h)
   where

@@ -12,7 +12,7 @@ use Rattle.cmr_base.proofs.Booleans.{and_is, is_and, is_not, not_is, or_is, or_l
 use Rattle.bridge_split.specs.PartNumbers.{is_none, left_in, KeepsParts, IsPast, ArePartNumbers, AreMet, AreClosed, IsWalkingPart, IsBetween, ArePassedRows, IsTouched}
 use Rattle.bridge_split.proofs.Links.{joined_back, linked_on, linked_from}
 
--- ---- numbers that are there or not
+-- ---- optional numbers
 
 abbrev value : Option ℕ → ℕ
 value None = 0
@@ -28,7 +28,7 @@ pub some_or_none : (o : Option ℕ) → (o ≡ None) ⊎ ((a : ℕ) × (o ≡ So
 some_or_none None = inl refl
 some_or_none (Some a) = inr (a, refl)
 
--- ---- rows that are left grow fewer
+-- ---- the number of rows without a number decreases
 
 module _ (part part' : ℕ → Option ℕ) (keeps : KeepsParts part part') where
   gone : (k : ℕ) → is_none (part k) ≡ false → is_none (part' k) ≡ false
@@ -63,7 +63,7 @@ module _ (part part' : ℕ → Option ℕ) (keeps : KeepsParts part part') where
       go false false p q (inr u) g l r = r u
 
 module _ (M : ℕ → ℕ → Bool) (S : List ℕ) (i : ℕ) where
-  -- ---- one more row gets a number
+  -- ---- another row gets a number
 
   module _ (part : ℕ → Option ℕ) (number x : ℕ) (part' : ℕ → Option ℕ) (hx : IsIn x S) (off : x ≢ i) (none : part x ≡ None) (now : part' x ≡ Some number) (same : (z : ℕ) → z ≢ x → part' z ≡ part z) where
     pub kept : KeepsParts part part'
@@ -106,7 +106,7 @@ module _ (M : ℕ → ℕ → Bool) (S : List ℕ) (i : ℕ) where
         | inr p ↦ absurd (let f = p.1 in omega arith)
       ]
 
-    -- in the middle of a part
+    -- within a part
     pub meets : (reached reached' : ℕ → Bool) → IsWalkingPart M S i part number reached → (column : ℕ) → reached column ≡ true → M x column ≡ true
         → ((c : ℕ) → reached' c ≡ (reached c || (M x c && not (M i c)))) → IsWalkingPart M S i part' number reached'
     meets reached reached' w column here meet more = record {
@@ -182,9 +182,9 @@ module _ (M : ℕ → ℕ → Bool) (S : List ℕ) (i : ℕ) where
                 itself (inl g) r = no_number (part' k) number g (ap part' r ∙ now)
                 itself (inr (b2, g, h)) r = let s = same_number (part' k) b2 number g (ap part' r ∙ now) in omega arith
 
-  -- ---- from part to part
+  -- ---- from one part to the next
 
-  -- a part is done where no row is touched
+  -- a part is complete if no row is touched
   pub part_done : (part : ℕ → Option ℕ) (number : ℕ) (reached : ℕ → Bool) → IsWalkingPart M S i part number reached → ((x : ℕ) → IsIn x S → ¬ (IsTouched M i part reached x)) → IsBetween M S i part (suc number)
   part_done part number reached w none = record {
     are = w.are;
@@ -201,7 +201,7 @@ module _ (M : ℕ → ℕ → Bool) (S : List ℕ) (i : ℕ) where
         | inr l ↦ let o = (w.are.others k b f).2 in let q : b ≡ number = omega arith in f ∙ ap Some q
       ]
 
-  -- all rows were passed
+  -- the walk has passed all rows
   pub all_numbered : (part : ℕ → Option ℕ) (count place : ℕ) → IsBetween M S i part count → ArePassedRows M S i part place → length S ≤ place → ArePartNumbers M S i part count
   all_numbered part count place b before l = record {
     numbered = λ k h n. let f = every k h n in (f.0, (b.are.others k f.0 f.1).2, f.1);

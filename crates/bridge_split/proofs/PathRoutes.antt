@@ -48,7 +48,7 @@ module _ (D : ℕ → ℕ → Bool) (count : ℕ) where
       pub swapped : (x y : ℕ) → AreInOneTree D count depth parent reached x y → AreInOneTree D count depth parent reached y x
       swapped x y t = record { are = t.are; one_in = t.two_in; two_in = t.one_in; same = sym t.same }
 
-      -- the deeper of two has a parent
+      -- the deeper of two numbers has a parent
       pub deeper_up : (x y : ℕ) → AreInOneTree D count depth parent reached x y → x ≢ y → depth y ≤ depth x → 0 < depth x
       deeper_up x y t n l = elim (cases_eq (depth x) 0) [
         | inl e ↦ absurd (n (sym (t.are.top x t.one_in e) ∙ t.same ∙ t.are.top y t.two_in (let z : depth y ≡ 0 = omega arith in z)))

@@ -12,7 +12,7 @@ use Rattle.bridge_split.specs.Cutting.{rows_at_part, disagree, IsCutTable}
 use Rattle.bridge_split.specs.Forests.{depth_at, joins, IsRoute, IsConflict, IsTwoColoured, HasRoute}
 use Rattle.bridge_split.proofs.CutTables.{disagree_true, disagree_false, disagree_back}
 
--- ---- places of a route
+-- ---- positions on a route
 
 module _ (D : ℕ → ℕ → Bool) (count : ℕ) where
   route_first : (x y : ℕ) (path : List ℕ) → IsRoute D count x path y → get_or path 0 0 ≡ x
@@ -46,7 +46,7 @@ module _ (D : ℕ → ℕ → Bool) (count : ℕ) where
   route_two x y (z ∷ w ∷ path) h n = omega arith
 
 module _ (M : ℕ → ℕ → Bool) (S : List ℕ) (i : ℕ) (parts : List (List ℕ)) (P : AreParts M S i parts) where
-  -- the parts are at most as many as the rows
+  -- there are at most as many parts as rows
   least_rises : (a : ℕ) → a < length parts → a ≤ get_or (rows_at_part parts a) 0 0
   least_rises zero l = omega arith
   least_rises (suc a) l = let k = least_rises a (omega arith) in let o = P.ordered a (suc a) (omega arith) l in omega arith
@@ -78,7 +78,7 @@ module _ (M : ℕ → ℕ → Bool) (S : List ℕ) (i : ℕ) (parts : List (List
     denies : (a b : ℕ) → a < length parts → b < length parts → joins table a b ≡ true → ¬ (Agree M i (rows_at_part parts a) (rows_at_part parts b))
     denies a b la lb e = disagree_true M i parts table.cuts.items cuts a b la lb (sym (joins_here a b) ∙ e)
 
-    -- parts whose depths are of one parity agree
+    -- parts whose depths have the same parity agree
     pub sides_are : (depths : List ℕ) → length depths ≡ length parts → IsTwoColoured (joins table) table.count (depth_at depths) → AreSides M i parts (map (λ depth. depth % 2) depths)
     sides_are depths size coloured = record {
       count = length-map depths (λ (depth : ℕ). depth % 2) ∙ size;
@@ -100,7 +100,7 @@ module _ (M : ℕ → ℕ → Bool) (S : List ℕ) (i : ℕ) (parts : List (List
         let route : IsRoute (joins table) table.count x path y = subst (λ (v : List ℕ). IsRoute (joins table) table.count x v y) (sym h.appended) h.route in
         let m = route_low (joins table) table.count x y path k route l in omega arith
 
-    -- the path between two parts that disagree and have depths of one parity
+    -- the path between two parts that disagree and have depths of the same parity
     pub odd_closed : (depth parent : ℕ → ℕ) (reached path : List ℕ) (x y : ℕ) → IsConflict (joins table) table.count depth parent reached x y → HasRoute (joins table) table.count depth [] path x y
         → IsOddClosed M S i (map (rows_at_part parts) path)
     odd_closed depth parent reached path x y c h = record {

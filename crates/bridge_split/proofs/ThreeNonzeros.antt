@@ -17,7 +17,7 @@ use Rattle.bridge_split.specs.Counting.{AreMore, HaveNoThird}
 use Rattle.bridge_split.specs.SplitCases.{HasThree, IsFirstWithThree}
 
 module _ (p : ℕ → Bool) where
-  -- at least one, two, three of the list
+  -- at least one, two or three numbers of the list
   one_counts : (S : List ℕ) (a : ℕ) → IsIn a S → p a ≡ true → 1 ≤ length (filter p S)
   one_counts [] a h e = absurd h
   one_counts (x ∷ S) a h e = go (p x) refl h (λ g. one_counts S a g e)
@@ -55,7 +55,7 @@ module _ (p : ℕ → Bool) where
       go false f (inr ha) (inr hb) (inl s) k = absurd (not_both (p x) (ap p (sym s) ∙ ec) f)
       go false f (inr ha) (inr hb) (inr hc) k = let l = k ha hb hc in omega arith
 
-  -- and the other way round
+  -- the converse
   some_one : (S : List ℕ) → 1 ≤ length (filter p S) → (a : ℕ) × IsIn a S × (p a ≡ true)
   some_one [] l = absurd (omega arith)
   some_one (x ∷ S) l = go (p x) refl l (some_one S)
@@ -97,13 +97,13 @@ module _ (M : ℕ → ℕ → Bool) where
   here_three : (column : ℕ) (S : List ℕ) → HasThree M S column → 3 ≤ length (filter (λ row. M row column) S)
   here_three column S h = three_count (λ row. M row column) S h.one h.two h.three h.one_in h.two_in h.three_in h.apart.0 h.apart.1 h.apart.2 h.nonzero.0 h.nonzero.1 h.nonzero.2
 
--- a column with three nonzeros is no star's
+-- a column with three nonzeros excludes a star
 pub not_star : (M : ℕ → ℕ → Bool) (S : List ℕ) (column : ℕ) → HasThree M S column → ¬ (HasNoThree M S)
 not_star M S column h none = none column h.one h.two h.three h.one_in h.two_in h.three_in h.nonzero.0 h.nonzero.1 h.nonzero.2 h.apart.0 h.apart.1 h.apart.2
 
 -- ---- counts up to three
 
--- one more, where that is counted
+-- the count increases by 1 if the predicate is true
 pub more_than : (k n : ℕ) (b : Bool) → nat_lt (suc k) (n + cond b 1 0) ≡ (nat_lt (suc k) n || (nat_lt k n && b))
 more_than k n true = elim (cases_lt k n) [
   | inl l ↦ is_lt (suc k) (n + 1) (omega arith) ∙ sym (ap (λ t. nat_lt (suc k) n || (t && true)) (is_lt k n l) ∙ or_true (nat_lt (suc k) n))
@@ -115,7 +115,7 @@ pub more_than_none : (n : ℕ) (b : Bool) → nat_lt 0 (n + cond b 1 0) ≡ (nat
 more_than_none n true = is_lt 0 (n + 1) (omega arith) ∙ sym (or_true (nat_lt 0 n))
 more_than_none n false = ap (nat_lt 0) (let e : n + 0 ≡ n = omega arith in e) ∙ sym (or_false (nat_lt 0 n))
 
--- what the first column with three nonzeros is
+-- the properties of the first column with three nonzeros
 pub first_is : (m : Matrix) (S set : List ℕ) (found : Option ℕ) → IsStrictlyIncreasing S → AreMore m S 2 set
     → MatchOption found ((column : ℕ) → has_column set column ≡ false) (λ first. (has_column set first ≡ true) × ((column : ℕ) → column < first → has_column set column ≡ false))
     → MatchOption found (HasNoThree (support m) S) (IsFirstWithThree (support m) S)
@@ -132,7 +132,7 @@ first_is m S set (Some first) rises counted h = record {
       not_both (has_column set other) (counted other ∙ is_lt 2 (count_by (λ row. support m row other) S) (omega arith)) (h.1 other l);
 }
 
--- ---- the first rows, up to a third nonzero of a column
+-- ---- the first rows, up to the third nonzero of a column
 
 -- a row that is not 0 in a column with two nonzeros before it
 pub third_found : (m : Matrix) (S : List ℕ) (k column : ℕ) → IsStrictlyIncreasing S → k < length S
@@ -145,7 +145,7 @@ third_found m S k column rises low two here =
     let g : count_by p (take (k + 1) S) ≤ count_by p S = sum_by-take-le (λ row. cond (p row) 1 0) S (k + 1) in
     not_star (support m) S column (three_here (support m) column S (increasing_distinct S rises) (omega arith))
 
--- one row more, without a third nonzero
+-- another row, without a third nonzero
 pub no_third_more : (m : Matrix) (S : List ℕ) (k : ℕ) (ones twos more_ones more_twos row : List ℕ) → HaveNoThird m S k ones twos → k < length S
     → length more_ones ≡ length ones → length more_twos ≡ length twos
     → ((column : ℕ) → has_column row column ≡ support m (get_or S k 0) column)

@@ -1,4 +1,4 @@
--- How many nonzeros the columns have in some rows, up to three.
+-- The number of nonzeros that the columns have in a list of rows, up to three.
 use Rattle.std.specs.Prelude.{◌≡◌, nat_lt, ℕ, false, List, length, take, count_by}
 use Rattle.cmr_base.specs.Matrix.{Matrix, IsMatrix}
 use Rattle.cmr_base.specs.Planes.{words_for}
@@ -6,13 +6,13 @@ use Rattle.cmr_base.specs.Trees.{support}
 use Rattle.cmr_base.specs.ColumnSets.{has_column}
 use Rattle.bridge_split.specs.declared.counts.Counts.{Counts}
 
--- sets for so many columns
+-- a set of columns has one word for each 64 columns
 pub record HasCountWords (columns : ℕ) (counts : Counts) : Type 0 where
   pub once_long : length counts.once.items ≡ words_for columns
   pub twice_long : length counts.twice.items ≡ words_for columns
   pub thrice_long : length counts.thrice.items ≡ words_for columns
 
--- the columns with more than so many nonzeros in the rows of S
+-- the columns with more than `many` nonzeros in the rows of S
 abbrev pub AreMore : Matrix → List ℕ → ℕ → List ℕ → Type 0
 AreMore m S many set = (column : ℕ) → has_column set column ≡ nat_lt many (count_by (λ row. support m row column) S)
 
@@ -23,7 +23,7 @@ pub record AreCounts (m : Matrix) (S : List ℕ) (counts : Counts) : Type 0 wher
   pub twice : AreMore m S 1 counts.twice.items
   pub thrice : AreMore m S 2 counts.thrice.items
 
--- the columns with one nonzero and with two in the first rows of S, where none has three
+-- the columns with at least one nonzero and with at least two in the first rows of S; none has three
 pub record HaveNoThird (m : Matrix) (S : List ℕ) (place : ℕ) (ones twos : List ℕ) : Type 0 where
   pub matrix : IsMatrix m
   pub ones_long : length ones ≡ words_for m.width

@@ -1,4 +1,4 @@
--- Rows that cut the common columns of a part, and tables of which parts do.
+-- Rows that cut the common columns of a part, and the tables of these cuts.
 use Rattle.std.specs.Prelude.{◌≡◌, ◌<◌, ◌+◌, ◌*◌, ◌&&◌, ◌⊎◌, ◌↔◌, ℕ, Bool, true, false, List, [], length, slice_index, slice_index_or}
 use Rattle.cmr_base.specs.Members.{IsIn}
 use Rattle.cmr_base.specs.Splits.{IsCommon, IsUncutBy}
@@ -7,14 +7,15 @@ use Rattle.cmr_base.specs.Planes.{has_bit, words_for}
 use Rattle.cmr_base.specs.Trees.{support}
 use Rattle.cmr_base.specs.ColumnSets.{has_column, Denies}
 
--- the columns of a set are all in row j, or none of them is
+-- all columns of the set are in row j, or none is
 abbrev pub IsUncutIn : (ℕ → ℕ → Bool) → (ℕ → Bool) → ℕ → Type 0
 IsUncutIn M columns j = ((column : ℕ) → columns column ≡ true → M j column ≡ true) ⊎ ((column : ℕ) → columns column ≡ true → M j column ≡ false)
 
 abbrev pub AreUncutIn : (ℕ → ℕ → Bool) → (ℕ → Bool) → List ℕ → Type 0
 AreUncutIn M columns rows = (j : ℕ) → IsIn j rows → IsUncutIn M columns j
 
--- in the middle of the rows of a part: the bits of a word are common columns of a chunk, and have those of the rows before a place
+-- within the rows of a part: the bits of the word are common columns of a chunk, among them all common columns with the rows
+-- before `place`
 pub record IsCollectingWord (M : ℕ → ℕ → Bool) (i : ℕ) (part : List ℕ) (chunk word place : ℕ) : Type 0 where
   pub into : (k : ℕ) → k < 64 → has_bit word k ≡ true → IsCommon M i part (64 * chunk + k)
   pub from : (p k : ℕ) → p < place → k < 64 → M i (64 * chunk + k) ≡ true → M (slice_index part p) (64 * chunk + k) ≡ true → has_bit word k ≡ true
@@ -31,17 +32,17 @@ pub record AreCommonWords (m : Matrix) (i : ℕ) (part set : List ℕ) (chunk : 
 abbrev pub rows_at_part : List (List ℕ) → ℕ → List ℕ
 rows_at_part parts a = slice_index_or parts a []
 
--- for each two of some parts, whether a row of the second cuts the common columns of the first
+-- for each two parts, whether a row of the second part cuts the common columns of the first part
 pub record IsCutTable (M : ℕ → ℕ → Bool) (i : ℕ) (parts : List (List ℕ)) (upto : ℕ) (cuts : List Bool) : Type 0 where
   pub size : length cuts ≡ upto * length parts
   pub right : (a b : ℕ) → a < upto → b < length parts → Denies (slice_index_or cuts (a * length parts + b) false) (IsUncutBy M i (rows_at_part parts a) (rows_at_part parts b))
 
--- the common columns of the parts before one are told, in a set of the right size
+-- the table is complete for the parts before `upto`, and `common` is a set of the right size
 pub record IsTelling (m : Matrix) (i : ℕ) (parts : List (List ℕ)) (upto : ℕ) (common : List ℕ) (cuts : List Bool) : Type 0 where
   pub size : length common ≡ words_for m.width
   pub table : IsCutTable (support m) i parts upto cuts
 
--- after a list of cells, one for each part: whether a row of it cuts the columns
+-- the cells after `before`, one for each of the first `upto` parts, say whether a row of the part cuts the columns
 pub record HasCutsOfParts (M : ℕ → ℕ → Bool) (columns : ℕ → Bool) (parts : List (List ℕ)) (upto : ℕ) (before cuts : List Bool) : Type 0 where
   pub size : length cuts ≡ length before + upto
   pub same : (k : ℕ) → k < length before → slice_index_or cuts k false ≡ slice_index_or before k false

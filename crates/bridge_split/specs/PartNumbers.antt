@@ -1,4 +1,4 @@
--- Numbers for the parts of the rows but one, and the states of the walk that gives them.
+-- Numbers for the parts of the rows except one, and the states of the walk that assigns them.
 use Rattle.std.specs.Prelude.{◌≡◌, ◌≢◌, ◌<◌, ◌≤◌, ◌+◌, ◌==◌, ◌⊎◌, ℕ, suc, Bool, true, false, List, Option, Some, None, filter, map, length, slice_index, slice_index_or}
 use Rattle.cmr_base.specs.LineSets.{first_lines}
 use Rattle.cmr_base.specs.Matrix.{Matrix, height, IsMatrix}
@@ -21,7 +21,7 @@ abbrev pub is_none : Option ℕ → Bool
 is_none None = true
 is_none (Some n) = false
 
--- the rows of S with a number, and these lists for the first numbers
+-- the rows of S with a given number, and the lists of these rows for the numbers below `count`
 abbrev pub numbered_rows : List (Option ℕ) → List ℕ → ℕ → List ℕ
 numbered_rows numbers S number = filter (λ row. is_number number (number_at numbers row)) S
 
@@ -34,28 +34,28 @@ pub record HasPartRoom (m : Matrix) (part : List (Option ℕ)) (reached : List �
   pub numbers : length part ≡ height m
   pub columns : length reached ≡ words_for m.width
 
--- the numbers that there were are kept
+-- numbers that are assigned stay assigned
 abbrev pub KeepsParts : (ℕ → Option ℕ) → (ℕ → Option ℕ) → Type 0
 KeepsParts part part' = (k a : ℕ) → part k ≡ Some a → part' k ≡ Some a
 
--- how many rows of S have no number
+-- the number of rows of S without a number
 abbrev pub left_in : List ℕ → (ℕ → Option ℕ) → ℕ
 left_in S part = length (filter (λ k. is_none (part k)) S)
 
--- there is no number, or one above
+-- the number is absent, or above a
 abbrev pub IsPast : ℕ → Option ℕ → Type 0
 IsPast a found = (found ≡ None) ⊎ ((b : ℕ) × (found ≡ Some b) × (a < b))
 
--- another row than i that has no number yet
+-- a row that is not row i and has no number yet
 abbrev pub IsLeft : ℕ → (ℕ → Option ℕ) → ℕ → Type 0
 IsLeft i part x = (x ≢ i) × (part x ≡ None)
 
--- and is not 0 in a column that was reached
+-- such a row that is not 0 in a reached column
 abbrev pub IsTouched : (ℕ → ℕ → Bool) → ℕ → (ℕ → Option ℕ) → (ℕ → Bool) → ℕ → Type 0
 IsTouched M i part reached x = IsLeft i part x × ((column : ℕ) × (reached column ≡ true) × (M x column ≡ true))
 
 module _ (M : ℕ → ℕ → Bool) (S : List ℕ) (i : ℕ) where
-  -- The parts of the rows but i are numbered by their first rows.
+  -- the parts of the rows except row i are numbered by their first rows
   pub record ArePartNumbers (part : ℕ → Option ℕ) (count : ℕ) : Type 0 where
     pub numbered : (k : ℕ) → IsIn k S → k ≢ i → (a : ℕ) × (a < count) × (part k ≡ Some a)
     pub own : part i ≡ None
@@ -66,7 +66,7 @@ module _ (M : ℕ → ℕ → Bool) (S : List ℕ) (i : ℕ) where
     pub few : count ≤ MAX_ROWS
 
   module _ (part : ℕ → Option ℕ) where
-    -- rows of S have the numbers below count, those of one number are linked, and an earlier number has an earlier row
+    -- the numbers are below `count`, rows with one number are linked, and the first row of a part increases with the number
     pub record AreMet (count : ℕ) : Type 0 where
       pub others : (k a : ℕ) → part k ≡ Some a → IsIn k S × (k ≢ i) × (a < count)
       pub linked : (j k a : ℕ) → part j ≡ Some a → part k ≡ Some a → AreLinked M S i j k
@@ -74,11 +74,11 @@ module _ (M : ℕ → ℕ → Bool) (S : List ℕ) (i : ℕ) where
       pub ordered : (k a : ℕ) → IsIn k S → k ≢ i → a < count → IsPast a (part k) → (j : ℕ) × (part j ≡ Some a) × (j < k)
       pub few : count ≤ MAX_ROWS
 
-    -- the rows that are joined to one with a number below count have its number
+    -- rows that are joined to a row with a number below count have the same number
     abbrev pub AreClosed : ℕ → Type 0
     AreClosed count = (j k a : ℕ) → part j ≡ Some a → a < count → IsIn k S → AreJoined M i j k → part k ≡ Some a
 
-    -- in the middle of a part: the columns that are reached are those of its rows but those of row i
+    -- within a part: the reached columns are the columns of its rows except the columns of row i
     pub record IsWalkingPart (number : ℕ) (reached : ℕ → Bool) : Type 0 where
       pub are : AreMet (suc number)
       pub closed : AreClosed number
@@ -90,11 +90,11 @@ module _ (M : ℕ → ℕ → Bool) (S : List ℕ) (i : ℕ) where
       pub are : AreMet count
       pub closed : AreClosed count
 
-    -- the rows before a place of S were met
+    -- the rows of S before `place` have numbers, except row i
     pub record ArePassedRows (place : ℕ) : Type 0 where
       pub passed : (p : ℕ) → p < place → (slice_index S p ≡ i) ⊎ ((a : ℕ) × (part (slice_index S p) ≡ Some a))
 
--- in the middle of the rows, so many of which were met: where none was, the rows before a place are not touched
+-- within a pass over the rows, which has met `met` rows: if it has met none, the rows before `place` are not touched
 pub record IsMeeting (m : Matrix) (S : List ℕ) (i number : ℕ) (before part : List (Option ℕ)) (reached : List ℕ) (met place : ℕ) : Type 0 where
   pub room : HasPartRoom m part reached
   pub walk : IsWalkingPart (support m) S i (number_at part) number (has_column reached)
@@ -103,7 +103,7 @@ pub record IsMeeting (m : Matrix) (S : List ℕ) (i number : ℕ) (before part :
   pub none : met ≡ 0 → (p : ℕ) → p < place → ¬ (IsTouched (support m) i (number_at part) (has_column reached) (slice_index S p))
   pub few : met ≤ place
 
--- in the middle of a part whose first row was met; where none was met at last, no row is touched
+-- within a part whose first row has a number: if the last pass has met no row, no row is touched
 pub record IsWalkingFrom (m : Matrix) (S : List ℕ) (i number first : ℕ) (before part : List (Option ℕ)) (reached : List ℕ) (met : ℕ) : Type 0 where
   pub room : HasPartRoom m part reached
   pub walk : IsWalkingPart (support m) S i (number_at part) number (has_column reached)
@@ -118,7 +118,7 @@ pub record IsBetweenParts (m : Matrix) (S : List ℕ) (i count place : ℕ) (par
   pub before : ArePassedRows (support m) S i (number_at part) place
   pub fewer : count ≤ place
 
--- the rows before a place of S do not split
+-- the rows of S before `place` do not split
 pub record IsSearching (m : Matrix) (S : List ℕ) (place : ℕ) (part : List (Option ℕ)) (reached : List ℕ) : Type 0 where
   pub room : HasPartRoom m part reached
   pub none : (p : ℕ) → p < place → ¬ (Splits (support m) S (slice_index S p))

@@ -18,7 +18,7 @@ pub record HasThree (M : ℕ → ℕ → Bool) (S : List ℕ) (column : ℕ) : T
   pub apart : (one ≢ two) × (one ≢ three) × (two ≢ three)
   pub nonzero : (M one column ≡ true) × (M two column ≡ true) × (M three column ≡ true)
 
--- no earlier column has three nonzeros in rows of S
+-- the column has three nonzeros in rows of S, and no earlier column has
 pub record IsFirstWithThree (M : ℕ → ℕ → Bool) (S : List ℕ) (column : ℕ) : Type 0 where
   pub here : HasThree M S column
   pub first : (other : ℕ) → other < column → ¬ (HasThree M S other)

@@ -10,7 +10,7 @@ use cmr_base::columns::{add_common, next_column};
 use cmr_base::{MAX_COLUMNS, Matrix, Memory, words_for};
 use std::alloc::Global;
 
-/// The columns with one nonzero or more in some rows, with two or more, and with three or more.
+/// The columns with at least one nonzero in given rows, with at least two, and with at least three.
 #[derive(Drop)]
 pub struct Counts {
     once: Vec<u64>,
@@ -50,7 +50,7 @@ impl Counts {
         Ok(counts)
     }
 
-    // Counts one row more.
+    // Counts another row.
     fn add(&mut self, row: &[u64])
         requires once { length self.old.once.items ≡ length row.now }
         requires twice { length self.old.twice.items ≡ length row.now }

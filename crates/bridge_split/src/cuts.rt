@@ -1,4 +1,4 @@
-// Which parts cut the common columns of which.
+// Tables of the parts that cut the common columns of other parts.
 ghost use Rattle.std.specs.Prelude.{◌≡◌, ◌<◌, ◌≤◌, ◌*◌, ◌↔◌, true, ℕ, length, IfOk, OnOk};
 ghost use Rattle.cmr_base.specs.LineSets.{AllBelow};
 ghost use Rattle.cmr_base.specs.Matrix.{height, IsMatrix};
@@ -13,7 +13,7 @@ use cmr_base::columns::is_cut;
 use cmr_base::{Indices, Matrix, Memory, words_for};
 use std::alloc::Global;
 
-/// For each two parts, whether some row of the second cuts the columns that `row` has in common with the first.
+/// For each two parts, whether a row of the second part cuts the columns that `row` has in common with the first part.
 #[derive(Drop)]
 pub struct CutTable {
     count: usize,
@@ -21,7 +21,7 @@ pub struct CutTable {
 }
 
 impl CutTable {
-    /// The table of some parts at a row.
+    /// The table of the parts at a row.
     pub fn new(
         alloc: Global,
         matrix: &Matrix,
@@ -50,7 +50,7 @@ impl CutTable {
         })
     }
 
-    /// How many parts there are.
+    /// The number of parts.
     pub fn len(&self) -> usize
         ensures { result ≡ self.now.count }
     {
@@ -68,7 +68,7 @@ impl CutTable {
     }
 }
 
-/// Sets the columns that `row` has in common with some row of the part.
+/// Sets the columns that `row` has in common with at least one row of the part.
 pub fn set_common(matrix: &Matrix, row: u32, part: &Indices, common: &mut Vec<u64>)
     requires shape { IsMatrix matrix.now }
     requires row { row < height matrix.now }
@@ -83,8 +83,8 @@ pub fn set_common(matrix: &Matrix, row: u32, part: &Indices, common: &mut Vec<u6
     }
 }
 
-// The columns of a chunk that `row` has in common with some row of the part. The rows are gone through until all columns of
-// `row` there were met.
+// The columns of a chunk that `row` has in common with at least one row of the part. The loop ends early if it has found all
+// columns of `row` in the chunk.
 fn common_word(matrix: &Matrix, row: u32, part: &Indices, chunk: u32) -> u64
     requires shape { IsMatrix matrix.now }
     requires row { row < height matrix.now }
@@ -122,7 +122,7 @@ fn push_cuts(
     Ok(())
 }
 
-/// Whether some row of the part is 0 in some of the columns and not in others.
+/// Whether some row of the part is 0 in one of the columns and not in another.
 pub fn part_cuts(matrix: &Matrix, part: &[u32], columns: &[u64]) -> bool
     requires shape { IsMatrix matrix.now }
     requires rows { AllBelow (height matrix.now) part.now }
@@ -137,7 +137,7 @@ pub fn part_cuts(matrix: &Matrix, part: &[u32], columns: &[u64]) -> bool
     false
 }
 
-// Whether the row is 0 in some of the columns and not in others.
+// Whether the row is 0 in one of the columns and not in another.
 fn row_cuts(matrix: &Matrix, row: u32, columns: &[u64]) -> bool
     requires shape { IsMatrix matrix.now }
     requires row { row < height matrix.now }

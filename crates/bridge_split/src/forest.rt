@@ -7,10 +7,10 @@ use crate::cuts::CutTable;
 use cmr_base::{Memory, PathList};
 use std::alloc::Global;
 
-/// The depth of a part that was not reached.
+/// The depth of a part that the search has not reached.
 const UNREACHED: u32 = 4_294_967_295;
 
-/// Two parts of one tree that disagree and have depths of one parity.
+/// Two parts of one tree that disagree and have depths of the same parity.
 #[derive(Clone, Copy)]
 pub struct Conflict {
     pub one: u32,
@@ -20,15 +20,15 @@ pub struct Conflict {
 /// Breadth-first trees over the parts.
 #[derive(Drop)]
 pub struct Forest {
-    /// How far each part is from the root of its tree.
+    /// The distance of each part from the root of its tree.
     pub depth: Vec<u32>,
     parent: Vec<u32>,
-    // The parts that have a depth, in the order in which they were reached.
+    // The parts with a depth, in the order in which the search reached them.
     reached: Vec<u32>,
 }
 
 impl Forest {
-    /// Room for the trees over so many parts.
+    /// Room for the trees over `count` parts.
     pub fn new(alloc: Global, count: usize) -> Result<Forest, Memory>
         ensures room { IfOk result (λ forest.
             HasTreeRoom count forest.depth.items forest.parent.items) }
@@ -43,7 +43,7 @@ impl Forest {
         })
     }
 
-    /// Grows trees over all parts, up to the first conflict.
+    /// Grows trees over all parts, and stops at the first conflict.
     pub fn grow(&mut self, table: &CutTable) -> Result<Option<Conflict>, Memory>
         requires table { IsSquare table.now }
         requires room { HasTreeRoom table.now.count self.old.depth.items self.old.parent.items }
@@ -99,7 +99,7 @@ impl Forest {
         Ok(None)
     }
 
-    // Reaches the parts that disagree with the one at `head`, up to the first with a depth of the same parity.
+    // Reaches the parts that disagree with the part at `head`, and stops at the first part with a depth of the same parity.
     fn reach_from(&mut self, table: &CutTable, head: usize) -> Result<Option<u32>, Memory>
         requires table { IsSquare table.now }
         requires room { HasTreeRoom table.now.count self.old.depth.items self.old.parent.items }
@@ -148,7 +148,7 @@ impl Forest {
         Ok(())
     }
 
-    /// Appends the path from one part up to where it meets the path of the other, and down to the other.
+    /// Appends the path from one part to the other through the nearest common ancestor.
     pub fn push_path(
         &self,
         table: &CutTable,

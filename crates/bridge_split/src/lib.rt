@@ -1,5 +1,5 @@
-//! Rows that a row of a matrix splits, by the places of its nonzeros alone: the step by which graphic matrices are
-//! recognised (Tutte; Schrijver, Theory of Linear and Integer Programming, chapter 20).
+//! Splits the rows of a matrix at one of them, by the positions of the nonzeros only. This is a step of the recognition of
+//! graphic matrices (Tutte; Schrijver, Theory of Linear and Integer Programming, chapter 20).
 #![tactic(auto)]
 
 mod counts;

@@ -1,4 +1,4 @@
-// The walk over rows that are joined, from one row after another.
+// Walks over joined rows that number the parts at a row.
 ghost use Rattle.std.specs.Prelude.{◌≡◌, ◌<◌, ◌≤◌, ◌+◌, ◌↔◌, ◌&&◌, ◌||◌, not, false, ℕ, Some, None, length, slice_index, slice_set, IfOk, IsTrue};
 ghost use Rattle.std.specs.List.Sorted.{IsStrictlyIncreasing};
 ghost use Rattle.cmr_base.specs.LineSets.{AllBelow};
@@ -12,12 +12,12 @@ use cmr_base::columns::{add_outside, meets};
 use cmr_base::{MAX_ROWS, Matrix, Memory, words_for};
 use std::alloc::Global;
 
-/// The parts into which rows fall without one of them. The room is taken once for all rows of a matrix.
+/// The parts of the rows without one of them. One allocation serves for all rows of a matrix.
 #[derive(Drop)]
 pub struct PartWalk {
-    /// The number of each row's part, where it was met.
+    /// The number of each row's part, or `None` if the walk has not met the row.
     pub part: Vec<Option<u32>>,
-    // The columns of the rows that were met of one part, but those of the row that is left out.
+    // The columns of the rows that the walk has met in one part, except the columns of the removed row.
     reached: Vec<u64>,
 }
 
@@ -32,7 +32,7 @@ impl PartWalk {
         })
     }
 
-    /// Numbers the parts of the rows but `row`, by their first rows, and says how many there are.
+    /// Numbers the parts of the rows except `row` by their first rows, and returns the number of parts.
     pub fn number_parts(&mut self, matrix: &Matrix, rows: &[u32], row: u32) -> u32
         requires rows { AllBelow (height matrix.now) rows.now }
         requires increasing { IsStrictlyIncreasing rows.now }
@@ -61,7 +61,7 @@ impl PartWalk {
         self.part.fill(None);
     }
 
-    // Whether a row is another one and was not met.
+    // Whether `other` is not `row` and the walk has not met it.
     fn is_left(&self, other: u32, row: u32) -> bool
         requires { other < length self.now.part.items }
         ensures { IsTrue result ↔ IsLeft row (number_at self.now.part.items) other }
@@ -69,7 +69,7 @@ impl PartWalk {
         other != row && self.part[other as usize].is_none()
     }
 
-    // Meets all rows that are linked to the one at `place`.
+    // Meets all rows that are linked to the row at `place`.
     fn walk_from(&mut self, matrix: &Matrix, rows: &[u32], row: u32, place: usize, number: u32)
         requires rows { AllBelow (height matrix.now) rows.now }
         requires increasing { IsStrictlyIncreasing rows.now }
@@ -100,7 +100,7 @@ impl PartWalk {
         self.reached.fill(0);
     }
 
-    // Goes once over the rows and meets those that are not 0 in a column that was reached by then. It says how many they are.
+    // Passes once over the rows and meets each row that is not 0 in a column reached so far. Returns the number of these rows.
     fn meet_touched(&mut self, matrix: &Matrix, rows: &[u32], row: u32, number: u32) -> u32
         requires rows { AllBelow (height matrix.now) rows.now }
         requires few { length rows.now ≤ MAX_ROWS }
@@ -128,7 +128,7 @@ impl PartWalk {
         met
     }
 
-    // Whether a row that is left is not 0 in a column that was reached.
+    // Whether the walk has not met a row that is not 0 in a reached column.
     fn is_touched(&self, matrix: &Matrix, other: u32, row: u32) -> bool
         requires other { other < height matrix.now }
         requires room { HasPartRoom matrix.now self.now.part.items self.now.reached.items }
@@ -139,7 +139,7 @@ impl PartWalk {
         self.is_left(other, row) && meets(self.reached.as_slice(), matrix.support_words(other))
     }
 
-    // Meets a row: its columns in which `row` is 0 are reached.
+    // Meets a row, and reaches its columns in which `row` is 0.
     fn meet(&mut self, matrix: &Matrix, row: u32, other: u32, number: u32)
         requires row { row < height matrix.now }
         requires other { other < height matrix.now }

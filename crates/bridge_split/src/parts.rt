@@ -1,4 +1,4 @@
-// The parts into which rows fall without one of them.
+// The parts of the rows without one of them.
 ghost use Rattle.std.specs.Prelude.{◌≡◌, length, IfOk};
 ghost use Rattle.std.specs.List.Sorted.{IsStrictlyIncreasing};
 ghost use Rattle.cmr_base.specs.LineSets.{AllBelow};

@@ -13,7 +13,7 @@ use crate::forest::Forest;
 use cmr_base::{Indices, Matrix, Memory, PartList, PathList, SideList};
 use std::alloc::Global;
 
-/// Sides for parts, or why there are none.
+/// Sides for parts, or a reason why there are none.
 #[derive(Debug, Drop)]
 pub enum PartSides {
     /// A side, 0 or 1, for each part: parts of one side agree.

@@ -21,23 +21,23 @@ pub enum SplitCase {
     Star,
     /// This column is the first with three nonzeros or more, and no row splits the others.
     AllConnected(u32),
-    /// The first row that splits, the parts of the other rows by their least rows, and a side, 0 or 1, for each part,
-    /// so that parts of one side agree.
+    /// The first row that splits the others, the parts of the other rows in the order of their least rows, and a side, 0 or 1,
+    /// for each part. Parts of one side agree.
     Parts {
         row: u32,
         parts: PartList,
         sides: SideList,
     },
-    /// The first row that splits, and an odd closed list of parts, each of which is another one than the next and
-    /// disagrees with it.
+    /// The first row that splits the others, and an odd closed list of parts. Each part differs from the next and disagrees
+    /// with it.
     OddCycle {
         row: u32,
         parts: PartList,
     },
 }
 
-/// Which case holds of the support of the matrix, over all its rows: that of a column with three nonzeros is asked first, and
-/// then that of a row that splits the others.
+/// Determines the case of the support of the matrix, over all its rows. `split` first searches for a column with three
+/// nonzeros, and then for a row that splits the others.
 pub fn split(alloc: Global, matrix: &Matrix) -> Result<SplitCase, Memory>
     ensures { IfOk result (IsSplitCase (support matrix.now) (first_lines (height matrix.now))) }
 {
@@ -59,10 +59,10 @@ pub struct SplitRow {
     pub parts: PartList,
 }
 
-// A row splits the others where they fall into so many parts or more.
+// A row splits the others if they have at least this number of parts.
 const SPLIT_PARTS: u32 = 2;
 
-/// The first of these rows that splits the others, with their parts, where none below `untested` does.
+/// The first of these rows that splits the others, with their parts. No row below `untested` splits them.
 pub fn first_splitting_row(
     alloc: Global,
     matrix: &Matrix,

@@ -1,4 +1,4 @@
-// Whether a column has three nonzeros in some rows.
+// The test for a column with three nonzeros in given rows.
 ghost use Rattle.std.specs.Prelude.{IfOk};
 ghost use Rattle.cmr_base.specs.LineSets.{AllBelow};
 ghost use Rattle.cmr_base.specs.Matrix.{height};
@@ -10,7 +10,7 @@ use cmr_base::columns::{add_common, add_set, empty_set, meets};
 use cmr_base::{Indices, Matrix, Memory};
 use std::alloc::Global;
 
-/// Whether some column has three nonzeros or more in these rows. They are gone through up to the first one with a third
+/// Whether some column has three nonzeros or more in these rows. The loop stops at the first row that contains the third
 /// nonzero of a column.
 pub fn has_column_with_three(alloc: Global, matrix: &Matrix, rows: &Indices) -> Result<bool, Memory>
     requires { AllBelow (height matrix.now) rows.now }

@@ -1,4 +1,4 @@
--- A chain text that was written is read again as the same chain.
+-- Reading a written chain text gives the same chain.
 use Rattle.std.proofs.Common.{◌≡◌, ◌<◌, ◌≤◌, ◌+◌, ◌-◌, ◌*◌, ◌^◌, ◌∙◌, ℕ, suc, zero-le, List, [], ◌∷◌, ◌++◌, length, map, Result, Ok, refl, ap, sym, subst, append_assoc, arith}
 use Rattle.std.specs.Prelude.{codes}
 use Rattle.std.specs.Fmt.{decimal}
@@ -30,7 +30,7 @@ use Rattle.camion_sign.specs.declared.step.SizedChain.{SizedChain}
 use Rattle.camion_sign.specs.ChainKinds.{chain_kind}
 use Rattle.camion_sign.specs.ChainTexts.{limited, line_in, increasing_line_in, word_in, step_name_in, last_number, another_line, increasing_lines, line_set, step_of, next_step, another_step, chain, number_of_line, line_set_words, step_words, chain_lines, chain_text, AreLinesIn, IsStepIn, AreIncreasing, IsIncreasingStep}
 
--- ---- words that are all that is left
+-- ---- words at the end of a text
 
 abbrev Ends : {A : Type 0} → (Text → Result A (Fault ChainKind)) → List (List ℕ) → A → Type 0
 Ends parse words x = (size : ℕ) (ws : List (ℕ × List ℕ)) → texts_of ws ≡ words → parse (record { size = size; words = ws }) ≡ Ok x
@@ -187,7 +187,7 @@ read_again sized w =
     (end_then (line_set m n) (λ violator t. ended Extra (record { chain = record { steps = steps; violator = violator }; rows = m; columns = n }) t)
     (line_set_words sized.chain.violator) [] sized.chain.violator sized (again_line_set m n sized.chain.violator few_rows few_columns w.violator_in w.violator_rises) (end_here sized))))))))
 
--- ---- its words are words
+-- ---- the words of the text are valid words
 
 lines_solid : (bound : ℕ) (lines : List ℕ) → bound ≤ 1000 → AllBelow bound lines → AllByRecursion IsWord (map number_of_line lines)
 lines_solid bound [] few below = tt

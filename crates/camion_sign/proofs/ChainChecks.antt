@@ -1,4 +1,4 @@
--- What the check of a chain says of its steps.
+-- The check of a chain, step by step.
 use Rattle.std.proofs.Common.{Option, Some, None, MatchOption, ◌≡◌, ◌≢◌, ◌∙◌, ◌<◌, ◌≤◌, ◌+◌, ◌++◌, ◌+ℤ◌, ◌-ℤ◌, ◌-◌, ◌/◌, ◌%◌, ℕ, zero, suc, ℤ, pos, negsuc, neg_ℤ, List, [], ◌∷◌, take, drop, length, get_or, inl, inr, refl, sym, ap, subst, arith, of_z, w32}
 use Rattle.std.specs.Int.{int_rem_euclid}
 use Rattle.std.specs.List.{AllByRecursion}
@@ -67,7 +67,7 @@ forced_from a s row column cycle v is signs here row_set column_set row_here col
         plain : (x y p q v : ℤ) → x -ℤ y ≡ p -ℤ q → p ≡ v → q ≡ pos 0 → x ≡ y +ℤ v
         plain x y p q v e f g = omega (arith, sums)
 
--- and back: what the rule says of the sum before
+-- the converse: the rule determines the sum before
 pub forced_rest : (a s : Matrix) (row column : ℕ) (cycle : LineSet) (v : ℤ) → IsMatrix a → AreSigns a s → IsForcedStep a s row column cycle v → IsZeroModFour (submatrix_sum s cycle.rows cycle.columns +ℤ v)
 forced_rest a s row column cycle v is signs rule = subst IsZeroModFour
     (plain (submatrix_sum (with_entry s row column v) cycle.rows cycle.columns) (submatrix_sum s cycle.rows cycle.columns) (entry (with_entry s row column v) row column) (entry s row column) v
@@ -96,14 +96,14 @@ rule_one a s (Forced row column cycle) v rule = (rule.here, rule.is_sign)
 pub rule_signs : (a s : Matrix) (step : SignStep) (v : ℤ) → IsMatrix a → AreSigns a s → KeepsRule a s step v → AreSigns a (signed_by s step v)
 rule_signs a s step v is signs rule = let h = rule_one a s step v rule in signs_more a s is.rectangular signs (step_row step) (step_column step) v h.0.one h.1
 
--- where the steps lead is one matrix
+-- steps lead to one matrix only
 pub lead_once : (a s end other : Matrix) (steps : List SignStep) → IsMatrix a → AreSigns a s → LeadTo (KeepsRule a) s steps end → LeadTo (KeepsRule a) s steps other → end ≡ other
 lead_once a s end other [] is signs e f = sym e ∙ f
 lead_once a s end other (step ∷ steps) is signs (v, rule, rest) (w, rule', rest') =
     let same = one_sign a s step w v is signs rule' rule in
     lead_once a (signed_by s step v) end other steps is (rule_signs a s step v is signs rule) rest (subst (λ x. LeadTo (KeepsRule a) (signed_by s step x) steps other) same rest')
 
--- steps that all keep their rules do so from each place on
+-- if all steps keep their rules, so do the steps from each position on
 pub lead_from : (a s end middle : Matrix) (steps : List SignStep) (n : ℕ) → IsMatrix a → AreSigns a s → LeadTo (KeepsRule a) s steps end → LeadTo (KeepsRule a) s (take n steps) middle → LeadTo (KeepsRule a) middle (drop n steps) end
 lead_from a s end middle steps zero is signs lead e = subst (λ x. LeadTo (KeepsRule a) x steps end) e lead
 lead_from a s end middle [] (suc n) is signs lead e = subst (λ x. LeadTo (KeepsRule a) x [] end) e lead
@@ -156,9 +156,9 @@ forced_option a s row column cycle sum None is signs here row_set column_set row
 forced_option a s row column cycle sum (Some v) is signs here row_set column_set row_here column_here two_each others e h =
     forced_from a s row column cycle v is signs here row_set column_set row_here column_here two_each others h.0 (subst (λ z. IsZeroModFour (z +ℤ v)) e h.1)
 
--- ---- the steps that were followed
+-- ---- the steps that the check has followed
 
--- up to one that breaks its rule
+-- all steps before the first that breaks its rule
 pub followed_to : (a s : Matrix) (steps : List SignStep) (n : ℕ) (tested : SignStep) → n < length steps → tested ≡ get_or steps n tested → AreSigns a s → LeadTo (KeepsRule a) (unsigned a) (take n steps) s
     → ((v : ℤ) → ¬ (KeepsRule a s tested v)) → HasFollowed a steps (record { signs = s; kept = n })
 followed_to a s steps n tested l e signs lead none = record {
@@ -171,7 +171,7 @@ followed_to a s steps n tested l e signs lead none = record {
     same : (step : SignStep) (rest : List SignStep) → drop n steps ≡ step ∷ rest → step ≡ tested
     same step rest f = let first = drop-cons steps n tested l in cc
 
--- all of them
+-- all steps
 pub followed_all : (a s : Matrix) (steps : List SignStep) (n count : ℕ) → length steps ≤ n → count ≡ length steps → AreSigns a s → LeadTo (KeepsRule a) (unsigned a) (take n steps) s → HasFollowed a steps (record { signs = s; kept = count })
 followed_all a s steps n count l e signs lead = record {
   within = omega (arith, e);
@@ -233,7 +233,7 @@ signs_of_sound a chain steps followed signs is e h sound = go (subst (λ x. HasF
       | inr ge ↦ subst (IsSoundChain a chain) (lead_once a (unsigned a) signs followed.signs chain.chain.steps is (unsigned_signs a) sound.steps (all_kept a chain.chain.steps followed f (omega arith))) sound
     ]
 
--- one more step that keeps its rule
+-- another step that keeps its rule
 pub step_kept : (a s t : Matrix) (steps : List SignStep) (n : ℕ) (tested given : SignStep) (v w : ℤ) → n < length steps → tested ≡ get_or steps n tested → given ≡ get_or steps n given → KeepsRule a s tested v → w ≡ v → t ≡ signed_by s given w
     → LeadTo (KeepsRule a) (unsigned a) (take n steps) s → IsMatrix a → AreSigns a s → AreSigns a t × LeadTo (KeepsRule a) (unsigned a) (take (n + 1) steps) t
 step_kept a s t steps n tested given v w l e f rule g h lead is signs = (

@@ -1,4 +1,4 @@
--- Labels of lines as a list, and what the check of a step finds out by them.
+-- Labels of lines as a list, and the tests of steps by labels.
 use Rattle.std.proofs.Common.{◌≡◌, ◌≢◌, ◌∙◌, ◌<◌, ◌↔◌, ◌+◌, ℕ, ℤ, pos, Bool, true, false, not, cond, nat_eq, List, [], ◌∷◌, map, length, get_or, inl, inr, refl, sym, ap, subst, arith}
 use Rattle.std.proofs.lemmas.List.{get_or-map, length-map}
 use Rattle.cmr_base.specs.Matrix.{Matrix, height, entry, with_entry, IsMatrix}
@@ -27,7 +27,7 @@ one_place a (Row i) (Column k) l m e = absurd (omega arith)
 one_place a (Column i) (Row k) l m e = absurd (omega arith)
 one_place a (Column i) (Column k) l m e = let same : i ≡ k = omega arith in ap Column same
 
--- where no entry is signed, each line has its own
+-- if no entry is signed, each line has its own label
 pub own_labels_are : (a : Matrix) (labels : List ℕ) → length labels ≡ height a + a.width → ((k : ℕ) → k < length labels → get_or labels k 0 ≡ k) → AreLabels a (unsigned a) labels
 own_labels_are a labels long own = record {
   one_each = long;
@@ -46,7 +46,7 @@ linked_label : (a s : Matrix) (labels : List ℕ) → AreLabels a s labels → (
 linked_label a s labels w [] x y e = ap (label_in a labels) e
 linked_label a s labels w (k ∷ lines) x y (j, rest) = one_label a s labels w x k j ∙ linked_label a s labels w lines k y rest
 
--- free exactly where the labels differ
+-- a step is free if and only if the labels differ
 pub free_by_labels : (a s : Matrix) (labels : List ℕ) (row column : ℕ) → AreLabels a s labels → row < height a → column < a.width → IsUnsignedOne a s row column → (label_in a labels (Row row) ≢ label_in a labels (Column column)) → IsFreeStep a s row column
 free_by_labels a s labels row column w l m here differ = record { here = here; apart = λ links. differ (linked_label a s labels w links.0 (Row row) (Column column) links.1) }
 
@@ -105,7 +105,7 @@ module _ (a s t : Matrix) (labels more_labels : List ℕ) (r c : ℕ) (v : ℤ) 
 pub differ_test : (x y z : ℕ) → y ≡ z → (not (nat_eq x y) ≡ true) ↔ (x ≢ z)
 differ_test x y z e = ((λ h f. true_is_false (sym h ∙ ap not (is_eq x y (f ∙ sym e)))), (λ d. ap not (is_ne x y (λ f. d (f ∙ e)))))
 
--- after one more sign
+-- after another sign
 labels_given : (a s t : Matrix) (labels made : List ℕ) (row column n : ℕ) (v : ℤ) → IsMatrix a → AreSigns a s → IsUnsignedOne a s row column → IsSign v → AreLabels a s labels → t ≡ with_entry s row column v → n ≡ height a
     → made ≡ map (λ l. cond (nat_eq l (get_or labels (n + column) 0)) (get_or labels row 0) l) labels → AreLabels a t made
 labels_given a s t labels made row column n v is signs here u w e f g =
@@ -113,7 +113,7 @@ labels_given a s t labels made row column n v is signs here u w e f g =
     (row_in a row column here.one) (column_in a row column is.rectangular here.one)
     (subst (λ k. made ≡ map (λ l. cond (nat_eq l (get_or labels (k + column) 0)) (get_or labels row 0) l) labels) f g))
 
--- where a step keeps its rule
+-- if a step keeps its rule
 pub step_labels : (a s t : Matrix) (labels made : List ℕ) (step : SignStep) (row column n : ℕ) (v : ℤ) → IsMatrix a → AreSigns a s → IsUnsignedOne a s (step_row step) (step_column step) → IsSign v → AreLabels a s labels
     → row ≡ step_row step → column ≡ step_column step → t ≡ with_entry s row column v → n ≡ height a → made ≡ map (λ l. cond (nat_eq l (get_or labels (n + column) 0)) (get_or labels row 0) l) labels → AreLabels a t made
 step_labels a s t labels made step row column n v is signs here u w e f g h k =

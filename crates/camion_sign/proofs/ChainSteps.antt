@@ -31,7 +31,7 @@ pub first_line : (start one two ended : Draft) (form version : List ℕ) → sta
 first_line start one two ended form version e a b f g h = h ∙ ap with_end (g ∙ ap (λ d. with_word d version) (f ∙ ap (with_word start) a) ∙ ap (with_word (with_word start (codes "cmr-chain"))) b)
     ∙ line_written start (codes "cmr-chain" ∷ codes "1" ∷ []) (ap (λ d. d.is_begun) e)
 
--- a line of some words
+-- a line that consists of given words
 pub words_line : (start put ended : Draft) (words : List (List ℕ)) → start.is_begun ≡ false → put ≡ fold with_word start words → ended ≡ with_end put → ended ≡ with_line start words
 words_line start put ended words none e f = f ∙ ap with_end e ∙ line_written start words none
 

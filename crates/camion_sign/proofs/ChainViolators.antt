@@ -40,7 +40,7 @@ violator_in M N R C e v = record {
   two_mod_four = subst IsTwoModFour (same_at_members R (λ i. sum_over C (λ j. M i j)) (λ i. sum_over C (λ j. N i j)) (λ i h. same_at_members C (λ j. M i j) (λ j. N i j) (λ j g. e i j h g))) v.two_mod_four;
 }
 
--- a sum with one term that is not 0
+-- a sum with at most one nonzero term
 no_member : (xs : List ℕ) (f : ℕ → ℤ) → ((y : ℕ) → IsIn y xs → f y ≡ pos 0) → sum_over xs f ≡ pos 0
 no_member [] f h = refl
 no_member (y ∷ ys) f h = rw (h y (inl refl), no_member ys f (λ z g. h z (inr g))) refl
@@ -54,7 +54,7 @@ one_member (y ∷ ys) f x d (inr i) h =
     let rest : sum_over ys f ≡ f x = one_member ys f x d.1 i (λ z g q. h z (inr g) q) in
     let first : f y ≡ pos 0 = h y (inl refl) (λ q. d.0 (subst (λ k. IsIn k ys) (sym q) i)) in omega (arith, sums)
 
--- sums that differ in one entry alone
+-- sums that differ in only one entry
 pub one_entry : (F G : ℕ → ℕ → ℤ) (R C : List ℕ) (r c : ℕ) → IsDistinct R → IsDistinct C → IsIn r R → IsIn c C → ((i j : ℕ) → IsIn i R → IsIn j C → (i ≢ r) ⊎ (j ≢ c) → F i j ≡ G i j)
     → sum_over R (λ i. sum_over C (λ j. F i j)) -ℤ sum_over R (λ i. sum_over C (λ j. G i j)) ≡ F r c -ℤ G r c
 one_entry F G R C r c dr dc hr hc e =

@@ -1,4 +1,4 @@
--- Sums of two entries, and what the code's tests of entries say.
+-- Sums of two entries, and the code's tests of entries.
 use Rattle.std.proofs.Common.{ℕ, Bool, true, false, ◌≡◌, ◌≢◌, ℤ, pos, negsuc, ◌+ℤ◌, inl, inr, ◌∙◌, sym, ap, refl, arith, of_z, w8, nat_eq}
 use Rattle.std.proofs.lemmas.Int.{ints}
 use Rattle.cmr_base.specs.Matrix.{Matrix, entry, IsMatrix, IsEntry}
@@ -23,7 +23,7 @@ pair_two x y false (inr e) (inr f) s d = absurd (d refl (e ∙ sym f))
 pair_two x y false (inl e) (inr f) s d = (pos 0, rw (e, f) refl)
 pair_two x y false (inr e) (inl f) s d = (pos 0, rw (e, f) refl)
 
--- what a test of two entries for equality says
+-- a test of two entries for equality determines their sum
 entries_two : (m : Matrix) (i j k l : ℕ) (b : Bool) → IsMatrix m → entry m i j ≢ pos 0 → entry m k l ≢ pos 0 → (b ≡ true → entry m i j ≡ entry m k l) → (b ≡ false → entry m i j ≢ entry m k l) → TwoIf b (entry m i j +ℤ entry m k l)
 entries_two m i j k l b is u v s d = pair_two (entry m i j) (entry m k l) b (sign_of m i j is u) (sign_of m k l is v) s d
 

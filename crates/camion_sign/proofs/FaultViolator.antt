@@ -42,7 +42,7 @@ cycle_is_violator m is t c d path f = go (route (entry m) is.small t c d path f.
         column : (j : ℕ) → sum_over (cycle_rows t path) (λ i. entry m i j) ≡ sum_over (t ∷ map q.way.row (below q.k)) (λ i. entry m i j)
         column j = ap (λ (z : ℤ). entry m t j +ℤ z) (q.rows_are (λ i. entry m i j) ∙ sym (sum_over-map q.way.row (below q.k) (λ i. entry m i j)))
 
--- and so is the cycle fault
+-- the cycle fault is a violator
 pub cycle_fault_violator : (m : Matrix) → IsMatrix m → (R C : List ℕ) → IsCycleFault m R C → IsViolator (entry m) R C
 cycle_fault_violator m is R C f = go (route (entry m) is.small f.row f.first_column f.last_column f.path f.fault.place.is_path)
   where

@@ -1,4 +1,4 @@
--- What a walk says of places and of faults.
+-- The places and faults that a walk determines.
 use Rattle.std.proofs.Common.{ℕ, zero, suc, ◌+◌, List, [], ◌∷◌, ◌++◌, ◌≡◌, ◌≢◌, ◌<◌, ℤ, pos, ◌+ℤ◌, Bool, true, length, get_or, reverse, Option, Some, MatchOption, ◌⊎◌, inl, inr, ◌∙◌, sym, ap, refl, arith, subst, append_assoc}
 use Rattle.std.proofs.lemmas.Bool.{cases_lt}
 use Rattle.std.proofs.lemmas.List.{reverse-append}
@@ -18,7 +18,7 @@ use Rattle.camion_sign.proofs.Walks.{two_add}
 use Rattle.camion_sign.proofs.EntryTests.{two_not}
 use Rattle.camion_sign.proofs.Steps.{any_default, step_is}
 
--- the path of a place is the only one
+-- the path of a place is unique
 pub same_list : (p q : List ℕ) → length p ≡ length q → IsNotAfter p q → IsNotAfter q p → p ≡ q
 same_list [] [] e a b = refl
 same_list [] (y ∷ ys) e a b = absurd (omega arith)
@@ -41,7 +41,7 @@ place_unique M t c d p q a b = go (a.least q b.is_path) (b.least p a.is_path)
     go (inr l) (inr m) = same_list p q l.0 l.1 m.1
 
 module _ (m : Matrix) (t c d : ℕ) (walk : Walk) (w : HasWalked m t c walk) (order : c < d) (met : place_in walk.places.items d < 4294967295) where
-  -- the step by which column d was reached is not the first
+  -- the step at which the walk reached column d is not the first
   pub later_step : 0 < place_in walk.places.items d
   later_step = positive (place_in walk.places.items d) refl
     where
@@ -49,7 +49,7 @@ module _ (m : Matrix) (t c d : ℕ) (walk : Walk) (w : HasWalked m t c walk) (or
       positive zero e = absurd (let a = ap (λ (j : ℕ). (step_at walk.steps.items j).column) e in let b = w.queue.first in let v = (w.queue.listed d met).1 in omega arith)
       positive (suc j) e = omega arith
 
-  -- the trail to column d ends with the row of that step, and d
+  -- the trail to column d ends with the row of this step, and d
   pub key_is : (key : List ℕ) → key ≡ w.key (step_at walk.steps.items (place_in walk.places.items d)).before → w.key (place_in walk.places.items d) ≡ (key ++ (step_at walk.steps.items (place_in walk.places.items d)).row ∷ []) ++ d ∷ []
   key_is key e =
       w.queue.parent (place_in walk.places.items d) later_step (w.queue.listed d met).0
@@ -107,7 +107,7 @@ module _ (m : Matrix) (t c d : ℕ) (walk : Walk) (w : HasWalked m t c walk) (or
 pub column_fault : (m : Matrix) (t c d : ℕ) (lines : List ℕ) → (path : List ℕ) × IsFaultAt (entry m) t c d path → IsCyclePlace (entry m) t c d lines → ((y : ℕ) → y < d → HasNoFaultAt m t c y) → IsColumnFault m t c d lines
 column_fault m t c d lines f place none = record { fault = subst (IsFaultAt (entry m) t c d) (place_unique (entry m) t c d f.0 lines f.1.place place) f.1; least = none }
 
--- ---- one more column, or row
+-- ---- another column, or another row
 
 pub one_more_last : (m : Matrix) (t c d : ℕ) → ((y : ℕ) → y < d → HasNoFaultAt m t c y) → HasNoFaultAt m t c d → (y : ℕ) → y < d + 1 → HasNoFaultAt m t c y
 one_more_last m t c d before here y l = elim (cases_lt y d) [
@@ -132,7 +132,7 @@ first_of_rows m t found f is before h = go (subst (λ (o : Option Fault). MatchO
       ];
     })
 
--- ---- what was read of a walk
+-- ---- values read from a walk
 
 pub met_step : (m : Matrix) (t c d : ℕ) (walk : Walk) (place : ℕ) (step : ReachedColumn) → HasWalked m t c walk → d < m.width → place ≡ get_or walk.places.items d place → place_in walk.places.items d < 4294967295 → step ≡ get_or walk.steps.items place step
     → step_at walk.steps.items (place_in walk.places.items d) ≡ step

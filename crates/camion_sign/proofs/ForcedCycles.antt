@@ -1,4 +1,4 @@
--- The cycle of a forced entry: two ones in each of its lines, and an even sum of its signs.
+-- The cycle of a forced entry has two ones in each of its lines, and an even sum of signs.
 use Rattle.std.specs.Prelude.{IfOk}
 use Rattle.std.proofs.Common.{Result, Ok, Err, ◌≡◌, ◌≢◌, ◌∙◌, ◌<◌, ◌⊎◌, ◌↔◌, ℕ, zero, suc, ℤ, pos, ◌+ℤ◌, ◌-ℤ◌, List, [], ◌∷◌, inl, inr, refl, sym, ap, subst, arith}
 use Rattle.std.proofs.lemmas.Bool.{cases_lt}
@@ -27,7 +27,7 @@ use Rattle.camion_sign.proofs.GivenSigns.{one_more, signs_more, keeps}
 use Rattle.camion_sign.proofs.ChainViolators.{one_entry}
 use Rattle.camion_sign.proofs.LineLists.{path_rows_low}
 
--- the lesser of the two columns first
+-- the columns of the place in increasing order
 record IsOrdered (a : Matrix) (t c d : ℕ) (cycle : LineSet) : Type 0 where
   first : ℕ
   last : ℕ
@@ -96,7 +96,7 @@ module _ (a : Matrix) (is : IsMatrix a) (t c d : ℕ) (cycle : LineSet) (o : IsO
   whole_sum N = row_sums (λ i. sum_over cycle.columns (λ j. N i j))
       ∙ sum_over_same (cycle_rows t o.path) (λ i. sum_over cycle.columns (λ j. N i j)) (λ i. sum_over (cycle_columns o.first o.last o.path) (λ j. N i j)) (all_of _ (λ i. column_sums (λ j. N i j)) (cycle_rows t o.path))
 
-  -- signs that stand in the cycle's nonzeros
+  -- signs in the cycle's nonzeros
   signed_cycle : (N : ℕ → ℕ → ℤ) → ((i j : ℕ) → IsEntry (N i j)) → ((i j : ℕ) → entry a i j ≡ pos 0 → N i j ≡ pos 0) → ((i j : ℕ) → i < t → entry a i j ≢ pos 0 → N i j ≢ pos 0)
       → N t o.first ≢ pos 0 → N t o.last ≢ pos 0 → IsCycle N t the_route.k the_route.way.row the_route.way.col
   signed_cycle N small inside earlier first last = record {
@@ -179,12 +179,12 @@ row_or_earlier a t c d cycle o i h = elim ((o.rows_are i).0 h) [
   | inr g ↦ inr (path_rows_low a t o.first o.last o.path o.place.is_path i g)
 ]
 
--- both columns of the place are the cycle's, and so is its row
+-- both columns of the place and its row are in the cycle
 ends_in : (a : Matrix) (t c d : ℕ) (cycle : LineSet) → IsCycleLines a t c d cycle → IsIn t cycle.rows × IsIn d cycle.columns
 ends_in a t c d cycle q = ((q.rows_are t).1 (inl refl), (q.columns_are d).1 (inr (inl refl)))
 
 module _ (a s : Matrix) (is : IsMatrix a) (signs : AreSigns a s) (t c d : ℕ) (turn : IsRowsTurn a s t) (here : IsUnsignedOne a s t d) (signed : entry s t c ≢ pos 0) (cycle : LineSet) (lines : IsCycleLines a t c d cycle) where
-  -- one more sign adds to the cycle's sum
+  -- another sign adds to the cycle's sum
   pub sum_more : (v : ℤ) → submatrix_sum (with_entry s t d v) cycle.rows cycle.columns ≡ submatrix_sum s cycle.rows cycle.columns +ℤ v
   sum_more v = plain (submatrix_sum (with_entry s t d v) cycle.rows cycle.columns) (submatrix_sum s cycle.rows cycle.columns) (entry (with_entry s t d v) t d) (entry s t d) v
       (one_entry (entry (with_entry s t d v)) (entry s) cycle.rows cycle.columns t d
@@ -195,7 +195,7 @@ module _ (a s : Matrix) (is : IsMatrix a) (signs : AreSigns a s) (t c d : ℕ) (
       plain : (x y p q v : ℤ) → x -ℤ y ≡ p -ℤ q → p ≡ v → q ≡ pos 0 → x ≡ y +ℤ v
       plain x y p q v e f g = omega (arith, sums)
 
-  -- which is odd before
+  -- the sum is odd before
   pub odd_sum : IsOdd (submatrix_sum s cycle.rows cycle.columns)
   odd_sum = subst IsEven (sum_more (pos 1)) (even_whole a is t c d cycle o (entry n) (signed_cycle a is t c d cycle o (entry n) more.ternary.small more.inside
       (λ i j l h. keeps s n t d (pos 1) (inl refl) (one_more a s is.rectangular signs t d (pos 1) here.one) i j (turn.earlier i j l h)) (at o.ends).0 (at o.ends).1))

@@ -1,5 +1,4 @@
--- A free entry keeps the rule of chains: where its row and its column were linked by signed entries, some one of the row would
--- be forced.
+-- A free entry keeps the rule of chains: if signed entries linked its row and its column, some one of the row would be forced.
 use Rattle.std.proofs.Common.{◌≡◌, ◌≢◌, ◌<◌, ◌⊎◌, ℕ, ℤ, pos, List, [], ◌∷◌, inl, inr, refl, subst, arith}
 use Rattle.std.proofs.lemmas.Bool.{cases_lt}
 use Rattle.cmr_base.specs.Matrix.{Matrix, entry, IsMatrix}
@@ -43,7 +42,7 @@ module _ (a s : Matrix) (is : IsMatrix a) (signs : AreSigns a s) (t : ℕ) (turn
   abbrev FromColumn : ℕ → Type 0
   FromColumn j = (y : ℕ) × (entry s t y ≢ pos 0) × ((lines : List ℕ) × IsPath (entry a) t j y lines)
 
-  -- what signed entries link to row t
+  -- the lines that signed entries link to row t
   abbrev IsNear : Line → Type 0
   IsNear (Row i) = (i ≡ t) ⊎ ((i < t) × FromRow i)
   IsNear (Column j) = (entry s t j ≢ pos 0) ⊎ ((entry a t j ≡ pos 0) × FromColumn j)
@@ -83,7 +82,7 @@ module _ (a s : Matrix) (is : IsMatrix a) (signs : AreSigns a s) (t : ℕ) (turn
     | inr (z, w) ↦ here.one z
   ]
 
--- the steps of a signing are those of a chain
+-- the steps of a signing are the steps of a chain
 keeps_rule : (a s : Matrix) → IsMatrix a → IsBinary a → AreSigns a s → (step : SignStep) (v : ℤ) → IsNextSign a s step v → KeepsRule a s step v
 keeps_rule a s is binary signs (Free row column) v (turn, next, e) = (record { here = next.here; apart = apart a s is signs row turn next.unforced column next.here }, e)
 keeps_rule a s is binary signs (Forced row column cycle) v (turn, next) = forced_step a s is binary signs row column cycle v turn next

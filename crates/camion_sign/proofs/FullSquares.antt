@@ -1,4 +1,4 @@
--- Full 2 by 2 submatrices: their rows are compared with the first row that has both columns.
+-- Full 2 by 2 submatrices. Their rows are compared with the first row that has both columns.
 use Rattle.std.proofs.Common.{ℕ, suc, ℤ, pos, List, [], ◌∷◌, ◌≡◌, ◌≢◌, ◌<◌, ◌≤◌, ◌+ℤ◌, ◌*ℤ◌, neg_ℤ, ◌∙◌, sym, ap, refl, arith, subst, ◌⊎◌, inl, inr, length}
 use Rattle.std.proofs.lemmas.Bool.{cases_lt}
 use Rattle.cmr_base.specs.Sums.{IsTwoModFour}

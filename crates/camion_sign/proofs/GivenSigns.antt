@@ -1,4 +1,4 @@
--- One more sign: what stays, and the lines that are linked then.
+-- The effect of another sign: unchanged signs, and newly linked lines.
 use Rattle.std.proofs.Common.{◌≡◌, ◌≢◌, ◌∙◌, ◌<◌, ◌⊎◌, ◌+◌, ℕ, suc, ℤ, pos, Bool, true, false, cond, nat_eq, List, [], ◌∷◌, length, get_or, set, inl, inr, refl, sym, ap, subst, arith}
 use Rattle.std.proofs.lemmas.List.{length-set, get_or-set_same, get_or-set_other}
 use Rattle.cmr_base.specs.Matrix.{Matrix, height, row_of, entry, with_entry, IsEntry, IsRectangular}
@@ -13,7 +13,7 @@ use Rattle.ghouila.proofs.SignsUnique.{row_in, column_in}
 use Rattle.camion_sign.specs.SignSteps.{AreSigns}
 use Rattle.camion_sign.specs.Chains.{AreJoined, JoinsTo, AreLinked}
 
--- one more sign
+-- another sign
 pub record HasOneMore (s t : Matrix) (r c : ℕ) (v : ℤ) : Type 0 where
   pub here : entry t r c ≡ v
   pub other : (i j : ℕ) → (i ≢ r) ⊎ (j ≢ c) → entry t i j ≡ entry s i j
@@ -74,7 +74,7 @@ module _ (s t : Matrix) (r c : ℕ) (v : ℤ) (u : IsSign v) (more : HasOneMore 
     | inr d ↦ h (sym (more.other i j d) ∙ e)
   ]
 
--- ---- labels of the lines: equal where the signed entries link them
+-- ---- labels of the lines: equal if signed entries link the lines
 
 pub record Labels (s : Matrix) : Type 0 where
   pub label : Line → ℕ

@@ -1,4 +1,4 @@
--- Lists that stand one behind the other in one list.
+-- Consecutive lists in one list.
 use Rattle.std.proofs.Common.{ℕ, zero, suc, ◌+◌, ◌-◌, List, [], ◌∷◌, ◌++◌, ◌≡◌, ◌<◌, ◌≤◌, length, get_or, take, drop, map, ◌∙◌, sym, ap, refl, arith, subst, length-append, length-drop}
 use Rattle.std.proofs.lemmas.List.{drop-append-le, take-append-le, take_all, take_more, map-append}
 use Rattle.std.proofs.Math.Seq.{drop-append_seam}
@@ -31,7 +31,7 @@ piece_at places (from ∷ to ∷ starts) (suc line) h l =
       piece = p.piece ∙ ap (λ (n : ℕ). take (get_or (from ∷ to ∷ starts) n 0 - get_or (to ∷ starts) line 0) (drop (get_or (to ∷ starts) line 0) places)) (sym next);
     }
 
--- one more list, behind the others
+-- another list, after the others
 pub record IsFull (places starts : List ℕ) : Type 0 where
   pub starts_are : AreStarts (length places) starts
   pub some : 0 < length starts
@@ -78,7 +78,7 @@ full_more places more starts h = record {
     at_end (s ∷ starts) zero e = absurd (omega arith)
     at_end (s ∷ starts) (suc k) e = at_end starts k (omega arith)
 
--- the lists of the rows before one
+-- the lists of the rows before `row`
 pub record AreCut (m : Matrix) (places starts : List ℕ) (row : ℕ) : Type 0 where
   pub full : IsFull places starts
   pub lists : cut places starts ≡ map (nonzeros_from 0) (take row m.rows)
@@ -92,6 +92,6 @@ one_row m places starts places2 starts2 row count h l p s n = rw (s, n, p) (reco
       ∙ sym (ap (map (nonzeros_from 0)) (take_more m.rows row [] l) ∙ map-append (nonzeros_from 0) (take row m.rows) (row_of m row ∷ []));
 })
 
--- the same, of what callers see
+-- the same for the lists that callers see
 pub piece_in : (places starts : List ℕ) (lists : List (List ℕ)) (line : ℕ) → AreStarts (length places) starts → cut places starts ≡ lists → line < length lists → IsPiece places starts line
 piece_in places starts lists line h e l = piece_at places starts line h (subst (λ (ls : List (List ℕ)). line < length ls) (sym e) l)

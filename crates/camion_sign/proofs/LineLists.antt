@@ -27,7 +27,7 @@ more_columns [] from found some h = absurd (omega arith)
 more_columns (r ∷ []) from found some h = absurd (omega arith)
 more_columns (r ∷ j ∷ rest) from found some h = h
 
--- what is pushed is above the others
+-- a pushed line is above the others
 pub above : (P : ℕ → Type 0) (x : ℕ) (list : List ℕ) → IsBuilt P x list → (k : ℕ) → k < length list → get_or list k 0 < x
 above P x list b k l = ((b.members (get_or list k 0)).0 (in_at list k l)).0
 
@@ -40,9 +40,9 @@ pushed P x list list2 b p e = rw e (record {
   );
 })
 
--- ---- lines gathered by taking the least again and again
+-- ---- lines gathered by repeatedly taking the least
 
--- up to the least line there is no other
+-- there is no other line up to the least line
 built_up : (lines found : List ℕ) (from to : ℕ) → from ≤ to → ((x : ℕ) → IsIn x lines → x < to → x < from) → IsBuilt (λ line. IsIn line lines) from found → IsBuilt (λ line. IsIn line lines) to found
 built_up lines found from to l none b = record {
   increasing = b.increasing;
@@ -139,7 +139,7 @@ cycle_fault_is m t c d lines R C {high = high} {wide = wide} is f h w rows colum
     column_low j (inr (inl e)) = let l = steps.within m t d is high_t f.fault.place.last in omega arith
     column_low j (inr (inr g)) = let l = path_columns_low m t c d lines is high_t f.fault.place.is_path j g in omega arith
 
--- all of it, with the lines as the two calls were given them
+-- the complete lists, with the lines as the two calls received them
 pub fault_lines : (m : Matrix) (o : Option Fault) (f : Fault) (rows_of columns_of R C : List ℕ) {high wide : ℕ} → IsMatrix m → o ≡ Some f → MatchOption o (HasNoCycleFault (entry m)) (λ f. IsFirstFault m f.row f.first f.last f.lines.items)
     → rows_of ≡ f.lines.items → columns_of ≡ f.lines.items → high ≡ height m → wide ≡ m.width
     → IsBuilt (λ x. IsIn x (cycle_rows f.row rows_of)) high R → IsBuilt (λ x. IsIn x (cycle_columns f.first f.last columns_of)) wide C → IsCycleFault m R C

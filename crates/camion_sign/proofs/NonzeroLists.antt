@@ -1,4 +1,4 @@
--- The places of the nonzeros of a row.
+-- The positions of the nonzeros of a row.
 use Rattle.std.proofs.Common.{ℕ, zero, suc, ◌+◌, ◌-◌, ◌++◌, Bool, true, false, cond, List, [], ◌∷◌, ◌≡◌, ◌≢◌, ◌<◌, ◌≤◌, ℤ, pos, length, get_or, map, drop, drop-cons, append_assoc, inl, inr, ◌∙◌, sym, ap, refl, arith, subst, zero-add}
 use Rattle.std.proofs.lemmas.Bool.{cases_lt, true≢false}
 use Rattle.std.proofs.lemmas.List.{append-nil, get_or-drop, get_or-map, get_or_past}
@@ -75,14 +75,14 @@ of_column m lists column is e l =
 
 -- ---- one nonzero after another
 
--- a nonzero stands in the line
+-- a nonzero is in the line
 in_line : (line : List ℤ) (place : ℕ) → is_nonzero (get_or line place (pos 0)) ≡ true → place < length line
 in_line line place e = elim (cases_lt place (length line)) [
   | inl h ↦ h
   | inr past ↦ absurd (true≢false (sym e ∙ ap is_nonzero (get_or_past line place (pos 0) past)))
 ]
 
--- a place of the line begins what is left from there on
+-- the rest of a line begins at a position
 from_place : (line : List ℤ) (place : ℕ) (b : Bool) → place < length line → is_nonzero (get_or line place (pos 0)) ≡ b
     → nonzeros_from place (drop place line) ≡ cond b (place ∷ nonzeros_from (place + 1) (drop (place + 1) line)) (nonzeros_from (place + 1) (drop (place + 1) line))
 from_place line place b l e =
@@ -91,7 +91,7 @@ from_place line place b l e =
     ∙ ap (λ (t : Bool). cond t (place ∷ nonzeros_from (place + 1) (drop (suc place) line)) (nonzeros_from (place + 1) (drop (suc place) line))) e
     ∙ ap (λ (n : ℕ). cond b (place ∷ nonzeros_from (place + 1) (drop n line)) (nonzeros_from (place + 1) (drop n line))) next
 
--- zeros are passed over
+-- zeros are skipped
 zeros_passed : (line : List ℤ) (d from next : ℕ) → next ≡ from + d → next < length line → ((j : ℕ) → from ≤ j → j < next → is_nonzero (get_or line j (pos 0)) ≡ false)
     → nonzeros_from from (drop from line) ≡ nonzeros_from next (drop next line)
 zeros_passed line zero from next e l none = let same : from ≡ next = omega (arith, e) in ap (λ (n : ℕ). nonzeros_from n (drop n line)) same
@@ -99,14 +99,14 @@ zeros_passed line (suc d) from next e l none =
     from_place line from false (omega (arith, e, l)) (none from (omega arith) (omega (arith, e)))
     ∙ zeros_passed line d (from + 1) next (omega (arith, e)) l (λ j a b. none j (omega (arith, a)) b)
 
--- zeros alone have no places
+-- a line of zeros has no positions
 none_left : (line : List ℤ) (place : ℕ) → ((j : ℕ) → is_nonzero (get_or line j (pos 0)) ≡ false) → nonzeros_from place line ≡ []
 none_left [] place none = refl
 none_left (z ∷ line) place none =
     ap (λ (t : Bool). cond t (place ∷ nonzeros_from (place + 1) line) (nonzeros_from (place + 1) line)) (none 0)
     ∙ none_left line (place + 1) (λ j. none (suc j))
 
--- the places so far, with those of what is left, where the next nonzero comes to them
+-- the positions so far and the positions of the rest, if the next nonzero is added
 pub one_more : (line : List ℤ) (from next : ℕ) (old new whole : List ℕ) → from ≤ next → is_nonzero (get_or line next (pos 0)) ≡ true
     → ((j : ℕ) → from ≤ j → j < next → is_nonzero (get_or line j (pos 0)) ≡ false) → new ≡ old ++ next ∷ [] → old ++ nonzeros_from from (drop from line) ≡ whole
     → new ++ nonzeros_from (next + 1) (drop (next + 1) line) ≡ whole
@@ -118,7 +118,7 @@ one_more line from next old new whole l e none is h =
     ∙ ap (λ (xs : List ℕ). old ++ xs) (sym (zeros_passed line (next - from) from next (omega (arith, l)) inside none ∙ from_place line next true inside e))
     ∙ h
 
--- and where there is no next one
+-- the same if there is no next nonzero
 pub no_more : (line : List ℤ) (from : ℕ) (old whole : List ℕ) → ((j : ℕ) → from ≤ j → is_nonzero (get_or line j (pos 0)) ≡ false)
     → old ++ nonzeros_from from (drop from line) ≡ whole → old ≡ whole
 no_more line from old whole none h =

@@ -1,4 +1,4 @@
--- Odd sums, by their remainders.
+-- Odd sums and their remainders.
 use Rattle.std.proofs.Common.{◌≡◌, ◌≢◌, ◌∙◌, ◌+◌, ◌-◌, ◌/◌, ◌%◌, ℤ, pos, negsuc, neg_ℤ, ◌+ℤ◌, ap, sym, arith, of_z, w32}
 use Rattle.std.specs.Int.{int_rem_euclid}
 use Rattle.cmr_base.specs.Sums.{IsOdd}

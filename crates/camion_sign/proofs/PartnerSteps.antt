@@ -1,4 +1,4 @@
--- The signed column that forces an entry, looked for along the ones of its row.
+-- The search for the signed column that forces an entry, over the ones of its row.
 use Rattle.std.proofs.Common.{◌≡◌, ◌∙◌, ◌<◌, ◌≤◌, ◌+◌, ℕ, ℤ, List, length, get_or, inl, inr, sym, ap, subst, arith}
 use Rattle.std.proofs.lemmas.Bool.{cases_eq, cases_lt}
 use Rattle.cmr_base.specs.Matrix.{Matrix, entry, with_entry, IsMatrix}
@@ -10,7 +10,7 @@ use Rattle.camion_sign.specs.Signings.{IsPartner}
 use Rattle.camion_sign.proofs.GivenSigns.{HasOneMore, one_more}
 
 module _ (a s : Matrix) (row column : ℕ) (columns : List ℕ) (signs : AreSigns a s) (are : AreNonzeros (entry a row) columns) where
-  -- a signed column stands in the list of ones
+  -- a signed column is in the list of ones
   signed_listed : (c : ℕ) → IsForcedBy a s row column c → (i : ℕ) × (i < length columns) × (get_or columns i 0 ≡ c)
   signed_listed c forced = are.all c (λ z. forced.0 (signs.inside row c z))
 
@@ -44,7 +44,7 @@ column_passed a s row column here none d l = elim (cases_lt d column) [
   | inr past ↦ let e : column ≡ d = omega arith in subst (λ x. IsUnsignedOne a s row x → (c : ℕ) → ¬ (IsForcedBy a s row x c)) e here
 ]
 
--- a sign takes no other sign away
+-- a new sign keeps all other signs
 pub ones_kept : (a s after : Matrix) → IsMatrix a → AreSigns a s → (row column : ℕ) (v : ℤ) → IsSign v → IsUnsignedOne a s row column → after ≡ with_entry s row column v → (d : ℕ) → IsUnsignedOne a after row d → IsUnsignedOne a s row d
 ones_kept a s after is signs row column v u here e d unsigned = elim (cases_eq d column) [
   | inl same ↦ subst (IsUnsignedOne a s row) (sym same) here

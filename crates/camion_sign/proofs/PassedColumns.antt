@@ -11,7 +11,7 @@ use Rattle.camion_sign.specs.SignOrder.{IsForcedBy, IsPlaceOf}
 use Rattle.camion_sign.specs.Signings.{KnowsSigned}
 use Rattle.camion_sign.proofs.GivenSigns.{HasOneMore, keeps}
 
--- a row of which nothing is signed
+-- a row without signs
 pub row_begun : (a s : Matrix) (row : ℕ) (signed : SignedColumns) → ((j : ℕ) → entry s row j ≡ pos 0) → length signed.passed.items ≡ a.width → signed.columns.items ≡ [] → ((d : ℕ) → get_or signed.passed.items d 0 ≡ 0) → KnowsSigned a s row signed
 row_begun a s row signed unsigned long e start = record {
   one_each = long;
@@ -32,7 +32,7 @@ module _ (a s : Matrix) (row : ℕ) (signed : SignedColumns) (knows : KnowsSigne
       go : (k : ℕ) × (k < length columns) × (get_or columns k 0 ≡ c) → ⊥
       go (k, inside, e) = none k (omega arith) forced.1.0 (subst (λ x. IsPlaceOf a row x column forced.1.0) (sym e) forced.1.1)
 
-  -- one more is passed
+  -- the column passes another signed column
   pub place_passed : (column place x : ℕ) → x ≡ get_or columns place 0 → ((path : List ℕ) → ¬ (IsPlaceOf a row x column path)) → ((k : ℕ) → k < place → (path : List ℕ) → ¬ (IsPlaceOf a row (get_or columns k 0) column path))
       → (k : ℕ) → k < place + 1 → (path : List ℕ) → ¬ (IsPlaceOf a row (get_or columns k 0) column path)
   place_passed column place x e here none k l = elim (cases_lt k place) [
@@ -41,7 +41,7 @@ module _ (a s : Matrix) (row : ℕ) (signed : SignedColumns) (knows : KnowsSigne
         subst (λ j. (path : List ℕ) → ¬ (IsPlaceOf a row (get_or columns j 0) column path)) f (subst (λ y. (path : List ℕ) → ¬ (IsPlaceOf a row y column path)) e here)
   ]
 
-  -- a column has passed so many
+  -- a column has passed the first `place` signed columns
   module _ (column place : ℕ) (inside : column < a.width) (few : place ≤ length columns) (none : (k : ℕ) → k < place → (path : List ℕ) → ¬ (IsPlaceOf a row (get_or columns k 0) column path)) where
     here : get_or (set signed.passed.items column place) column 0 ≡ place
     here = get_or-set_same signed.passed.items column place 0 (let e = knows.one_each in omega arith)
@@ -67,7 +67,7 @@ module _ (a s : Matrix) (row : ℕ) (signed : SignedColumns) (knows : KnowsSigne
       passed = λ d k. rw (e, f) (passed_now d k);
     }
 
-  -- one more is signed
+  -- another column is signed
   module _ (column : ℕ) (v : ℤ) (t : Matrix) (u : IsSign v) (more : HasOneMore s t row column v) where
     abbrev longer : List ℕ
     longer = columns ++ column ∷ []

@@ -1,4 +1,4 @@
--- Which pairs of columns make cycle places, as walks find it out.
+-- The pairs of columns that make cycle places, as walks determine them.
 use Rattle.std.proofs.Common.{◌≡◌, ◌≢◌, ◌∙◌, ◌<◌, ◌+◌, ◌++◌, ℕ, ℤ, pos, Bool, true, false, Some, List, [], ◌∷◌, length, replicate, set, get_or, inl, inr, refl, sym, ap, subst, arith}
 use Rattle.std.proofs.lemmas.Bool.{cases_eq, cases_lt}
 use Rattle.std.proofs.lemmas.List.{get_or-set_other, length-set}
@@ -61,7 +61,7 @@ zeros n k = record { rows = replicate n (replicate k (pos 0)); width = k }
 pub same_zeros : (n k h w : ℕ) → n ≡ h → k ≡ w → zeros n k ≡ zeros h w
 same_zeros n k h w e f = rw (e, f) refl
 
--- ---- what is known after one more walk
+-- ---- the known places after another walk
 
 tells_still : (m old new : Matrix) (t c x : ℕ) → x ≢ c → ((a b : ℕ) → a ≢ c → entry new a b ≡ entry old a b) → TellsFrom m t x m.width old → TellsFrom m t x m.width new
 tells_still m old new t c x apart others tells d order l one = subst (TellsPlace m t x d) (sym (others x d apart)) (tells d order l one)

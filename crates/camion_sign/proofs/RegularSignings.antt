@@ -1,4 +1,5 @@
--- Cycle faults decide if some matrix of the support is totally unimodular, and Camion's signing decides whether a 0/1 matrix is regular.
+-- If some matrix of the support is totally unimodular, cycle faults decide total unimodularity. Camion's signing decides
+-- whether a 0/1 matrix is regular.
 use Rattle.std.proofs.Common.{List, refl, arith}
 use Rattle.cmr_base.specs.Matrix.{Matrix, height, IsMatrix, IsTernary}
 use Rattle.cmr_base.specs.Supports.{HaveOneSupport}

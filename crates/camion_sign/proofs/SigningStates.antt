@@ -1,4 +1,4 @@
--- The state of a signing, after one more step and after a row.
+-- The state of a signing, after another step and after a row.
 use Rattle.std.proofs.Common.{◌≡◌, ◌∙◌, ◌<◌, ◌≤◌, ◌+◌, ◌++◌, ℕ, zero, suc, ℤ, pos, cond, List, [], ◌∷◌, length, get_or, inl, inr, refl, sym, subst, arith}
 use Rattle.std.proofs.lemmas.Bool.{cases_lt}
 use Rattle.cmr_base.specs.Matrix.{Matrix, height, entry, with_entry, is_nonzero, IsMatrix}
@@ -23,7 +23,7 @@ pub lead_more : (Rule : Matrix → SignStep → ℤ → Type 0) (s end : Matrix)
 lead_more Rule s end [] step v e rule = subst (λ x. LeadTo Rule x (step ∷ []) (signed_by end step v)) (sym e) (v, rule, refl)
 lead_more Rule s end (x ∷ steps) step v (w, first, rest) rule = (w, first, lead_more Rule (signed_by s x w) end steps step v rest rule)
 
--- one more sign leaves fewer ones without
+-- another sign leaves fewer ones without sign
 pub fewer_unsigned : (a s t : Matrix) (row column : ℕ) (v : ℤ) → IsSign v → HasOneMore s t row column v → IsUnsignedOne a s row column → (n : ℕ) → column < n → unsigned_before a t row n < unsigned_before a s row n
 fewer_unsigned a s t row column v u more here zero l = absurd (omega arith)
 fewer_unsigned a s t row column v u more here (suc n) l = elim (cases_lt column n) [

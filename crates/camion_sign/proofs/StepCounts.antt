@@ -1,4 +1,4 @@
--- Each step signs a one that had no sign, so there are no more steps than places.
+-- Each step signs a one without sign. So there are at most as many steps as positions.
 use Rattle.std.proofs.Common.{◌≡◌, ◌<◌, ◌≤◌, ◌+◌, ◌*◌, ℕ, zero, suc, zero-le, ℤ, pos, Bool, cond, List, [], ◌∷◌, take, length, get_or, set, inl, refl, ap, subst, arith}
 use Rattle.std.specs.List.{AllByRecursion, count_by}
 use Rattle.std.proofs.lemmas.List.{length-take-le, take_all}
@@ -92,7 +92,7 @@ pub steps_in : (a : Matrix) (steps : List SignStep) (s end : Matrix) → IsMatri
 steps_in a [] s end is e = tt
 steps_in a (step ∷ steps) s end is (v, next, later) = (step_in a s step v is next, steps_in a steps (signed_by s step v) end is later)
 
--- those that were followed
+-- the steps that the check has followed
 pub few_followed : (a : Matrix) (steps : List SignStep) (kept : ℕ) (signs : Matrix) → kept ≤ length steps → IsMatrix a → AreSigns a signs → LeadTo (KeepsRule a) (unsigned a) (take kept steps) signs → kept ≤ 1000000
 few_followed a steps kept signs within is are leads = let few = few_kept a (take kept steps) signs is are leads in omega (arith, few, length-take-le kept steps within)
 

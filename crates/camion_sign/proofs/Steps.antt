@@ -20,7 +20,7 @@ within m row x is l h = elim (cases_lt x m.width) [
   | inr ge ↦ absurd (h (get_or_past (row_of m row) x (pos 0) (let e = is.rectangular row l in omega arith)))
 ]
 
--- the lists after a column was reached
+-- the lists after the walk has reached another column
 one_more : (steps : List ReachedColumn) (places : List ℕ) (used : List Bool) (x r h : ℕ) (two : Bool) → x < length places
     → IsOneMore (progress steps places used) (progress (steps ++ record { column = x; row = r; before = h; is_two = two } ∷ []) (set places x (length steps)) used) x r h two
 one_more steps places used x r h two l = record {
@@ -93,7 +93,7 @@ module _ (m : Matrix) (t c h r : ℕ) (columns : List ℕ) (k : ℕ) (from : Rea
   one_step s x (inl l) = inl l
   one_step s x (inr p) = inr (p.0, λ i l. p.1 i (omega arith))
 
-  -- the column was reached before
+  -- the walk has reached the column before
   pub pass_column : (walk2 : Walk) → walk2 ≡ walk → place_in walk.places.items (get_or columns k 0) < 4294967295 → IsReaching m t c h r columns (k + 1) from old walk2
   pass_column walk2 e there = subst (IsReaching m t c h r columns (k + 1) from old) (sym e) (record {
     fits = w.fits;
@@ -112,7 +112,7 @@ module _ (m : Matrix) (t c h r : ℕ) (columns : List ℕ) (k : ℕ) (from : Rea
     ];
   })
 
-  -- the column is reached now
+  -- the walk reaches the column now
   pub reach_column : (walk2 : Walk) (same : Bool) → get_or columns k 0 < m.width → place_in walk.places.items (get_or columns k 0) ≡ 4294967295
       → Goes (entry m) t c m.width (progress walk.steps.items walk.places.items walk.used.items) w.key h → r < t → entry m r from.column ≢ pos 0 → TwoIf same (entry m r from.column +ℤ entry m r (get_or columns k 0))
       → walk2.steps.items ≡ walk.steps.items ++ record { column = get_or columns k 0; row = r; before = h; is_two = flip from.is_two same } ∷ []
@@ -197,7 +197,7 @@ module _ (m : Matrix) (t c h r : ℕ) (columns : List ℕ) (k : ℕ) (from : Rea
         | inr q ↦ let e = get_or-set_other walk.places.items x y (length walk.steps.items) 4294967295 q in omega arith
       ]
 
--- all columns of the row are reached: the row is gone through
+-- the walk has reached all columns of the row: the row is taken
 pub end_row : (m : Matrix) (t c h r : ℕ) (columns : List ℕ) (k : ℕ) (from : ReachedColumn) (old walk walk2 : Walk) → IsReaching m t c h r columns k from old walk → AreNonzeros (entry m r) columns → length columns ≤ k → r < height m
     → walk2.steps.items ≡ walk.steps.items → walk2.places.items ≡ walk.places.items → walk2.used.items ≡ set walk.used.items r true → IsWalking m t c h (r + 1) walk2
 end_row m t c h r columns k from old walk walk2 w nonzeros l tall steps2 places2 used2 = record {
@@ -233,7 +233,7 @@ end_row m t c h r columns k from old walk walk2 w nonzeros l tall steps2 places2
   });
 }
 
--- only the marks of rows are changed
+-- only the marks of rows change
 pub grows_used : (old walk walk2 : Walk) → GrowsFrom old walk → walk2.steps.items ≡ walk.steps.items → walk2.places.items ≡ walk.places.items → GrowsFrom old walk2
 grows_used old walk walk2 g steps2 places2 = record {
   longer = let a = g.longer in let b = ap length steps2 in omega arith;
@@ -260,7 +260,7 @@ start_rows m t c h pending rows walk w o l waits = record {
 }
 
 module _ (m : Matrix) (t c h : ℕ) (rows : List ℕ) (k column : ℕ) (old walk : Walk) {pending : ℕ} (w : IsSpreading m t c h rows k pending old walk) (nonzeros : AreNonzeros (λ r. entry m r column) rows) where
-  -- the next row was gone through before
+  -- the walk has taken the next row before
   pub pass_row : (walk2 : Walk) (pending2 : ℕ) (b : Bool) → k < length rows → get_or rows k 0 < t → t < height m → b ≡ get_or walk.used.items (get_or rows k 0) b → b ≡ true → walk2 ≡ walk → pending2 ≡ pending → IsSpreading m t c h rows (k + 1) pending2 old walk2
   pass_row walk2 pending2 b inside early tall b_is t_is e f =
       subst (λ (v : Walk). IsSpreading m t c h rows (k + 1) pending2 old v) (sym e) (subst (λ (v : ℕ). IsSpreading m t c h rows (k + 1) v old walk) (sym f) (record {
@@ -279,7 +279,7 @@ module _ (m : Matrix) (t c h : ℕ) (rows : List ℕ) (k column : ℕ) (old walk
         waits = w.waits;
       }))
 
-  -- the next row is gone through now
+  -- the walk takes the next row now
   pub take_row : (walk1 walk2 : Walk) (pending1 pending2 : ℕ) → k < length rows → get_or rows k 0 < t → t < height m → IsWalking m t c h (get_or rows k 0 + 1) walk1 → GrowsFrom walk walk1 → walk1.used.items ≡ set walk.used.items (get_or rows k 0) true
       → pending ≤ pending1 → pending1 ≤ m.width → ((d : ℕ) → pending ≤ d → d < pending1 → entry m t d ≢ pos 0 → (place_in walk1.places.items d ≢ 4294967295) ⊎ IsUntouched m t d)
       → walk2 ≡ walk1 → pending2 ≡ pending1 → IsSpreading m t c h rows (k + 1) pending2 old walk2
@@ -309,7 +309,7 @@ module _ (m : Matrix) (t c h : ℕ) (rows : List ℕ) (k column : ℕ) (old walk
         ];
       }))
 
-  -- each row before t that meets the column is gone through, or comes later
+  -- each row before t that meets the column is taken, or follows later
   gone_or_later : column ≡ (step_at walk.steps.items h).column → (r : ℕ) → r < t → entry m r (step_at walk.steps.items h).column ≢ pos 0 → (get_or walk.used.items r false ≡ true) ⊎ ((i : ℕ) × (k ≤ i) × (i < length rows) × (get_or rows i 0 ≡ r))
   gone_or_later e r early leads =
       let v = nonzeros.all r (subst (λ (y : ℕ). entry m r y ≢ pos 0) (sym e) leads) in
@@ -318,7 +318,7 @@ module _ (m : Matrix) (t c h : ℕ) (rows : List ℕ) (k column : ℕ) (old walk
         | inr ge ↦ inr (v.0, ge, v.1, v.2)
       ]
 
-  -- the rows before t are done: there is no further one, or the next is not before t
+  -- the rows before t are done: there is no further row, or the next row is not before t
   pub end_rows : column ≡ (step_at old.steps.items h).column → (length rows ≤ k) ⊎ ((k < length rows) × (t ≤ get_or rows k 0)) → IsWalking m t c (h + 1) 0 walk
   end_rows column_is end = subst (λ (n : ℕ). IsWalking m t c n 0 walk) (sym (add-one h)) (record {
     fits = w.walking.fits;
@@ -352,7 +352,7 @@ module _ (m : Matrix) (t c h : ℕ) (rows : List ℕ) (k column : ℕ) (old walk
         ]);
   }
 
--- ---- the last columns that wait
+-- ---- waiting last columns
 
 pub untouched : (m : Matrix) (t x : ℕ) (rows : List ℕ) → AreNonzeros (λ r. entry m r x) rows → (length rows ≤ 0) ⊎ (t ≤ get_or rows 0 0) → IsUntouched m t x
 untouched m t x rows nonzeros (inl l) r early n = let v = nonzeros.all r n in let a = v.1 in omega arith
@@ -402,7 +402,7 @@ smaller m t c h pending walk g l k =
     let w = is_walking m t c h pending walk g l in
     let f = few (entry m) t c m.width (progress walk.steps.items walk.places.items walk.used.items) w.key w.prefix.queue in omega arith
 
--- a column in which row t is not 0 leads nowhere
+-- a trail cannot go on through a column in which row t is not 0
 pub skip_place : (m : Matrix) (t c h pending pending2 : ℕ) (walk walk2 : Walk) (step : ReachedColumn) → IsGoing m t c h pending walk → pending < m.width → h < length walk.steps.items → h ≢ 0 → step ≡ get_or walk.steps.items h step → entry m t step.column ≢ pos 0
     → walk2 ≡ walk → pending2 ≡ pending → IsGoing m t c (h + 1) pending2 walk2
 skip_place m t c h pending pending2 walk walk2 step g l k other step_is' n e f =

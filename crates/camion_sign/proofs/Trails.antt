@@ -56,7 +56,7 @@ next_less [] r x s y (inl l) = inl l
 next_less [] r x s y (inr l) = inr (l.0, inl l.1)
 next_less (z ∷ zs) r x s y l = inr (refl, next_less zs r x s y l)
 
--- of two that go on from one, the one with the lesser row, or column, is before the other
+-- of two trails that extend the same trail, the trail with the lesser row, or the lesser column, is before the other
 pub next_before : (xs : List ℕ) (r x s y : ℕ) → (r < s) ⊎ ((r ≡ s) × (x < y)) → IsShortlexBefore (xs ++ r ∷ x ∷ []) (xs ++ s ∷ y ∷ [])
 next_before xs r x s y l = inr (length_more xs r x ∙ sym (length_more xs s y), next_less xs r x s y l)
 
@@ -73,7 +73,7 @@ less_not_after (x ∷ xs) [] d e l = absurd (omega arith)
 less_not_after (x ∷ xs) (y ∷ ys) d e (inl l) = inl l
 less_not_after (x ∷ xs) (y ∷ ys) d e (inr l) = inr (l.0, less_not_after xs ys d (omega arith) l.1)
 
--- what the order says of the lines before the last
+-- the order of two trails restricts the lines before their last column
 pub not_after : (xs ys : List ℕ) (d : ℕ) → IsUpTo (xs ++ d ∷ []) (ys ++ d ∷ []) → (length xs < length ys) ⊎ ((length xs ≡ length ys) × IsNotAfter xs ys)
 not_after xs ys d (inr e) = let same = append_cancel_right xs ys (d ∷ []) e in inr (ap length same, subst (IsNotAfter xs) same (not_after_same xs))
 not_after xs ys d (inl (inl l)) = inl (omega (arith, length-more xs d, length-more ys d))
@@ -118,7 +118,7 @@ module _ (M : ℕ → ℕ → ℤ) (t : ℕ) where
       plain : (a b c : ℤ) → a +ℤ (b +ℤ c) ≡ (a +ℤ b) +ℤ c
       plain a b c = omega (arith, sums)
 
-  -- a trail by its last step
+  -- a trail and its last step
   pub record HasLast (c : ℕ) (lines : List ℕ) : Type 0 where
     pub prefix : List ℕ
     pub row : ℕ

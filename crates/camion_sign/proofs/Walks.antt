@@ -1,4 +1,4 @@
--- Breadth-first walks: what stays true, over functions of the place.
+-- Invariants of breadth-first walks, over functions of the position.
 use Rattle.std.proofs.Common.{ℕ, zero, suc, Bool, true, false, cond, nat_eq, ℤ, pos, ◌+ℤ◌, List, [], ◌∷◌, ◌++◌, ◌≡◌, ◌≢◌, ◌<◌, ◌≤◌, ◌⊎◌, inl, inr, ◌∙◌, sym, ap, refl, arith, subst, length}
 use Rattle.std.proofs.lemmas.Bool.{cases_lt, cases_eq}
 use Rattle.cmr_base.specs.Members.{IsIn, IsDistinct}
@@ -15,7 +15,7 @@ two_add true false x y (k, e) (l, f) = (k +ℤ l, omega (arith, sums))
 two_add false true x y (k, e) (l, f) = (k +ℤ l, omega (arith, sums))
 two_add false false x y (k, e) (l, f) = (k +ℤ l, omega (arith, sums))
 
--- one more column is reached
+-- the walk reaches another column
 pub record IsOneMore (s s' : Progress) (x r h : ℕ) (two : Bool) : Type 0 where
   pub count : s'.count ≡ suc s.count
   pub column : s'.column s.count ≡ x
@@ -32,7 +32,7 @@ pub record IsOneMore (s s' : Progress) (x r h : ℕ) (two : Bool) : Type 0 where
 
 module _ (M : ℕ → ℕ → ℤ) (t c n : ℕ) where
   module _ (s : Progress) (key : ℕ → List ℕ) where
-    -- no more columns are reached than there are
+    -- the walk reaches at most all columns
     pub few : IsQueue M t c n s key → s.count ≤ n
     few w = subst (λ (x : ℕ). x ≤ n) (list_length s.count) (distinct_few n (list s.count) (apart s.count (omega arith)) (λ x g. let v = from_list s.count x g in subst (λ (y : ℕ). y < n) v.2 (w.inside v.0 v.1)))
       where
@@ -60,7 +60,7 @@ module _ (M : ℕ → ℕ → ℤ) (t c n : ℕ) where
           apart k (omega arith),
         )
 
-    -- fewer lines are looked at again
+    -- fewer lines are examined again
     pub fewer : (h : ℕ) (P Q : ℕ → ℕ → Type 0) → IsPrefix M t c n s key h P → ((r x : ℕ) → Q r x → P r x) → IsPrefix M t c n s key h Q
     fewer h P Q w f = record {
       queue = w.queue;
@@ -70,11 +70,11 @@ module _ (M : ℕ → ℕ → ℤ) (t c n : ℕ) where
       prefix = λ j r x l m q. w.prefix j r x l m (f r x q);
     }
 
-    -- a column that was met already was met no later
+    -- a column that is met already is met no later
     pub met_before : (h r x : ℕ) (P : ℕ → ℕ → Type 0) → IsPrefix M t c n s key h P → h < s.count → s.place x < 4294967295 → P r x → IsMet M t c n s key x (key h ++ r ∷ x ∷ [])
     met_before h r x P w l met p = (met, inl (w.prefix (s.place x) r x (w.queue.listed x met).0 l p))
 
-    -- place h is done: all rows before t that meet its column were gone through
+    -- position h is done: the walk has taken all rows before t that meet its column
     pub next : (h r0 x0 : ℕ) (P Q : ℕ → ℕ → Type 0) → IsPrefix M t c n s key h P → h < s.count → P r0 x0 → ((r : ℕ) → Goes M t c n s key h → r < t → M r (s.column h) ≢ pos 0 → s.used r ≡ true) → IsPrefix M t c n s key (suc h) Q
     next h r0 x0 P Q w l p all = record {
       queue = w.queue;
@@ -90,7 +90,7 @@ module _ (M : ℕ → ℕ → ℤ) (t c n : ℕ) where
         here : (i : ℕ) → h ≡ i → (r x : ℕ) → s.used r ≡ true → M r x ≢ pos 0 → IsMet M t c n s key x (key i ++ r ∷ x ∷ [])
         here i q r x u to = let v = w.gone r x u to in (v.0, subst (λ (j : ℕ). IsUpTo (key (s.place x)) (key j ++ r ∷ x ∷ [])) q (v.1 l))
 
-    -- in the middle of place h all is settled, where each row that meets its column was gone through or comes next
+    -- within position h everything is settled, if each row that meets its column is taken or next
     pub settles : (h r0 x0 : ℕ) (P : ℕ → ℕ → Type 0) → IsPrefix M t c n s key h P → h < s.count → P r0 x0
         → ((r x : ℕ) → r < t → M r (s.column h) ≢ pos 0 → (s.used r ≡ true) ⊎ P r x) → IsSettled M t c n s key
     settles h r0 x0 P w l p all i r x lines m goes early from to le = elim (cases_lt i h) [
@@ -106,7 +106,7 @@ module _ (M : ℕ → ℕ → ℤ) (t c n : ℕ) where
         here e (inl u) = let v = w.gone r x u to in inl (v.0, up_to_trans (key (s.place x)) (key h ++ r ∷ x ∷ []) (lines ++ r ∷ x ∷ []) (v.1 l) (up_to_more (key h) lines r x e))
         here e (inr q) = inr (λ j k. before_up_to (key j) (key h ++ r ∷ x ∷ []) (lines ++ r ∷ x ∷ []) (w.prefix j r x k l q) (up_to_more (key h) lines r x e))
 
-    -- each trail ends in a column that was met, by a trail that is not after it; or it is late
+    -- each trail ends in a column that is met by a trail that is not after it; or it is late
     compare : (Late : List ℕ → Type 0) → IsQueue M t c n s key → ((lines : List ℕ) (r x : ℕ) → Late lines → Late (lines ++ r ∷ x ∷ []))
         → ((i r x : ℕ) (lines : List ℕ) → i < s.count → Goes M t c n s key i → r < t → M r (s.column i) ≢ pos 0 → M r x ≢ pos 0 → IsUpTo (key i) lines → IsMet M t c n s key x (lines ++ r ∷ x ∷ []) ⊎ Late (lines ++ r ∷ x ∷ []))
         → (size : ℕ) (lines : List ℕ) → length lines < size → IsTrail M t c lines → IsMet M t c n s key (trail_end c lines) lines ⊎ Late lines
@@ -132,7 +132,7 @@ module _ (M : ℕ → ℕ → ℤ) (t c n : ℕ) where
                 (elim p.goes [ inl e ↦ inl (ap (λ (u : List ℕ). s.place (trail_end c u)) e ∙ at_start) | inr z ↦ inr (ap (M t) v.1 ∙ z) ])
                 p.early (subst (λ (y : ℕ). M p.row y ≢ pos 0) (sym v.1) p.from) p.to met.1
 
-    -- where all is settled, the trails to the columns that were met are the least
+    -- if everything is settled, the trails to the columns that are met are least
     pub least : IsQueue M t c n s key → IsSettled M t c n s key → (d : ℕ) (lines : List ℕ) → s.place d < 4294967295 → IsTrail M t c lines → trail_end c lines ≡ d → IsUpTo (key (s.place d)) lines
     least w settled d lines met h e =
         elim (compare (λ (ls : List ℕ). (j : ℕ) → j < s.count → IsShortlexBefore (key j) ls) w (λ ls r x late j l. before_trans (key j) ls (ls ++ r ∷ x ∷ []) (late j l) (longer_before ls r x)) settled (suc (length lines)) lines (omega arith) h) [
@@ -140,7 +140,7 @@ module _ (M : ℕ → ℕ → ℤ) (t c n : ℕ) where
           | inr late ↦ inl (late (s.place d) (w.listed d met).0)
         ]
 
-    -- where all places are done, each trail ends in a column that was met
+    -- if all positions are done, each trail ends in a column that is met
     pub all_met : (P : ℕ → ℕ → Type 0) → IsPrefix M t c n s key s.count P → (lines : List ℕ) → IsTrail M t c lines → s.place (trail_end c lines) < 4294967295
     all_met P w lines h =
         elim (compare (λ (ls : List ℕ). ⊥) w.queue (λ ls r x late. late)
@@ -179,7 +179,7 @@ module _ (M : ℕ → ℕ → ℤ) (t c n : ℕ) where
       here : (x : ℕ) → s.place x < 4294967295 → x ≡ c
       here x m = elim (cases_eq x c) [ inl q ↦ q | inr q ↦ absurd (let a = places x q in omega arith) ]
 
-  -- column x is reached from place h by row r
+  -- the walk reaches column x from position h by row r
   module _ (s s' : Progress) (key : ℕ → List ℕ) (h r x : ℕ) (same : Bool) where
     pub with_key : ℕ → List ℕ
     with_key j = cond (nat_eq j s.count) (key h ++ r ∷ x ∷ []) (key j)
@@ -196,7 +196,7 @@ module _ (M : ℕ → ℕ → ℤ) (t c n : ℕ) where
       few_top : s.count < 4294967295
       few_top = let b = few s key w.queue in omega arith
 
-      -- what was met before keeps its place and its trail
+      -- a column that is met keeps its position and its trail
       old_place : (z : ℕ) → s.place z < 4294967295 → s'.place z ≡ s.place z
       old_place z m = elim (cases_eq z x) [ inl q ↦ absurd (let e = ap s.place q in omega arith) | inr q ↦ o.places z q ]
 
@@ -231,7 +231,7 @@ module _ (M : ℕ → ℕ → ℤ) (t c n : ℕ) where
         new_sum = subst (TwoIf (flip (s.is_two h) same)) (sym (sum_more M t c (key h) r x (w.queue.trail h l)))
             (two_add (s.is_two h) same (trail_sum M c (key h)) (M r (trail_end c (key h)) +ℤ M r x) (w.queue.sums h l) (subst (λ (y : ℕ). TwoIf same (M r y +ℤ M r x)) (sym end_is) two))
 
-        -- what holds of the old places and of the new one holds of all
+        -- a property of the old positions and of the new position is a property of all
         each : (F : ℕ → Type 0) → ((j : ℕ) → j < s.count → F j) → F s.count → (j : ℕ) → j < s'.count → F j
         each F old new j m = elim (cases_lt j s.count) [ inl lt ↦ old j lt | inr ge ↦ let q : s.count ≡ j = let e = o.count in omega arith in subst F q new ]
 

@@ -10,7 +10,7 @@ use Rattle.camion_sign.specs.SignSteps.{AreSigns, IsUnsignedOne, unsigned, LeadT
 use Rattle.camion_sign.specs.Chains.{AreLinked, KeepsRule}
 use Rattle.cmr_base.specs.Components.{IsLineOf}
 
--- labels stand for the rows, and behind them for the columns
+-- the position of a line's label: rows come first, then columns
 abbrev pub label_place : Matrix → Line → ℕ
 label_place a (Row row) = row
 label_place a (Column column) = height a + column
@@ -18,22 +18,22 @@ label_place a (Column column) = height a + column
 abbrev pub label_in : Matrix → List ℕ → Line → ℕ
 label_in a labels line = slice_index labels (label_place a line)
 
--- lines have one label exactly where signed entries link them
+-- two lines have one label if and only if signed entries link them
 pub record AreLabels (a s : Matrix) (labels : List ℕ) : Type 0 where
   pub one_each : length labels ≡ height a + a.width
   pub joined : (row column : ℕ) → entry s row column ≢ pos 0 → label_in a labels (Row row) ≡ label_in a labels (Column column)
   pub linked : (x y : Line) → IsLineOf a x → IsLineOf a y → label_in a labels x ≡ label_in a labels y → AreLinked s x y
 
--- a one without sign, at another place
+-- a one without sign in another position
 pub record IsOpenBut (a s : Matrix) (row column i j : ℕ) : Type 0 where
   pub open_one : IsUnsignedOne a s i j
   pub other : (i ≢ row) ⊎ (j ≢ column)
 
--- all ones of some lines have signs, but for one place
+-- all ones in the submatrix of some lines have signs, except in one position
 abbrev pub AllSignedBut : Matrix → Matrix → List ℕ → List ℕ → ℕ → ℕ → Type 0
 AllSignedBut a s rows columns row column = (i j : ℕ) → IsIn i rows → IsIn j columns → entry a i j ≢ pos 0 → (i ≢ row) ⊎ (j ≢ column) → entry s i j ≢ pos 0
 
--- the first steps keep their rules; where they are not all, the next one breaks its own
+-- the first `kept` steps keep their rules, and the next step, if there is one, breaks its rule
 pub record HasFollowed (a : Matrix) (steps : List SignStep) (followed : Followed) : Type 0 where
   pub within : followed.kept ≤ length steps
   pub signs : AreSigns a followed.signs

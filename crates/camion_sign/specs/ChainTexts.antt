@@ -1,4 +1,4 @@
--- Chain texts: a version, the matrix's sizes and a count, then so many steps, and a violator.
+-- Chain texts: a version, the matrix's sizes, the number of steps, the steps, and a violator.
 use Rattle.std.specs.Prelude.{◌<◌, ◌-◌, ◌*◌, ◌++◌, if◌then◌else◌, ℕ, List, [], ◌∷◌, length, map, codes, bytes_eq, Result, Ok, Err}
 use Rattle.std.specs.Fmt.{decimal}
 use Rattle.std.specs.List.Sorted.{IsStrictlyIncreasing}
@@ -20,11 +20,11 @@ use Rattle.camion_sign.specs.declared.step.SignStep.TheVariants.{Free, Forced}
 use Rattle.camion_sign.specs.declared.step.SizedChain.{SizedChain}
 use Rattle.camion_sign.specs.ChainKinds.{chain_kind}
 
--- a count of at most so much
+-- a count up to a limit
 abbrev pub limited : ℕ → List ℕ → Result ℕ ChainKind
 limited most word = renamed chain_kind (limits.limited most word)
 
--- the number of a line, from 1 to so many
+-- the number of a line, from 1 to a limit
 abbrev pub line_in : ℕ → List ℕ → Result ℕ ChainKind
 line_in most word = renamed chain_kind (limits.line_in most word)
 
@@ -32,7 +32,7 @@ line_in most word = renamed chain_kind (limits.line_in most word)
 abbrev pub increasing_line_in : ℕ → ℕ → List ℕ → Result ℕ ChainKind
 increasing_line_in most before word = renamed chain_kind (limits.increasing_line_in most before word)
 
--- this very word
+-- a given word
 abbrev pub word_in : List ℕ → ChainKind → List ℕ → Result (Unit {0}) ChainKind
 word_in expected other word = limits.word_in other expected word
 
@@ -40,7 +40,7 @@ word_in expected other word = limits.word_in other expected word
 abbrev pub step_name_in : List ℕ → Result StepName ChainKind
 step_name_in word = if bytes_eq word (codes "free") then Ok names.Free else (if bytes_eq word (codes "forced") then Ok names.Forced else Err UnknownStep)
 
--- one more line, above the one before it
+-- another line, above the line before it
 abbrev pub another_line : ℕ → List ℕ → Text → Result (List ℕ × Text) (Fault ChainKind)
 another_line most lines text = do
   number ← field Short (increasing_line_in most (last_number lines)) text
@@ -49,7 +49,7 @@ another_line most lines text = do
 abbrev pub increasing_lines : ℕ → ℕ → Text → Result (List ℕ × Text) (Fault ChainKind)
 increasing_lines most n text = times (another_line most) n [] text
 
--- two counts, and then so many rows and so many columns
+-- two counts, then the rows and the columns
 abbrev pub line_set : ℕ → ℕ → Text → Result (LineSet × Text) (Fault ChainKind)
 line_set height width text = do
   row_count ← field Short (limited height) text
@@ -58,7 +58,7 @@ line_set height width text = do
   columns ← increasing_lines width column_count.0 rows.1
   Ok (record { rows = rows.0; columns = columns.0 }, columns.1)
 
--- what stands behind the name, the row and the column of a step
+-- the rest of a step after its name, row and column
 abbrev pub step_of : ℕ → ℕ → StepName → ℕ → ℕ → Text → Result (SignStep × Text) (Fault ChainKind)
 step_of height width names.Free row column text = Ok (Free row column, text)
 step_of height width names.Forced row column text = do
@@ -73,13 +73,13 @@ next_step height width text = do
   column ← field Short (line_in width) row.1
   step_of height width name.0 (row.0 - 1) (column.0 - 1) column.1
 
--- one more step
+-- another step
 abbrev pub another_step : ℕ → ℕ → List SignStep → Text → Result (List SignStep × Text) (Fault ChainKind)
 another_step height width steps text = do
   step ← next_step height width text
   Ok (steps ++ step.0 ∷ [], step.1)
 
--- reading: the chain that a text stands for, or its first fault
+-- reading: the chain that a text represents, or its first fault
 abbrev pub chain : Text → Result SizedChain (Fault ChainKind)
 chain text = do
   form ← field Short (word_in (codes "cmr-chain") WrongVersion) text
@@ -108,7 +108,7 @@ chain_lines sized =
 abbrev pub chain_text : SizedChain → List ℕ
 chain_text sized = text_of_lines (chain_lines sized)
 
--- ---- what can be written for a matrix of these sizes
+-- ---- chains that can be written for a matrix of these sizes
 
 abbrev pub AreLinesIn : ℕ → ℕ → LineSet → Type 0
 AreLinesIn height width lines = AllBelow height lines.rows × AllBelow width lines.columns
@@ -117,7 +117,7 @@ abbrev pub IsStepIn : ℕ → ℕ → SignStep → Type 0
 IsStepIn height width (Free row column) = (row < height) × (column < width)
 IsStepIn height width (Forced row column cycle) = (row < height) × (column < width) × AreLinesIn height width cycle
 
--- what every set of lines is
+-- a property of every set of lines
 abbrev pub AreIncreasing : LineSet → Type 0
 AreIncreasing lines = IsStrictlyIncreasing lines.rows × IsStrictlyIncreasing lines.columns
 

@@ -1,4 +1,4 @@
--- Chains: steps that sign ones of a 0/1 matrix with no choice but the signs of whole lines, and a violator of these signs.
+-- Chains: steps that sign ones of a 0/1 matrix without a choice except the signs of whole lines, and a violator of these signs.
 use Rattle.std.specs.Prelude.{◌≡◌, ◌≢◌, ◌≤◌, ◌+◌, ◌⊎◌, ℕ, ℤ, pos, List, [], ◌∷◌, take, drop, length}
 use Rattle.cmr_base.specs.Matrix.{Matrix, height, entry, with_entry, IsTernary}
 use Rattle.cmr_base.specs.Members.{IsIn}
@@ -15,14 +15,14 @@ use Rattle.camion_sign.specs.declared.step.SignStep.TheVariants.{Free, Forced}
 use Rattle.camion_sign.specs.declared.step.SizedChain.{SizedChain}
 use Rattle.camion_sign.specs.SignSteps.{IsZeroModFour, IsUnsignedOne, unsigned, LeadTo}
 
--- a row and a column that cross in a nonzero
+-- a row and a column with a nonzero at their crossing
 abbrev pub AreJoined : Matrix → Line → Line → Type 0
 AreJoined s (Row row) (Row other) = ⊥
 AreJoined s (Row row) (Column column) = entry s row column ≢ pos 0
 AreJoined s (Column column) (Row row) = entry s row column ≢ pos 0
 AreJoined s (Column column) (Column other) = ⊥
 
--- from a line over some lines to a line, each joined to the next
+-- from a line through a list of lines to a line, each joined to the next
 abbrev pub JoinsTo : Matrix → Line → List Line → Line → Type 0
 JoinsTo s from [] to = from ≡ to
 JoinsTo s from (line ∷ lines) to = AreJoined s from line × JoinsTo s line lines to
@@ -30,17 +30,17 @@ JoinsTo s from (line ∷ lines) to = AreJoined s from line × JoinsTo s line lin
 abbrev pub AreLinked : Matrix → Line → Line → Type 0
 AreLinked s from to = (lines : List Line) × JoinsTo s from lines to
 
--- a free step: the one's row and column are not linked by signed entries
+-- a free step: signed entries do not link the one's row and column
 pub record IsFreeStep (a s : Matrix) (row column : ℕ) : Type 0 where
   pub here : IsUnsignedOne a s row column
   pub apart : ¬ (AreLinked s (Row row) (Column column))
 
--- in a 0/1 matrix: each of these lines has exactly two ones in them
+-- in a 0/1 matrix: each of these lines has exactly two ones in their submatrix
 pub record HasTwoEach (a : Matrix) (rows columns : List ℕ) : Type 0 where
   pub row_twos : (row : ℕ) → IsIn row rows → sum_over columns (λ column. entry a row column) ≡ pos 2
   pub column_twos : (column : ℕ) → IsIn column columns → sum_over rows (λ row. entry a row column) ≡ pos 2
 
--- a forced step: the one lies in lines with two ones each, of which all others are signed, and its sign makes the sum there
+-- a forced step: the one is in lines with two ones each; all other ones there are signed, and its sign makes the sum there
 -- divisible by 4
 pub record IsForcedStep (a s : Matrix) (row column : ℕ) (cycle : LineSet) (sign : ℤ) : Type 0 where
   pub here : IsUnsignedOne a s row column
@@ -65,7 +65,7 @@ pub record IsSignedViolator (a s : Matrix) (lines : LineSet) : Type 0 where
   pub all_signed : (i j : ℕ) → IsIn i lines.rows → IsIn j lines.columns → entry a i j ≢ pos 0 → entry s i j ≢ pos 0
   pub violator : IsViolator (entry s) lines.rows lines.columns
 
--- the chain's sizes are the matrix's
+-- the chain's sizes are the sizes of the matrix
 abbrev pub HasChainSizes : Matrix → SizedChain → Type 0
 HasChainSizes a chain = (chain.rows ≡ height a) × (chain.columns ≡ a.width)
 
@@ -75,13 +75,13 @@ pub record IsSoundChain (a : Matrix) (chain : SizedChain) (signs : Matrix) : Typ
   pub steps : LeadTo (KeepsRule a) (unsigned a) chain.chain.steps signs
   pub violator : IsSignedViolator a signs chain.chain.violator
 
--- the first of these steps breaks its rule; where there is none, the violator does
+-- the first of these steps breaks its rule, or the violator does if there are no steps
 abbrev pub Breaks : Matrix → Matrix → List SignStep → LineSet → Type 0
 Breaks a s [] lines = ¬ (IsSignedViolator a s lines)
 Breaks a s (step ∷ steps) lines = (sign : ℤ) → ¬ (KeepsRule a s step sign)
 
--- this part, counted from 1, is the first that breaks its rule; the violator counts as the step after the last. Where the
--- chain's sizes are not the matrix's, it is the first part.
+-- this part, counted from 1, is the first that breaks its rule; the violator is the part after the last step. If the chain's
+-- sizes are not the sizes of the matrix, it is the first part.
 pub record IsFirstBrokenPart (a : Matrix) (chain : SizedChain) (part : ℕ) : Type 0 where
   pub before : ℕ
   pub part_is : part ≡ before + 1

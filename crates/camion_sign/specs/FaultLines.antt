@@ -19,28 +19,28 @@ pub record IsFirstFault (m : Matrix) (t c d : ℕ) (lines : List ℕ) : Type 0 w
   pub fault : IsFaultAt (entry m) t c d lines
   pub first : (t' c' d' : ℕ) → IsEarlierPlace t' c' d' t c d → HasNoFaultAt m t' c' d'
 
--- the numbers below x that have the property, increasing
+-- the numbers below x that have the property, in increasing order
 pub record IsBuilt (P : ℕ → Type 0) (x : ℕ) (list : List ℕ) : Type 0 where
   pub increasing : IsStrictlyIncreasing list
   pub members : (y : ℕ) → IsIn y list ↔ ((y < x) × P y)
 
--- the least of these lines that is at least a number, where there is one
+-- the least of these lines that is at least a number, if there is one
 abbrev pub IsLeastFrom : List ℕ → ℕ → Option ℕ → Type 0
 IsLeastFrom lines from found = MatchOption found ((x : ℕ) → IsIn x lines → x < from) (λ line. IsIn line lines × (from ≤ line) × ((x : ℕ) → IsIn x lines → from ≤ x → line ≤ x))
 
--- a line, where it is below a bound
+-- a line, if it is below a bound
 abbrev pub within : Option ℕ → ℕ → Option ℕ
 within None bound = None
 within (Some line) bound = if nat_lt line bound then Some line else None
 
--- the lines that are found are those before a number, and the next one is the least that is not
+-- the lines found so far are the lines below `from`, and the next line is the least of the others
 pub record IsGathering (lines : List ℕ) (bound : ℕ) (next : Option ℕ) (found : List ℕ) : Type 0 where
   pub from : ℕ
   pub inside : from ≤ bound
   pub built : IsBuilt (λ line. IsIn line lines) from found
   pub least : IsLeastFrom lines from next
 
--- how much is left to gather
+-- a bound on the number of lines that are not gathered yet
 abbrev pub left_to_gather : ℕ → Option ℕ → ℕ
 left_to_gather bound None = 0
 left_to_gather bound (Some line) = suc (bound - line)

@@ -22,11 +22,11 @@ pub record IsFullSquare (m : Matrix) (i k c d : ℕ) : Type 0 where
 abbrev pub FullSquaresHaveProductOne : Type 0
 FullSquaresHaveProductOne = (m : Matrix) → IsTernary m → HasNoCycleFault (entry m) → (i k c d : ℕ) → IsFullSquare m i k c d → (entry m i c *ℤ entry m i d) *ℤ (entry m k c *ℤ entry m k d) ≡ pos 1
 
--- where a chain is sound, each signing of the support has a violator
+-- if a chain is sound, each signing of the support has a violator
 abbrev pub ChainsMeanViolators : Type 0
 ChainsMeanViolators = (a m signs : Matrix) (chain : SizedChain) → IsBinary a → IsTernary a → IsSoundChain a chain signs → IsTernary m → HaveOneSupport a m → ¬ (HasNoViolator m)
 
--- so none is totally unimodular
+-- if a chain is sound, no signing is totally unimodular
 abbrev pub ChainsRefuteRegularity : Type 0
 ChainsRefuteRegularity = (a signs : Matrix) (chain : SizedChain) → IsBinary a → IsTernary a → IsSoundChain a chain signs → ¬ (IsRegular a)
 
@@ -34,6 +34,6 @@ ChainsRefuteRegularity = (a signs : Matrix) (chain : SizedChain) → IsBinary a 
 abbrev pub CycleFaultsDecide : Type 0
 CycleFaultsDecide = (m n : Matrix) → IsTernary m → IsTernary n → HaveOneSupport m n → IsTotallyUnimodular n → IsTotallyUnimodular m ↔ HasNoCycleFault (entry m)
 
--- Camion's signing of a 0/1 matrix decides: the matrix is regular exactly where the signed one has no violator
+-- the matrix is regular if and only if Camion's signing of it has no violator
 abbrev pub SigningsDecideRegularity : Type 0
 SigningsDecideRegularity = (a m : Matrix) (steps : List SignStep) → IsMatrix a → IsBinary a → IsTernary m → HaveOneSupport a m → IsSignedBy a steps m → IsRegular a ↔ HasNoViolator m

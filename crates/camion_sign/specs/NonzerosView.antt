@@ -1,13 +1,13 @@
 use Rattle.std.specs.Prelude.{◌≤◌, ◌-◌, ℕ, List, [], ◌∷◌, length, take, drop}
 use Rattle.camion_sign.specs.declared.nonzeros.Nonzeros.TheInside.{Inside}
 
--- places cut at some starts
+-- a list cut at given starts
 abbrev pub cut : List ℕ → List ℕ → List (List ℕ)
 cut places [] = []
 cut places (from ∷ []) = []
 cut places (from ∷ to ∷ starts) = take (to - from) (drop from places) ∷ cut places (to ∷ starts)
 
--- the starts do not fall, and stay within so many places
+-- the starts never decrease, and are at most a bound
 abbrev pub AreStarts : ℕ → List ℕ → Type 0
 AreStarts count [] = Unit {0}
 AreStarts count (from ∷ []) = from ≤ count

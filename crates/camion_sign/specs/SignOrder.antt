@@ -1,4 +1,4 @@
--- Camion's signing of a 0/1 matrix: the signs that cycle places force, and +1 where nothing is forced.
+-- Camion's signing of a 0/1 matrix: the signs that cycle places force, and +1 if nothing is forced.
 use Rattle.std.specs.Prelude.{◌≡◌, ◌≢◌, ◌<◌, ◌⊎◌, ◌↔◌, ℕ, ℤ, pos, List}
 use Rattle.cmr_base.specs.Matrix.{Matrix, entry, with_entry}
 use Rattle.cmr_base.specs.Members.{IsIn}
@@ -10,7 +10,7 @@ use Rattle.camion_sign.specs.declared.step.SignStep.{SignStep}
 use Rattle.camion_sign.specs.declared.step.SignStep.TheVariants.{Free, Forced}
 use Rattle.camion_sign.specs.SignSteps.{IsZeroModFour, IsUnsignedOne, AllSigned, unsigned, LeadTo}
 
--- two columns make a cycle place with a row; the lesser of them stands first in it
+-- two columns make a cycle place with a row; the lesser column is the first of the place
 abbrev pub IsPlaceOf : Matrix → ℕ → ℕ → ℕ → List ℕ → Type 0
 IsPlaceOf a row c d path = IsCyclePlace (entry a) row c d path ⊎ IsCyclePlace (entry a) row d c path
 
@@ -27,8 +27,8 @@ pub record IsCycleLines (a : Matrix) (row c d : ℕ) (cycle : LineSet) : Type 0 
   pub rows_are : (line : ℕ) → IsIn line cycle.rows ↔ IsIn line (cycle_rows row path)
   pub columns_are : (line : ℕ) → IsIn line cycle.columns ↔ IsIn line (cycle_columns c d path)
 
--- the next forced entry of a row: its column is the least that makes a cycle place with a signed one, and its partner is the
--- least of these; its sign makes the sum of the place's cycle divisible by 4
+-- the next forced entry of a row. Its column is the least that makes a cycle place with a signed column, and its partner is the
+-- least such signed column. Its sign makes the sum of the place's cycle divisible by 4.
 pub record IsNextForced (a s : Matrix) (row column : ℕ) (cycle : LineSet) (sign : ℤ) : Type 0 where
   pub here : IsUnsignedOne a s row column
   pub partner : ℕ
@@ -39,7 +39,7 @@ pub record IsNextForced (a s : Matrix) (row column : ℕ) (cycle : LineSet) (sig
   pub is_sign : IsSign sign
   pub four : IsZeroModFour (submatrix_sum (with_entry s row column sign) cycle.rows cycle.columns)
 
--- the next free entry of a row: its first one without sign, where nothing is forced
+-- the next free entry of a row: its first one without sign, if nothing is forced
 pub record IsNextFree (a s : Matrix) (row column : ℕ) : Type 0 where
   pub here : IsUnsignedOne a s row column
   pub least : (d : ℕ) → d < column → ¬ (IsUnsignedOne a s row d)
@@ -54,7 +54,7 @@ abbrev pub IsNextSign : Matrix → Matrix → SignStep → ℤ → Type 0
 IsNextSign a s (Free row column) sign = IsRowsTurn a s row × IsNextFree a s row column × (sign ≡ pos 1)
 IsNextSign a s (Forced row column cycle) sign = IsRowsTurn a s row × IsNextForced a s row column cycle sign
 
--- these signs come of these steps, in this order
+-- these steps, in this order, give these signs
 pub record IsSignedBy (a : Matrix) (steps : List SignStep) (m : Matrix) : Type 0 where
   pub steps_are : LeadTo (IsNextSign a) (unsigned a) steps m
   pub all_signed : AllSigned a m

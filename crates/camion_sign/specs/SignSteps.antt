@@ -8,11 +8,11 @@ use Rattle.camion_sign.specs.declared.step.SignStep.TheVariants.{Free, Forced}
 abbrev pub IsZeroModFour : ℤ → Type 0
 IsZeroModFour z = (k : ℤ) × (z ≡ (k +ℤ k) +ℤ (k +ℤ k))
 
--- The signs given so far are a matrix that is 0 where no sign is given yet.
+-- the signs given so far are a matrix, which is 0 in each position without a sign
 abbrev pub unsigned : Matrix → Matrix
 unsigned m = record { rows = replicate (height m) (replicate m.width (pos 0)); width = m.width }
 
--- signs of a matrix: of its sizes, and 0 where it is 0
+-- signs of a matrix: a matrix of its sizes, which is 0 in each position in which the matrix is 0
 pub record AreSigns (a s : Matrix) : Type 0 where
   pub ternary : IsTernary s
   pub same_height : height s ≡ height a
@@ -36,11 +36,11 @@ abbrev pub step_column : SignStep → ℕ
 step_column (Free row column) = column
 step_column (Forced row column cycle) = column
 
--- the signs with that of one more step
+-- the signs after another step
 abbrev pub signed_by : Matrix → SignStep → ℤ → Matrix
 signed_by s step sign = with_entry s (step_row step) (step_column step) sign
 
--- the steps lead from some signs to others, where each keeps the rule for its sign
+-- the steps lead from one matrix of signs to another, and each keeps the rule for its sign
 abbrev pub LeadTo : (Matrix → SignStep → ℤ → Type 0) → Matrix → List SignStep → Matrix → Type 0
 LeadTo Rule s [] end = s ≡ end
 LeadTo Rule s (step ∷ steps) end = (sign : ℤ) × Rule s step sign × LeadTo Rule (signed_by s step sign) steps end

@@ -9,7 +9,7 @@ use Rattle.camion_sign.specs.declared.signing.Signing.{Signing}
 use Rattle.camion_sign.specs.SignSteps.{AreSigns, IsUnsignedOne, unsigned, LeadTo}
 use Rattle.camion_sign.specs.SignOrder.{IsForcedBy, IsPlaceOf, IsRowsTurn, IsNextSign}
 
--- whether two columns make a cycle place with row t
+-- z is not 0 if and only if two columns make a cycle place with row t
 pub record TellsPlace (m : Matrix) (t c d : ℕ) (z : ℤ) : Type 0 where
   pub place : z ≢ pos 0 → (path : List ℕ) × IsCyclePlace (entry m) t c d path
   pub none : z ≡ pos 0 → (path : List ℕ) → ¬ (IsCyclePlace (entry m) t c d path)
@@ -20,23 +20,23 @@ pub record AreSquare (m links : Matrix) : Type 0 where
   pub links_height : height links ≡ m.width
   pub links_width : links.width ≡ m.width
 
--- for a first column, and all last columns before a bound
+-- the same for a first column, and all last columns before a bound
 abbrev pub TellsFrom : Matrix → ℕ → ℕ → ℕ → Matrix → Type 0
 TellsFrom m t c bound links = (d : ℕ) → c < d → d < bound → entry m t d ≢ pos 0 → TellsPlace m t c d (entry links c d)
 
--- room for the places of each row
+-- room for the places of any row
 pub record HasRoomForPlaces (m : Matrix) (places : RowPlaces) : Type 0 where
   pub fits : HasPlacesAndMarks m places.walk
   pub square : AreSquare m places.links
   pub one_each : length places.known.items ≡ m.width
 
--- what is known of the places of row t, and the last walk
+-- the known places of row t, and the last walk
 pub record KnowsPlaces (m : Matrix) (t : ℕ) (places : RowPlaces) : Type 0 where
   pub room : HasRoomForPlaces m places
   pub tells : (c : ℕ) → slice_index_or places.known.items c false ≡ true → TellsFrom m t c m.width places.links
   pub walked : (c : ℕ) → places.walked ≡ Some c → HasWalked m t c places.walk
 
--- the signed columns of a row, and for each column with how many of the first of them it makes no cycle place
+-- the signed columns of a row, and for each column the number of first signed columns with which it makes no cycle place
 pub record KnowsSigned (a s : Matrix) (row : ℕ) (signed : SignedColumns) : Type 0 where
   pub one_each : length signed.passed.items ≡ a.width
   pub within : (d : ℕ) → slice_index signed.passed.items d ≤ length signed.columns.items
@@ -70,7 +70,7 @@ pub record IsForcedColumn (a s : Matrix) (row column : ℕ) : Type 0 where
 abbrev pub NoneForced : Matrix → Matrix → ℕ → Type 0
 NoneForced a s row = (d : ℕ) → IsUnsignedOne a s row d → (c : ℕ) → ¬ (IsForcedBy a s row d c)
 
--- how many ones of the row before a column have no sign
+-- the number of ones of the row before a column that have no sign
 abbrev pub unsigned_before : Matrix → Matrix → ℕ → ℕ → ℕ
 unsigned_before a s row zero = 0
 unsigned_before a s row (suc column) =

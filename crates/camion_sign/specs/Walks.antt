@@ -1,5 +1,4 @@
--- Breadth-first walks from a column over the rows before one, first come, first served. The columns are reached in the order of their
--- least trails.
+-- Breadth-first walks from a column over the rows before t. The walk reaches columns in the order of their least trails.
 use Rattle.std.specs.Prelude.{ℕ, List, [], ◌∷◌, ◌++◌, Bool, true, false, not, ℤ, pos, ◌+ℤ◌, ◌≡◌, ◌≢◌, ◌<◌, ◌≤◌, ◌⊎◌, length, slice_index, slice_index_or}
 use Rattle.cmr_base.specs.Matrix.{Matrix, height, entry, IsMatrix}
 use Rattle.cmr_base.specs.CyclePlaces.{IsPath}
@@ -9,19 +8,19 @@ use Rattle.camion_sign.specs.declared.walk.TheConstants.{UNREACHED}
 use Rattle.camion_sign.specs.declared.walk.Walk.{Walk}
 use Rattle.camion_sign.specs.Trails.{IsShortlexBefore, IsUpTo, IsTrail, trail_end, trail_sum}
 
--- true an odd number of times
+-- negated if the first is true
 abbrev pub flip : Bool → Bool → Bool
 flip true b = not b
 flip false b = b
 
--- 2 modulo 4, or 0 modulo 4
+-- the number is 2 modulo 4 if the value is true, and 0 modulo 4 if it is false
 abbrev pub TwoIf : Bool → ℤ → Type 0
 TwoIf true z = IsTwoModFour z
 TwoIf false z = (k : ℤ) × (z ≡ (k +ℤ k) +ℤ (k +ℤ k))
 
--- the state of a walk: the columns in the order in which they were reached, each with the row and the place of the column from
--- which it was, and whether its trail has the sum 2 modulo 4; the place of each column, or the greatest number; the rows that
--- were gone through
+-- The state of a walk. `column` lists the reached columns in order. Each has a row and the position of the column from which
+-- the walk reached it, and `is_two` says whether its trail has the sum 2 modulo 4. `place` is the position of each column, or
+-- the greatest number without one. `used` marks the rows that the walk has taken.
 pub record Progress : Type 0 where
   pub count : ℕ
   pub column : ℕ → ℕ
@@ -49,7 +48,7 @@ progress steps places used = record {
 }
 
 module _ (M : ℕ → ℕ → ℤ) (t c n : ℕ) (s : Progress) (key : ℕ → List ℕ) where
-  -- the columns that were reached, and their trails
+  -- the reached columns, and their trails
   pub record IsQueue : Type 0 where
     pub some : 0 < s.count
     pub first : s.column 0 ≡ c
@@ -65,15 +64,16 @@ module _ (M : ℕ → ℕ → ℤ) (t c n : ℕ) (s : Progress) (key : ℕ → L
     pub earlier : (j : ℕ) → 0 < j → j < s.count → s.before j < j
     pub parent : (j : ℕ) → 0 < j → j < s.count → key j ≡ key (s.before j) ++ s.row j ∷ s.column j ∷ []
 
-  -- a trail may go on from this place
+  -- a trail may continue from this position
   abbrev pub Goes : ℕ → Type 0
   Goes j = (j ≡ 0) ⊎ (M t (s.column j) ≡ pos 0)
 
-  -- the column was reached by a trail that is not after this one
+  -- the walk has reached the column by a trail that is not after this trail
   abbrev pub IsMet : ℕ → List ℕ → Type 0
   IsMet x lines = (s.place x < UNREACHED) × IsUpTo (key (s.place x)) lines
 
-  -- those before place h are done; what comes next comes by this row or a later one, and this column or a later one
+  -- the positions before h are done, and each reached trail is before every trail from position h by a row and a column of
+  -- `Next`
   pub record IsPrefix (h : ℕ) (Next : ℕ → ℕ → Type 0) : Type 0 where
     pub queue : IsQueue
     pub fits : h ≤ s.count
@@ -81,35 +81,35 @@ module _ (M : ℕ → ℕ → ℤ) (t c n : ℕ) (s : Progress) (key : ℕ → L
     pub gone : (r x : ℕ) → s.used r ≡ true → M r x ≢ pos 0 → (s.place x < UNREACHED) × (h < s.count → IsUpTo (key (s.place x)) (key h ++ r ∷ x ∷ []))
     pub prefix : (j r x : ℕ) → j < s.count → h < s.count → Next r x → IsShortlexBefore (key j) (key h ++ r ∷ x ∷ [])
 
-  -- nothing that a trail can still reach comes before what was reached
+  -- a trail that continues a reached trail is met, or after all reached trails
   abbrev pub IsSettled : Type 0
   IsSettled = (i r x : ℕ) (lines : List ℕ) → i < s.count → Goes i → r < t → M r (s.column i) ≢ pos 0 → M r x ≢ pos 0 → IsUpTo (key i) lines
       → IsMet x (lines ++ r ∷ x ∷ []) ⊎ ((j : ℕ) → j < s.count → IsShortlexBefore (key j) (lines ++ r ∷ x ∷ []))
 
--- as many places as columns and as many marks as rows
+-- as many positions as columns, and as many marks as rows
 pub record HasPlacesAndMarks (m : Matrix) (walk : Walk) : Type 0 where
   pub matrix : IsMatrix m
   pub places : length walk.places.items ≡ m.width
   pub used : length walk.used.items ≡ height m
 
--- a walk from column c before row t, at place h, where rows below `low` are not looked at again for this place
+-- a walk from column c over the rows before t, at position h; it examines no row below `low` again for this position
 pub record IsWalking (m : Matrix) (t c h low : ℕ) (walk : Walk) : Type 0 where
   pub fits : HasPlacesAndMarks m walk
   pub key : ℕ → List ℕ
   pub prefix : IsPrefix (entry m) t c m.width (progress walk.steps.items walk.places.items walk.used.items) key h (λ r x. low ≤ r)
 
--- place h is one of the walk, and a trail may go on from it
+-- position h is in the walk, and a trail may continue from it
 pub record IsOpen (m : Matrix) (t h : ℕ) (walk : Walk) : Type 0 where
   pub within : h < length walk.steps.items
   pub goes : (h ≡ 0) ⊎ (entry m t (step_at walk.steps.items h).column ≡ pos 0)
 
--- columns that were reached stay reached, and steps stay
+-- reached columns stay reached, and steps stay
 pub record GrowsFrom (old new : Walk) : Type 0 where
   pub longer : length old.steps.items ≤ length new.steps.items
   pub steps : (j : ℕ) → j < length old.steps.items → step_at new.steps.items j ≡ step_at old.steps.items j
   pub places : (x : ℕ) → place_in old.places.items x < UNREACHED → place_in new.places.items x < UNREACHED
 
--- in the middle of the columns that row r meets, from the step at place h: the first k are reached
+-- among the columns that row r meets, from the step at position h: the first k are reached
 pub record IsReaching (m : Matrix) (t c h r : ℕ) (columns : List ℕ) (k : ℕ) (from : ReachedColumn) (old walk : Walk) : Type 0 where
   pub fits : HasPlacesAndMarks m walk
   pub grows : GrowsFrom old walk
@@ -129,7 +129,7 @@ IsUntouched m t x = (r : ℕ) → r < t → entry m r x ≢ pos 0 → ⊥
 abbrev pub NoneWaits : Matrix → ℕ → ℕ → ℕ → List ℕ → Type 0
 NoneWaits m t c pending places = (d : ℕ) → c < d → d < pending → entry m t d ≢ pos 0 → (place_in places d ≢ UNREACHED) ⊎ IsUntouched m t d
 
--- in the middle of the rows that the column at place h meets: the first k are gone through
+-- among the rows that the column at position h meets: the first k are taken
 pub record IsSpreading (m : Matrix) (t c h : ℕ) (rows : List ℕ) (k pending : ℕ) (old walk : Walk) : Type 0 where
   pub low : ℕ
   pub walking : IsWalking m t c h low walk
@@ -141,20 +141,20 @@ pub record IsSpreading (m : Matrix) (t c h : ℕ) (rows : List ℕ) (k pending :
   pub pending_in : pending ≤ m.width
   pub waits : NoneWaits m t c pending walk.places.items
 
--- the walk may end: all that it looks for is settled
+-- the walk may end: everything that it searches for is settled
 pub record HasSettled (m : Matrix) (t c : ℕ) (walk : Walk) : Type 0 where
   pub fits : HasPlacesAndMarks m walk
   pub key : ℕ → List ℕ
   pub queue : IsQueue (entry m) t c m.width (progress walk.steps.items walk.places.items walk.used.items) key
   pub settled : IsSettled (entry m) t c m.width (progress walk.steps.items walk.places.items walk.used.items) key
 
--- between two places
+-- between two positions
 pub record IsGoing (m : Matrix) (t c h pending : ℕ) (walk : Walk) : Type 0 where
   pub state : IsWalking m t c h 0 walk ⊎ ((pending ≡ m.width) × HasSettled m t c walk)
   pub pending_in : pending ≤ m.width
   pub waits : NoneWaits m t c pending walk.places.items
 
--- what a walk has found out: the least trails to the columns that it reached, and that there are no paths to others
+-- the result of a walk: the least trails to the reached columns, and no paths to the others
 pub record HasWalked (m : Matrix) (t c : ℕ) (walk : Walk) : Type 0 where
   pub fits : HasPlacesAndMarks m walk
   pub key : ℕ → List ℕ

@@ -3,28 +3,28 @@ ghost use Rattle.camion_sign.specs.ChainKinds.{chain_kind};
 
 use text_fields::{FieldError, LimitFault, NumberFault};
 
-/// What is wrong with a word of a chain text.
+/// The faults of a word of a chain text.
 #[derive(Clone, Copy, Debug, PartialEq, Eq)]
 pub enum ChainKind {
-    /// It has not the form of a number.
+    /// The word is not a number.
     NotNumber,
-    /// Its value is above 2^31 - 1 in size.
+    /// The absolute value is above 2^31 - 1.
     TooBig,
-    /// It is no step's word, or a step's word where the violator is due.
+    /// The word is not the name of a step, or it is the name of a step in the position of the violator.
     UnknownStep,
-    /// The text ends where a word is due.
+    /// The text ends before this word.
     Short,
-    /// It stands behind all that is due.
+    /// The word is after the end of the chain.
     Extra,
-    /// It is not above the number before it.
+    /// The number is not greater than the number before it.
     NotRising,
-    /// It is no size, count or line that the text can have.
+    /// The number is not a size, a count or a line that the text can have.
     OutOfRange,
-    /// It is not the text's first word or its version.
+    /// The word is not the text's first word or its version.
     WrongVersion,
 }
 
-/// Why a chain text was not read: its first fault with its place, or want of memory.
+/// The error of reading a chain text: its first fault with its position, or out of memory.
 pub type ChainError = FieldError<ChainKind>;
 
 impl From<LimitFault> for ChainKind {

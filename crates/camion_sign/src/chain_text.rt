@@ -1,4 +1,4 @@
-// Chain texts, read.
+// Reads chain texts.
 ghost use Rattle.std.specs.Prelude.{◌≡◌, ◌≤◌, ◌<◌, ◌*◌, ◌-◌, IfOk, []};
 ghost use Rattle.cmr_base.specs.declared.line_set.LineSet.{LineSet};
 ghost use Rattle.text_fields.specs.TextWords.{text_of};
@@ -21,9 +21,9 @@ pub enum StepName {
     Forced,
 }
 
-/// The chain that a text stands for, or the text's first fault: its kind, and the byte at which its word begins, or the
-/// text's length where a word is missing. The version comes first, then the sizes, a count of steps, the steps and the
-/// violator; line numbers are counted from 1.
+/// The chain that a text represents, or the text's first fault: its kind, and the byte at which its word begins, or the text's
+/// length if a word is missing. The text contains the version, the sizes, the number of steps, the steps and the violator, in
+/// this order. Line numbers are counted from 1.
 pub fn read_chain(alloc: Global, bytes: &[u8]) -> Result<SizedChain, ChainError>
     ensures { Gives (λ chain. chain) result (chain (text_of bytes.now)) }
 {
@@ -190,7 +190,7 @@ fn increasing_line(words: &mut Words<'_>, most: u32, before: u32) -> Result<u32,
     at_place(place, named(increasing_line_in(word, most, before)))
 }
 
-// A number within limits, with its fault as chain texts name it.
+// A number within limits, with its fault as a fault of chain texts.
 fn named(parsed: Result<u32, LimitFault>) -> Result<u32, ChainKind>
     ensures { result ≡ renamed chain_kind parsed }
 {

@@ -1,4 +1,4 @@
-// Chain texts, written.
+// Writes chain texts.
 ghost use Rattle.std.specs.Prelude.{◌≡◌, ◌≤◌, ◌<◌, ◌+◌, ◌*◌, ◌∷◌, [], false, codes, fold, length, map, Ok, OnOk, IfOk};
 ghost use Rattle.std.specs.List.{AllByRecursion};
 ghost use Rattle.cmr_base.specs.LineSets.{AllBelow};
@@ -23,7 +23,7 @@ pub fn write_chain(alloc: Global, chain: &Chain, rows: u32, columns: u32) -> Res
       rows = rows;
       columns = columns;
     })) }
-    // It is read again as the same chain.
+    // Reading gives the same chain.
     ensures again { IfOk result (λ v. chain_in (text_of v.items)
         ≡ Ok (record { chain = chain.now; rows = rows; columns = columns })) }
 {

@@ -17,17 +17,17 @@ use cmr_base::{Indices, LineSet, MAX_COLUMNS, MAX_ROWS, Matrix, Memory, join_lab
 use parity::is_violator;
 use std::alloc::Global;
 
-/// The signs that the first steps of a chain give, as many of them as keep their rules.
+/// The signs that the first steps of a chain give, and the number of these steps. All of them keep their rules.
 #[derive(Drop)]
 pub struct Followed {
     pub signs: Matrix,
     pub kept: usize,
 }
 
-/// The first part of a chain that breaks its rule for a 0/1 matrix, counted from 1; the violator counts as the step after the
-/// last. `None` exactly where the chain is sound: then no choice of the signs of the ones is totally unimodular. A chain
-/// with other sizes than the matrix is broken at its first part. The time is at most the number of lines for each step
-/// that is free, and the size of the named lines' submatrix for each that is forced.
+/// The first part of a chain that breaks its rule for a 0/1 matrix, counted from 1; the violator is the part after the last
+/// step. `None` if and only if the chain is sound; then no choice of the signs of the ones is totally unimodular. A chain with
+/// sizes other than the matrix's is broken at its first part. The time is at most the number of lines for each free step, and
+/// the size of the named lines' submatrix for each forced step.
 pub fn check_chain(
     alloc: Global,
     matrix: &Matrix,
@@ -52,7 +52,7 @@ pub fn check_chain(
     }
 }
 
-/// The signs that the steps of a sound chain give, with 0 at each other place.
+/// The signs that the steps of a sound chain give, and 0 in each other position.
 pub fn chain_signs(alloc: Global, matrix: &Matrix, chain: &SizedChain) -> Result<Matrix, Memory>
     requires sound { (signs : Matrix) × IsSoundChain matrix.now chain.now signs }
     ensures { IfOk result (IsSoundChain matrix.now chain.now) }
@@ -72,14 +72,14 @@ fn follow(alloc: Global, matrix: &Matrix, steps: &[SignStep]) -> Result<Followed
     Ok(Followed { signs, kept })
 }
 
-// A label of its own for each line, as long as no entry is signed.
+// A different label for each line, since no entry is signed.
 fn first_labels(alloc: Global, matrix: &Matrix) -> Result<Vec<u32>, Memory>
     ensures { IfOk result (λ labels. AreLabels matrix.now (unsigned matrix.now) labels.items) }
 {
     own_labels(alloc, matrix.rows() + matrix.columns())
 }
 
-// Gives the signs of the first steps, as many of them as keep their rules, and tells how many these are.
+// Gives the signs of the first steps up to the first that breaks its rule, and returns the number of steps that keep theirs.
 fn sign_by_steps(
     matrix: &Matrix,
     signs: &mut Matrix,
@@ -115,7 +115,7 @@ fn give_sign(matrix: &Matrix, signs: &mut Matrix, labels: &mut Vec<u32>, step: &
     join(labels, row as usize, rows + column as usize);
 }
 
-// Gives all places with the label of one place the label of another.
+// Gives all lines with the column's label the label of the row.
 fn join(labels: &mut Vec<u32>, row: usize, column: usize)
     requires row { row < length labels.old.items }
     requires column { column < length labels.old.items }
@@ -160,7 +160,7 @@ fn is_free(matrix: &Matrix, signs: &Matrix, labels: &[u32], row: u32, column: u3
         && labels[row as usize] != labels[matrix.rows() as usize + column as usize]
 }
 
-// Whether this is a one without sign.
+// Whether this entry is a one without sign.
 fn is_open(matrix: &Matrix, signs: &Matrix, row: u32, column: u32) -> bool
     requires signs { AreSigns matrix.now signs.now }
     ensures open { IsTrue result ↔ IsUnsignedOne matrix.now signs.now row column }
@@ -231,7 +231,7 @@ fn has(lines: &[u32], line: u32) -> bool
     false
 }
 
-// Whether each of these lines has two ones in them.
+// Whether each of these lines has two ones in the submatrix of these lines.
 fn have_two_each(matrix: &Matrix, lines: &LineSet) -> bool
     requires rows { AllBelow (height matrix.now) lines.now.rows }
     requires columns { AllBelow matrix.now.width lines.now.columns }
@@ -287,7 +287,7 @@ fn is_two(sum: i32) -> bool
     sum == 2
 }
 
-// Whether all ones of some lines have signs, but for one place.
+// Whether all ones in the submatrix of these lines have signs, except in one position.
 fn all_signed_but(matrix: &Matrix, signs: &Matrix, lines: &LineSet, row: u32, column: u32) -> bool
     requires signs { AreSigns matrix.now signs.now }
     requires rows { AllBelow (height matrix.now) lines.now.rows }
@@ -327,7 +327,7 @@ fn row_signed_but(
     true
 }
 
-// Whether this is a one without sign, at another place.
+// Whether this entry is a one without sign in another position.
 fn is_open_but(matrix: &Matrix, signs: &Matrix, row: u32, column: u32, i: u32, j: u32) -> bool
     requires signs { AreSigns matrix.now signs.now }
     ensures { IsTrue result ↔ IsOpenBut matrix.now signs.now row column i j }
@@ -335,7 +335,7 @@ fn is_open_but(matrix: &Matrix, signs: &Matrix, row: u32, column: u32, i: u32, j
     is_open(matrix, signs, i, j) && (i != row || j != column)
 }
 
-// The sign with which a sum becomes a multiple of four.
+// The sign that makes a sum a multiple of four.
 fn closing(sum: i32) -> Option<i8>
     ensures { MatchOption result ((sign : ℤ) → IsSign sign → ¬ (IsZeroModFour (sum +ℤ sign)))
         (λ sign. IsSign sign × IsZeroModFour (sum +ℤ sign)) }
@@ -350,7 +350,8 @@ fn closing(sum: i32) -> Option<i8>
     }
 }
 
-// Whether all ones of some lines have signs, and these are a violator. No row has the number of all rows.
+// Whether all ones in the submatrix of these lines have signs, and these signs are a violator. No row has the number of all
+// rows.
 fn is_signed_violator(matrix: &Matrix, signs: &Matrix, lines: &LineSet) -> bool
     requires signs { AreSigns matrix.now signs.now }
     ensures { IsTrue result ↔ IsSignedViolator matrix.now signs.now lines.now }

@@ -11,10 +11,9 @@ use crate::fault::{first_fault, passed_rows};
 use cmr_base::{Indices, LineSet, Matrix, Memory, RowsAndColumns};
 use std::alloc::Global;
 
-/// The cycle of the first cycle place whose sum is 2 modulo 4, in the order of the places by their row, first
-/// column and last column. `None` exactly where there is no such place. The cycle is a violator in the sense
-/// of Camion: each of its lines has two nonzeros in it. The time is at most one walk through the rows before for each
-/// nonzero.
+/// The cycle of the first cycle place whose sum is 2 modulo 4, and `None` if and only if there is no such place. Places are
+/// ordered by their row, first column and last column. The cycle is a violator in the sense of Camion: each of its lines has
+/// two nonzeros in it. The time is at most one walk through the earlier rows for each nonzero.
 pub fn cycle_fault(alloc: Global, matrix: &Matrix) -> Result<Option<LineSet>, Memory>
     ensures fault { IfOk result (λ found. MatchOption found (HasNoCycleFault (entry matrix.now))
         (λ lines. IsCycleFault matrix.now lines.rows lines.columns)) }
@@ -25,7 +24,7 @@ pub fn cycle_fault(alloc: Global, matrix: &Matrix) -> Result<Option<LineSet>, Me
     cycle_fault_of(alloc, &RowsAndColumns::of(matrix, &columns))
 }
 
-/// The same, of a matrix by its rows and its columns.
+/// The same for a matrix by its rows and its columns.
 pub fn cycle_fault_of(alloc: Global, matrix: &RowsAndColumns<'_>) -> Result<Option<LineSet>, Memory>
     ensures fault { IfOk result (λ found. MatchOption found (HasNoCycleFault (entry matrix.now))
         (λ lines. IsCycleFault matrix.now lines.rows lines.columns)) }
@@ -36,7 +35,7 @@ pub fn cycle_fault_of(alloc: Global, matrix: &RowsAndColumns<'_>) -> Result<Opti
     cycle_fault_from(alloc, matrix, first)
 }
 
-/// The same where the rows before one are known to have no fault, as those that were found to agree with a network.
+/// The same if the rows before a given row have no fault, for example because they agree with a network.
 pub fn cycle_fault_from(
     alloc: Global,
     matrix: &RowsAndColumns<'_>,
@@ -64,7 +63,7 @@ pub fn cycle_fault_from(
     }
 }
 
-/// The rows of the cycle of a place in this row with this path, as far as they are below a bound.
+/// The rows below a bound of the cycle of a place with this row and this path.
 pub fn rows_of_cycle(alloc: Global, row: u32, path: &[u32], height: u32) -> Result<Indices, Memory>
     ensures { IfOk result (λ rows.
         IsBuilt (λ line. IsIn line (cycle_rows row path.now)) height rows) }
@@ -78,7 +77,7 @@ pub fn rows_of_cycle(alloc: Global, row: u32, path: &[u32], height: u32) -> Resu
     Ok(rows)
 }
 
-/// The columns of the cycle of a place with these columns and this path, as far as they are below a bound.
+/// The columns below a bound of the cycle of a place with these columns and this path.
 pub fn columns_of_cycle(
     alloc: Global,
     first: u32,
@@ -98,7 +97,7 @@ pub fn columns_of_cycle(
     Ok(columns)
 }
 
-// The line, where it is below a bound.
+// The line, if it is below a bound.
 fn below(line: Option<u32>, bound: u32) -> Option<u32>
     ensures { result ≡ within line bound }
 {
@@ -108,14 +107,14 @@ fn below(line: Option<u32>, bound: u32) -> Option<u32>
     }
 }
 
-// The least row of a cycle that is at least a number.
+// The least row of a cycle that is at least `from`.
 fn least_row(row: u32, path: &[u32], from: u32) -> Option<u32>
     ensures { IsLeastFrom (cycle_rows row path.now) from result }
 {
     lesser(row, least_path_row(path, from), from)
 }
 
-// The least column of a cycle that is at least a number.
+// The least column of a cycle that is at least `from`.
 fn least_column(first: u32, last: u32, path: &[u32], from: u32) -> Option<u32>
     ensures { IsLeastFrom (cycle_columns first last path.now) from result }
 {
@@ -147,7 +146,7 @@ fn least_path_column(path: &[u32], from: u32) -> Option<u32>
     lesser(path[1], least_path_column(&path[2..], from), from)
 }
 
-// The least line that is at least a number, of one line and the least of others.
+// The least line that is at least `from`, among one line and the least of the others.
 fn lesser(line: u32, others: Option<u32>, from: u32) -> Option<u32>
     ensures { (lines : List ℕ) → IsLeastFrom lines from others
         → IsLeastFrom (line ∷ lines) from result }

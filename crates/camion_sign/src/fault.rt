@@ -22,7 +22,7 @@ pub struct Fault {
     pub lines: Vec<u32>,
 }
 
-/// The first fault in the order of places, where the rows before one have none.
+/// The first fault in the order of places. The rows before a given row have none.
 pub fn first_fault(
     alloc: Global,
     matrix: &RowsAndColumns<'_>,
@@ -41,10 +41,10 @@ pub fn first_fault(
     fault_from_row(alloc, &listed, &mut walk, first)
 }
 
-// How many nonzeros a column has on average in matrices in which walks alone find the first fault sooner.
+// Walks without a search for a tree find the first fault sooner if columns have at most this number of nonzeros on average.
 const FEW: u32 = 8;
 
-/// How many of the first rows are passed over, since they have no fault.
+/// The number of first rows that the search skips, since they have no fault.
 pub fn passed_rows(alloc: Global, matrix: &RowsAndColumns<'_>) -> Result<u32, Memory>
     ensures { IfOk result (HasNoFaultBefore matrix.now) }
 {
@@ -54,7 +54,7 @@ pub fn passed_rows(alloc: Global, matrix: &RowsAndColumns<'_>) -> Result<u32, Me
     rows_without_fault(alloc, matrix)
 }
 
-// The first fault, where the rows before one have none.
+// The first fault. The rows before a given row have none.
 fn fault_from_row(
     alloc: Global,
     matrix: &ListedMatrix<'_>,

@@ -1,4 +1,4 @@
-// A matrix with its nonzeros by lists.
+// A matrix with lists of its nonzeros.
 ghost use Rattle.std.specs.Prelude.{◌≡◌, ◌<◌, IfOk};
 ghost use Rattle.cmr_base.specs.Matrix.{Matrix, height, entry, IsMatrix, IsEntry};
 ghost use Rattle.camion_sign.specs.Nonzeros.{AreNonzeros};
@@ -8,7 +8,7 @@ use cmr_base::{Matrix, Memory, RowsAndColumns};
 use std::alloc::Global;
 use std::marker::Model;
 
-/// A matrix with the places of the nonzeros in each row and in each column. Contracts see the matrix.
+/// A matrix with the positions of the nonzeros in each row and in each column. Contracts see the matrix.
 #[derive(Drop)]
 pub struct ListedMatrix<'a> {
     matrix: &'a Matrix,
@@ -29,7 +29,7 @@ impl<'a> Model for ListedMatrix<'a> {
 }
 
 impl<'a> ListedMatrix<'a> {
-    /// The lists of a matrix by its rows and its columns, so that nothing is transposed.
+    /// The lists of a matrix by its rows and its columns. Nothing is transposed.
     pub fn new(alloc: Global, matrix: &'a RowsAndColumns<'_>) -> Result<ListedMatrix<'a>, Memory>
         ensures { IfOk result (λ listed. listed ≡ matrix.entry.now) }
     {
@@ -41,7 +41,7 @@ impl<'a> ListedMatrix<'a> {
         })
     }
 
-    /// How many rows the matrix has.
+    /// The number of rows.
     pub fn rows(&self) -> u32
         ensures rows { result ≡ height self.now }
         ensures shape { IsMatrix self.now }
@@ -49,7 +49,7 @@ impl<'a> ListedMatrix<'a> {
         self.matrix.rows()
     }
 
-    /// How many columns the matrix has.
+    /// The number of columns.
     pub fn columns(&self) -> u32
         ensures columns { result ≡ self.now.width }
         ensures shape { IsMatrix self.now }

@@ -1,4 +1,4 @@
-// The places of nonzeros, row by row.
+// The positions of nonzeros, row by row.
 ghost use Rattle.std.specs.Prelude.{◌≡◌, ◌<◌, ◌++◌, [], map, length, slice_index_or, IfOk, OnOk};
 ghost use Rattle.cmr_base.specs.Matrix.{height, row_of, IsMatrix};
 ghost use Rattle.camion_sign.specs.Nonzeros.{nonzeros_from};
@@ -7,7 +7,7 @@ use cmr_base::{Matrix, Memory};
 use std::alloc::Global;
 use std::marker::Model;
 
-/// Increasing lists of numbers, one behind the other. Contracts see the list of these lists.
+/// Increasing lists of numbers in one list, each after the one before. Contracts see the list of these lists.
 #[derive(Drop)]
 pub struct Nonzeros {
     starts: Vec<usize>,

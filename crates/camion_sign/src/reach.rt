@@ -8,16 +8,16 @@ use crate::walk::{ReachedColumn, UNREACHED, Walk};
 use cmr_base::Memory;
 use std::alloc::Global;
 
-/// The row and the first column of some places.
+/// The row and the first column of a set of places.
 #[derive(Clone, Copy)]
 pub struct Start {
     pub row: u32,
     pub column: u32,
 }
 
-/// Walks until each last column is reached that can be: over the rows before the row of the places, through columns
-/// in which that row is 0, first come, first served, and by increasing lines. So each column is reached by the least of
-/// its shortest paths.
+/// Walks until each reachable last column is reached. The walk is breadth-first: it uses the rows before the row of the places,
+/// passes through columns in which that row is 0, and takes lines in increasing order. So it reaches each column by the least
+/// of its shortest paths.
 pub fn walk_from(matrix: &ListedMatrix<'_>, walk: &mut Walk, start: Start) -> Result<(), Memory>
     requires row { start.row < height matrix.now }
     requires column { start.column < matrix.now.width }
@@ -36,7 +36,7 @@ pub fn walk_from(matrix: &ListedMatrix<'_>, walk: &mut Walk, start: Start) -> Re
     Ok(())
 }
 
-// Goes through the rows that meet the column at a place, until no last column waits.
+// Takes the rows that meet the column at a position of the walk, until no last column waits.
 fn reach_rows(
     matrix: &ListedMatrix<'_>,
     walk: &mut Walk,
@@ -73,7 +73,7 @@ fn reach_rows(
     Ok(pending)
 }
 
-// Reaches the columns of a row that were not reached before.
+// Reaches the columns of a row that the walk has not reached before.
 fn reach_row(
     matrix: &ListedMatrix<'_>,
     walk: &mut Walk,
@@ -108,7 +108,8 @@ fn reach_row(
     Ok(())
 }
 
-// The first column from one on that waits: the row of the places meets it, and it was not reached, but may be.
+// The first waiting column that is at least `from`. A column waits if the row of the places meets it and the walk has not
+// reached it but may.
 fn first_waiting(matrix: &ListedMatrix<'_>, walk: &Walk, start: Start, from: u32) -> u32
     requires row { start.row < height matrix.now }
     requires fits { HasPlacesAndMarks matrix.now walk.now }
@@ -129,7 +130,7 @@ fn first_waiting(matrix: &ListedMatrix<'_>, walk: &Walk, start: Start, from: u32
     matrix.columns()
 }
 
-// Whether a row before this one meets the column.
+// Whether an earlier row meets the column.
 fn is_touched(matrix: &ListedMatrix<'_>, row: u32, column: u32) -> bool
     requires { column < matrix.now.width }
     ensures { result ≡ false → IsUntouched matrix.now row column }
@@ -138,7 +139,7 @@ fn is_touched(matrix: &ListedMatrix<'_>, row: u32, column: u32) -> bool
     rows.len() > 0 && rows[0] < row
 }
 
-/// A truth value, or its opposite where the other is true.
+/// `is_odd`, negated if `is_same`.
 pub fn flipped(is_odd: bool, is_same: bool) -> bool
     ensures { result ≡ flip is_odd is_same }
 {

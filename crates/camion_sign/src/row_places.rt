@@ -1,4 +1,4 @@
-// The cycle places of a row, found out as they are asked for.
+// The cycle places of a row, computed on demand.
 ghost use Rattle.std.specs.Prelude.{◌≡◌, ◌≢◌, ◌<◌, ℕ, List, Some, pos, true, false, IsTrue, IfOk, OnOk, length};
 ghost use Rattle.cmr_base.specs.Matrix.{height, entry, IsEntry};
 ghost use Rattle.cmr_base.specs.CyclePlaces.{IsCyclePlace};
@@ -14,21 +14,21 @@ use crate::walk::{UNREACHED, Walk};
 use cmr_base::{LineSet, Matrix, Memory};
 use std::alloc::Global;
 
-/// What walks have found out of the cycle places of a row: which columns make a place with a first column, where that is
-/// known, and the last walk, which serves as long as no place with another first column is asked for.
+/// The cycle places of a row, as far as walks have determined them: the columns that make a place with a first column, if they
+/// are known. The last walk is kept until a place with another first column is required.
 #[derive(Drop)]
 pub struct RowPlaces {
     pub walk: Walk,
     /// The column at which the last walk began.
     pub walked: Option<u32>,
-    /// Not 0 where a first column, as a row here, makes a place with a last one.
+    /// The entry in a row and a column is not 0 if these two columns, first and last, make a place.
     pub links: Matrix,
-    /// For each first column whether that is known.
+    /// For each first column whether its places are known.
     pub known: Vec<bool>,
 }
 
 impl RowPlaces {
-    /// Room for the places of each row.
+    /// Room for the places of any row.
     pub fn new(alloc: Global, matrix: &ListedMatrix<'_>) -> Result<RowPlaces, Memory>
         ensures { IfOk result (HasRoomForPlaces matrix.now) }
     {
@@ -41,7 +41,7 @@ impl RowPlaces {
         })
     }
 
-    /// Begins a row, of which nothing is known.
+    /// Begins a row. Nothing is known of it.
     pub fn begin(&mut self, matrix: &ListedMatrix<'_>)
         requires { HasRoomForPlaces matrix.now self.old }
         ensures { (row : ℕ) → KnowsPlaces matrix.now row self.new }
@@ -105,7 +105,7 @@ impl RowPlaces {
         Ok(self.links.entry(start.column, last) != 0)
     }
 
-    // Finds out which columns make a place with a first one, where that is not known.
+    // Determines the columns that make a place with a first column, if they are not known.
     fn learn(&mut self, matrix: &ListedMatrix<'_>, start: Start) -> Result<(), Memory>
         requires row { start.row < height matrix.now }
         requires places { KnowsPlaces matrix.now start.row self.old }
@@ -138,7 +138,7 @@ impl RowPlaces {
         Ok(())
     }
 
-    // Walks from a column, where the last walk did not begin there.
+    // Walks from a column, unless the last walk began there.
     fn stand_at(&mut self, matrix: &ListedMatrix<'_>, start: Start) -> Result<(), Memory>
         requires row { start.row < height matrix.now }
         requires places { KnowsPlaces matrix.now start.row self.old }
@@ -205,7 +205,7 @@ impl RowPlaces {
     }
 }
 
-// Notes which last columns the walk from the first one has reached.
+// Records the last columns that the walk from the first column has reached.
 fn note_places(matrix: &ListedMatrix<'_>, walk: &Walk, start: Start, links: &mut Matrix)
     requires row { start.row < height matrix.now }
     requires column { start.column < matrix.now.width }
@@ -223,7 +223,7 @@ fn note_places(matrix: &ListedMatrix<'_>, walk: &Walk, start: Start, links: &mut
     }
 }
 
-// 1 where the walk has reached the column, and else 0.
+// 1 if the walk has reached the column, and 0 otherwise.
 fn place_mark(walk: &Walk, last: u32) -> i8
     requires { last < length walk.now.places.items }
     ensures small { IsEntry result }

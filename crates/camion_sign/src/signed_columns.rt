@@ -1,4 +1,4 @@
-// The signed columns of a row, and which of them make no cycle place with a column.
+// The signed columns of a row, and the columns that make no cycle place with them.
 ghost use Rattle.std.specs.Prelude.{◌≡◌, ◌<◌, ℕ, [], false, length, slice_index, IfOk};
 ghost use Rattle.cmr_base.specs.Matrix.{height};
 ghost use Rattle.camion_sign.specs.SignSteps.{AreSigns, IsUnsignedOne};
@@ -10,17 +10,17 @@ use crate::row_places::RowPlaces;
 use cmr_base::{Matrix, Memory};
 use std::alloc::Global;
 
-/// The signed columns of the row that is signed, so that a column without sign is compared with each of them once.
+/// The signed columns of the current row. With these records a column without sign is compared with each of them once.
 #[derive(Drop)]
 pub struct SignedColumns {
-    /// In the order of their signs.
+    /// The signed columns, in the order in which they got their signs.
     pub columns: Vec<u32>,
-    /// For each column of the matrix, with how many of the first of these it is known to make no place.
+    /// For each column of the matrix the number of first signed columns with which it is known to make no place.
     pub passed: Vec<usize>,
 }
 
 impl SignedColumns {
-    /// None is signed, in a matrix with so many columns.
+    /// No signed columns, in a matrix with `columns` columns.
     pub fn new(alloc: Global, columns: u32) -> Result<SignedColumns, Memory>
         ensures none { IfOk result (λ signed. signed.columns.items ≡ []) }
         ensures long { IfOk result (λ signed. length signed.passed.items ≡ columns) }
@@ -32,7 +32,7 @@ impl SignedColumns {
         })
     }
 
-    /// Begins a row, of which nothing is signed.
+    /// Begins a row. None of its columns is signed.
     pub fn begin(&mut self)
         ensures none { self.new.columns.items ≡ [] }
         ensures long { length self.new.passed.items ≡ length self.old.passed.items }
@@ -42,8 +42,8 @@ impl SignedColumns {
         self.passed.fill(0);
     }
 
-    /// Whether some signed column makes a cycle place with a column. A signed column that is known to make none with it is
-    /// not compared again.
+    /// Whether some signed column makes a cycle place with a column. Signed columns that are known to make none with it are
+    /// skipped.
     pub fn force(
         &mut self,
         matrix: &ListedMatrix<'_>,

@@ -1,4 +1,4 @@
-// Camion's signing of a 0/1 matrix, row after row.
+// Camion's signing of a 0/1 matrix, row by row.
 ghost use Rattle.std.specs.Prelude.{◌<◌, ◌≤◌, ◌+◌, ◌*◌, ◌+ℤ◌, ◌↔◌, ℕ, length, IsTrue, IfOk, OnOk, MatchOption};
 ghost use Rattle.cmr_base.specs.Matrix.{height, entry, IsMatrix};
 ghost use Rattle.cmr_base.specs.Signing.{IsSign};
@@ -19,7 +19,7 @@ use crate::step::{SignStep, SignStepList};
 use cmr_base::{Matrix, Memory, RowsAndColumns};
 use std::alloc::Global;
 
-/// The signs given so far, 0 where none is given, the steps that gave them, and the signed columns of the row that is signed.
+/// The signs given so far, and 0 without a sign; the steps that gave them; and the signed columns of the current row.
 #[derive(Drop)]
 pub struct Signing {
     pub signs: Matrix,
@@ -27,22 +27,24 @@ pub struct Signing {
     pub signed: SignedColumns,
 }
 
-// A one that is forced: its column, and the signed column with which it makes a cycle place.
+// A forced one: its column, and the signed column with which it makes a cycle place.
 #[derive(Clone, Copy)]
 pub struct ForcedOne {
     pub column: u32,
     pub partner: u32,
 }
 
-/// The signing of a 0/1 matrix (Camion), and its steps: row after row, where a one makes a cycle place with ones of its row
-/// that are signed, it gets the sign with which the place's cycle has a sum divisible by 4, and else 1. Of the places of a
-/// row the one with the least column without sign comes first, and of these the one with the least signed column. The
-/// signed matrix may still have a cycle fault. The time is one walk through the rows before for each first column of a
-/// place that is asked for, mostly few in a row, and at most one more for each one; besides, at most the product of its ones
-/// and the columns for each row, and for each forced one the square of the length of its cycle.
+/// The signing of a 0/1 matrix (Camion), and its steps, row by row. If a one makes a cycle place with a signed one of its row,
+/// it gets the sign that makes the sum of the place's cycle divisible by 4; otherwise it gets 1. Among the places of a row, the
+/// signing takes the least column without sign first, and for this column the least signed column. The signed matrix can still
+/// have a cycle fault.
+///
+/// The time is one walk through the earlier rows for each first column of a place that is required, usually few in a row, and
+/// at most one more walk for each one. In addition, it is at most the product of the numbers of ones and columns for each row,
+/// and the square of the length of its cycle for each forced one.
 pub fn sign(alloc: Global, matrix: &Matrix) -> Result<(Matrix, SignStepList), Memory>
     ensures signed { IfOk result (λ signed. IsSignedBy matrix.now signed.1 signed.0) }
-    // Of a 0/1 matrix, the steps are those of a chain.
+    // For a 0/1 matrix, the steps are the steps of a chain.
     ensures chain { IsBinary matrix.now
         → IfOk result (λ signed.
         LeadTo (KeepsRule matrix.now) (unsigned matrix.now) signed.1 signed.0) }
@@ -66,7 +68,7 @@ fn all_rows_signed(alloc: Global, matrix: &RowsAndColumns<'_>) -> Result<Signing
     Ok(signing)
 }
 
-// Before the first step.
+// The state before the first step.
 fn no_signs(alloc: Global, matrix: &ListedMatrix<'_>) -> Result<Signing, Memory>
     ensures { IfOk result (IsAtRow matrix.now 0) }
 {
@@ -114,7 +116,7 @@ fn sign_row(
     Ok(())
 }
 
-// Signs the next one of a row, whose first one without sign is in this column.
+// Signs the next one of a row. The first one without sign is in this column.
 fn sign_next(
     alloc: Global,
     matrix: &ListedMatrix<'_>,
@@ -147,8 +149,8 @@ fn sign_next(
     }
 }
 
-// The least column of a row, from its first one without sign on, that makes a cycle place with a signed one, and the
-// least of these.
+// The least column of a row without sign that makes a cycle place with a signed column, and the least such signed column. The
+// search begins at the first one without sign.
 fn forced_one(
     matrix: &ListedMatrix<'_>,
     places: &mut RowPlaces,
@@ -217,7 +219,7 @@ fn partner_of(
     }
 }
 
-// The same, looked for along all ones of the row.
+// The least signed column that makes a cycle place with a column. The search visits all ones of the row.
 fn least_partner(
     matrix: &ListedMatrix<'_>,
     places: &mut RowPlaces,
@@ -246,7 +248,7 @@ fn least_partner(
     Ok(None)
 }
 
-// The first column from one on in which a row has a one without sign.
+// The first column at or after `from` in which a row has a one without sign.
 fn first_unsigned(matrix: &ListedMatrix<'_>, row: u32, from: u32, signs: &Matrix) -> Option<u32>
     requires row { row < height matrix.now }
     requires signs { AreSigns matrix.now signs.now }
@@ -314,7 +316,7 @@ fn sign_forced(
     Ok(())
 }
 
-// The sign with which an odd sum becomes a multiple of four.
+// The sign that makes an odd sum a multiple of four.
 fn closing_sign(sum: i32) -> i8
     requires { IsOdd sum }
     ensures sign { IsSign result }

@@ -4,7 +4,7 @@ ghost use Rattle.camion_sign.specs.SignSteps.{step_row, step_column};
 
 use cmr_base::{ItemList, LineSet};
 
-/// One sign: it is free, or the cycle of a place forces it.
+/// One sign. It is free, or the cycle of a place forces it.
 #[derive(Debug, Drop)]
 pub enum SignStep {
     Free {
@@ -19,7 +19,7 @@ pub enum SignStep {
 }
 
 impl SignStep {
-    /// The row and the column of the one that it signs.
+    /// The row and the column of the one that the step signs.
     pub fn place(&self) -> (u32, u32)
         ensures row { result.0 ≡ step_row self.now }
         ensures column { result.1 ≡ step_column self.now }
@@ -31,10 +31,10 @@ impl SignStep {
     }
 }
 
-/// Signs, one after another.
+/// Steps, in their order.
 pub type SignStepList = ItemList<SignStep>;
 
-/// Steps that leave no choice but the signs of whole lines, and a violator of the signs that they give.
+/// Steps that leave no choice except the signs of whole lines, and a violator of the signs that they give.
 #[derive(Debug, Drop)]
 pub struct Chain {
     pub steps: SignStepList,

@@ -5,23 +5,23 @@ ghost use Rattle.camion_sign.specs.Walks.{place_in};
 use cmr_base::{MAX_COLUMNS, Memory};
 use std::alloc::Global;
 
-/// The place of a column that was not reached.
+/// The position of a column that the walk has not reached.
 pub const UNREACHED: u32 = 4_294_967_295;
 
-/// A column that was reached.
+/// A reached column.
 #[derive(Clone, Copy)]
 pub struct ReachedColumn {
     pub column: u32,
-    /// The row by which it was reached.
+    /// The row through which the walk reached the column.
     pub row: u32,
-    /// The place, among the steps, of the column from which it was reached.
+    /// The position, among the steps, of the column before this one.
     pub before: u32,
-    /// Whether the entries at which the walk came here have the sum 2 modulo 4.
+    /// Whether the entries on the path to the column have the sum 2 modulo 4.
     pub is_two: bool,
 }
 
-/// The columns that were reached, in order, the place of each column, and the rows that were gone through. One walk
-/// after another uses its room.
+/// The reached columns in order, the position of each column, and the rows that the walk has taken. All walks share one
+/// allocation.
 #[derive(Drop)]
 pub struct Walk {
     pub steps: Vec<ReachedColumn>,
@@ -30,7 +30,7 @@ pub struct Walk {
 }
 
 impl Walk {
-    /// Room for walks in a matrix of so many rows and columns.
+    /// Room for walks in a matrix of `rows` rows and `columns` columns.
     pub fn new(alloc: Global, rows: u32, columns: u32) -> Result<Walk, Memory>
         ensures places { IfOk result (λ walk. length walk.places.items ≡ columns) }
         ensures used { IfOk result (λ walk. length walk.used.items ≡ rows) }
@@ -65,7 +65,7 @@ impl Walk {
         Ok(())
     }
 
-    /// Whether a column was reached.
+    /// Whether the walk has reached a column.
     pub fn has_reached(&self, column: u32) -> bool
         requires { column < length self.now.places.items }
         ensures yes { IsTrue result → place_in self.now.places.items column < UNREACHED }
@@ -74,7 +74,7 @@ impl Walk {
         self.places[column as usize] < UNREACHED
     }
 
-    /// Adds a column that was reached.
+    /// Adds a reached column.
     pub fn reach(&mut self, step: ReachedColumn) -> Result<(), Memory>
         requires column { step.column < length self.old.places.items }
         requires few { length self.old.steps.items ≤ MAX_COLUMNS }

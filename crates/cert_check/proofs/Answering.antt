@@ -1,4 +1,4 @@
--- Answers on nodes, put together.
+-- Answers on nodes, combined.
 use Rattle.std.proofs.Common.{◌≡◌, ◌<◌, ◌≤◌, ◌∙◌, ◌-◌, ℕ, Bool, true, false, List, [], ◌∷◌, ◌++◌, append_assoc, append-nil, length, get_or, Option, Some, None, IsTrue, ◌↔◌, Result, Ok, Err, IfOk, refl, ap, sym, subst, arith}
 use Rattle.std.specs.List.{AllByRecursion}
 use Rattle.std.proofs.lemmas.Bool.{true≢false}
@@ -56,7 +56,7 @@ answers_after m prefix back (Some refusal) sound h = record {
   path_is = h.path_is;
 }
 
--- the answer stands before more nodes
+-- the answer on these nodes is the answer if more nodes follow
 pub broken_before : (m : Matrix) (prefix back : List Place) (refusal : Refusal) → AnswersOn m prefix (Some refusal) → AnswersOn m (prefix ++ back) (Some refusal)
 broken_before m prefix back refusal h = record {
   before = h.before;
@@ -73,7 +73,7 @@ pub answers_below : (m : Matrix) (path : List ℕ) (pivots : List MadePivot) (du
 answers_below m path pivots due tree answer here h =
     subst (λ nodes. AnswersOn m nodes answer) (sym (opened path pivots due tree)) (answers_after m (place_of path pivots due tree ∷ []) (nodes_below path pivots tree) answer (here, tt) h)
 
--- the children of a node that stands stand
+-- the children of a node satisfy `Stands` if the node does
 pub children_stand : (m : Matrix) (lines : LineSet) (finding : Finding) (trees : Trees) → Stands m (Branch lines finding trees) → (levels : ℕ) × AreLines m lines × AreTreesWithin lines levels trees
 children_stand m lines finding trees (parent, levels, are, within) = (levels - 1, lines_within m lines parent within.1 are, within.4)
 
@@ -150,7 +150,7 @@ own_broken : (m : Matrix) (tree : Tree) (broken : Rule) → IsOwnRule m tree (So
 own_broken m (Branch lines finding trees) broken h = h
 
 module _ (here : Matrix) (below_pivot : Bool) (due : Due) (tree : Tree) (sizes : (m : Matrix) (pivots : List MadePivot) → IsAfter m pivots here below_pivot → HasItsSizes m due) where
-  -- the lines are not those that the node is to have
+  -- the node does not have the lines that it must have
   pub lines_at : ¬ (HasItsLines due (lines_at_root tree)) → IsRuleAt here below_pivot due tree (Some rule.Lines)
   lines_at has_not = λ m pivots path after. record { breaks = has_not; keeps = λ earlier l. before m pivots path after earlier l }
     where
@@ -174,22 +174,22 @@ module _ (here : Matrix) (below_pivot : Bool) (due : Due) (tree : Tree) (sizes :
       before m pivots path after rule.BelowPivot l = absurd (omega (arith, l))
 
   module _ (has : HasItsLines due (lines_at_root tree)) where
-    -- of the matrix at hand as of the one after the pivots
+    -- demands on the current matrix are demands on the matrix after the pivots
     after_demands : (m : Matrix) (pivots : List MadePivot) → IsAfter m pivots here below_pivot → (r : Rule) → Demands r here (lines_at_root tree) (finding_of tree) (lines_of_each (trees_below tree)) → Demands r (matrix_after m pivots) (lines_at_root tree) (finding_of tree) (lines_of_each (trees_below tree))
     after_demands m pivots after r h = subst (λ w. Demands r w (lines_at_root tree) (finding_of tree) (lines_of_each (trees_below tree))) (sym after.matrix) h
 
-    -- where the lines are right, a rule on what the node says is the first
+    -- if the lines are right, a broken rule on the finding is the first broken rule
     pub own_refused : (broken : Rule) → IsOwnRule here tree (Some broken) → IsRuleAt here below_pivot due tree (Some broken)
     own_refused broken h = λ m pivots path after. record {
       breaks = λ keeps. (own_broken here tree broken h).0 (subst (λ w. Demands broken w (lines_at_root tree) (finding_of tree) (lines_of_each (trees_below tree))) after.matrix (own_keeps m path pivots due tree broken keeps));
       keeps = λ earlier l. keeps_own m path pivots due tree (sizes m pivots after) has earlier (λ e. absurd (omega (arith, e, l, last_rule broken))) (after_demands m pivots after earlier ((own_broken here tree broken h).1 earlier l));
     }
 
-    -- and else the rule on what may stand below pivots
+    -- otherwise the rule on findings below pivots is next
     pub own_kept : IsOwnRule here tree None → ((pivots : List MadePivot) → has_pivot pivots ≡ below_pivot → MayStand pivots (finding_of tree)) → IsRuleAt here below_pivot due tree None
     own_kept own may = λ m pivots path after broken. keeps_own m path pivots due tree (sizes m pivots after) has broken (λ e. may pivots after.pivoted) (after_demands m pivots after broken (own_demands here tree own broken))
 
-    -- at a place where it may stand anyway
+    -- the same at a place at which the finding is allowed
     pub own_rule_at : ((pivots : List MadePivot) → has_pivot pivots ≡ below_pivot → MayStand pivots (finding_of tree)) → (answer : Option Rule) → IsOwnRule here tree answer → IsRuleAt here below_pivot due tree answer
     own_rule_at may None own = own_kept own may
     own_rule_at may (Some broken) own = own_refused broken own
@@ -200,7 +200,7 @@ module _ (here : Matrix) (below_pivot : Bool) (due : Due) (tree : Tree) (sizes :
       keeps = λ earlier l. keeps_own m path pivots due tree (sizes m pivots after) has earlier (λ e. absurd (omega (arith, e, l))) (after_demands m pivots after earlier (own_demands here tree own earlier));
     }
 
-    -- the answer of the test of what may stand below pivots
+    -- the test of findings below pivots decides
     pub standing_decides : (may : Bool) → ((pivots : List MadePivot) → has_pivot pivots ≡ below_pivot → IsTrue may ↔ MayStand pivots (finding_of tree)) → IsOwnRule here tree None → IsRuleAt here below_pivot due tree (unless may rule.BelowPivot)
     standing_decides true is own = own_kept own (λ pivots e. (is pivots e).0 refl)
     standing_decides false is own = standing_refused own (λ pivots e stands. true≢false (sym ((is pivots e).1 stands)))
@@ -238,11 +238,11 @@ root_stands m rows columns (Branch lines finding trees) within e f = (
   within.nodes,
 )
 
--- the matrix itself is at hand after no pivot
+-- the current matrix after no pivot is the matrix itself
 pub itself : (m : Matrix) → IsAfter m [] m false
 itself m = record { matrix = refl; pivoted = refl }
 
--- without a pivot the matrix at hand is the matrix itself
+-- without a pivot the current matrix is the matrix itself
 pub root_matrix : (m : Matrix) (pivots : List MadePivot) (here : Matrix) → IsAfter m pivots here false → m ≡ here
 root_matrix m [] here after = after.matrix
 root_matrix m (last ∷ pivots) here after = absurd (true≢false after.pivoted)
@@ -255,7 +255,7 @@ pub root_may : (finding : Finding) (pivots : List MadePivot) → has_pivot pivot
 root_may finding [] e = tt
 root_may finding (last ∷ pivots) e = absurd (true≢false e)
 
--- the sizes are others
+-- the sizes differ
 pub other_sizes : (here : Matrix) (rows columns : ℕ) (tree : Tree) → ((rows ≡ height here) → (columns ≡ here.width) → ⊥) → IsRuleAt here false (AllLines rows columns) tree (Some rule.Size)
 other_sizes here rows columns tree differ = λ m pivots path after. record {
   breaks = λ same. let is = subst (λ w. HasItsSizes w (AllLines rows columns)) (root_matrix m pivots here after) same in differ is.0 is.1;
@@ -284,11 +284,11 @@ three_sum_is node three a b e = kind_is node (kind.ThreeSum three a b) (ThreeSum
 pub pivoted_is : (node : Node) (place : PlacedPivot) (child : Box Node Global) → node.kind ≡ kind.Pivoted place child → tree_of node ≡ Branch node.lines (Pivoted place) (one_tree (tree_of child.value))
 pivoted_is node place child e = kind_is node (kind.Pivoted place child) (Pivoted place) (one_tree (tree_of child.value)) e (said_pivoted place child)
 
--- the matrix at hand at the children of a node, and whether a pivot is above them
+-- the current matrix at the children of a node, and whether a pivot is above them
 abbrev pub GoesOn : Matrix → Bool → LineSet → Finding → Matrix → Bool → Type 0
 GoesOn here below_pivot lines f next below_next = (m : Matrix) (pivots : List MadePivot) → IsAfter m pivots here below_pivot → IsAfter m (pivots_below lines f pivots) next below_next
 
--- that after the pivot
+-- the current matrix after the pivot
 pub goes_pivoted : (here : Matrix) (below_pivot : Bool) (lines : LineSet) (place : PlacedPivot) → GoesOn here below_pivot lines (Pivoted place) (pivoted_part here lines place) true
 goes_pivoted here below_pivot lines place m pivots after = record { matrix = ap (λ w. pivoted_part w lines place) after.matrix; pivoted = refl }
 
@@ -302,7 +302,7 @@ module _ (here : Matrix) (below_pivot : Bool) (path : List ℕ) (tree : Tree) (l
       (subst (λ nodes. AnswersOn m nodes answer) (sym (append-nil (places_from (path ++ 0 ∷ []) below (due_child lines f 0) child)))
       (subst (λ t. AnswersOn m (places_from (path ++ 0 ∷ []) below (due_child_of t 0) child) answer) e (h m below (goes m pivots after))))
 
-  -- the answer on two children is that on all nodes below
+  -- the answer on two children is the answer on all nodes below
   pub both_children : (one two : Tree) (answer : Option Refusal) → tree ≡ Branch lines f (MoreTrees one (MoreTrees two NoTrees))
       → AnswersOnBoth next below_next path tree one two answer → AnswersBelow here below_pivot path tree answer
   both_children one two answer e h = λ m pivots after.

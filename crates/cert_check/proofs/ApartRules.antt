@@ -1,4 +1,4 @@
--- The rule on one-sums, by the tests that are made.
+-- The rule on one-sums from the tests of the code.
 use Rattle.std.proofs.Common.{◌≡◌, ◌≢◌, ◌≤◌, ◌<◌, ◌+◌, ◌↔◌, ◌∙◌, ◌&&◌, IsTrue, cond, ℕ, zero, suc, ℤ, pos, Bool, true, false, List, [], ◌∷◌, length, map, get_or, Contains, refl, ap, sym, subst, arith}
 use Rattle.std.proofs.lemmas.Bool.{true≢false}
 use Rattle.std.specs.Prelude.{count_by}
@@ -32,7 +32,7 @@ lines_at P (node ∷ nodes) (suc i) child other l e h = lines_at P nodes i child
 abbrev has_both : ℕ → ℕ → LineSet → Bool
 has_both row column child = is_among child.rows row && is_among child.columns column
 
--- one of these has the row, and what it has beside the row is what is beside it in all
+-- exactly one child in `rest` has the row, and its columns beside the row are the columns beside the row in all children
 pub record IsBeside (all : List LineSet) (row : ℕ) (rest : List LineSet) : Type 0 where
   pub one : count_by (λ child. is_among child.rows row) rest ≡ 1
   pub same : (column : ℕ) → list_any (has_both row column) all ≡ list_any (has_both row column) rest
@@ -114,7 +114,7 @@ apart_test M lines nodes b two filled rows columns h = (
   λ apart. h.1 (nonzeros_from M lines (line_sets nodes) apart),
 )
 
--- the same by lists that are those of the lines
+-- the same for lists that contain the lines
 pub apart_tested : (M : ℕ → ℕ → ℤ) (lines : LineSet) (rows columns : List ℕ) (nodes : List Node) (b : Bool) → rows ≡ lines.rows → columns ≡ lines.columns → 2 ≤ length nodes → AllByRecursion (λ child. 0 < size_of child) (line_sets nodes)
     → AllByRecursion (λ row. count_by (λ child. is_among child.rows row) (line_sets nodes) ≡ 1) rows → AllByRecursion (λ column. count_by (λ child. is_among child.columns column) (line_sets nodes) ≡ 1) columns
     → IsTrue b ↔ HasNonzeros M (line_sets nodes) rows columns → IsTrue b ↔ AreApart M lines (line_sets nodes)

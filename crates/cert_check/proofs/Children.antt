@@ -23,7 +23,7 @@ trees_left nodes = trees_from (map tree_of nodes)
 pub one_sum_is : (node : Node) (children : NodeList) → node.kind ≡ kind.OneSum children → tree_of node ≡ Branch node.lines OneSum (trees_left (nodes_in children))
 one_sum_is node children e = kind_is node (kind.OneSum children) OneSum (trees_of children) e (said_one_sum children) ∙ ap (Branch node.lines OneSum) (trees_are children)
 
--- the children from a number on stand, and an answer on them and what is below them is an answer on all
+-- the children from a number on satisfy `Stands`, and an answer on them and the nodes below them is an answer on all
 pub record AreLeft (here : Matrix) (below_pivot : Bool) (path : List ℕ) (lines : LineSet) (tree : Tree) (number : ℕ) (rest : List Node) : Type 0 where
   pub lines_are : AreLines here lines
   pub levels : ℕ
@@ -53,7 +53,7 @@ few_children m node children e stands = go (one_sum_stands m node children e sta
         let few = within.2 in
         omega (arith, few, count_of (nodes_in children), length-increasing node.lines.rows (height m) own.rows.increasing own.rows.in_range, length-increasing node.lines.columns m.width own.columns.increasing own.columns.in_range)
 
--- no lines are named for a child of a one-sum
+-- the parent names no lines for a child of a one-sum
 pub unnamed : (node : Node) (children : NodeList) (number : ℕ) → node.kind ≡ kind.OneSum children → due_child_of (tree_of node) number ≡ Unnamed
 unnamed node children number e = ap (λ tree. due_child_of tree number) (one_sum_is node children e)
 

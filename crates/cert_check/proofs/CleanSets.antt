@@ -1,4 +1,4 @@
--- Row sets gone through by their numbers.
+-- Row sets in the order of their numbers.
 use Rattle.std.proofs.Common.{◌≡◌, ◌<◌, ◌≤◌, ◌+◌, ◌^◌, ◌∙◌, ◌↔◌, IsTrue, ℕ, Bool, List, ap, sym, subst, inl, inr, arith}
 use Rattle.std.proofs.lemmas.Bool.{cases_lt}
 use Rattle.cmr_base.specs.Matrix.{Matrix, height, transposed, IsMatrix}

@@ -1,4 +1,4 @@
--- Lines among which no violator stands.
+-- Sets of lines that contain no violator.
 use Rattle.std.proofs.Common.{◌<◌, Contains}
 use Rattle.cmr_base.specs.declared.line_set.LineSet.{LineSet}
 use Rattle.cmr_base.specs.Matrix.{Matrix, height, entry}
@@ -9,7 +9,7 @@ use Rattle.ghouila.proofs.ViolatedLines.{FreeIn, narrower, free_from_submatrix}
 use Rattle.ghouila.proofs.ViolatedLines as violated
 use Rattle.tree_type.specs.Soundness.{part}
 
--- no violator stands among these lines
+-- these lines contain no violator
 abbrev pub IsFreeOn : Matrix → LineSet → Type 0
 IsFreeOn m lines = FreeIn (entry m) (Contains lines.rows) (Contains lines.columns)
 

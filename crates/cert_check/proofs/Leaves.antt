@@ -33,6 +33,6 @@ free_network m lines is are net = free_from_part m lines (network_matrices (part
 pub free_conetwork : (m : Matrix) (lines : LineSet) → IsMatrix m → AreLines m lines → IsConetworkMatrix (part m lines) → IsFreeOn m lines
 free_conetwork m lines is are net = free_from_part m lines (conetwork_matrices (part m lines) (part_is m lines is are) net).1
 
--- an R10 matrix has no violator exactly where it has no cycle fault
+-- an R10 matrix has no violator if and only if it has no cycle fault
 pub r10_same : (m : Matrix) → IsMatrix m → IsR10 m → HasNoViolator m ↔ HasNoCycleFault (entry m)
 r10_same m is r10 = (no_violator_no_fault m is.rectangular is.small, fault_free_r10_has_no_violator m is.rectangular is.small r10)

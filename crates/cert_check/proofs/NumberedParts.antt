@@ -1,4 +1,4 @@
--- Rows and columns that fall into numbered parts with no nonzero between them: a violator has its lines in one part.
+-- Rows and columns in numbered parts without a nonzero between two parts. A violator has all its lines in one part.
 use Rattle.std.proofs.Common.{ℕ, zero, suc, ◌<◌, ℤ, pos, true, false, nat_eq, List, [], ◌∷◌, ◌≡◌, ◌≢◌, ◌+ℤ◌, arith, ◌⊎◌, inl, inr}
 use Rattle.std.proofs.lemmas.Bool.Decides.{nat_tests}
 use Rattle.std.specs.List.{AllByRecursion}

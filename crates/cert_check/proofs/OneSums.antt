@@ -68,7 +68,7 @@ weaker_any p q (child ∷ children) h = elim (or_is (p child && q child) (list_a
         go true e = refl
         go false e = e
 
--- where each of two tests is passed by one child, and some child passes both, it is the same child
+-- if each of two tests is passed by exactly one child, and some child passes both, it is the same child
 same_index : (p q : LineSet → Bool) (children : List LineSet) → count_by p children ≡ 1 → count_by q children ≡ 1 → list_any (λ x. p x && q x) children ≡ true → index_of p children ≡ index_of q children
 same_index p q [] e f h = refl
 same_index p q (child ∷ children) e f h =
@@ -88,7 +88,7 @@ same_index p q (child ∷ children) e f h =
         less : 1 + count_by q children ≡ 1 → count_by q children ≡ 0
         less e = omega (arith, e)
 
--- what stands in one child is free where the child is
+-- lines of one child contain no violator if the child contains none
 at_child : (m : Matrix) (children : List LineSet) → AllByRecursion (IsFreeOn m) children → (part : ℕ) → part < length children → (P Q : ℕ → Type 0)
     → ((r : ℕ) → P r → (list_any (λ child. is_among child.rows r) children ≡ true) × (index_of (λ child. is_among child.rows r) children ≡ part))
     → ((c : ℕ) → Q c → (list_any (λ child. is_among child.columns c) children ≡ true) × (index_of (λ child. is_among child.columns c) children ≡ part)) → FreeIn (entry m) P Q

@@ -1,4 +1,4 @@
--- The first rule that a node breaks by what it says, by the tests of its kind.
+-- The first rule that the finding of a node breaks, from the tests of its kind.
 use Rattle.std.proofs.Common.{◌≡◌, ◌≢◌, pos, ◌<◌, ◌≤◌, ◌∙◌, min, length, map, ap, ◌↔◌, IsTrue, ℕ, Bool, true, false, Contains, Option, None, refl, sym, subst, arith}
 use Rattle.std.proofs.lemmas.List.{length-map}
 use Rattle.std.specs.declared.alloc.Global.{Global}
@@ -29,7 +29,7 @@ use Rattle.cert_check.specs.Answers.{Stands, IsFirstBrokenRule, Says, IsOwnRule,
 use Rattle.cert_check.proofs.Answering.{kind_is, pivoted_is, children_stand}
 use Rattle.cert_check.proofs.SumRules.{false_not}
 
--- what a node says decides
+-- the finding of a node decides
 pub own_of : (m : Matrix) (node : Node) (k : Kind) (f : Finding) (trees : Trees) (answer : Option Rule) → node.kind ≡ k → said k ≡ (f, trees) → IsFirstBrokenRule m node.lines f (lines_of_each trees) answer → IsOwnRule m (tree_of node) answer
 own_of m node k f trees answer e h first = subst (λ tree. IsOwnRule m tree answer) (sym (kind_is node k f trees e h)) first
 
@@ -85,7 +85,7 @@ own_pivot m node place child e stands own = go (subst (λ tree. IsOwnRule m tree
 pub few_lines : (a b rows columns least : ℕ) → a ≡ rows → b ≡ columns → least ≡ min a b → least ≤ 24 → min rows columns ≤ 24
 few_lines a b rows columns least e f g h = subst (λ n. min rows n ≤ 24) f (subst (λ n. min n b ≤ 24) e (subst (λ n. n ≤ 24) g h))
 
--- the sides of a part are as long as its lists of lines
+-- the sizes of a part are the lengths of its lists of lines
 pub part_sizes : (m : Matrix) (lines : LineSet) (whole : Matrix) → whole ≡ part m lines → min (height whole) whole.width ≡ min (length lines.rows) (length lines.columns)
 part_sizes m lines whole e = ap (λ p. min (height p) p.width) e ∙ ap (λ n. min n (length lines.columns)) (length-map lines.rows (λ row. map (entry m row) lines.columns))
 

@@ -15,7 +15,7 @@ use Rattle.cert_check.proofs.FreeSets.{IsFreeOn}
 pub height-pivoted : (m : Matrix) (lines : LineSet) (place : PlacedPivot) → height (pivoted_part m lines place) ≡ height m
 height-pivoted m lines place = height-filled (height m) m.width (replaced_entry m lines place)
 
--- its lines are those before
+-- the pivot keeps the lines
 pub lines_pivoted : (m : Matrix) (lines : LineSet) (place : PlacedPivot) (set : LineSet) → AreLines m set → AreLines (pivoted_part m lines place) set
 lines_pivoted m lines place set are = record {
   rows = record { increasing = are.rows.increasing; in_range = subst (λ n. (k : ℕ) → k < length set.rows → get_or set.rows k 0 < n) (sym (height-pivoted m lines place)) are.rows.in_range };
@@ -29,7 +29,7 @@ lines_after m (last ∷ pivots) set are = lines_pivoted (matrix_after m pivots) 
 pub stands_pivoted : (m : Matrix) (lines : LineSet) (place : PlacedPivot) (tree : Tree) → Stands m tree → Stands (pivoted_part m lines place) tree
 stands_pivoted m lines place tree (parent, levels, are, within) = (parent, levels, lines_pivoted m lines place parent are, within)
 
--- where no violator stands among the lines after the pivot, none stood there before
+-- if the lines contain no violator after the pivot, they contained none before
 pub free_pivoted : (m : Matrix) (lines : LineSet) (place : PlacedPivot) → IsMatrix m → AreLines m lines → IsPlaceIn m lines place → IsFreeOn (pivoted_part m lines place) lines → IsFreeOn m lines
 free_pivoted m lines place is are in_lines free = free_before_pivot m lines place are.rows are.columns (is.small place.row place.column) in_lines free
 

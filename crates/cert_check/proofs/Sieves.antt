@@ -1,4 +1,4 @@
--- Lines that pass a test, and lines that are in a set.
+-- Lines that pass a test, and lines in a set.
 use Rattle.std.proofs.Common.{◌≡◌, ℕ, Bool, true, List, filter, Contains}
 use Rattle.cmr_base.proofs.RowLists.{in_filter}
 use Rattle.cmr_base.proofs.ListsWithout.{in_from_contains, contains_from_in}

@@ -1,4 +1,4 @@
--- What the rules that all nodes keep say of the matrix.
+-- Consequences for the matrix if all nodes keep the rules.
 use Rattle.std.proofs.Common.{◌≡◌, ◌<◌, ◌∙◌, ◌-◌, inl, inr, ℕ, suc, List, [], ◌∷◌, ◌++◌, length, get_or, Contains, Option, Some, None, is_some, refl, ap, sym, subst, arith}
 use Rattle.std.specs.List.{AllByRecursion}
 use Rattle.pivots.specs.PivotedParts.{pivoted_part}
@@ -39,14 +39,14 @@ none_or (Some x) b e = some_is_none x e
 free_same : (m : Matrix) (a b : LineSet) → a.rows ≡ b.rows → a.columns ≡ b.columns → IsFreeOn m a → IsFreeOn m b
 free_same m a b e f free = subst (λ columns. IsFreeOn m (record { rows = b.rows; columns = columns })) f (subst (λ rows. IsFreeOn m (record { rows = rows; columns = a.columns })) e free)
 
--- the children have the lines that they are to have
+-- the children have the lines that they must have
 AreDue : LineSet → Finding → ℕ → Trees → Type 0
 AreDue lines finding k NoTrees = Unit {0}
 AreDue lines finding k (MoreTrees tree trees) = HasItsLines (due_child lines finding k) (lines_at_root tree) × AreDue lines finding (suc k) trees
 
 -- a node, with the matrix after the pivots above it
 module _ (root : Matrix) (pivots : List MadePivot) where
-  -- what a kept rule says of a node
+  -- the demand of a kept rule on a node
   demands : (path : List ℕ) (due : Due) (lines : LineSet) (finding : Finding) (trees : Trees) → KeepsAll root (record { path = path; pivots = pivots; due = due; lines = lines; finding = finding; children = lines_of_each trees }) → (broken : Rule) → Demands broken (matrix_after root pivots) lines finding (lines_of_each trees)
   demands path due lines finding trees keeps rule.Size = tt
   demands path due lines finding trees keeps rule.Lines = tt
@@ -100,7 +100,7 @@ module _ (root : Matrix) (pivots : List MadePivot) (is : IsMatrix (matrix_after 
       free_pivoted m lines place is are (record { row = fits.0; column = fits.1; nonzero = (keeps rule.NotPivot).0 })
       (free_same (pivoted_part m lines place) (lines_at_root tree) lines due.0.0 due.0.1 free.0)
 
-  -- the matrix at its children is one too
+  -- the current matrix at its children also satisfies `IsMatrix`
   goes_on : (lines : LineSet) (finding : Finding) (children : List LineSet) → ((broken : Rule) → Demands broken m lines finding children) → IsMatrix (matrix_after root (pivots_below lines finding pivots))
   goes_on lines (Pivoted place) children keeps = pivoted_is_matrix m lines place is (keeps rule.NotPivot).1
   goes_on lines Empty children keeps = is
@@ -137,7 +137,7 @@ module _ (m : Matrix) where
   fault_here lines Undecided trees fault are fits keeps e = some_is_none fault (sym e)
   fault_here lines (Pivoted place) trees fault are fits keeps e = some_is_none fault (sym e)
 
-  -- no pivot stands above a node that names a fault
+  -- a node that names a fault has no pivot above it
   root_fault : (pivots : List MadePivot) (lines : LineSet) (finding : Finding) (trees : Trees) (fault : LineSet) → AreLines m lines → FitsLines lines finding trees → ((broken : Rule) → Demands broken (matrix_after m pivots) lines finding (lines_of_each trees)) → MayStand pivots finding
       → fault_at lines finding ≡ Some fault → AreLines m fault × IsViolator (entry m) fault.rows fault.columns
   root_fault [] lines finding trees fault are fits keeps may e = fault_here lines finding trees fault are fits keeps e

@@ -1,4 +1,4 @@
--- The rules on separations and reductions, by the tests that are made.
+-- The rules on separations and reductions from the tests of the code.
 use Rattle.std.proofs.Common.{◌≡◌, ◌<◌, ◌↔◌, ◌∙◌, ◌*ℤ◌, IsTrue, ℕ, ℤ, pos, Bool, true, false, not, eqb, List, ◌∷◌, filter, get_or, Contains, nat_eq, w8, of_z, inl, inr, ◌⊎◌, refl, ap, sym, subst, arith, eqb-true}
 use Rattle.std.proofs.lemmas.Bool.{true≢false}
 use Rattle.std.proofs.lemmas.Int.{ints}
@@ -108,7 +108,7 @@ sides_are lines side one other a b c d =
     ∙ ap (λ x. sides_made (sides lines side).rows_one (sides lines side).columns_one x other.columns) c
     ∙ ap (λ x. sides_made (sides lines side).rows_one (sides lines side).columns_one (sides lines side).rows_two x) d
 
--- ---- what sums say
+-- ---- findings of sums
 
 pub false_not : {D : Type 0} → IsTrue false ↔ D → ¬ D
 false_not h d = true≢false (sym (h.1 d))
@@ -174,7 +174,7 @@ fewer_lines m lines fewer (Column column) are e f = record {
   };
 }
 
--- one more step
+-- another step
 pub reduced_more : {step : Line} (M : ℕ → ℕ → ℤ) (left fewer : LineSet) (steps rest : List Line) (Whole : Type 0) → HasLine left.rows left.columns step × IsSome (line_reason false M left.rows left.columns step)
     → fewer.rows ≡ rows_without left.rows step → fewer.columns ≡ columns_without left.columns step → steps ≡ step ∷ rest
     → AreReductions M left.rows left.columns steps ↔ Whole → AreReductions M fewer.rows fewer.columns rest ↔ Whole

@@ -15,7 +15,7 @@ use Rattle.tree_type.specs.SideLaws.{side_one, lines_kept}
 use Rattle.tree_type.proofs.SideLemmas.{two_sums_separate, three_sums_separate, two_sums_have_children, three_sums_have_children}
 use Rattle.cert_check.proofs.FreeSets.{IsFreeOn}
 
--- the lines of a child, as those of the separation's child
+-- the lines of a child are the lines of the separation's child
 none_on : (m : Matrix) (lines child : LineSet) (set : Lines) → child ≡ lines_kept set lines → IsFreeOn m child → HasNoViolator (on_lines m lines.rows lines.columns set)
 none_on m lines child set e free = submatrix_from_free m (rows_in set lines.rows) (columns_in set lines.columns) (subst (IsFreeOn m) e free)
 

@@ -1,4 +1,4 @@
--- What the checker answers, and what it finds on the way.
+-- The answers of the checker, and the intermediate answers of its functions.
 use Rattle.std.specs.Prelude.{◌≡◌, ◌<◌, ◌++◌, ℕ, Bool, true, false, List, [], ◌∷◌, Option, Some, None}
 use Rattle.std.specs.List.{AllByRecursion}
 use Rattle.cmr_base.specs.declared.line_set.LineSet.{LineSet}
@@ -10,35 +10,35 @@ use Rattle.tree_type.specs.Invariant.{AreLines, IsTreeWithin}
 use Rattle.tree_type.specs.Places.{Due, These, Unnamed, MadePivot, matrix_after, Place, due_child, pivots_below, places_from, places_below, lines_of_each}
 use Rattle.tree_type.specs.Soundness.{Demands, KeepsAll, rule_number, BreaksFirst, IsSound, IsFirstBroken, IsBroken}
 
--- no refusal exactly where the tree is sound, and else the first node that breaks a rule, with that rule
+-- no refusal if and only if the tree is sound; otherwise the first node that breaks a rule, with this rule
 abbrev pub Answers : Matrix → SizedTree → Option Refusal → Type 0
 Answers m tree None = IsSound m tree
 Answers m tree (Some refusal) = IsBroken m tree refusal
 
--- the same of some nodes
+-- the same for a list of nodes
 abbrev pub AnswersOn : Matrix → List Place → Option Refusal → Type 0
 AnswersOn m nodes None = AllByRecursion (KeepsAll m) nodes
 AnswersOn m nodes (Some refusal) = IsFirstBroken m nodes refusal.path refusal.rule
 
--- the first rule that is broken by what a node with these lines, and children with those, says, or none
+-- the first rule that the finding of a node with these lines breaks, if its children have those lines, or none
 abbrev pub IsFirstBrokenRule : Matrix → LineSet → Finding → List LineSet → Option Rule → Type 0
 IsFirstBrokenRule m lines finding children None = (rule : Rule) → Demands rule m lines finding children
 IsFirstBrokenRule m lines finding children (Some broken) = (¬ (Demands broken m lines finding children)) × ((earlier : Rule) → rule_number earlier < rule_number broken → Demands earlier m lines finding children)
 
--- the same where the children do not matter
+-- the same for all children
 abbrev pub Says : Matrix → LineSet → Finding → Option Rule → Type 0
 Says m lines finding answer = (children : List LineSet) → IsFirstBrokenRule m lines finding children answer
 
--- the first rule on what the node says that the node breaks, or none
+-- the first rule on the finding of a node that the node breaks, or none
 abbrev pub IsOwnRule : Matrix → Tree → Option Rule → Type 0
 IsOwnRule m (Branch lines finding trees) answer = IsFirstBrokenRule m lines finding (lines_of_each trees) answer
 
--- no rule where it is kept, and else this one
+-- no rule if it is kept, and the rule otherwise
 abbrev pub unless : Bool → Rule → Option Rule
 unless true rule = None
 unless false rule = Some rule
 
--- a node whose lines are lines of the matrix, with what stands below it
+-- a node whose lines are lines of the matrix, with a valid tree below it
 abbrev pub Stands : Matrix → Tree → Type 0
 Stands m tree = (parent : LineSet) × (levels : ℕ) × AreLines m parent × IsTreeWithin parent levels tree
 
@@ -49,12 +49,12 @@ trees_below (Branch lines finding trees) = trees
 abbrev pub nodes_below : List ℕ → List MadePivot → Tree → List Place
 nodes_below path pivots tree = places_below path (pivots_below (lines_at_root tree) (finding_of tree) pivots) (lines_at_root tree) (finding_of tree) 0 (trees_below tree)
 
--- what a child is to have, where lines are named for it
+-- the lines that a child must have, if its parent names them
 abbrev pub due_from : Option LineSet → Due
 due_from None = Unnamed
 due_from (Some lines) = These lines
 
--- what the child of a node with this number is to have
+-- the lines that the child of a node with this number must have
 abbrev pub due_child_of : Tree → ℕ → Due
 due_child_of tree number = due_child (lines_at_root tree) (finding_of tree) number
 
@@ -74,23 +74,23 @@ is_settled (Violator fault) = false
 is_settled Undecided = false
 is_settled finding = true
 
--- the matrix at hand is the one after some pivots of a matrix, and it is said whether there are any
+-- `here` is the matrix after these pivots of m, and `below_pivot` says whether there are any
 pub record IsAfter (m : Matrix) (pivots : List MadePivot) (here : Matrix) (below_pivot : Bool) : Type 0 where
   pub matrix : matrix_after m pivots ≡ here
   pub pivoted : has_pivot pivots ≡ below_pivot
 
--- the first rule that a node breaks at its place, or none, whatever its path and the pivots are after which the matrix is at hand
+-- the first rule that a node breaks at its place, or none, for all paths and for all pivots after which the matrix is `here`
 abbrev pub IsRuleAt : Matrix → Bool → Due → Tree → Option Rule → Type 0
 IsRuleAt here below_pivot due tree None = (m : Matrix) (pivots : List MadePivot) (path : List ℕ) → IsAfter m pivots here below_pivot → KeepsAll m (place_of path pivots due tree)
 IsRuleAt here below_pivot due tree (Some broken) =
     (m : Matrix) (pivots : List MadePivot) (path : List ℕ) → IsAfter m pivots here below_pivot → BreaksFirst m (place_of path pivots due tree) broken
 
--- the node keeps the rules on what it says, where it keeps all
+-- if the node keeps all rules, it keeps the rules on its finding
 abbrev pub KeepsOwn : Matrix → Tree → Option Rule → Type 0
 KeepsOwn here tree None = IsOwnRule here tree None
 KeepsOwn here tree (Some broken) = Unit {0}
 
--- the answer on a node and those below it, and on those below it alone
+-- the answer on a node and the nodes below it, and the answer on the nodes below it only
 abbrev pub AnswersFrom : Matrix → Bool → List ℕ → Due → Tree → Option Refusal → Type 0
 AnswersFrom here below_pivot path due tree answer = (m : Matrix) (pivots : List MadePivot) → IsAfter m pivots here below_pivot → AnswersOn m (places_from path pivots due tree) answer
 

@@ -1,4 +1,4 @@
--- What a sound tree says of a matrix.
+-- The consequences of a sound tree for a matrix.
 use Rattle.cmr_base.specs.declared.line_set.LineSet.{LineSet}
 use Rattle.cmr_base.specs.Matrix.{Matrix, entry, IsMatrix}
 use Rattle.cmr_base.specs.LineSets.{IsRowSet, IsColumnSet}
@@ -14,7 +14,7 @@ pub record IsProved (m : Matrix) : Type 0 where
   pub unimodular : IsTotallyUnimodular m
   pub none : HasNoViolator m
 
--- these lines are a violator, so that their rows have no signing
+-- these lines are a violator, so their rows have no signing
 pub record IsRefuted (m : Matrix) (fault : LineSet) : Type 0 where
   pub row_set : IsRowSet m fault.rows
   pub column_set : IsColumnSet m fault.columns
@@ -22,7 +22,7 @@ pub record IsRefuted (m : Matrix) (fault : LineSet) : Type 0 where
   pub unsigned : HasNoSigning m fault.rows
   pub not_unimodular : ¬ (IsTotallyUnimodular m)
 
--- the verdict is right; undecided promises nothing
+-- the verdict is right; the verdict undecided promises nothing
 abbrev pub Tells : Matrix → Verdict → Type 0
 Tells m Yes = IsProved m
 Tells m (No fault) = IsRefuted m fault

@@ -1,4 +1,4 @@
--- The lines of some nodes.
+-- The lines of a list of nodes.
 use Rattle.std.specs.Prelude.{List, map}
 use Rattle.cmr_base.specs.declared.line_set.LineSet.{LineSet}
 use Rattle.tree_type.specs.declared.tree.Node.{Node}

@@ -7,7 +7,7 @@ use Rattle.cmr_base.specs.declared.separation.Three.{Three}
 use Rattle.cmr_base.specs.Matrix.{Matrix, height}
 use Rattle.tree_type.specs.Sides.{Sides, two_one, two_two, three_one, three_two}
 
--- the lines of the children of sums, those of side one and those of side two
+-- the lines of the first child (true) or of the second child (false) of a two-sum
 abbrev pub two_child : Bool → LineSet → Two → LineSet
 two_child true lines two = two_one lines two
 two_child false lines two = two_two lines two

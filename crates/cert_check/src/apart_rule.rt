@@ -111,7 +111,7 @@ fn count_column(children: &[Node], column: u32) -> usize
     count
 }
 
-// Whether each nonzero of these rows and columns is in one child. Each of the rows is in one child alone.
+// Whether each nonzero of these rows and columns is in a child. Each of the rows is in exactly one child.
 fn have_nonzeros(matrix: &Matrix, children: &[Node], rows: &[u32], columns: &[u32]) -> bool
     requires rows { AllBelow (height matrix.now) rows.now }
     requires columns { AllBelow matrix.now.width columns.now }
@@ -153,7 +153,7 @@ fn has_nonzeros(matrix: &Matrix, children: &[Node], row: u32, columns: &[u32]) -
     are_inside(matrix, columns_beside(children, row), row, columns)
 }
 
-// The columns of the one child that has this row.
+// The columns of the only child that has this row.
 fn columns_beside(children: &[Node], row: u32) -> &Indices
     requires { count_by (λ child. is_among child.rows row) (line_sets children.now) ≡ 1 }
     ensures { (column : ℕ)

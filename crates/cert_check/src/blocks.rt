@@ -47,7 +47,7 @@ fn is_zero_row(matrix: &Matrix, row: u32, columns: &[u32]) -> bool
     true
 }
 
-/// Whether all entries are made from those in row `i` and in column `j`.
+/// Whether each entry is made from the entries of row `i` and column `j`.
 pub fn is_made_block(matrix: &Matrix, rows: &Indices, columns: &Indices, i: u32, j: u32) -> bool
     requires rows { AllBelow (height matrix.now) rows.now }
     requires columns { AllBelow matrix.now.width columns.now }

@@ -16,8 +16,8 @@ use pivots::{PivotedPart, PlacedPivot, pivot_part};
 use std::alloc::Global;
 use tree_type::{DecTree, Kind, Node, Refusal, Rule};
 
-/// The first node in preorder that breaks a rule of decomposition trees, with the first rule that it breaks, and none
-/// exactly where the tree is sound.
+/// The first node in preorder that breaks a rule of decomposition trees, with the first rule that it breaks, and `None` if and
+/// only if the tree is sound.
 pub fn accept(alloc: Global, matrix: &Matrix, tree: &DecTree) -> Result<Option<Refusal>, Memory>
     ensures { IfOk result (Answers matrix.now tree.now) }
 {
@@ -48,8 +48,8 @@ fn root_rule(alloc: Global, matrix: &Matrix, tree: &DecTree) -> Result<Option<Ru
     own_rule(alloc, matrix, root)
 }
 
-/// The first node below a node that breaks a rule. The matrix is the one after the pivots above the node, and `pivoted`
-/// where there are any. The recursion goes by the ordinary stack, so its functions hold little.
+/// The first node below a node that breaks a rule. `matrix` is the matrix after the pivots above the node, and `pivoted` says
+/// whether there are any. The recursion uses the ordinary stack, so its functions have few variables.
 #[cycle(check)]
 fn check_below(
     alloc: Global,
@@ -101,7 +101,8 @@ fn check_below(
     }
 }
 
-/// The same of the two children of a sum: the second one is checked only where the first and all below it keep the rules.
+/// The same for the two children of a sum. The second child is checked only if the first child and all nodes below it keep the
+/// rules.
 #[cycle(check)]
 fn check_both(
     alloc: Global,
@@ -123,8 +124,8 @@ fn check_both(
     }
 }
 
-/// The first node that breaks a rule among a child, which has this number at its parent, and the nodes below it. The path
-/// is the parent's.
+/// The first node that breaks a rule, among a child and the nodes below it. The child has this number, and the path is the
+/// parent's.
 #[cycle(check)]
 fn check_child(
     alloc: Global,
@@ -146,7 +147,7 @@ fn check_child(
     }
 }
 
-/// The same of the child of a pivoted node, in the matrix after its pivot, which lives as long as the child is checked.
+/// The same for the child of a pivoted node, in the matrix after its pivot. This matrix is freed after the check of the child.
 #[cycle(check)]
 #[inline(never)]
 fn check_pivoted(
@@ -170,7 +171,7 @@ fn check_pivoted(
     }
 }
 
-/// The first rule that a child breaks, which has this number at its parent, if there is one.
+/// The first rule that the child with this number breaks, if there is one.
 #[inline(never)]
 fn rule_of(
     alloc: Global,
@@ -211,7 +212,7 @@ fn rule_at(
     Ok(unless(may_stand(pivoted, child), Rule::BelowPivot))
 }
 
-/// Whether a child has the lines that are named for it.
+/// Whether a child has the lines that its parent names for it.
 fn has_lines(due: &Option<LineSet>, child: &Node) -> bool
     ensures { IsTrue result ↔ HasItsLines (due_from due.now) child.now.lines }
 {

@@ -1,4 +1,4 @@
-// Whether a matrix with a short side has no violator.
+// Decides whether a matrix with a short side has no violator.
 ghost use Rattle.std.specs.Prelude.{◌≤◌, ◌↔◌, min, IfOk, IsTrue};
 ghost use Rattle.cmr_base.specs.Matrix.{height, IsMatrix};
 ghost use Rattle.cmr_base.specs.Violator.{HasNoViolator};
@@ -7,7 +7,7 @@ use cmr_base::{MAX_LINES, Matrix, Memory, set_count, write_set};
 use parity::ColumnSearch;
 use std::alloc::Global;
 
-/// Whether no submatrix is a violator. All sets of the shorter side are tried.
+/// Whether no submatrix is a violator. The check tries all sets of lines of the shorter side.
 pub fn is_clean(alloc: Global, matrix: &Matrix) -> Result<bool, Memory>
     requires { min (height matrix.now) matrix.now.width ≤ MAX_LINES }
     ensures { IfOk result (λ yes. IsTrue yes ↔ HasNoViolator matrix.now) }

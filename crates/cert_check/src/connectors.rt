@@ -12,7 +12,7 @@ use crate::members::is_in;
 use crate::spread::core_of;
 use cmr_base::{Connector, Form, LineSet, Matrix, Three, product};
 
-/// Whether the connectors of a three-sum are in their sides and have the entries of the form.
+/// Whether the connectors of a three-sum are in their sides and have the entries that the form requires.
 pub fn are_connectors(matrix: &Matrix, one: &LineSet, other: &LineSet, three: &Three) -> bool
     requires first { IsConnectorIn matrix.now (first_is_flat three.now.form) three.now.first }
     requires second { IsConnectorIn matrix.now (second_is_flat three.now.form) three.now.second }
@@ -72,7 +72,8 @@ fn are_crossing(
         && is_tied(matrix, second_flat, second, first)
 }
 
-// Whether the third line of a connector is 0 where it crosses the other two, and not 0 on the other side.
+// Whether the third line of a connector is 0 at its crossing with this connector, and not 0 at its crossing with the other
+// connector.
 fn is_tied(matrix: &Matrix, flat: bool, one: Connector, other: Connector) -> bool
     requires one { IsConnectorIn matrix.now flat one }
     requires other_row { other.row < height matrix.now }
@@ -116,7 +117,7 @@ fn determinant_of_core(matrix: &Matrix, first: Connector, second: Connector) -> 
     core_of(matrix, first, second).determinant()
 }
 
-/// Whether the corners of two connectors have the signs that the form asks for.
+/// Whether the corners of two connectors have the signs that the form requires.
 pub fn have_corner_sign(matrix: &Matrix, form: Form, first: Connector, second: Connector) -> bool
     requires first { IsConnectorIn matrix.now (first_is_flat form) first }
     requires second { IsConnectorIn matrix.now (second_is_flat form) second }

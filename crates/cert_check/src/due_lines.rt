@@ -1,4 +1,4 @@
-// The lines that a child is to have.
+// The lines that a child must have.
 ghost use Rattle.std.specs.Prelude.{◌≡◌, IfOk};
 ghost use Rattle.cmr_base.specs.Reductions.{rows_without, columns_without};
 ghost use Rattle.tree_type.specs.DecompositionTrees.{tree_of};
@@ -10,7 +10,7 @@ use cmr_base::{Line, LineSet, Memory, Three, Two};
 use std::alloc::Global;
 use tree_type::{Kind, Node, copy_of, three_one, three_two, two_one, two_two};
 
-/// The lines that a child is to have, if they are named for it.
+/// The lines that a child must have, if its parent names them.
 pub fn due_lines(alloc: Global, node: &Node, number: u32) -> Result<Option<LineSet>, Memory>
     ensures { IfOk result (λ due. due_from due ≡ due_child_of (tree_of node.now) number) }
 {
@@ -45,7 +45,7 @@ fn lines_left(alloc: Global, lines: &LineSet, steps: &[Line]) -> Result<LineSet,
     Ok(left)
 }
 
-/// The lines without one of them.
+/// The lines without the given line.
 pub fn without_line(alloc: Global, lines: &LineSet, line: Line) -> Result<LineSet, Memory>
     ensures rows { IfOk result (λ fewer. fewer.rows ≡ rows_without lines.now.rows line) }
     ensures columns { IfOk result (λ fewer. fewer.columns
@@ -57,7 +57,7 @@ pub fn without_line(alloc: Global, lines: &LineSet, line: Line) -> Result<LineSe
     }
 }
 
-// The lines of the first child of a two-sum, or of the second.
+// The lines of the first child of a two-sum, or of the second child.
 fn two_child(alloc: Global, lines: &LineSet, two: &Two, one: bool) -> Result<LineSet, Memory>
     ensures { IfOk result (λ child. child ≡ two_child one lines.now two.now) }
 {
@@ -68,7 +68,7 @@ fn two_child(alloc: Global, lines: &LineSet, two: &Two, one: bool) -> Result<Lin
     }
 }
 
-// The lines of the first child of a three-sum, or of the second.
+// The lines of the first child of a three-sum, or of the second child.
 fn three_child(alloc: Global, lines: &LineSet, three: &Three, one: bool) -> Result<LineSet, Memory>
     ensures { IfOk result (λ child. child ≡ three_child one lines.now three.now) }
 {

@@ -1,8 +1,8 @@
-//! Laws over the definitions alone. Each is a function that does nothing: its contract is the law.
+//! Laws over the definitions. Each function does nothing: its contract is the law.
 ghost use Rattle.cert_check.specs.Laws.{SoundMeans};
 
-/// A sound tree tells right: where its verdict is yes, the matrix is totally unimodular, and where its verdict is no,
-/// it is not.
+/// The verdict of a sound tree is right: the matrix is totally unimodular if the verdict is yes, and it is not if the verdict
+/// is no.
 pub fn sound_means()
     ensures { SoundMeans }
 {}

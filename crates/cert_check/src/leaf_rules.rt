@@ -1,4 +1,4 @@
-// The rules on what a leaf says.
+// The rules on the findings of leaves.
 ghost use Rattle.std.specs.Prelude.{◌≡◌, ◌↔◌, min, IfOk, IsTrue};
 ghost use Rattle.cmr_base.specs.CyclePlaces.{HasNoCycleFault};
 ghost use Rattle.cmr_base.specs.Matrix.{Matrix, entry};
@@ -15,7 +15,7 @@ use r10_leaf::is_r10;
 use std::alloc::Global;
 use tree_type::Rule;
 
-/// The rule, unless it is kept.
+/// `None` if the rule is kept, and the rule otherwise.
 pub fn unless(kept: bool, rule: Rule) -> Option<Rule>
     ensures { result ≡ unless kept rule }
 {
@@ -35,7 +35,7 @@ pub fn is_empty(lines: &LineSet) -> bool
     lines.rows.len() == 0 && lines.columns.len() == 0
 }
 
-/// The rule on a fault, of a node that names one.
+/// The rule on the fault that a node names.
 pub fn fault_rule(matrix: &Matrix, fault: &LineSet) -> Option<Rule>
     requires { AreLines matrix.now fault.now }
     ensures cycle { (lines : LineSet) → Says matrix.now lines (says.Cycle fault.now) result }
@@ -96,7 +96,7 @@ pub fn r10_rule(alloc: Global, matrix: &Matrix, lines: &LineSet) -> Result<Optio
     Ok(Some(Rule::NotR10))
 }
 
-// Whether an R10 matrix has no cycle fault: the same as having no violator, so its few sets of rows are tried.
+// Whether an R10 matrix has no cycle fault. This is equivalent to having no violator, so the check tries its few sets of rows.
 fn has_no_fault(alloc: Global, matrix: &Matrix) -> Result<bool, Memory>
     requires { IsR10 matrix.now }
     ensures { IfOk result (λ yes. IsTrue yes ↔ HasNoCycleFault (entry matrix.now)) }

@@ -1,4 +1,4 @@
-// The rules on what one node says.
+// The rules on the finding of a node.
 ghost use Rattle.std.specs.Prelude.{◌≡◌, ◌↔◌, IfOk, IsTrue};
 ghost use Rattle.tree_type.specs.DecompositionTrees.{tree_of};
 ghost use Rattle.cert_check.specs.Answers.{IsOwnRule, Stands};
@@ -14,7 +14,7 @@ use cmr_base::{LineSet, Matrix, Memory};
 use std::alloc::Global;
 use tree_type::{Kind, Node, Rule};
 
-/// The first rule on what a node says that the node breaks, if there is one.
+/// The first rule on the finding of a node that the node breaks, if there is one.
 pub(crate) fn own_rule(alloc: Global, matrix: &Matrix, node: &Node) -> Result<Option<Rule>, Memory>
     requires { Stands matrix.now (tree_of node.now) }
     ensures { IfOk result (IsOwnRule matrix.now (tree_of node.now)) }

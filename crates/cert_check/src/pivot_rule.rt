@@ -14,7 +14,7 @@ use pivots::{PivotedPart, PlacedPivot, pivot_part};
 use std::alloc::Global;
 use tree_type::{Kind, Node, Rule};
 
-/// The rule on the place of a pivot.
+/// The rule on the position of a pivot.
 pub fn pivot_rule(
     alloc: Global,
     matrix: &Matrix,
@@ -35,7 +35,7 @@ pub fn pivot_rule(
     ))
 }
 
-// Whether the pivot of the submatrix has no 2 and no -2.
+// Whether the entries of the pivoted submatrix are -1, 0 and 1, that is none is 2 or -2.
 fn is_ternary_pivot(
     alloc: Global,
     matrix: &Matrix,
@@ -52,7 +52,7 @@ fn is_ternary_pivot(
     }
 }
 
-/// Whether a node may stand where it does: below a pivot it names no fault and leaves no lines open.
+/// Whether the finding of a node is allowed: below a pivot it names no fault and leaves no lines open.
 pub fn may_stand(below_pivot: bool, node: &Node) -> bool
     ensures { (pivots : List MadePivot) → has_pivot pivots ≡ below_pivot → IsTrue result
         ↔ MayStand pivots (finding_of (tree_of node.now)) }

@@ -54,7 +54,7 @@ fn are_reductions(
     Ok(true)
 }
 
-// Whether a line is among these and reducible.
+// Whether a line is one of these lines and reducible.
 fn is_step(matrix: &Matrix, lines: &LineSet, line: Line) -> bool
     requires { AreLines matrix.now lines.now }
     ensures { IsTrue result

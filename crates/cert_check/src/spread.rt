@@ -1,4 +1,5 @@
-// Blocks of rank two, whose rows are made from the two rows of one connector as their entries in the two columns of another are.
+// Blocks of rank two. Their rows are sums of multiples of the two rows of one connector, with factors given by the two columns
+// of another connector.
 ghost use Rattle.std.specs.Prelude.{◌≡◌, ◌<◌, ◌+ℤ◌, ◌*ℤ◌, ◌↔◌, ℕ, true, false, IsTrue};
 ghost use Rattle.std.specs.List.{AllByRecursion};
 ghost use Rattle.cmr_base.specs.Cores.{HasEntries, IsBounded, IsCoreAt};
@@ -10,7 +11,7 @@ ghost use Rattle.cert_check.specs.SideLines.{IsConnectorIn};
 
 use cmr_base::{Connector, Core, Factors, Indices, Matrix};
 
-/// Whether all entries are made from the columns of the first connector, which is flat, and the rows of the second, which is
+/// Whether each entry is made from the columns of the first connector, which is flat, and the rows of the second, which is
 /// tall.
 pub fn is_spread_block(
     matrix: &Matrix,
@@ -78,7 +79,7 @@ fn is_spread_row(
     is_row_made(matrix, row, columns, factors, second)
 }
 
-// Whether each entry of a row is the sum of those of the two rows of a tall connector, so many times.
+// Whether each entry of a row is the sum of the entries of the two rows of a tall connector, multiplied by these factors.
 fn is_row_made(
     matrix: &Matrix,
     row: u32,
@@ -147,7 +148,7 @@ fn factors_of(matrix: &Matrix, row: u32, first: Connector, second: Connector) ->
     )
 }
 
-/// The entries where the rows of a tall connector cross the columns of a flat one.
+/// The entries in which the rows of a tall connector cross the columns of a flat connector.
 pub fn core_of(matrix: &Matrix, first: Connector, second: Connector) -> Core
     requires first { IsConnectorIn matrix.now true first }
     requires second { IsConnectorIn matrix.now false second }

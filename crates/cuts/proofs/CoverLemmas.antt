@@ -1,4 +1,4 @@
--- What is known of all cuts with some lines in side one and some in side two.
+-- Properties of all cuts with given lines in side one and given lines in side two.
 use Rattle.std.proofs.Common.{ℕ, zero, suc, Bool, true, false, not, ◌≡◌, ◌≢◌, ◌<◌, ◌≤◌, ◌+◌, ◌∙◌, sym, ap, refl, arith, get_or, List, ◌⊎◌, inl, inr, nat_eq, pos, ◌*ℤ◌, ◌||◌}
 use Rattle.cmr_base.specs.declared.line.Line.{Line}
 use Rattle.cmr_base.specs.declared.line.Line.TheVariants.{Row, Column}
@@ -67,7 +67,7 @@ one_pattern m H T (Column c) (Column d) is w within lx ly u ex ey =
 one_pattern m H T (Row r) (Column d) is w within lx ly u ex ey = u.differ
 one_pattern m H T (Column c) (Row s) is w within lx ly u ex ey = u.differ
 
--- ---- what follows for the cuts with H in side one and K in side two
+-- ---- consequences for the cuts with H in side one and K in side two
 
 pub covers_more : (m : Matrix) (H K P P' : Lines) → AreWithin m P P' → Covers m H K P → Covers m H K P'
 covers_more m H K P P' more h T w x l e = more x l (h T w x l e)
@@ -78,7 +78,7 @@ within_sum m H X H' T adds h x z l e = elim (adds z l e) [
   | inr new ↦ x z l new
 ]
 
--- ---- all lines of a set are in another, or one is not
+-- ---- one set contains another, or a line is missing
 
 abbrev AllOrOne : (ℕ → Bool) → (ℕ → Bool) → ℕ → Type 0
 AllOrOne test other size = ((a : ℕ) → a < size → test a ≡ true → other a ≡ true) ⊎ ((a : ℕ) × (a < size) × (test a ≡ true) × (other a ≡ false))
@@ -117,7 +117,7 @@ within_or_not m X T = elim (all_or_one (λ r. X (Row r)) (λ r. T (Row r)) (heig
 
 -- ---- halves
 
--- of two sets that are unlike line by line, one is in side one
+-- of two sets, each line of one of which is unlike each line of the other, one is in side one
 pub halved_by_unlike : (m : Matrix) (H X Y H1 H2 : Lines) → IsMatrix m → AreAllUnlike m H X Y → AddsAtMost m H1 H X → AddsAtMost m H2 H Y → IsHalved m H H1 H2
 halved_by_unlike m H X Y H1 H2 is unlike adds1 adds2 T w one = elim (within_or_not m X T) [
   | inl all ↦ inl (within_sum m H X H1 T adds1 one all)
@@ -161,7 +161,7 @@ covers_line m H K P H' K' x lx adds1 adds2 h1 h2 T w = elim (two_cases (T x)) [
 
 -- ---- fewer than four lines
 
--- a side that has none of H has lines of pattern 0 and of one class beside
+-- a side that has none of H has only lines of pattern 0 and of one class outside H
 module _ (m : Matrix) (H T : Lines) (is : IsMatrix m) (w : IsCut m T) (within : AreWithin m H T) where
   not_in : (x : Line) → IsLineOf m x → T x ≡ false → H x ≡ false
   not_in x l e = elim (two_cases (H x)) [
@@ -206,13 +206,13 @@ module _ (m : Matrix) (H T : Lines) (is : IsMatrix m) (w : IsCut m T) (within : 
 pub covers_few : (m : Matrix) (H K P : Lines) → IsMatrix m → LeavesFew m H → Covers m H K P
 covers_few m H K P is few T w = absurd (no_few m H T is w.cut w.one few)
 
--- side one has
+-- side one has fewer than four lines
 pub covers_few_beside : (m : Matrix) (H K P : Lines) → IsMatrix m → LeavesFew m K → Covers m H K P
 covers_few_beside m H K P is few T w = absurd (no_few m K (opposite T) is (other_is_cut m T w.cut) (λ z l h. ap not (w.two z l h)) few)
 
 -- ---- the group of a line
 
--- lines of one name are in side one, or else in side two
+-- lines of one name are in side one, or otherwise in side two
 pub covers_group : (m : Matrix) (groups : Groups) (name : ℕ) (H G H' P : Lines) → HoldTogether (IsCut m) m groups → ((x : Line) → IsLineOf m x → G x ≡ true → name_of m groups x ≡ name) → AddsAtMost m H' H G
     → (K : Lines) → ((x : Line) → IsLineOf m x → K x ≡ false) → Covers m H' K P → Covers m H G P → (T : Lines) → IsCut m T → AreWithin m H T → (x : Line) → IsLineOf m x → T x ≡ false → P x ≡ true
 covers_group m groups name H G H' P together named adds K empty h1 h2 T w one = elim (within_or_not m G T) [
@@ -220,7 +220,7 @@ covers_group m groups name H G H' P together named adds K empty h1 h2 T w one = 
   | inr (x, lx, gx, ex) ↦ h2 T (record { cut = w; one = one; two = λ z l g. together T w z x l lx (named z l g ∙ sym (named x lx gx)) ∙ ex })
 ]
 
--- the lines not in P are on the side of the line with which the search began
+-- the lines outside P are on the side of the first line of the search
 pub group_of_covers : (m : Matrix) (groups : Groups) (name : ℕ) (H G H' K P : Lines) (e : Line) → IsLineOf m e → ((x : Line) → IsLineOf m x → H x ≡ true → x ≡ e) → HoldTogether (IsCut m) m groups
     → ((x : Line) → IsLineOf m x → G x ≡ true → name_of m groups x ≡ name) → AddsAtMost m H' H G → ((x : Line) → IsLineOf m x → K x ≡ false) → Covers m H' K P → Covers m H G P → AreOnOneSide m e P
 group_of_covers m groups name H G H' K P e le only together named adds empty h1 h2 T w x l n = elim (two_cases (T e)) [
@@ -234,12 +234,12 @@ group_of_covers m groups name H G H' K P e le only together named adds empty h1 
       | inr s ↦ absurd (not_both (P x) (covers_group m groups name H G H' P together named adds K empty h1 h2 S v (λ z lz hz. ap S (only z lz hz) ∙ t) x l s) n)
     ]
 
--- the names that such a group gets
+-- the names of the lines of such a group
 pub group_named : (m : Matrix) (before after : Groups) (P : Lines) (e : Line) → IsLineOf m e → HoldTogether (IsCut m) m before → ((T : Lines) → IsCut m T → (x : Line) → IsLineOf m x → P x ≡ false → T x ≡ T e)
     → GetName m before after P e → HoldTogether (IsCut m) m after
 group_named m before after P e le together same named T w a b la lb is = sym (like a la).2 ∙ together T w (like a la).0 (like b lb).0 (like a la).1 (like b lb).1 (sym (like a la).3 ∙ is ∙ (like b lb).3) ∙ (like b lb).2
   where
-    -- a line that is on the same side and had its name before
+    -- a line that is on the same side and had this name before
     like : (x : Line) → IsLineOf m x → (y : Line) × IsLineOf m y × (T y ≡ T x) × (name_of m after x ≡ name_of m before y)
     like x l = elim (two_cases (P x)) [
       | inl p ↦ (x, l, refl, named.kept x l p)
@@ -293,7 +293,7 @@ row_classes m rows columns classes is so r s lr ls er es nr ns d = unlike_rows m
 pub column_classes : (m : Matrix) (rows columns classes : List ℕ) → IsMatrix m → AreClassNumbers (transposed m) rows classes → AreClasses m (words_set rows columns) Column (λ c. get_or classes c 0)
 column_classes m rows columns classes is so c d lc ld ec ed nc nd n = unlike_columns m rows columns classes is so c d lc ld nc nd n
 
--- the classes of one heap and those of the other
+-- the classes of one heap differ from the classes of the other
 heaps_differ : (heaps : Heaps) (one other : ℕ) → is_in_heap heaps one true ≡ true → is_in_heap heaps other false ≡ true → (one ≢ 0) × (other ≢ 0) × (one ≢ other)
 heaps_differ heaps one other e f =
     let a = and_is (not (nat_eq one 0)) (is_between heaps.low heaps.high one) e in
@@ -320,18 +320,18 @@ columns_halved m rows columns patterns H1 H2 is so adds1 adds2 = halved_by_unlik
     unlike (Column c) (Row r) lc lr hc hr = absurd (not_both false hr refl)
     unlike (Row r) (Row s) lr ls hr hs = absurd (not_both false hr refl)
 
--- with fewer lines that are known
+-- the same with fewer known lines
 pub covers_less : (m : Matrix) (H K P less_one less_two : Lines) → AreWithin m less_one H → AreWithin m less_two K → Covers m less_one less_two P → Covers m H K P
 covers_less m H K P less_one less_two one two h T w = h T (record { cut = w.cut; one = λ x l e. w.one x l (one x l e); two = λ x l e. w.two x l (two x l e) })
 
--- two sides that have at most these lines more
+-- two sides with at most these further lines
 pub halved_within : (m : Matrix) (H one other more_one more_other : Lines) → IsHalved m H one other → AddsAtMost m more_one H one → AddsAtMost m more_other H other → IsHalved m H more_one more_other
 halved_within m H one other more_one more_other halved adds1 adds2 T cut within = elim (halved T cut within) [
   | inl h ↦ inl (λ x l e. elim (adds1 x l e) [ inl old ↦ within x l old | inr new ↦ h x l new ])
   | inr h ↦ inr (λ x l e. elim (adds2 x l e) [ inl old ↦ within x l old | inr new ↦ h x l new ])
 ]
 
--- the patterns of the lines beside a set show that few can be on the other side
+-- the patterns of the lines outside a set show that few lines can be on the other side
 pub patterns_few : (m : Matrix) (lines : LineWords) (patterns : LinePatterns) → IsMatrix m → HasPatterns m lines patterns → patterns.rows.most + patterns.columns.most < 4 → LeavesFew m (as_set lines)
 patterns_few m lines patterns is has few = record {
   rows = λ r. get_or patterns.rows.classes.items r 0;

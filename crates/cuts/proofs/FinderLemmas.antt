@@ -1,4 +1,4 @@
--- Groups while they are found, with more groups.
+-- The finder's groups, when it finds more groups.
 use Rattle.std.proofs.Common.{◌≡◌, sym, subst}
 use Rattle.cmr_base.specs.Matrix.{Matrix}
 use Rattle.cuts.specs.declared.cut_groups.GroupFinder.{GroupFinder}

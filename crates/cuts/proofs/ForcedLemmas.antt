@@ -1,4 +1,4 @@
--- Lines that a cut has on one side, since each is unlike a line of the other side.
+-- Forced lines: a cut has them on one side, since each is unlike a line of the other side.
 use Rattle.std.proofs.Common.{ℕ, true, false, not, List, ◌≡◌, ◌≢◌, ap, subst, inl, inr, get_or}
 use Rattle.cmr_base.specs.declared.line.Line.{Line}
 use Rattle.cmr_base.specs.declared.line.Line.TheVariants.{Row, Column}
@@ -56,7 +56,7 @@ side_forced m side more far rows columns row_numbers column_numbers far_rows far
         let (nx, k, lk, hk, nk, d) = unlike_at width_of m.width column_numbers side.column_numbers.items far_columns far.columns.items c ew ec fc (unlike_column c e) in
         forced_line m (as_set side.lines) (as_set far) T is cut one two Column (λ a. get_or side.column_numbers.items a 0) (column_classes m side.lines.rows.items side.lines.columns.items side.column_numbers.items is has.columns) c k l lk hk nx nk d
 
--- ---- what is parted from a side is parted from it with its forced lines
+-- ---- a cut that separates lines from a side separates them from the side with its forced lines
 
 pub covers_forced : (m : Matrix) (side more : Side) (far : LineWords) (P : Lines) → IsForced m side far more → Covers m (as_set more.lines) (as_set far) P → Covers m (as_set side.lines) (as_set far) P
 covers_forced m side more far P so h T w = h T (record { cut = w.cut; one = so.forced T w.cut w.one w.two; two = w.two })

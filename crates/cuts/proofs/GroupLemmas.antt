@@ -1,4 +1,4 @@
--- Groups while they are found.
+-- Groups during the search.
 use Rattle.std.proofs.Common.{Result, Ok, Err, IfOk, ℕ, ◌+◌, Bool, true, false, cond, List, ◌≡◌, ◌<◌, ◌≤◌, ◌∙◌, sym, ap, arith, ◌⊎◌, inl, inr, get_or}
 use Rattle.cmr_base.specs.declared.line.Line.{Line}
 use Rattle.cmr_base.specs.declared.line.Line.TheVariants.{Row, Column}
@@ -18,7 +18,7 @@ use Rattle.cmr_base.specs.Components.{IsLineOf}
 
 -- ---- names
 
--- where each line has a name of its own
+-- if each line has its own name
 pub apart_together : (m : Matrix) (groups : Groups) (P : Lines → Type 0) → ((k : ℕ) → k < height m + m.width → get_or groups.names.items k 0 ≡ k) → HoldTogether P m groups
 apart_together m groups P own T p (Row r) (Row s) lr ls e = let a = own r (omega (arith, lr)) in let b = own s (omega (arith, ls)) in ap (λ (z : ℕ). T (Row z)) (sym a ∙ e ∙ b)
 apart_together m groups P own T p (Column c) (Column d) lc ld e =
@@ -38,7 +38,7 @@ apart_together m groups P own T p (Column c) (Row r) lc lr e =
     let same : height m + c ≡ r = sym b ∙ e ∙ a in
     absurd (omega (arith, same, lr))
 
--- the rows and the columns of a name
+-- the rows and the columns with a name
 pub named_lines : (m : Matrix) (groups : Groups) (name from : ℕ) (one other rows columns : List ℕ) → one ≡ groups.names.items → other ≡ groups.names.items → from ≡ height m
     → ((x : ℕ) → has_column rows x ≡ true → get_or one (0 + x) 0 ≡ name) → ((x : ℕ) → has_column columns x ≡ true → get_or other (from + x) 0 ≡ name)
     → (x : Line) → IsLineOf m x → words_set rows columns x ≡ true → name_of m groups x ≡ name
@@ -48,7 +48,7 @@ named_lines m groups name from one other rows columns eo et ef hr hc (Row r) l e
 named_lines m groups name from one other rows columns eo et ef hr hc (Column c) l e =
     sym (ap (λ (v : List ℕ). get_or v (height m + c) 0) et) ∙ sym (ap (λ (z : ℕ). get_or other (z + c) 0) ef) ∙ hc c e
 
--- the lines that are not in a set have got a name, first the rows and then the columns
+-- the lines outside a set have the name, first the rows and then the columns
 module _ (m : Matrix) (before after middle rows columns : List ℕ) (size width from value : ℕ) (es : size ≡ height m) (ew : width ≡ m.width) (ef : from ≡ height m)
     (rows_named : (x : ℕ) → x < size → get_or middle (0 + x) 0 ≡ cond (has_column rows x) (get_or before (0 + x) 0) value) (rows_kept : (k : ℕ) → 0 + size ≤ k → get_or middle k 0 ≡ get_or before k 0)
     (columns_named : (x : ℕ) → x < width → get_or after (from + x) 0 ≡ cond (has_column columns x) (get_or middle (from + x) 0) value) (columns_kept : (k : ℕ) → k < from → get_or after k 0 ≡ get_or middle k 0) where
@@ -91,7 +91,7 @@ pub none_among : (lines : LineWords) → ((r : ℕ) → has_column lines.rows.it
 none_among lines rows columns (Row r) = rows r
 none_among lines rows columns (Column c) = columns c
 
--- two searches: with the lines of a name in side one, and with these in side two
+-- two searches: with the lines of a name in side one, and with these lines in side two
 pub covered_group : {E : Type 0} (m : Matrix) (groups : Groups) (name : ℕ) (line : Line) (group : Lines) (nothing first second more : Side) (before between after : LineWords) (covered : Bool) (found : Result Bool E) → IsLineOf m line
     → HoldTogether (IsCut m) m groups → ((x : Line) → as_set nothing.lines x ≡ false) → ((x : Line) → IsLineOf m x → as_set first.lines x ≡ true → (as_set nothing.lines x ≡ true) ⊎ (x ≡ line))
     → ((x : Line) → IsLineOf m x → group x ≡ true → name_of m groups x ≡ name) → AddsAtMost m (as_set more.lines) (as_set first.lines) group → AddsAtMost m (as_set second.lines) (as_set nothing.lines) group

@@ -1,4 +1,5 @@
--- How many numbers of a increasing list are 0 or equal to one, and how many lines beside a set have class 0 or another.
+-- Counts over increasing lists of numbers that are 0 or equal to one number, and counts of the lines outside a set with class 0
+-- or one other class.
 use Rattle.std.proofs.Common.{ℕ, zero, suc, ◌+◌, ◌++◌, ◌&&◌, ◌||◌, Bool, true, false, not, cond, nat_eq, List, [], ◌∷◌, ◌≡◌, ◌≢◌, ◌<◌, ◌≤◌, ◌∙◌, sym, ap, refl, arith, subst, ◌⊎◌, inl, inr, length, get_or, take, count_by, IsPermutation, length-append}
 use Rattle.std.specs.List.Sorted.{IsNonDecreasing}
 use Rattle.std.proofs.lemmas.List.{take_all}
@@ -13,7 +14,7 @@ use Rattle.cuts.specs.Patterns.{AreAtMostBeside, AreAtMostListed, AreOpen, AreRu
 
 -- ---- lines that are not in a set
 
--- each of so many numbers passes a test or does not
+-- each of the first k numbers passes a test or does not
 pub count_both : (p : ℕ → Bool) (k : ℕ) → count p k + count (λ x. not (p x)) k ≡ k
 count_both p zero = refl
 count_both p (suc k) = go (p k) (count_both p k)
@@ -42,7 +43,7 @@ listed_more own classes listed after row l so f is =
     let k = length-append listed (get_or classes row 0 ∷ []) in
     (omega (arith, e, k, l), open_more own classes listed after row so f is)
 
--- all lines that are not in the set, whatever their classes
+-- all lines outside the set, whatever their classes
 pub most_of_others : (own classes : List ℕ) (size most : ℕ) → most ≡ count (λ a. not (has_column own a)) size → AreAtMostBeside own classes size most
 most_of_others own classes size most others name =
     let l = count_grows (λ a. not (has_column own a) && (nat_eq (get_or classes a 0) 0 || nat_eq (get_or classes a 0) name)) (λ a. not (has_column own a)) size
@@ -59,7 +60,7 @@ pub most_of_sorted : (own classes items sorted listed : List ℕ) (rows size mos
 most_of_sorted own classes items sorted listed rows size most ec es er so l =
     subst (λ (v : List ℕ). AreAtMostBeside own v size most) ec (subst (λ (n : ℕ). AreAtMostBeside own classes n most) er (most_beside own classes listed rows most so (subst (λ (v : List ℕ). AreAtMostListed v most) es l)))
 
--- ---- a increasing list
+-- ---- an increasing list
 
 none_listed : (sorted : List ℕ) (class n : ℕ) → n ≤ length sorted → ((k : ℕ) → k < n → get_or sorted k 0 ≢ class) → count_by (λ c. nat_eq c class) (take n sorted) ≡ 0
 none_listed sorted class zero l h = refl
@@ -99,7 +100,7 @@ module _ (sorted : List ℕ) (place class : ℕ) (runs : Runs) (up : IsNonDecrea
     };
   }
 
-  -- the numbers equal to the next one, with it
+  -- the count of the next number, with the next number
   next_run : class ≢ 0 → count_by (λ c. nat_eq c class) (take (place + 1) sorted) ≤ cond (nat_eq class runs.last) (runs.run + 1) 1
   next_run n = let e = grown_same class refl in elim (same_or_not class runs.last) [
     | inl same ↦
@@ -148,7 +149,7 @@ counted_none sorted runs ez el er elast = record {
   short = record { zeros = omega (arith, ez); longest = omega (arith, el); run = omega (arith, er) };
 }
 
--- those that pass one test or another
+-- the numbers that pass one test or another
 either_listed : (name : ℕ) (xs : List ℕ) → count_by (λ c. nat_eq c 0 || nat_eq c name) xs ≤ count_by (λ c. nat_eq c 0) xs + count_by (λ c. nat_eq c name) xs
 either_listed name xs = whole
   where

@@ -1,4 +1,4 @@
--- What a search does by other searches.
+-- Searches by other searches.
 use Rattle.std.proofs.Common.{Result, Ok, Err, IfOk, Bool, true, false, ◌≡◌, inl, inr, refl}
 use Rattle.cmr_base.specs.Components.{IsLineOf}
 use Rattle.cmr_base.specs.declared.line.Line.{Line}
@@ -12,15 +12,15 @@ use Rattle.cuts.specs.CutSearches.{HasMarked}
 use Rattle.cuts.specs.WordSets.{HasWords, as_set}
 use Rattle.cuts.proofs.CoverLemmas.{covers_more}
 
--- from one state to another: what is marked then covers the first one where it covers the second
+-- if the marked lines cover the second state, they cover the first
 abbrev pub Leads : Matrix → (from_one from_two to_one to_two : Side) → Type 0
 Leads m from_one from_two to_one to_two = (P : Lines) → Covers m (as_set from_one.lines) (as_set from_two.lines) P → Covers m (as_set to_one.lines) (as_set to_two.lines) P
 
--- nothing is marked, since the lines are covered
+-- no line needs to be marked, since the lines are covered
 pub covered_at_once : (m : Matrix) (one two : Side) (parted : LineWords) → HasWords m parted → Covers m (as_set one.lines) (as_set two.lines) (as_set parted) → HasMarked m one two parted parted true
 covered_at_once m one two parted size covers = record { size = size; more = λ x l e. e; covers = λ e. covers }
 
--- one state is searched in the place of another
+-- a search of one state replaces the search of another
 pub searched_as : {E : Type 0} (m : Matrix) (one two other_one other_two : Side) (before after : LineWords) (found : Result Bool E) → Leads m other_one other_two one two → IfOk found (HasMarked m other_one other_two before after)
     → IfOk found (HasMarked m one two before after)
 searched_as m one two other_one other_two before after (Ok covered) leads h = record { size = h.size; more = h.more; covers = λ e. leads (as_set after) (h.covers e) }
@@ -41,7 +41,7 @@ searched_both m one two first_one first_two second_one second_two before between
 pub covers_shared : (m : Matrix) (one two : Side) (P : Lines) → (x : Line) × IsLineOf m x × (as_set one.lines x ≡ true) × (as_set two.lines x ≡ true) → Covers m (as_set one.lines) (as_set two.lines) P
 covers_shared m one two P (x, lx, ex, tx) T w y l e = absurd (not_both (T x) (w.one x lx ex) (w.two x lx tx))
 
--- all lines are marked that are not among those of side one
+-- all lines are marked except the lines of side one
 pub marked_rest : (m : Matrix) (one two : Side) (before after : LineWords) → HasWords m after → AreWithin m (as_set before) (as_set after) → ((x : Line) → IsLineOf m x → as_set one.lines x ≡ false → as_set after x ≡ true)
     → HasMarked m one two before after true
 marked_rest m one two before after size more rest = record {
@@ -50,6 +50,6 @@ marked_rest m one two before after size more rest = record {
   covers = λ e T w x l f. elim (two_cases (as_set one.lines x)) [ inl t ↦ absurd (not_both (T x) (w.one x l t) f) | inr g ↦ rest x l g ];
 }
 
--- a search gives up where one that it began did
+-- a search gives up if a search that it began gave up
 pub gave_up : (m : Matrix) (one two other_one other_two : Side) (before after : LineWords) (covered : Bool) → HasMarked m other_one other_two before after covered → HasMarked m one two before after false
 gave_up m one two other_one other_two before after covered h = record { size = h.size; more = h.more; covers = λ e. absurd (not_both false e refl) }

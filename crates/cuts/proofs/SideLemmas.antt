@@ -1,4 +1,4 @@
--- Sides with the numbers of the lines that cross them, of the numbers for their rows and for their columns.
+-- The numbers of a side from the numbers for its rows and for its columns.
 use Rattle.std.proofs.Common.{ℕ, Bool, List, true, false, ◌≡◌, ◌⊎◌, ◌∙◌, sym, ap, refl, subst, inl, inr, length, slice_index_or}
 use Rattle.cmr_base.specs.declared.line.Line.{Line}
 use Rattle.cmr_base.specs.declared.line.Line.TheVariants.{Row, Column}

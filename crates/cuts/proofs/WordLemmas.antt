@@ -1,4 +1,4 @@
--- Products whose supports are told by one factor.
+-- Products whose supports are determined by one factor.
 use Rattle.std.proofs.Common.{true, ◌≡◌, ◌≢◌, ◌∙◌, sym, ap, refl, arith, inl, inr, ℤ, pos, ◌*ℤ◌}
 use Rattle.cmr_base.specs.Matrix.{is_nonzero, IsEntry}
 use Rattle.cmr_base.specs.Signing.{IsSign}

@@ -1,10 +1,11 @@
--- Numbers for lines, by which lines that are not alike on a set of lines that cross them are told apart.
+-- Numbers for lines that distinguish lines with different patterns on a set of lines that cross them.
 use Rattle.std.specs.Prelude.{◌≡◌, ◌≢◌, ◌<◌, ℕ, Bool, true, List, slice_index_or}
 use Rattle.cmr_base.specs.ColumnSets.{has_column}
 use Rattle.cmr_base.specs.Matrix.{Matrix, height}
 use Rattle.cmr_base.specs.Trees.{support}
 
--- a line with a number other than 0 is not 0 somewhere on the set, and of two with different numbers just one is 0 somewhere there
+-- a line with a number other than 0 is not 0 somewhere on the set; of two lines with different numbers exactly one is 0
+-- somewhere on the set
 pub record AreNumbers (nonzero : (across line : ℕ) → Bool) (size : ℕ) (set numbers : List ℕ) : Type 0 where
   pub met : (x : ℕ) → x < size → slice_index_or numbers x 0 ≢ 0 → (a : ℕ) × (has_column set a ≡ true) × (nonzero a x ≡ true)
   pub apart : (x y : ℕ) → x < size → y < size → slice_index_or numbers x 0 ≢ slice_index_or numbers y 0 → (a : ℕ) × (has_column set a ≡ true) × (nonzero a x ≢ nonzero a y)
@@ -13,6 +14,6 @@ pub record AreNumbers (nonzero : (across line : ℕ) → Bool) (size : ℕ) (set
 abbrev pub AreClassNumbers : Matrix → List ℕ → List ℕ → Type 0
 AreClassNumbers m crossing classes = AreNumbers (λ column row. support m row column) (height m) crossing classes
 
--- a line has a number other than 0, and one of so many lines of a set has another one
+-- a line has a number other than 0, and one of the first `size` lines is in a set and has another number other than 0
 abbrev pub IsUnlikeOne : (size : ℕ) → (numbers far : List ℕ) → ℕ → Type 0
 IsUnlikeOne size numbers far x = (slice_index_or numbers x 0 ≢ 0) × (k : ℕ) × (k < size) × (has_column far k ≡ true) × (slice_index_or numbers k 0 ≢ 0) × (slice_index_or numbers x 0 ≢ slice_index_or numbers k 0)

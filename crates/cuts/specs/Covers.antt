@@ -1,4 +1,4 @@
--- Cuts with some lines in side one and some in side two, and the lines that they part from those in side one.
+-- Cuts with given lines in side one and given lines in side two, and the lines that they separate from the lines in side one.
 use Rattle.std.specs.Prelude.{◌≡◌, ◌≢◌, ◌<◌, ◌≤◌, ◌+◌, ◌⊎◌, ℕ, Bool, true, false, not, nat_eq, ◌||◌, ◌&&◌, List}
 use Rattle.cmr_base.specs.declared.line.Line.{Line}
 use Rattle.cmr_base.specs.declared.line.Line.TheVariants.{Row, Column}
@@ -11,7 +11,7 @@ use Rattle.cmr_base.specs.Seeds.{count}
 use Rattle.cuts.specs.LineCuts.{IsCut, name_of}
 use Rattle.cmr_base.specs.Components.{IsLineOf}
 
--- each line of the first set is in the second, each line of the matrix that is meant
+-- each line of the matrix that is in the first set is in the second
 abbrev pub AreWithin : Matrix → Lines → Lines → Type 0
 AreWithin m A B = (x : Line) → IsLineOf m x → A x ≡ true → B x ≡ true
 
@@ -19,7 +19,7 @@ AreWithin m A B = (x : Line) → IsLineOf m x → A x ≡ true → B x ≡ true
 abbrev pub AreOutside : Matrix → Lines → Lines → Type 0
 AreOutside m A B = (x : Line) → IsLineOf m x → A x ≡ true → B x ≡ false
 
--- a cut with the lines of H in side one and those of K in side two
+-- a cut with the lines of H in side one and the lines of K in side two
 pub record IsCutWith (m : Matrix) (H K T : Lines) : Type 0 where
   pub cut : IsCut m T
   pub one : AreWithin m H T
@@ -29,7 +29,7 @@ pub record IsCutWith (m : Matrix) (H K T : Lines) : Type 0 where
 abbrev pub Covers : Matrix → Lines → Lines → Lines → Type 0
 Covers m H K P = (T : Lines) → IsCutWith m H K T → (x : Line) → IsLineOf m x → T x ≡ false → P x ≡ true
 
--- each cut that has some lines in side one has those of one of two other sets there
+-- each cut with given lines in side one also has the lines of one of two other sets there
 abbrev pub IsHalved : Matrix → (before one other : Lines) → Type 0
 IsHalved m before one other = (T : Lines) → IsCut m T → AreWithin m before T → AreWithin m one T ⊎ AreWithin m other T
 
@@ -37,22 +37,22 @@ IsHalved m before one other = (T : Lines) → IsCut m T → AreWithin m before T
 abbrev pub AddsAtMost : Matrix → (after before added : Lines) → Type 0
 AddsAtMost m after before added = (x : Line) → IsLineOf m x → after x ≡ true → (before x ≡ true) ⊎ (added x ≡ true)
 
--- the lines that are not in the set get the name of one line, and the others keep theirs
+-- the lines outside the set get the name of one line, and the others keep their names
 pub record GetName (m : Matrix) (before after : Groups) (P : Lines) (e : Line) : Type 0 where
   pub renamed : (x : Line) → IsLineOf m x → P x ≡ false → name_of m after x ≡ name_of m before e
   pub kept : (x : Line) → IsLineOf m x → P x ≡ true → name_of m after x ≡ name_of m before x
 
--- the lines that are not in the set are on the side of a line
+-- the lines outside the set are on the side of the line e
 abbrev pub AreOnOneSide : Matrix → Line → Lines → Type 0
 AreOnOneSide m e P = (T : Lines) → IsCut m T → (x : Line) → IsLineOf m x → P x ≡ false → T x ≡ T e
 
--- ---- patterns: where a line is not 0 on the lines of a set that cross it
+-- ---- patterns: the positions in which a line is not 0, on the lines of a set that cross it
 
 abbrev pub IsMet : Matrix → Lines → Line → Type 0
 IsMet m H (Row r) = (c : ℕ) × (c < m.width) × (H (Column c) ≡ true) × (support m r c ≡ true)
 IsMet m H (Column c) = (r : ℕ) × (r < height m) × (H (Row r) ≡ true) × (support m r c ≡ true)
 
--- two rows, or two columns, of which just one is 0 somewhere on the set
+-- two rows, or two columns, of which exactly one is 0 somewhere on the set
 abbrev pub Differ : Matrix → Lines → Line → Line → Type 0
 Differ m H (Row r) (Row s) = (c : ℕ) × (c < m.width) × (H (Column c) ≡ true) × (support m r c ≢ support m s c)
 Differ m H (Column c) (Column d) = (r : ℕ) × (r < height m) × (H (Row r) ≡ true) × (support m r c ≢ support m r d)
@@ -65,19 +65,19 @@ pub record AreUnlike (m : Matrix) (H : Lines) (x y : Line) : Type 0 where
   pub met_two : IsMet m H y
   pub differ : Differ m H x y
 
--- each line of the one set is unlike each of the other
+-- each line of one set is unlike each line of the other
 abbrev pub AreAllUnlike : Matrix → Lines → Lines → Lines → Type 0
 AreAllUnlike m H X Y = (x y : Line) → IsLineOf m x → IsLineOf m y → X x ≡ true → Y y ≡ true → AreUnlike m H x y
 
--- classes of the rows, or of the columns: those that are not in the set, of different classes other than 0, are unlike
+-- classes of the rows, or of the columns: lines outside the set with different classes other than 0 are unlike
 abbrev pub AreClasses : Matrix → Lines → (ℕ → Line) → (ℕ → ℕ) → Type 0
 AreClasses m H line class = (a b : ℕ) → IsLineOf m (line a) → IsLineOf m (line b) → H (line a) ≡ false → H (line b) ≡ false → class a ≢ 0 → class b ≢ 0 → class a ≢ class b → AreUnlike m H (line a) (line b)
 
--- the lines that are not in the set and have class 0 or the given one
+-- the lines outside the set with class 0 or the given class
 abbrev pub may_be_outside : Lines → (ℕ → Line) → (ℕ → ℕ) → ℕ → ℕ → Bool
 may_be_outside H line class name a = not (H (line a)) && (nat_eq (class a) 0 || nat_eq (class a) name)
 
--- with each class there are at most so many
+-- for each class, at most `bound` lines are outside the set with class 0 or this class
 abbrev pub AreAtMost : Lines → (ℕ → Line) → (ℕ → ℕ) → (size bound : ℕ) → Type 0
 AreAtMost H line class size bound = (name : ℕ) → count (may_be_outside H line class name) size ≤ bound
 
@@ -95,7 +95,7 @@ pub record LeavesFew (m : Matrix) (H : Lines) : Type 0 where
 
 -- ---- sets of lines
 
--- the lines that two lists of words have
+-- the lines in two sets of words
 abbrev pub words_set : List ℕ → List ℕ → Lines
 words_set rows columns (Row r) = has_column rows r
 words_set rows columns (Column c) = has_column columns c

@@ -1,4 +1,4 @@
--- Searches for the lines that cuts part from some lines of side one.
+-- Searches for the lines that cuts separate from given lines of side one.
 use Rattle.std.specs.Prelude.{◌≡◌, Bool, true}
 use Rattle.cmr_base.specs.Matrix.{Matrix}
 use Rattle.cuts.specs.declared.line_words.LineWords.{LineWords}
@@ -7,13 +7,14 @@ use Rattle.cuts.specs.Covers.{AreWithin, Covers}
 use Rattle.cuts.specs.CutSides.{HasNumbers}
 use Rattle.cuts.specs.WordSets.{HasWords, as_set}
 
--- what a search begins with: the lines that are marked, and some lines of each side
+-- the start of a search: the marked lines, and some lines of each side
 pub record CanSearch (m : Matrix) (marked : LineWords) (one two : Side) : Type 0 where
   pub size : HasWords m marked
   pub near : HasNumbers m one
   pub far : HasNumbers m two
 
--- more lines are marked, and unless the search gave up, these are all that a cut with these lines parts from those of side one
+-- more lines are marked; unless the search gave up, they contain all lines of side two of each cut with the given lines on its
+-- sides
 pub record HasMarked (m : Matrix) (one two : Side) (before after : LineWords) (covered : Bool) : Type 0 where
   pub size : HasWords m after
   pub more : AreWithin m (as_set before) (as_set after)

@@ -1,4 +1,4 @@
--- Sides of a cut with the numbers of the lines that cross them.
+-- Sides of a cut, with the numbers of the lines that cross them.
 use Rattle.std.specs.Prelude.{◌≡◌, length}
 use Rattle.cmr_base.specs.Matrix.{Matrix, height, transposed}
 use Rattle.cmr_base.specs.Planes.{words_for}
@@ -13,7 +13,7 @@ use Rattle.cuts.specs.Covers.{AreOutside, AreWithin, IsHalved}
 use Rattle.cuts.specs.LineCuts.{IsCut}
 use Rattle.cuts.specs.WordSets.{HasWords, as_set}
 
--- a set of rows, and numbers of the columns for it
+-- a set of rows, and the numbers of the columns for it
 pub record HasSetNumbers (m : Matrix) (rows : NumberedSet) : Type 0 where
   pub set_size : length rows.set.items ≡ words_for (height m)
   pub size : length rows.numbers.items ≡ m.width
@@ -27,13 +27,14 @@ pub record HasNumbers (m : Matrix) (side : Side) : Type 0 where
   pub rows : AreClassNumbers m side.lines.columns.items side.row_numbers.items
   pub columns : AreClassNumbers (transposed m) side.lines.rows.items side.column_numbers.items
 
--- two larger sides: a cut that has the lines of the side in side one has those of one of them there
+-- two larger sides: a cut with the lines of the side in side one also has the lines of one larger side there
 pub record AreHalves (m : Matrix) (side : Side) (halves : Halves) : Type 0 where
   pub one : HasNumbers m halves.one
   pub other : HasNumbers m halves.other
   pub halved : IsHalved m (as_set side.lines) (as_set halves.one.lines) (as_set halves.other.lines)
 
--- a larger side: a cut with the lines of the side on side one, and some others on side two, has its lines on side one
+-- a larger side: a cut with the lines of the side in side one and the lines of `far` in side two has the lines of the larger
+-- side in side one
 pub record IsForced (m : Matrix) (side : Side) (far : LineWords) (more : Side) : Type 0 where
   pub numbers : HasNumbers m more
   pub forced : (T : Lines) → IsCut m T → AreWithin m (as_set side.lines) T → AreOutside m (as_set far) T → AreWithin m (as_set more.lines) T

@@ -1,4 +1,4 @@
--- Groups while they are found.
+-- Groups during the search.
 use Rattle.cmr_base.specs.Matrix.{Matrix}
 use Rattle.cuts.specs.declared.cut_groups.GroupFinder.{GroupFinder}
 use Rattle.cuts.specs.LineCuts.{HasNames, HoldTogether, IsCut}

@@ -1,4 +1,5 @@
--- Cuts: two sides of four lines or more, with blocks between them that are products and not 0. Groups of lines that they do not part.
+-- Cuts: two sides of at least four lines each, with blocks between them that are products and not 0. Groups of lines that cuts
+-- do not separate.
 use Rattle.std.specs.Prelude.{◌≡◌, ◌≢◌, ◌<◌, ◌+◌, ℕ, pos, true, false, length, slice_index_or}
 use Rattle.cmr_base.specs.declared.line.Line.{Line}
 use Rattle.cmr_base.specs.declared.line.Line.TheVariants.{Row, Column}
@@ -35,7 +36,7 @@ pub record IsCut (m : Matrix) (T : Lines) : Type 0 where
 
 -- ---- groups
 
--- the place of a line in the list of names, the rows first
+-- the name of a line, at its position in the list of names, rows first
 abbrev pub name_of : Matrix → Groups → Line → ℕ
 name_of m groups (Row r) = slice_index_or groups.names.items r 0
 name_of m groups (Column c) = slice_index_or groups.names.items (height m + c) 0
@@ -43,6 +44,6 @@ name_of m groups (Column c) = slice_index_or groups.names.items (height m + c) 0
 abbrev pub HasNames : Matrix → Groups → Type 0
 HasNames m groups = length groups.names.items ≡ height m + m.width
 
--- lines of one name are on one side of each of some cuts
+-- lines of one name are on one side of each cut that satisfies P
 abbrev pub HoldTogether : (Lines → Type 0) → Matrix → Groups → Type 0
 HoldTogether P m groups = (T : Lines) → P T → (x y : Line) → IsLine (height m) m.width x → IsLine (height m) m.width y → name_of m groups x ≡ name_of m groups y → T x ≡ T y

@@ -1,4 +1,4 @@
--- Patterns of the lines that are not in a set, and how many of these lines are at most in class 0 and one other.
+-- Patterns of the lines outside a set, and bounds on the number of these lines in class 0 and one other class.
 use Rattle.std.specs.Prelude.{◌≡◌, ◌≢◌, ◌<◌, ◌≤◌, ℕ, Bool, not, nat_eq, ◌||◌, ◌&&◌, List, length, slice_index_or, count_by, take}
 use Rattle.cmr_base.specs.ColumnSets.{has_column}
 use Rattle.cmr_base.specs.Matrix.{Matrix, height, transposed}
@@ -8,7 +8,7 @@ use Rattle.cuts.specs.declared.patterns.Runs.{Runs}
 use Rattle.cuts.specs.declared.line_patterns.LinePatterns.{LinePatterns}
 use Rattle.cuts.specs.Classes.{AreClassNumbers}
 
--- of so many lines that are not in the set, at most so many have class 0 or any other one
+-- of the first `size` lines, at most `most` are outside the set and have class 0 or any one other class
 abbrev pub AreAtMostBeside : List ℕ → List ℕ → (size most : ℕ) → Type 0
 AreAtMostBeside own classes size most = (name : ℕ) → count (λ a. not (has_column own a) && (nat_eq (slice_index_or classes a 0) 0 || nat_eq (slice_index_or classes a 0) name)) size ≤ most
 
@@ -16,7 +16,7 @@ AreAtMostBeside own classes size most = (name : ℕ) → count (λ a. not (has_c
 abbrev pub AreOpen : List ℕ → List ℕ → ℕ → List ℕ → Type 0
 AreOpen own classes size listed = (test : ℕ → Bool) → count_by test listed ≡ count (λ a. not (has_column own a) && test (slice_index_or classes a 0)) size
 
--- at most so many are 0 or equal to any number
+-- at most `most` numbers are 0 or equal to any one number
 abbrev pub AreAtMostListed : List ℕ → ℕ → Type 0
 AreAtMostListed numbers most = (name : ℕ) → count_by (λ class. nat_eq class 0 || nat_eq class name) numbers ≤ most
 
@@ -25,7 +25,7 @@ pub record AreShort (runs : Runs) (most : ℕ) : Type 0 where
   pub longest : runs.longest ≤ most
   pub run : runs.run ≤ most
 
--- what is known of so many of the first numbers of a increasing list
+-- bounds for the first `place` numbers of an increasing list
 pub record AreRunsCounted (sorted : List ℕ) (place : ℕ) (runs : Runs) : Type 0 where
   pub zeros : count_by (λ class. nat_eq class 0) (take place sorted) ≤ runs.zeros
   pub longest : (name : ℕ) → name ≢ 0 → count_by (λ class. nat_eq class name) (take place sorted) ≤ runs.longest
@@ -34,7 +34,7 @@ pub record AreRunsCounted (sorted : List ℕ) (place : ℕ) (runs : Runs) : Type
   pub below : (k : ℕ) → k < place → slice_index_or sorted k 0 ≤ runs.last
   pub short : AreShort runs place
 
--- what the patterns of the lines that are not in the set are
+-- the patterns of the lines outside the set
 pub record HasPatterns (m : Matrix) (lines : LineWords) (patterns : LinePatterns) : Type 0 where
   pub row_size : length patterns.rows.classes.items ≡ height m
   pub column_size : length patterns.columns.classes.items ≡ m.width

@@ -1,4 +1,4 @@
--- Rows and columns of a matrix as words.
+-- Rows and columns of a matrix, stored in words.
 use Rattle.std.specs.Prelude.{◌≡◌, ℕ, Bool, true, false, not, ◌&&◌, nat_eq, nat_lt, length, slice_index_or}
 use Rattle.cmr_base.specs.declared.line.Line.TheVariants.{Row, Column}
 use Rattle.cmr_base.specs.Matrix.{Matrix, height}
@@ -19,12 +19,12 @@ pub record HasWords (m : Matrix) (lines : LineWords) : Type 0 where
 abbrev pub is_between : (low high number : ℕ) → Bool
 is_between low high number = not (nat_lt number low) && not (nat_lt high number)
 
--- a class that is not 0, with a number in the interval or not
+-- the class is not 0, and its number is in the interval or outside
 abbrev pub is_in_heap : Heaps → ℕ → Bool → Bool
 is_in_heap heaps class true = not (nat_eq class 0) && is_between heaps.low heaps.high class
 is_in_heap heaps class false = not (nat_eq class 0) && not (is_between heaps.low heaps.high class)
 
--- the rows of such classes
+-- the rows with such classes
 abbrev pub rows_heap : Patterns → Bool → Lines
 rows_heap patterns inside (Row r) = is_in_heap patterns.heaps (slice_index_or patterns.classes.items r 0) inside
 rows_heap patterns inside (Column c) = false

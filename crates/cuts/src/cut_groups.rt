@@ -1,4 +1,4 @@
-// Groups of lines that no cut parts, found one after the other.
+// Finds groups of lines that no cut separates, one after another.
 ghost use Rattle.std.specs.Prelude.{◌≡◌, ◌<◌, true, IfOk, OnOk, MatchOption};
 ghost use Rattle.cmr_base.specs.declared.line.Line.{Line};
 ghost use Rattle.cuts.specs.Covers.{AreOnOneSide};
@@ -15,15 +15,15 @@ use crate::sides::Side;
 use cmr_base::{Line, Memory, RowsAndColumns};
 use std::alloc::Global;
 
-/// How many states are looked at for each line of the matrix at most, in all.
+/// The search examines at most this number of states for each line of the matrix, in total.
 const STATES_OF_A_LINE: u32 = 100;
 
-/// A group of fewer lines is small, and after so many small ones no more are looked for.
+/// A group with fewer lines is small. The search ends after `SMALL_GROUPS` small groups.
 const SMALL: u32 = 8;
 
 const SMALL_GROUPS: u32 = 8;
 
-/// Finds groups of lines that no cut parts.
+/// Finds groups of lines that no cut separates.
 pub fn groups_of(alloc: Global, matrix: &RowsAndColumns<'_>) -> Result<Groups, Memory>
     ensures names { IfOk result (HasNames matrix.now) }
     ensures together { IfOk result (HoldTogether (IsCut matrix.now) matrix.now) }
@@ -38,8 +38,8 @@ pub fn groups_of(alloc: Global, matrix: &RowsAndColumns<'_>) -> Result<Groups, M
     Ok(finder.groups)
 }
 
-// Groups while they are found: those found so far, their lines, the name and the size of the largest one, how many small
-// ones were found, and how many states may be looked at yet.
+// The groups found so far, their lines, the name and the size of the largest group, the number of small groups, and the number
+// of states that the search may still examine.
 #[derive(Drop)]
 struct GroupFinder {
     groups: Groups,
@@ -64,7 +64,7 @@ impl GroupFinder {
         })
     }
 
-    // A line of no group so far, unless enough groups were found.
+    // A line that is in no group so far, unless enough groups are found.
     fn next(&self, alloc: Global, matrix: &RowsAndColumns<'_>) -> Result<Option<Line>, Memory>
         requires { AreFound matrix.now self.now }
         ensures { IfOk result (λ found. MatchOption found (Unit {0}) (IsLineOf matrix.now)) }
@@ -103,7 +103,7 @@ impl GroupFinder {
         Ok(())
     }
 
-    // Notes the size of a group.
+    // Records the size of a group.
     fn note(&mut self, matrix: &RowsAndColumns<'_>, line: Line, size: u32)
         requires found { AreFound matrix.now self.old }
         requires line { IsLineOf matrix.now line }
@@ -119,8 +119,8 @@ impl GroupFinder {
     }
 }
 
-// Whether all lines are marked that some cut parts from a line. The group with a name is put into side one first, and
-// then into side two.
+// Whether all lines that some cut separates from a line are marked. The search puts the group with a name into side one first,
+// and then into side two.
 fn is_covered(
     alloc: Global,
     matrix: &RowsAndColumns<'_>,

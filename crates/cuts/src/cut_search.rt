@@ -1,4 +1,4 @@
-// The lines that cuts part from some lines of side one.
+// Searches for the lines that cuts separate from given lines of side one.
 ghost use Rattle.std.specs.Prelude.{IfOk};
 ghost use Rattle.cuts.specs.CutSearches.{CanSearch, HasMarked};
 ghost use Rattle.cuts.specs.Patterns.{HasPatterns};
@@ -11,10 +11,11 @@ use crate::sides::Side;
 use cmr_base::{Memory, RowsAndColumns};
 use std::alloc::Global;
 
-/// Class 0 has many lines where it has more than one in so many.
+/// Class 0 has many lines if more than one line in `MANY_ZEROS` has it.
 const MANY_ZEROS: u32 = 2;
 
-/// The lines that may be parted from those with which the search began, and how many states may be looked at yet.
+/// The lines that cuts may separate from the first lines of the search, and the number of states that the search may still
+/// examine.
 #[derive(Drop)]
 pub struct CutSearch {
     pub parted: LineWords,
@@ -22,8 +23,8 @@ pub struct CutSearch {
 }
 
 impl CutSearch {
-    /// Marks the lines of side two of each cut that has some lines in side one and some in side two, and says so; or gives
-    /// up.
+    /// Marks the lines of side two of each cut that has the lines of `one` in side one and the lines of `two` in side two.
+    /// Returns `false` if it gives up, since no depth or no states are left.
     #[cycle(search)]
     pub fn search(
         &mut self,
@@ -56,7 +57,7 @@ impl CutSearch {
         self.search_state(alloc, matrix, one, two, depth - 1)
     }
 
-    // The same of a state in which no line is forced. The searches that it begins have this depth.
+    // The same for a state in which no line is forced. The searches that it begins have this depth.
     #[cycle(search)]
     fn search_state(
         &mut self,
@@ -85,7 +86,7 @@ impl CutSearch {
         self.search_halves(alloc, matrix, one, two, &near, &far, depth)
     }
 
-    // The same by halves of the lines beside side one, or beside side two.
+    // The same by halves of the lines outside side one, or outside side two.
     #[cycle(search)]
     fn search_halves(
         &mut self,
@@ -146,8 +147,9 @@ impl CutSearch {
     }
 }
 
-// How many lines the lighter heap beside side one needs, so that it is taken. Where side two has no lines and many lines beside side one
-// have class 0, none is: halves would be halved again and again, and a line in side two shows at once what is in side one.
+// The number of lines that the lighter heap outside side one needs to be chosen. No heap is chosen if side two has no lines and
+// many lines outside side one have class 0. In this case halves would be divided again and again, and a line in side two
+// determines lines of side one at once.
 fn least_heap(
     matrix: &RowsAndColumns<'_>,
     one: &Side,

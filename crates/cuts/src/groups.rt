@@ -1,4 +1,4 @@
-// Groups of lines, which cuts are to keep together.
+// Groups of lines that cuts keep together.
 ghost use Rattle.std.specs.Prelude.{◌≡◌, ◌<◌, ◌≤◌, ◌+◌, ◌↔◌, ℕ, length, slice_index_or, true, false, cond, IsTrue, IfOk};
 ghost use Rattle.cmr_base.specs.ColumnSets.{has_column};
 ghost use Rattle.cmr_base.specs.Matrix.{height};
@@ -14,7 +14,7 @@ use cmr_base::columns::{add_column, empty_set, has_column};
 use cmr_base::{Line, MAX_ROWS, Memory, RowsAndColumns, own_labels};
 use std::alloc::Global;
 
-/// A name for the group of each line, the rows first.
+/// A name for the group of each line, rows first.
 #[derive(Drop)]
 pub struct Groups {
     names: Vec<u32>,
@@ -42,7 +42,7 @@ impl Groups {
         self.names[one as usize] == self.names[two as usize]
     }
 
-    /// Whether all lines are shown to be in one group.
+    /// Whether all lines are in one group.
     pub fn are_all_one(&self) -> bool
         ensures { result ≡ true → (k l : ℕ) → k < length self.now.names.items
             → l < length self.now.names.items
@@ -85,7 +85,7 @@ impl Groups {
         Ok(LineWords { rows, columns })
     }
 
-    /// Gives the name of a line to all lines that are not among some.
+    /// Gives the name of a line to all lines that are not in `parted`.
     pub fn rename(&mut self, matrix: &RowsAndColumns<'_>, line: Line, parted: &LineWords)
         requires names { HasNames matrix.now self.old }
         requires line { IsLineOf matrix.now line }
@@ -105,7 +105,7 @@ impl Groups {
     }
 }
 
-// Lines of a name among so many, the first of which has the name at a place.
+// The lines with a name, among `count` lines. The name of line k is at position `from` + k.
 fn lines_named(
     alloc: Global,
     names: &[u32],
@@ -129,7 +129,7 @@ fn lines_named(
     Ok(lines)
 }
 
-// Gives a name to those of so many lines that are not among some. The first of the lines has the name at a place.
+// Gives a name to the lines that are not in `kept`, among `count` lines. The name of line k is at position `from` + k.
 fn rename_others(names: &mut Vec<u32>, from: u32, count: u32, kept: &[u64], name: u32)
     requires from { from ≤ MAX_ROWS }
     requires count { count ≤ MAX_ROWS }

@@ -1,7 +1,6 @@
-// Classes of lines in two heaps: those with numbers in an interval, and the others.
+// Classes of lines in two heaps: the classes in an interval of numbers, and the other classes.
 
-/// The classes with numbers from one to another, and how many lines are in the lighter heap. None there means that there
-/// are no two heaps.
+/// The classes from `low` to `high`, and the number of lines in the lighter heap. If this number is 0, there are no two heaps.
 #[derive(Clone, Copy)]
 pub struct Heaps {
     pub low: u64,
@@ -9,7 +8,7 @@ pub struct Heaps {
     pub lighter: u32,
 }
 
-// How many numbers before the first class there are.
+// The number of zeros before the first class.
 fn zeros_of(sorted: &[u64]) -> usize {
     for place in 0..sorted.len() {
         if sorted[place] != 0 {
@@ -19,8 +18,8 @@ fn zeros_of(sorted: &[u64]) -> usize {
     sorted.len()
 }
 
-/// Two heaps of classes, of which all numbers are given in increasing order: those below and above the step that is nearest to the middle.
-/// Number 0 is no class.
+/// Two heaps of classes, whose numbers are given in increasing order. The heaps are separated at the step that is nearest to
+/// the middle. Number 0 is no class.
 pub fn middle_heaps(sorted: &[u64]) -> Heaps {
     let zeros = zeros_of(sorted);
     let middle = zeros / 2 + sorted.len() / 2;
@@ -38,7 +37,7 @@ pub fn middle_heaps(sorted: &[u64]) -> Heaps {
     no_heaps()
 }
 
-/// What tells that there are no two heaps.
+/// The value if there are no two heaps.
 pub fn no_heaps() -> Heaps {
     Heaps {
         low: 0,
@@ -47,12 +46,12 @@ pub fn no_heaps() -> Heaps {
     }
 }
 
-// Whether the numbers from the first class on are alike.
+// Whether the numbers from the first class on are equal.
 fn is_one_class(sorted: &[u64], zeros: usize) -> bool {
     zeros >= sorted.len() || sorted[zeros] == sorted[sorted.len() - 1]
 }
 
-// Whether the number before a place is a class, and the one there another.
+// Whether the number before a position is a class, and the number at the position is another class.
 fn is_step(sorted: &[u64], place: usize) -> bool {
     place > 0
         && place < sorted.len()
@@ -60,7 +59,7 @@ fn is_step(sorted: &[u64], place: usize) -> bool {
         && sorted[place - 1] != sorted[place]
 }
 
-// The heaps of the classes before a place and from there on.
+// The heaps of the classes before a position and from the position on.
 fn heaps_before(sorted: &[u64], place: usize, zeros: usize) -> Heaps {
     let lighter = place
         .saturating_sub(zeros)

@@ -1,4 +1,4 @@
-//! Cuts of a matrix, and groups of lines that no cut parts.
+//! Cuts of a matrix, and groups of lines that no cut separates.
 #![tactic(auto)]
 
 mod corners;

@@ -1,4 +1,4 @@
-// Patterns of the rows and of the columns that are not on a side, and two larger sides by them.
+// Patterns of the rows and of the columns outside a side, and two larger sides that they give.
 ghost use Rattle.std.specs.Prelude.{◌≡◌, ◌<◌, ◌+◌, true, IfOk, MatchOption};
 ghost use Rattle.cmr_base.specs.Separations.{Lines};
 ghost use Rattle.cuts.specs.Covers.{Covers, IsHalved};
@@ -28,7 +28,7 @@ pub struct LinePatterns {
 }
 
 impl LinePatterns {
-    /// Those of the lines that are not on a side.
+    /// The patterns of the lines outside a side.
     pub fn of(
         alloc: Global,
         matrix: &RowsAndColumns<'_>,
@@ -48,7 +48,7 @@ impl LinePatterns {
         Ok(LinePatterns { rows, columns })
     }
 
-    /// Whether too few lines for a side can be on the other side of a cut with the lines on one side.
+    /// Whether the other side of each cut with these lines on one side has too few lines.
     pub fn are_few(&self, matrix: &RowsAndColumns<'_>, lines: &LineWords) -> bool
         requires { HasPatterns matrix.now lines.now self.now }
         ensures near { result ≡ true → (K P : Lines) → Covers matrix.now (as_set lines.now) K P }
@@ -58,12 +58,12 @@ impl LinePatterns {
         are_too_few(self.rows.most, self.columns.most)
     }
 
-    /// How many lines are in the lighter of the two heaps, or 0 where there are no two.
+    /// The number of lines in the lighter of the two heaps, or 0 if there are no two heaps.
     pub fn lighter(&self) -> u32 {
         self.rows.heaps.lighter.max(self.columns.heaps.lighter)
     }
 
-    /// How many lines have class 0.
+    /// The number of lines with class 0.
     pub fn zeros(&self) -> u32 {
         self.rows.zeros.saturating_add(self.columns.zeros)
     }
@@ -73,8 +73,8 @@ impl LinePatterns {
         self.lighter() == 0
     }
 
-    /// The lines with one heap, and with the other: in a cut that has the lines in side one, one of the heaps is there.
-    /// None where the lighter heap has fewer lines than `least`.
+    /// The side with one heap, and with the other heap: a cut that has the side's lines in side one also has one of the heaps
+    /// there. `None` if the lighter heap has fewer lines than `least`.
     pub fn halves(
         &self,
         alloc: Global,
@@ -130,7 +130,7 @@ impl LinePatterns {
     }
 }
 
-// A side with each of two sets of lines, of which one is on its side of a cut.
+// The side with each of two sets of lines. Each cut has one of the sets on this side.
 fn grown_halves(
     alloc: Global,
     matrix: &RowsAndColumns<'_>,
@@ -153,7 +153,7 @@ fn grown_halves(
     })
 }
 
-// Whether so many rows and so many columns are too few lines for a side of a cut.
+// Whether these are too few lines for a side of a cut.
 fn are_too_few(rows: u32, columns: u32) -> bool
     ensures { result ≡ true → rows + columns < LEAST_SIDE }
 {

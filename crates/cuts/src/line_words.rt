@@ -1,4 +1,4 @@
-// Rows and columns of a matrix as words.
+// Sets of rows and columns of a matrix, stored in words.
 ghost use Rattle.std.specs.Prelude.{◌≡◌, ◌<◌, ◌⊎◌, ℕ, true, false, nat_le, length, slice_index_or, IfOk};
 ghost use Rattle.cmr_base.specs.ColumnSets.{has_column};
 ghost use Rattle.cmr_base.specs.Matrix.{height};
@@ -24,7 +24,7 @@ pub struct LineWords {
 }
 
 impl LineWords {
-    /// No line.
+    /// The empty set.
     pub fn new(alloc: Global, matrix: &RowsAndColumns<'_>) -> Result<LineWords, Memory>
         ensures size { IfOk result (HasWords matrix.now) }
         ensures no_row { IfOk result (λ lines. (r : ℕ) → has_column lines.rows.items r ≡ false) }
@@ -37,7 +37,7 @@ impl LineWords {
         })
     }
 
-    /// The same lines once more.
+    /// A copy of the set.
     pub fn copied(&self, alloc: Global, matrix: &RowsAndColumns<'_>) -> Result<LineWords, Memory>
         requires { HasWords matrix.now self.now }
         ensures size { IfOk result (HasWords matrix.now) }
@@ -86,7 +86,7 @@ impl LineWords {
         Ok(lines)
     }
 
-    /// The lines and one more.
+    /// The set with another line.
     pub fn with_line(
         &self,
         alloc: Global,
@@ -107,7 +107,7 @@ impl LineWords {
         Ok(lines)
     }
 
-    /// Whether there are no lines.
+    /// Whether the set is empty.
     pub fn are_none(&self) -> bool {
         is_empty(&self.rows) && is_empty(&self.columns)
     }
@@ -122,7 +122,7 @@ impl LineWords {
         rows + count_below(&self.columns, matrix.columns()) >= LEAST_SIDE
     }
 
-    /// How many lines of the matrix are not among these.
+    /// The number of lines of the matrix that are not in the set.
     pub fn count_others(&self, matrix: &RowsAndColumns<'_>) -> u32
         requires { HasWords matrix.now self.now }
         ensures { result ≡ count_outside (height matrix.now) matrix.now.width (as_set self.now) }
@@ -131,7 +131,7 @@ impl LineWords {
         rows + count_others(&self.columns, matrix.columns())
     }
 
-    /// Whether each line of the matrix is among these or among others.
+    /// Whether each line of the matrix is in this set or in `others`.
     pub fn have_all(&self, matrix: &RowsAndColumns<'_>, others: &LineWords) -> bool
         requires size { HasWords matrix.now self.now }
         requires others { HasWords matrix.now others.now }
@@ -142,7 +142,7 @@ impl LineWords {
             && have_others(&self.columns, matrix.columns(), &others.columns)
     }
 
-    /// Whether some line of the matrix is among these and among others.
+    /// Whether some line of the matrix is in both sets.
     pub fn meets(&self, matrix: &RowsAndColumns<'_>, others: &LineWords) -> bool
         requires size { HasWords matrix.now self.now }
         requires others { HasWords matrix.now others.now }
@@ -156,7 +156,7 @@ impl LineWords {
             || share_line(&self.columns, &others.columns, matrix.columns())
     }
 
-    /// Adds the lines of the matrix that are not among others.
+    /// Adds the lines of the matrix that are not in `others`.
     pub fn add_rest(&mut self, matrix: &RowsAndColumns<'_>, others: &LineWords)
         requires size { HasWords matrix.now self.old }
         requires others { HasWords matrix.now others.now }
@@ -170,7 +170,7 @@ impl LineWords {
     }
 }
 
-// Whether those of so many lines that are not among some are in the set.
+// Whether `set` contains each of the first `lines` lines that is not in `own`.
 fn have_others(set: &[u64], lines: u32, own: &[u64]) -> bool
     requires own { length own.now ≡ words_for lines }
     requires size { length set.now ≡ words_for lines }
@@ -185,7 +185,7 @@ fn have_others(set: &[u64], lines: u32, own: &[u64]) -> bool
     true
 }
 
-// Whether one of so many lines is in both sets.
+// Whether one of the first `lines` lines is in both sets.
 fn share_line(one: &[u64], two: &[u64], lines: u32) -> bool
     requires one { length one.now ≡ words_for lines }
     requires two { length two.now ≡ words_for lines }
@@ -203,7 +203,7 @@ fn share_line(one: &[u64], two: &[u64], lines: u32) -> bool
     false
 }
 
-// Adds those of so many lines that are not among some.
+// Adds each of the first `lines` lines that is not in `own`.
 fn add_others(set: &mut Vec<u64>, lines: u32, own: &[u64])
     requires own { length own.now ≡ words_for lines }
     requires size { length set.old.items ≡ words_for lines }

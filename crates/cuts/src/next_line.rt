@@ -1,4 +1,4 @@
-// A line to be put into side one, and then into side two.
+// The next line that a search puts into side one, and then into side two.
 ghost use Rattle.std.specs.Prelude.{◌≡◌, ◌<◌, length, MatchOption};
 ghost use Rattle.cmr_base.specs.Matrix.{height};
 ghost use Rattle.cmr_base.specs.Planes.{words_for};
@@ -9,13 +9,14 @@ use crate::line_words::LineWords;
 use cmr_base::columns::{has_column, meets};
 use cmr_base::{Line, Matrix, RowsAndColumns};
 
-/// What a line counts more than one with more nonzeros if it crosses a line of side one, and if it is not yet parted.
+/// A line has a greater value than lines with more nonzeros if it crosses a line of side one, and then if no cut is known to
+/// separate it.
 const CROSSING: u32 = 4096;
 
 const NOT_PARTED: u32 = 2048;
 
-/// A line that is on neither side: one that crosses a line of side one if there is one, then one that is not among those
-/// that are parted, then the one with most nonzeros.
+/// The line with the greatest value among the lines on neither side. Lines that cross a line of side one come first, then lines
+/// that are not in `parted`, then lines with many nonzeros.
 pub fn next_line(
     matrix: &RowsAndColumns<'_>,
     one: &LineWords,
@@ -53,14 +54,14 @@ pub fn next_line(
     None
 }
 
-// A row, and what it counts. One that counts 0 is none.
+// A row and its value. The value 0 means that there is no row.
 #[derive(Clone, Copy)]
 struct Candidate {
     line: u32,
     value: u32,
 }
 
-// The row that counts most of those that are on neither side.
+// The row with the greatest value among the rows on neither side.
 fn next_row(
     matrix: &Matrix,
     one: &[u64],
@@ -85,7 +86,7 @@ fn next_row(
     best
 }
 
-// What a row with these words counts.
+// The value of a row with these words.
 fn value_of(words: &[u64], crossing: &[u64], is_parted: bool) -> u32
     requires { length words.now ≡ length crossing.now }
 {

@@ -1,4 +1,4 @@
-// Patterns of the rows that are not on a side, on the columns that are.
+// Patterns of the rows outside a side, on the columns of the side.
 ghost use Rattle.std.specs.Prelude.{◌≡◌, ◌<◌, ◌≤◌, ◌+◌, ◌⊎◌, ℕ, List, length, slice_index_or, cond, nat_eq, not, IfOk};
 ghost use Rattle.std.specs.List.Sorted.{IsNonDecreasing};
 ghost use Rattle.cmr_base.specs.ColumnSets.{has_column};
@@ -11,8 +11,8 @@ use cmr_base::columns::{count_below, has_column};
 use cmr_base::{MAX_ROWS, Memory};
 use std::alloc::Global;
 
-/// Classes of the rows, how many rows that are not among some are at most in class 0 and in one other, how many of them are in class 0,
-/// and two heaps of the classes of these rows.
+/// Classes of the rows. The other fields count rows outside a set: a bound on the rows in class 0 and one other class, the
+/// number of rows in class 0, and two heaps of their classes.
 #[derive(Drop)]
 pub struct Patterns {
     pub classes: Vec<u64>,
@@ -22,7 +22,7 @@ pub struct Patterns {
 }
 
 impl Patterns {
-    /// Those of the rows that are not among `own`, which have these numbers. Rows of one class are not put in order.
+    /// The patterns of the rows that are not in `own`, with these numbers. Rows are not sorted if they all have one class.
     pub fn of(alloc: Global, rows: u32, numbers: &[u64], own: &[u64]) -> Result<Patterns, Memory>
         requires rows { rows ≤ MAX_ROWS }
         requires numbers { length numbers.now ≡ rows }
@@ -51,7 +51,7 @@ impl Patterns {
     }
 }
 
-/// How many of so many rows are not in a set.
+/// The number of rows that are not in a set.
 pub fn count_others(set: &[u64], rows: u32) -> u32
     requires { length set.now ≡ words_for rows }
     ensures { result ≡ count (λ x. not (has_column set.now x)) rows }
@@ -59,7 +59,7 @@ pub fn count_others(set: &[u64], rows: u32) -> u32
     rows - count_below(set, rows)
 }
 
-// How many of the rows that are not among some have class 0.
+// The number of rows outside `own` with class 0.
 fn count_zeros(rows: u32, numbers: &[u64], own: &[u64]) -> u32
     requires numbers { length numbers.now ≡ rows }
     requires own { length own.now ≡ words_for rows }
@@ -73,7 +73,7 @@ fn count_zeros(rows: u32, numbers: &[u64], own: &[u64]) -> u32
     zeros
 }
 
-// Whether the rows that are not among some have two classes.
+// Whether the rows outside `own` have two classes.
 fn have_two_classes(rows: u32, numbers: &[u64], own: &[u64]) -> bool
     requires numbers { length numbers.now ≡ rows }
     requires own { length own.now ≡ words_for rows }
@@ -91,7 +91,7 @@ fn have_two_classes(rows: u32, numbers: &[u64], own: &[u64]) -> bool
     false
 }
 
-// The classes of the rows that are not among some, in increasing order.
+// The classes of the rows outside `own`, in increasing order.
 fn sorted_classes(
     alloc: Global,
     rows: u32,
@@ -110,7 +110,7 @@ fn sorted_classes(
     Ok(numbers)
 }
 
-// The classes of the rows that are not among some.
+// The classes of the rows outside `own`.
 fn open_classes(alloc: Global, rows: u32, numbers: &[u64], own: &[u64]) -> Result<Vec<u64>, Memory>
     requires rows { rows ≤ MAX_ROWS }
     requires numbers { length numbers.now ≡ rows }
@@ -127,7 +127,7 @@ fn open_classes(alloc: Global, rows: u32, numbers: &[u64], own: &[u64]) -> Resul
     Ok(found)
 }
 
-// How many numbers are at most 0 or equal to one.
+// A bound on the numbers that are 0 or equal to any one number.
 fn most_alike(sorted: &[u64]) -> u32
     requires increasing { IsNonDecreasing sorted.now }
     requires few { length sorted.now ≤ MAX_ROWS }
@@ -145,8 +145,8 @@ fn most_alike(sorted: &[u64]) -> u32
     runs.zeros + runs.longest
 }
 
-// Of the first of some numbers in increasing order: how many are 0, how many are at most equal to another one, how many are
-// equal to the last one, and which that is.
+// Counts over the first of some numbers in increasing order: the number of zeros, a bound on the numbers equal to any other
+// number, the count of the last number, and the last number.
 #[derive(Clone, Copy)]
 struct Runs {
     zeros: u32,
@@ -179,7 +179,7 @@ fn runs_with(runs: Runs, class: u64) -> Runs
     }
 }
 
-// How many are equal to a number then.
+// The count of a number after the next step.
 fn run_with(runs: Runs, class: u64) -> u32
     requires { AreShort runs MAX_ROWS }
     ensures { result ≡ cond (nat_eq class runs.last) (runs.run + 1) 1 }

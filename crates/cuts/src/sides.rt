@@ -1,4 +1,4 @@
-// Sides of a cut while they grow, with a number for each line of what it has on the lines of the side that cross it.
+// Growing sides of a cut. Each line has a number for its pattern on the lines of the side that cross it.
 ghost use Rattle.std.specs.Prelude.{◌≡◌, ◌≢◌, ◌<◌, ◌≤◌, ◌⊎◌, ℕ, true, false, length, slice_index_or, IfOk, MatchOption};
 ghost use Rattle.std.specs.Int.Bits.{bit_xor};
 ghost use Rattle.cmr_base.specs.ColumnSets.{has_column};
@@ -18,11 +18,11 @@ use cmr_base::{Line, MAX_ROWS, Matrix, Memory, RowsAndColumns};
 use digests::mixed;
 use std::alloc::Global;
 
-/// How many lines each side of a cut has at least.
+/// The least number of lines of each side of a cut.
 pub const LEAST_SIDE: u32 = 4;
 
-/// Lines of one side, a number for each row of what it has in the columns of the side, and one for each column of what it
-/// has in the rows of the side. Lines that are alike there have one number.
+/// The lines of one side, a number for the pattern of each row on the columns of the side, and a number for the pattern of each
+/// column on the rows of the side. Lines with equal patterns have one number.
 #[derive(Drop)]
 pub struct Side {
     pub lines: LineWords,
@@ -43,7 +43,7 @@ impl Side {
         })
     }
 
-    /// The lines and others.
+    /// The side with further lines.
     pub fn grown(
         &self,
         alloc: Global,
@@ -80,7 +80,7 @@ impl Side {
         })
     }
 
-    /// The lines and one more.
+    /// The side with another line.
     pub fn with_line(
         &self,
         alloc: Global,
@@ -99,8 +99,8 @@ impl Side {
         Ok(side)
     }
 
-    /// The lines and those that are on this side in each cut with the lines on it and some others, `far`, on the other side: they are
-    /// unlike a line of the others. None where these are no more lines.
+    /// The side with the forced lines, and `None` if there are none. A line is forced if it is unlike a line of `far`: each cut
+    /// with this side's lines on one side and the lines of `far` on the other side has it on this side.
     pub fn forced(
         &self,
         alloc: Global,
@@ -135,14 +135,14 @@ impl Side {
     }
 }
 
-// A set of rows, and a number for each column of what it has in them.
+// A set of rows, and a number for the pattern of each column on them.
 #[derive(Drop)]
 pub struct NumberedSet {
     pub set: Vec<u64>,
     pub numbers: Vec<u64>,
 }
 
-// A set of rows and others, with the numbers of the columns.
+// A set of rows with further rows, and the numbers of the columns.
 fn grown_set(
     alloc: Global,
     set: &[u64],
@@ -173,7 +173,7 @@ fn grown_set(
     Ok(grown)
 }
 
-// Adds a row, and to the numbers of the columns what they have in it.
+// Adds a row, and adds its weight to the numbers of the columns in which it is not 0.
 fn add_row(grown: &mut NumberedSet, matrix: &Matrix, row: u32)
     requires row { row < height matrix.now }
     requires numbers { HasSetNumbers matrix.now grown.old }
@@ -187,7 +187,7 @@ fn add_row(grown: &mut NumberedSet, matrix: &Matrix, row: u32)
     add_column(&mut grown.set, row);
 }
 
-// What a line adds to the numbers of those that are not 0 on it.
+// The weight that a line adds to the numbers of the lines that are not 0 on it.
 fn weight_of(line: u32) -> u64 {
     let number = u64::from(line) | 1 << 32;
     mixed(mixed(mixed(0, number), number), number)
@@ -211,7 +211,7 @@ fn add_weight(numbers: &mut Vec<u64>, lines: &[u64], weight: u64)
     }
 }
 
-// Those of so many lines, beside a side's own, that have a class and not that of a line of the other side.
+// The lines that are not in `own` and have a class other than the class of a line of `far`.
 fn unlike_lines(
     alloc: Global,
     lines: u32,
@@ -235,7 +235,7 @@ fn unlike_lines(
     Ok(set)
 }
 
-// The class of one of some lines, or 0 where none has a class.
+// The class of one of the lines of `far`, or 0 if none has a class.
 fn class_of(lines: u32, numbers: &[u64], far: &[u64]) -> u64
     requires lines { lines ≤ MAX_ROWS }
     requires numbers { length numbers.now ≡ lines }
@@ -254,7 +254,7 @@ fn class_of(lines: u32, numbers: &[u64], far: &[u64]) -> u64
     0
 }
 
-// Adds the lines, beside a side's own, that have a class and not a given one.
+// Adds the lines that are not in `own` and have a class other than `class`.
 fn add_unlike(set: &mut Vec<u64>, lines: u32, numbers: &[u64], own: &[u64], class: u64)
     requires numbers { length numbers.now ≡ lines }
     requires own { length own.now ≡ words_for lines }

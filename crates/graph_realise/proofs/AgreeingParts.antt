@@ -9,14 +9,14 @@ use Rattle.graph_realise.proofs.MiddleArcs.{joined_side}
 use Rattle.graph_realise.proofs.Booleans.{differ_swap, other_of, swap}
 
 module _ (M : ℕ → ℕ → Bool) (S : List ℕ) (K : HasCuts M (λ r. IsIn r S)) where
-  -- seen from arc j, which no link of the part of k meets, the part lies on one side
+  -- a part lies on one side of arc j if no link of the part meets j
   pub across : (i j k k' : ℕ) (rest : List ℕ) → IsIn j S → IsIn k S → LeadsTo M S i k rest k' → ¬ (AreLinked M S i k j) → K.side j k ≡ K.side j k'
   across i j k k' [] hj hk l none = ap (K.side j) l
   across i j k k' (x ∷ rest) hj hk (hx, (c, off, a, b), l) none =
       joined_side M S K j k x hj hk hx (c, false_is (M j c) (λ e. none (j ∷ [], (hj, (c, off, a, e), refl))), a, b)
       ∙ across i j x k' rest hj hx l (λ m. none (x ∷ m.0, (hx, (c, off, a, b), m.1)))
 
-  -- of a column that uses arc i, the end on side y of i
+  -- the end on side y of i of a column that uses arc i
   near_end : (i c : ℕ) (y : Bool) → IsIn i S → M i c ≡ true
       → (e : Bool) × ((j : ℕ) → IsIn j S → i ≢ j → K.side i j ≡ y → M j c ≡ differ (K.lies e j c) (K.side j i))
   near_end i c y hi w = go (bool_same (K.lies true i c) y)
@@ -40,7 +40,7 @@ module _ (M : ℕ → ℕ → Bool) (S : List ℕ) (K : HasCuts M (λ r. IsIn r 
             (far (K.lies true i c) (K.side i j) (K.lies true j c) (K.side j i) (K.cuts.meet true i j c hi hj n) s e),
       )
 
-  -- arcs j and k on one side of i, j not beyond k: a column that uses i and k uses j exactly where k is beyond j
+  -- arcs j and k on one side of i, j not beyond k: a column that uses i and k uses j if and only if k is beyond j
   seen : (i j k c : ℕ) → IsIn i S → IsIn j S → IsIn k S → i ≢ j → i ≢ k → j ≢ k → K.side i j ≡ K.side i k → K.side k j ≡ K.side k i
       → M i c ≡ true → M k c ≡ true → M j c ≡ differ (K.side j k) (K.side j i)
   seen i j k c hi hj hk ij ik jk s t w u =
@@ -77,7 +77,7 @@ module _ (M : ℕ → ℕ → Bool) (S : List ℕ) (K : HasCuts M (λ r. IsIn r 
     q_sees = p.p_sees;
   }
 
-  -- where P is never beyond a row of Q, P sees Q as a point
+  -- if P is never beyond a row of Q, P sees Q as a point
   points : (i : ℕ) (P Q : List ℕ) → Pair i P Q → (k0 : ℕ) → IsIn k0 Q → ((j k : ℕ) → IsIn j P → IsIn k Q → K.side k j ≡ K.side k i) → IsUncutBy M i Q P
   points i P Q p k0 h0 not_beyond j hj = go (differ (K.side j k0) (K.side j i)) refl
     where

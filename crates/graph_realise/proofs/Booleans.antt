@@ -1,4 +1,4 @@
--- Booleans that differ, and equations put in place of others.
+-- Booleans that differ, and equations rewritten by other equations.
 use Rattle.std.proofs.Common.{Bool, true, false, not, ◌≡◌, ◌∙◌, sym, ap, refl, ◌⊎◌, inl, inr}
 use Rattle.cmr_base.specs.Cuts.{differ}
 use Rattle.cmr_base.proofs.Booleans.{not_not}
@@ -30,12 +30,12 @@ pub swap : {A B : Type 0} → A ⊎ B → B ⊎ A
 swap (inl a) = inr a
 swap (inr b) = inl b
 
--- one of two equations, over equals
+-- one of two equations, rewritten by equalities
 pub either : (x x' y y' z z' w w' : Bool) → x ≡ x' → y ≡ y' → z ≡ z' → w ≡ w' → (x' ≡ y') ⊎ (z' ≡ w') → (x ≡ y) ⊎ (z ≡ w)
 either x x' y y' z z' w w' a b c d (inl e) = inl (a ∙ e ∙ sym b)
 either x x' y y' z z' w w' a b c d (inr e) = inr (c ∙ e ∙ sym d)
 
--- one of two bits that are false, written the other way round
+-- one of two bits is false, with the equations reversed
 pub either_sym : (x y : Bool) → (x ≡ false) ⊎ (y ≡ false) → (false ≡ x) ⊎ (false ≡ y)
 either_sym x y (inl a) = inl (sym a)
 either_sym x y (inr a) = inr (sym a)

@@ -1,4 +1,4 @@
--- The common columns of a part, and what they say of it.
+-- The common columns of a part and their consequences for the part.
 use Rattle.std.proofs.Common.{◌≡◌, ◌<◌, ◌≤◌, ◌+◌, ◌*◌, ◌↔◌, ◌∙◌, ◌++◌, ◌==◌, ℕ, Bool, true, false, not, cond, count_by, List, [], ◌∷◌, length, sym, ap, refl, arith, subst, length-append, MatchOption, Option, Some, None}
 use Rattle.std.proofs.lemmas.List.{get_or_append_left, get_or_at}
 use Rattle.std.specs.Prelude.{slice_index_or}

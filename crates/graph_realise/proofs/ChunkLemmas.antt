@@ -20,7 +20,7 @@ chunks_none values table row chunks = record {
   left = λ column n. refl;
 }
 
--- the chunk at a place was not filled before
+-- the chunk at this position was not filled before
 pub not_filled : (values : ℕ → Bool) (old now : Grid) (row : ℕ) (chunks : List ℕ) (place k : ℕ) → IsStrictlyIncreasing chunks → place < length chunks → AreChunksFilled values old now row chunks place → k < 64
     → cell now row (64 * get_or chunks place 0 + k) ≡ cell old row (64 * get_or chunks place 0 + k)
 not_filled values old now row chunks place k increasing l so small =
@@ -63,7 +63,7 @@ chunks_same values old now row chunks place so bits = record {
 pub off_chunks : (columns : ℕ → Bool) (width : ℕ) (chunks : List ℕ) (column : ℕ) → AreChunksOf columns width chunks → ¬ (IsIn (column / 64) chunks) → columns column ≡ false
 off_chunks columns width chunks column so n = false_is (columns column) (λ e. n (so.all column e))
 
--- the values stay in all other chunks
+-- the values outside the chunks stay the same
 pub chunks_row : (values : ℕ → Bool) (old new : Grid) (row : ℕ) (chunks : List ℕ) (count : ℕ) → count ≡ length chunks → AreChunksFilled values old new row chunks count
     → ((column : ℕ) → ¬ (IsIn (column / 64) chunks) → values column ≡ cell old row column) → IsRowFilled values old new row old.width
 chunks_row values old new row chunks count many so same = record {

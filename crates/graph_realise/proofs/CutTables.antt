@@ -1,4 +1,4 @@
--- Cuts of fewer rows, and cuts by other tables.
+-- Cuts of fewer rows, and cuts in other tables.
 use Rattle.std.proofs.Common.{ℕ, Bool, true, false, ◌≡◌, ◌≢◌, ◌∙◌, sym, ap₂}
 use Rattle.cmr_base.specs.Cuts.{differ, HasCuts, IsCuts}
 use Rattle.graph_realise.proofs.Booleans.{either}
@@ -13,7 +13,7 @@ is_fewer M R Q side lies sub K = record {
 pub has_fewer : (M : ℕ → ℕ → Bool) (R Q : ℕ → Type 0) → ((x : ℕ) → Q x → R x) → HasCuts M R → HasCuts M Q
 has_fewer M R Q sub K = record { side = K.side; lies = K.lies; cuts = is_fewer M R Q K.side K.lies sub K.cuts }
 
--- other tables that are the same at the rows
+-- other tables with the same entries at the rows
 pub is_same : (M : ℕ → ℕ → Bool) (R : ℕ → Type 0) (side side' : ℕ → ℕ → Bool) (lies lies' : Bool → ℕ → ℕ → Bool)
     → ((r s : ℕ) → R r → R s → r ≢ s → side' r s ≡ side r s) → ((end : Bool) (r c : ℕ) → R r → lies' end r c ≡ lies end r c) → IsCuts M R side lies → IsCuts M R side' lies'
 is_same M R side side' lies lies' a b K = record {

@@ -1,4 +1,4 @@
--- What has cuts is graphic by splitting.
+-- A matrix with cuts is graphic by splitting.
 use Rattle.std.proofs.Common.{ℕ, zero, suc, Bool, true, List, [], ◌∷◌, ◌++◌, ◌≡◌, ◌≢◌, ◌<◌, ◌≤◌, ◌∙◌, sym, ap, refl, arith, subst, ◌⊎◌, inl, inr, length, ◌==◌, ◌||◌}
 use Rattle.cmr_base.specs.Members.{IsIn}
 use Rattle.cmr_base.specs.Splits.{Agree, Splits, HasNoThree, IsNaming, IsFirstSplit, part_rows, with_row, HasSplit, SplitsGraphically}
@@ -11,7 +11,7 @@ use Rattle.graph_realise.proofs.NoCuts.{no_three}
 use Rattle.graph_realise.proofs.MiddleArcs.{linked_side}
 use Rattle.graph_realise.proofs.AgreeingParts.{across, Pair, pair_agrees}
 
--- the first of a list for which P holds
+-- the first member of a list that satisfies P
 first_of_rows : (P : ℕ → Type 0) → ((x : ℕ) → P x ⊎ (¬ (P x))) → (xs : List ℕ)
     → ((x : ℕ) × (before : List ℕ) × (after : List ℕ) × (xs ≡ before ++ x ∷ after) × P x × ((r : ℕ) → IsIn r before → ¬ (P r))) ⊎ ((x : ℕ) → IsIn x xs → ¬ (P x))
 first_of_rows P d [] = inr (λ x h. absurd h)
@@ -134,7 +134,7 @@ module _ (M : ℕ → ℕ → Bool) (S : List ℕ) (K : HasCuts M (λ r. IsIn r 
   }
 
 module _ (M : ℕ → ℕ → Bool) (n : ℕ) (short : (r c : ℕ) → M r c ≡ true → c < n) where
-  -- what has cuts is graphic by splitting
+  -- rows with cuts are graphic by splitting
   pub cuts_split : (m : ℕ) (S : List ℕ) → length S ≤ m → HasCuts M (λ r. IsIn r S) → SplitsGraphically M m S
   cuts_split zero [] l K = λ c r s t hr hs ht a b d rs rt st. hr
   cuts_split zero (x ∷ S) l K = absurd (omega arith)

@@ -15,7 +15,7 @@ use Rattle.graph_realise.proofs.MergedCuts.{IsHanging}
 
 -- ---- heavier is an order
 
--- the weight is less, or the same with a lower number
+-- the weight is less, or equal with a lower number
 abbrev IsLess : (ℕ → ℕ) → ℕ → ℕ → Type 0
 IsLess weight q p = (weight q < weight p) ⊎ ((weight q ≡ weight p) × (q < p))
 
@@ -131,7 +131,7 @@ weight_same M n i A B w f g h = record {
 
 module _ (M : ℕ → ℕ → Bool) (n : ℕ) (short : (r c : ℕ) → M r c ≡ true → c < n) (S : List ℕ) (i : ℕ) (parts : List (List ℕ)) (all : AreParts M S i parts)
     (sides : List ℕ) (fit : AreSides M i parts sides) (part weight : ℕ → ℕ) (common touched : ℕ → Option ℕ) (D : DescribesParts M n S i parts part weight common touched) where
-  -- a list with a row is one of the parts
+  -- a list that contains a row is one of the parts
   is_part : (a k : ℕ) → IsIn k (slice_index_or parts a []) → a < length parts
   is_part a k h = go (cases_lt a (length parts))
     where

@@ -11,7 +11,7 @@ pub record IsHung (M : ℕ → ℕ → Bool) (i : ℕ) (R : ℕ → Type 0) (sid
   pub root : (r s : ℕ) → R r → R s → r ≢ s → (side r s ≡ false) ⊎ (side s r ≡ false)
   pub start : (r c : ℕ) → R r → M i c ≡ true → lies false r c ≡ false
 
--- other tables that are the same at the rows
+-- other tables with the same entries at the rows
 pub hung_same : (M : ℕ → ℕ → Bool) (i : ℕ) (R : ℕ → Type 0) (side side' : ℕ → ℕ → Bool) (lies lies' : Bool → ℕ → ℕ → Bool)
     → ((r s : ℕ) → R r → R s → r ≢ s → side' r s ≡ side r s) → ((end : Bool) (r c : ℕ) → R r → lies' end r c ≡ lies end r c)
     → IsHung M i R side lies → IsHung M i R side' lies'
@@ -24,7 +24,7 @@ hung_same M i R side side' lies lies' a b H = record {
 -- The arcs Q of a tree with arc i, all on side y of i, hang at that end of i.
 module _ (M : ℕ → ℕ → Bool) (i : ℕ) (R Q : ℕ → Type 0) (side : ℕ → ℕ → Bool) (lies : Bool → ℕ → ℕ → Bool) (K : IsCuts M R side lies)
     (here : R i) (sub : (x : ℕ) → Q x → R x) (other : (x : ℕ) → Q x → i ≢ x) (y : Bool) (on : (x : ℕ) → Q x → side i x ≡ y) where
-  -- the ends of a column that uses arc i change places where the last is on side y
+  -- the ends of a column that uses arc i are swapped if the last end is on side y
   abbrev pub turns : ℕ → Bool
   turns c = cond (M i c) (not (differ (lies false i c) y)) false
 

@@ -21,7 +21,7 @@ half_is : (M : ℕ → ℕ → Bool) (joint : Joint) (o : Option ℕ) → column
 half_is M joint None = refl
 half_is M joint (Some q) = refl
 
--- the ends in the tree of all rows are read at one place
+-- the ends in the tree of all rows, read in one entry
 lies_at : (M : ℕ → ℕ → Bool) (joint : Joint) (lies lies' : Bool → ℕ → ℕ → Bool) (end : Bool) (r column : ℕ) → lies end r column ≡ lies' end r column
     → merged_lies M joint.row (hanging_of joint) lies end r column ≡ merged_lies M joint.row (hanging_of joint) lies' end r column
 lies_at M joint lies lies' end r column e =
@@ -34,7 +34,7 @@ lies_at M joint lies lies' end r column e =
 
 -- ---- the arc of the row
 
--- the sides of the row's arc: the parts at its first end are on the side true, and so are the first ends of its columns
+-- the sides of the row's arc: the parts at its first end and the first ends of its columns are on side true
 pub row_joined : (M : ℕ → ℕ → Bool) (m : Matrix) (joint : Joint) (old cleared with_parts new : ArcSides) → FitsJoint (height m) m.width joint → AreOff M joint → AreTablesOf m old
     → IsArcChanged (λ other. false) (λ end column. false) old cleared joint.row → AreChosen joint (is_at_first joint) joint.row (length joint.branches.items) cleared with_parts
     → IsArcChanged (λ other. side_in with_parts joint.row other) (λ end column. end_in with_parts end joint.row column || (end && M joint.row column)) with_parts new joint.row → IsArcJoined M joint old new joint.row
@@ -75,7 +75,7 @@ row_joined M m joint old cleared with_parts new fits off tables a b d = record {
 
 -- ---- an arc of another row
 
--- the tables of the marks have the sizes of those of the sides
+-- the tables of the marks have the sizes of the tables of the sides
 pub line_for : (m : Matrix) (joint : Joint) (sides : ArcSides) (arc part : ℕ) → FitsJoint (height m) m.width joint → AreTablesOf m sides → arc < height m → part < length joint.branches.items → IsLineFor joint sides arc part
 line_for m joint sides arc part fits tables l k = record {
   arcs = omega (arith, l, tables.arcs_height);
@@ -124,7 +124,7 @@ filled_same values table row same = record {
 pub filled_as : (values values' : ℕ → Bool) (old new : Grid) (row : ℕ) → ((column : ℕ) → values column ≡ values' column) → IsRowFilled values old new row old.width → IsRowFilled values' old new row old.width
 filled_as values values' old new row same f = record { rows = f.rows; done = λ column l w. f.done column l w ∙ same column; left = f.left }
 
--- the parts for which a test holds are added one after another
+-- the parts that satisfy a test are added one after another
 module _ (joint : Joint) (X : ℕ → Bool) (r : ℕ) where
   -- no part is chosen at first
   chosen_none : (o : Option ℕ) → is_chosen X 0 o ≡ false
@@ -199,7 +199,7 @@ module _ (joint : Joint) (X : ℕ → Bool) (r : ℕ) where
   }
 
 module _ (M : ℕ → ℕ → Bool) (joint : Joint) (r own : ℕ) where
-  -- what is kept and what is hung are all
+  -- the kept entries and the hung entries are all entries
   kept_or_hung : (same inside within spot : Bool) → inside ≡ true → ((same && within) || (inside && (not same && spot))) ≡ (if same then within else spot)
   kept_or_hung true true true spot e = refl
   kept_or_hung true true false spot e = refl
@@ -222,7 +222,7 @@ module _ (M : ℕ → ℕ → Bool) (joint : Joint) (r own : ℕ) where
           go (inl e) = is_eq q own e ∙ sym (is_eq (part_or_first (number_at joint.part_of.items r)) q (here ∙ sym e))
           go (inr n) = is_ne q own n ∙ sym (is_ne (part_or_first (number_at joint.part_of.items r)) q (λ e. n (sym e ∙ here)))
 
-  -- a column that the row has, and one that it does not have
+  -- a column of the row, and a column without the row
   used_by : (d x : Bool) → (false || (not d && (x && true))) ≡ (if d then false else x)
   used_by true x = refl
   used_by false true = refl
@@ -288,7 +288,7 @@ module _ (M : ℕ → ℕ → Bool) (joint : Joint) (r own : ℕ) where
               ∙ by_off true end column (number_at joint.part_with.items column)
               ∙ sym (rw (is_ne r joint.row apart, e) refl)
 
-  -- ---- the arcs beside which nothing lies
+  -- ---- arcs with nothing else on their sides true
 
   pub part_reversed : (old new : ArcSides) (reversed : Bool) → reversed ≡ true
       → IsArcChanged (λ other. cell joint.row_marks own other && not (side_in old r other)) (λ end column. cell joint.column_marks own column && not (end_in old end r column)) old new r
@@ -368,7 +368,7 @@ joined_stays M joint old r a b k h = record {
   ends = λ end column l. k.ends end column ∙ h.ends end column l;
 }
 
--- joined from a later state in which the arc is as it was
+-- joined from a later state in which the arc is unchanged
 pub joined_from : (M : ℕ → ℕ → Bool) (joint : Joint) (m : Matrix) (old now new : ArcSides) (r : ℕ) → AreTablesOf m old → AreTablesOf m now → KeepsRow old now r → IsArcJoined M joint now new r → IsArcJoined M joint old new r
 joined_from M joint m old now new r a b k h = record {
   arcs = λ s l. h.arcs s (let e = a.arcs_width in let f = b.arcs_width in omega arith)

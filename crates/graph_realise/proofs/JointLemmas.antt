@@ -45,7 +45,7 @@ module _ (M : ℕ → ℕ → Bool) (i : ℕ) where
     pub named_none : (c : ℕ) (found : Option ℕ) → found ≡ None → IsPartNumber M i parts 0 c found
     named_none c found e = inl (λ a r l. absurd (omega arith), e)
 
-    -- the columns of one part more have its number
+    -- the columns of another part have its number
     pub named_more : (count : ℕ) (columns : ℕ → Bool) (c : ℕ) (old new : Option ℕ) → AreOfRows M i (slice_index_or parts count []) (length (slice_index_or parts count [])) columns
         → IsPartNumber M i parts count c old → (columns c ≡ true → new ≡ Some count) → (columns c ≡ false → new ≡ old) → IsPartNumber M i parts (count + 1) c new
     named_more count columns c old new of so inside outside = go (columns c) refl
@@ -69,7 +69,7 @@ module _ (M : ℕ → ℕ → Bool) (i : ℕ) where
         go true e = let q = of.into c e in let p = q.1 in inr (count, get_or part p.0 0, omega arith, in_at part p.0 p.1, q.0, p.2, inside e)
         go false e = kept e so
 
-    -- the number of a part is that of its rows
+    -- the number of a part is the number of its rows
     pub named_touched : (rows : List ℕ) (part_of : List (Option ℕ)) → AreParts M rows i parts → AreNumbered parts (length parts) part_of → (c : ℕ) (found : Option ℕ)
         → IsPartNumber M i parts (length parts) c found → IsPartTouched M i rows part_of c found
     named_touched rows part_of all numbered c found so = go (M i c) refl so
@@ -84,7 +84,7 @@ module _ (M : ℕ → ℕ → Bool) (i : ℕ) where
             zero_at r hr (inr n) = let q = all.all r hr n in h.0 q.0 r q.1 q.2 e
         go false e (inr (a, r, l, hr, off, on, f)) = inr (e, inr (r, (all.only a r l hr).0, on, f ∙ sym (numbered.inside a r l hr)))
 
--- one part more
+-- another part
 pub numbered_more : (parts : List (List ℕ)) (count : ℕ) (old new : List (Option ℕ)) → AreDisjoint parts → count < length parts → AreNumbered parts count old
     → ((row : ℕ) → IsIn row (slice_index_or parts count []) → number_at new row ≡ Some count) → ((row : ℕ) → ¬ (IsIn row (slice_index_or parts count [])) → number_at new row ≡ number_at old row)
     → AreNumbered parts (count + 1) new
@@ -108,7 +108,7 @@ numbered_more parts count old new disjoint l so inside outside = record {
         (omega arith, subst (λ (z : ℕ). IsIn row (slice_index_or parts z [])) q h)
     from a row e (inr n) = let k = so.only a row (sym (outside row n) ∙ e) in let m = k.0 in (omega arith, k.1)
 
--- one row more of the row with a part
+-- another row of the row with a part
 pub rows_more : (In : ℕ → Type 0) (row : ℕ) (rows : List ℕ) → ((x : ℕ) → IsIn x rows ↔ ((x < row) × In x)) → In row → (x : ℕ) → IsIn x (rows ++ row ∷ []) ↔ ((x < row + 1) × In x)
 rows_more In row rows so here x = (λ h. to ((in-append rows row x).0 h), λ h. (in-append rows row x).1 (from h.1 (cases_lt x row) h.0))
   where
@@ -127,7 +127,7 @@ rows_same In row rows so none x = (λ h. let k = (so x).0 h in let l = k.0 in (o
     below h (inl l) m = l
     below h (inr l) m = let e : x ≡ row = omega arith in absurd (none (subst In e h))
 
--- a row with a number is one of them
+-- a row with a number is a row of a part
 pub numbered_row : (i size : ℕ) (numbers : List (Option ℕ)) (part count x : ℕ) → i < size → size ≤ count → length numbers ≤ count → (x ≡ i) ⊎ (number_at numbers x ≡ Some part) → x < count
 numbered_row i size numbers part count x l s e (inl h) = omega arith
 numbered_row i size numbers part count x l s e (inr h) = go (cases_lt x count)
@@ -138,7 +138,7 @@ numbered_row i size numbers part count x l s e (inr h) = go (cases_lt x count)
 
 -- ---- marks of lines by their numbers
 
--- the lines below one are marked
+-- the lines below `upto` are marked
 pub record IsMarkedTo (numbers : List (Option ℕ)) (count upto : ℕ) (marks : Grid) : Type 0 where
   pub tall : marks.height ≡ count
   pub wide : marks.width ≡ length numbers

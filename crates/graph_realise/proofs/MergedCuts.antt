@@ -13,8 +13,8 @@ use Rattle.cmr_base.proofs.CutTrees.{differ_self}
 abbrev pub InPart : (ℕ → Type 0) → ℕ → (ℕ → ℕ) → ℕ → ℕ → Type 0
 InPart R i part p r = R r × (r ≢ i) × (part r ≡ p)
 
--- What is known of the parts: of two, one is above the other; each sees the lower ones of its side as points; a column of
--- each that uses i, if there is one; and the part that a column without i touches.
+-- The properties of the parts: of two parts, one is above the other; each sees the lower parts on its side as points; each has
+-- a column that uses i, if there is one; and each column without i touches one part.
 pub record IsHanging (M : ℕ → ℕ → Bool) (i : ℕ) (R : ℕ → Type 0) (hanging : Hanging) : Type 0 where
   pub one_above : (p q : ℕ) → p ≢ q → hanging.above p q ≡ not (hanging.above q p)
   pub above_trans : (p q r : ℕ) → hanging.above p q ≡ true → hanging.above q r ≡ true → hanging.above p r ≡ true
@@ -69,7 +69,7 @@ module _ (M : ℕ → ℕ → Bool) (i : ℕ) (R : ℕ → Type 0) (hanging : Ha
   abbrev merged_lies : Bool → ℕ → ℕ → Bool
   merged_lies = formula.merged_lies M i hanging lies
 
-  -- what is known, by these
+  -- consequences of these properties
   column : (q : ℕ) → has q ≡ true → (M i (col q) ≡ true) × ((s : ℕ) × InPart R i part q s × (M s (col q) ≡ true))
   column q h = P.column q (col q) (some_of (hanging.common q) h)
 
@@ -79,7 +79,7 @@ module _ (M : ℕ → ℕ → Bool) (i : ℕ) (R : ℕ → Type 0) (hanging : Ha
   touched : (r c : ℕ) → R r → r ≢ i → M i c ≡ false → M r c ≡ true → (touches c ≡ true) × (at c ≡ part r)
   touched r c hr nr w u = let e = P.touched r c hr nr w u in (ap is_some e, ap (λ (o : Option ℕ). unwrap_or o 0) e)
 
-  -- how spots read
+  -- values of the function spot
   spot_far : (r q : ℕ) → half (part r) ≡ not (half q) → spot r q ≡ false
   spot_far r q e = rw (differ_other (half (part r)) (half q) e) refl
 
@@ -100,7 +100,7 @@ module _ (M : ℕ → ℕ → Bool) (i : ℕ) (R : ℕ → Type 0) (hanging : Ha
       go None h = absurd (not_both false h refl)
       go (Some c) h = refl
 
-  -- a spot that is true is by the part's column
+  -- a true value of spot is the value at the part's column
   spot_true : (r q : ℕ) → spot r q ≡ true → (half (part r) ≡ half q) × (above (part r) q ≡ true) × (has q ≡ true) × (M r (col q) ≡ true)
   spot_true r q e = go (bool_same (half (part r)) (half q)) (two_cases (above (part r) q)) (two_cases (has q))
     where
@@ -111,7 +111,7 @@ module _ (M : ℕ → ℕ → Bool) (i : ℕ) (R : ℕ → Type 0) (hanging : Ha
       go (inl f) (inl a) (inr h) = absurd (not_both (spot r q) e (spot_none r q h))
       go (inl f) (inl a) (inl h) = (f, a, h, sym (spot_is r q f a h) ∙ e)
 
-  -- two parts: one does not see the other
+  -- of two parts, one does not see the other
   spot_two : (r s : ℕ) → part r ≢ part s → (spot r (part s) ≡ false) ⊎ (spot s (part r) ≡ false)
   spot_two r s n = go (two_cases (above (part r) (part s)))
     where
@@ -172,7 +172,7 @@ module _ (M : ℕ → ℕ → Bool) (i : ℕ) (R : ℕ → Type 0) (hanging : Ha
       go (inl h) = let k = column (part s) h in
           P.sees r s k.1.0 c (col (part s)) hr nr hs ns k.1.1.0 k.1.1.1 n (sym k.1.1.2) f a w u k.0 k.1.2 ∙ sym (spot_is r (part s) f a h)
 
-  -- of two parts, a column of W is on the one's side of the other
+  -- of two parts, a column of W lies on the side of one on which the other lies
   two_w : (r s c : ℕ) → R r → r ≢ i → R s → s ≢ i → part r ≢ part s → half (part r) ≡ half (part s) → M i c ≡ true → (M r c ≡ spot r (part s)) ⊎ (M s c ≡ spot s (part r))
   two_w r s c hr nr hs ns n f w = go (two_cases (above (part r) (part s))) (two_cases (M s c)) (two_cases (M r c))
     where
@@ -217,7 +217,7 @@ module _ (M : ℕ → ℕ → Bool) (i : ℕ) (R : ℕ → Type 0) (hanging : Ha
           pick (inl a) = inr a
           pick (inr b) = absurd (not_both (spot r q) a b)
 
-  -- how the formula reads
+  -- values of the formula
   half_at : (c : ℕ) → touches c ≡ true → end_half c ≡ half (at c)
   half_at c t = rw (some_of (hanging.touched c) t) refl
 

@@ -76,7 +76,7 @@ module _ (M : ℕ → ℕ → Bool) (S : List ℕ) (i : ℕ) (here : IsIn i S) (
       at : (r : ℕ) → InPart (λ r. IsIn r S) i part p r → IsHung M i (InPart (λ r. IsIn r S) i part p) hung_side hung_lies
       at r h = subst (λ (q : ℕ). IsHung M i (InPart (λ r. IsIn r S) i part q) hung_side hung_lies) h.2 (hung_at r h.0 h.1)
 
-  -- one table for all parts, which is that of each part where it is read
+  -- one table for all parts, which agrees with the table of each part on the entries that are read
   module _ (side : ℕ → ℕ → Bool) (lies : Bool → ℕ → ℕ → Bool)
       (kept_side : (r s : ℕ) → IsIn r S → r ≢ i → IsWith S i part (part r) s → r ≢ s → side r s ≡ ss (part r) r s)
       (kept_lies : (end : Bool) (r c : ℕ) → IsIn r S → r ≢ i → M i c ≡ false → lies end r c ≡ sl (part r) end r c) where
@@ -117,8 +117,8 @@ module _ (M : ℕ → ℕ → Bool) (S : List ℕ) (i : ℕ) (here : IsIn i S) (
     merged_by_names = is_same M (λ r. IsIn r S) (formula.merged_side M i hanging hung_side) merged_side (formula.merged_lies M i hanging hung_lies) merged_lies same_side same_lies
         (merged_is M i (λ r. IsIn r S) hanging P hung_side hung_lies hung_each)
 
--- Parts as lists: ss a, sl a are tables of row i with part a; side and lies are one table for all parts, in which the entries
--- that are read are those of each part.
+-- Parts as lists. ss a and sl a are tables of row i with part a. side and lies are one table for all parts, which agrees with
+-- each part's table on the entries that are read.
 module _ (M : ℕ → ℕ → Bool) (n : ℕ) (short : (r c : ℕ) → M r c ≡ true → c < n) (S : List ℕ) (i : ℕ) (here : IsIn i S) (parts : List (List ℕ)) (all : AreParts M S i parts)
     (sides : List ℕ) (fit : AreSides M i parts sides) (part weight : ℕ → ℕ) (common touched : ℕ → Option ℕ) (D : DescribesParts M n S i parts part weight common touched)
     (ss : ℕ → ℕ → ℕ → Bool) (sl : ℕ → Bool → ℕ → ℕ → Bool)
@@ -144,7 +144,7 @@ module _ (M : ℕ → ℕ → Bool) (n : ℕ) (short : (r c : ℕ) → M r c ≡
       (λ r s hr nr hs m. let q = D.numbers r hr nr in kept_side (part r) r s q.0 q.1 (in_list r s hs) m)
       (λ end r c hr nr w. let q = D.numbers r hr nr in kept_lies (part r) end r c q.0 q.1 w)
 
--- ---- the same, where one table was filled part by part
+-- ---- the same, if one table was filled part by part
 
 pub keeps_own : (M : ℕ → ℕ → Bool) (i : ℕ) (P : List ℕ) (side : ℕ → ℕ → Bool) (lies : Bool → ℕ → ℕ → Bool) → IsCuts M (λ r. (r ≡ i) ⊎ IsIn r P) side lies → KeepsCuts M i P side lies
 keeps_own M i P side lies K = record { own_side = side; own_lies = lies; cuts = K; side_kept = λ r s hr hs n. refl; lies_kept = λ end r c h w. refl }

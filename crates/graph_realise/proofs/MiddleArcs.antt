@@ -11,7 +11,7 @@ near x x' y y' p q (inr e) (inl f) u v = differ_false x x' u ∙ f
 near x x' y y' p q (inr e) (inr f) u v = absurd (no_not y (e ∙ sym f ∙ differ_true y y' v))
 
 module _ (M : ℕ → ℕ → Bool) (S : List ℕ) (K : HasCuts M (λ r. IsIn r S)) where
-  -- a column that does not use arc i, and uses j: it lies where j is
+  -- a column that uses j and not i lies on the side of i on which j lies
   pub beside : (i j c : ℕ) → IsIn i S → IsIn j S → i ≢ j → M i c ≡ false → M j c ≡ true → K.lies true i c ≡ K.side i j
   beside i j c hi hj n off one = near (K.lies true i c) (K.lies false i c) (K.lies true j c) (K.lies false j c) (K.side i j) (K.side j i)
       (K.cuts.meet true i j c hi hj n) (K.cuts.meet false i j c hi hj n) (sym off ∙ K.cuts.uses i c hi) (sym one ∙ K.cuts.uses j c hj)
@@ -27,7 +27,7 @@ module _ (M : ℕ → ℕ → Bool) (S : List ℕ) (K : HasCuts M (λ r. IsIn r 
   linked_side i j k [] hi hj l = ap (K.side i) l
   linked_side i j k (x ∷ rest) hi hj (hx, join, l) = joined_side i j x hi hj hx join ∙ linked_side i x k rest hi hx l
 
-  -- of two arcs that both part the ends of column c, each knows where the other is
+  -- of two arcs that both separate the ends of column c, each determines the side of the other
   Order : ℕ → ℕ → ℕ → Type 0
   Order c r s = ((K.side r s ≡ K.lies true r c) × (K.side s r ≡ not (K.lies true s c))) ⊎ ((K.side r s ≡ not (K.lies true r c)) × (K.side s r ≡ K.lies true s c))
 

@@ -1,4 +1,4 @@
--- Rows without cuts: no row splits them and a column has three nonzeros, or there is an odd closed list of parts.
+-- Rows without cuts. Either no row splits them and a column has three nonzeros, or there is an odd closed list of parts.
 use Rattle.std.proofs.Common.{ℕ, zero, suc, Bool, true, false, not, List, [], ◌≡◌, ◌≢◌, ◌<◌, ◌+◌, ◌∙◌, sym, ap, arith, ◌⊎◌, inl, inr, slice_index_or, length}
 use Rattle.cmr_base.specs.Members.{IsIn}
 use Rattle.cmr_base.specs.Splits.{Splits, Agree, HasNoThree, IsOddClosed}
@@ -8,7 +8,7 @@ use Rattle.graph_realise.proofs.MiddleArcs.{middle, between_splits, linked_side}
 use Rattle.graph_realise.proofs.AgreeingParts.{across, Pair, pair_agrees}
 use Rattle.graph_realise.proofs.PartLists.{IsWholePart, is_whole, linked_same}
 
--- where no row splits, no column has three
+-- if no row splits, no column has three nonzeros
 pub no_three : (M : ℕ → ℕ → Bool) (S : List ℕ) → HasCuts M (λ r. IsIn r S) → ((row : ℕ) → ¬ (Splits M S row)) → HasNoThree M S
 no_three M S K none c r s t hr hs ht a b d rs rt st = go (middle M S K c r s t hr hs ht rs rt st a b d)
   where

@@ -1,4 +1,4 @@
--- Arcs put into an order, and what is grown by it.
+-- Arcs in a growing order, and the tree that grows in this order.
 use Rattle.std.proofs.Common.{◌≡◌, ◌≢◌, ◌<◌, ◌≤◌, ◌+◌, ◌-◌, ◌++◌, ◌∙◌, ℕ, zero, suc, Bool, true, false, cond, List, [], ◌∷◌, length, map, get_or, take, drop, drop-cons, sym, ap, refl, subst, arith, ◌⊎◌, inl, inr}
 use Rattle.std.specs.List.{insert}
 use Rattle.std.proofs.lemmas.Bool.{cases_lt}
@@ -18,7 +18,7 @@ use Rattle.cmr_base.proofs.Places.{found_at}
 use Rattle.cmr_base.proofs.CutTrees.{root_beyond, three_beyond}
 
 module _ (M : ℕ → ℕ → Bool) (m : ℕ) (side : ℕ → ℕ → Bool) (lies : Bool → ℕ → ℕ → Bool) (K : IsCuts M (λ r. r < m) side lies) where
-  -- where y lies beyond x and not beyond h, x does not lie beyond h
+  -- if y lies beyond x and not beyond h, x does not lie beyond h
   clear : (h x y : ℕ) → h < m → x < m → y < m → h ≢ x → x ≢ y → h ≢ y → beyond side lies x y ≡ true → beyond side lies h y ≡ false → beyond side lies h x ≡ false
   clear h x y lh lx ly hx xy hy e f = through (three_beyond M m side lies K h x y lh lx ly hx hy xy) (root_beyond M m side lies K h x lh lx hx)
     where
@@ -58,7 +58,7 @@ module _ (M : ℕ → ℕ → Bool) (m : ℕ) (side : ℕ → ℕ → Bool) (lie
       later : (k : ℕ) → k + 1 ≡ p → beyond side lies x (get_or L k 0) ≡ true
       later k e = last (suc k) (omega arith)
 
-      -- the arc before the place lies beyond x
+      -- the arc before the position lies beyond x
       near : h ≢ x → beyond side lies h x ≡ false
       near n = go (cases_lt 0 p)
         where
@@ -83,7 +83,7 @@ module _ (M : ℕ → ℕ → Bool) (m : ℕ) (side : ℕ → ℕ → Bool) (lie
           pick (inl e) = ((λ q. new (inl (sym (q ∙ e)))), ap (beyond side lies h) e ∙ near (λ q. new (inl (sym q))))
           pick (inr g) = o.0 z g
 
-  -- one arc more
+  -- another arc
   pub order_more : (order : List ℕ) (place arc : ℕ) → arc < m → IsGrowingOrder (beyond side lies) arc order → place ≤ length order
       → ((k : ℕ) → k + 1 ≡ place → beyond side lies arc (get_or order k 0) ≡ true) → ((k : ℕ) → place ≤ k → k < length order → beyond side lies arc (get_or order k 0) ≡ false)
       → (new : List ℕ) → new ≡ insert order place arc → length new ≡ length order + 1 → IsGrowingOrder (beyond side lies) (arc + 1) new
@@ -102,7 +102,7 @@ module _ (M : ℕ → ℕ → Bool) (m : ℕ) (side : ℕ → ℕ → Bool) (lie
       after row (inl k) = omega arith
       after row (inr k) = let q = so.only row k in omega arith
 
--- the order as it is asked for by the tree
+-- the order in the form that the lemmas on trees require
 pub order_of : (beyond' : ℕ → ℕ → Bool) (m : ℕ) (order : List ℕ) → IsGrowingOrder beyond' m order → IsOrderOf beyond' (first_lines m) order
 order_of beyond' m order so = record {
   order = so.ordered;
@@ -111,7 +111,7 @@ order_of beyond' m order so = record {
   count = so.many ∙ sym (length-range_with_len 0 m);
 }
 
--- ---- nodes by places
+-- ---- nodes by positions
 
 module _ (is_beyond : ℕ → ℕ → Bool) where
   pub node_here : (order : List ℕ) (is_in : ℕ → Bool) (place : ℕ) → place < length order → node_of (grown is_beyond (drop place order)) is_in ≡ node_of (grown is_beyond order) is_in

@@ -1,4 +1,4 @@
--- Parts as lists: a number for each row names them, and linked rows are in one of them.
+-- Parts as lists. Each row has a number that names its part, and linked rows are in one part.
 use Rattle.std.proofs.Common.{ℕ, Bool, List, [], ◌≡◌, ◌≢◌, ◌<◌, sym, refl, arith, subst, ◌⊎◌, inl, inr, nat_eq, ◌≤◌, ◌==◌, slice_index_or, length}
 use Rattle.std.proofs.lemmas.Bool.Decides.{nat_tests}
 use Rattle.std.specs.List.Sorted.{IsStrictlyIncreasing}
@@ -10,7 +10,7 @@ use Rattle.cmr_base.proofs.RowLists.{same_or_not}
 use Rattle.graph_realise.specs.Merging.{IsNumbering}
 use Rattle.graph_realise.proofs.PartRows.{in_part, part_in}
 
--- a part by its rows alone
+-- a part, described by its rows
 pub record IsWholePart (M : ℕ → ℕ → Bool) (S : List ℕ) (i : ℕ) (P : List ℕ) : Type 0 where
   pub inside : (k : ℕ) → IsIn k P → IsIn k S × (k ≢ i)
   pub linked : (j k : ℕ) → IsIn j P → IsIn k P → AreLinked M S i j k
@@ -55,7 +55,7 @@ uncut_same M i A B A' B' f g uncut j hj = go (uncut j (f j hj))
     go (inl all) = inl (λ c u. all c (u.0, (u.1.0, g u.1.0 u.1.1, u.1.2)))
     go (inr all) = inr (λ c u. all c (u.0, (u.1.0, g u.1.0 u.1.1, u.1.2)))
 
--- parts of fewer rows agree too
+-- parts with fewer rows also agree
 pub agree_fewer : (M : ℕ → ℕ → Bool) (i : ℕ) (A B A' B' : List ℕ) → ((x : ℕ) → IsIn x A' → IsIn x A) → ((x : ℕ) → IsIn x B' → IsIn x B) → Agree M i A B → Agree M i A' B'
 agree_fewer M i A B A' B' f g (inl s) = inl (uncut_same M i A B A' B' f g s)
 agree_fewer M i A B A' B' f g (inr s) = inr (uncut_same M i B A B' A' g f s)
@@ -79,7 +79,7 @@ module _ (M : ℕ → ℕ → Bool) (S : List ℕ) (i : ℕ) (parts : List (List
       go l (inl e) = e
       go l (inr n) = let p = numbered j hj nj in let q = numbered k hk nk in absurd (P.apart (part j) (part k) j k p.0 q.0 n p.1 q.1 l)
 
-  -- the rows of a number are those of the list
+  -- the rows with a number are the rows of the list
   pub to_list : (a k : ℕ) → IsIn k (part_rows part i a S) → IsIn k (slice_index_or parts a [])
   to_list a k h = let q = in_part part i a k S h in let p = numbered k q.0 q.1 in subst (λ (z : ℕ). IsIn k (slice_index_or parts z [])) q.2 p.1
 

@@ -30,6 +30,6 @@ module _ (part : ℕ → ℕ) (i name k : ℕ) where
       go false a (inl e) = absurd (ne_of k i a e)
       go false a (inr e) = is_eq (part k) name e
 
-  -- a row of another part is left out
+  -- a row of another part is removed
   pub left_out : k ≢ i → part k ≢ name → (k == i || part k == name) ≡ false
   left_out n m = ap (λ (t : Bool). t || part k == name) (is_ne k i n) ∙ is_ne (part k) name m

@@ -35,7 +35,7 @@ use Rattle.bridge_split.proofs.PartWalks.{no_number}
 
 -- ---- lists of rows
 
--- some row is left out
+-- at least one row is removed
 pub fewer_rows : (xs ys : List ℕ) (x : ℕ) → IsStrictlyIncreasing xs → ((y : ℕ) → IsIn y xs → IsIn y ys) → IsIn x ys → ¬ (IsIn x xs) → length xs < length ys
 fewer_rows xs ys x increasing sub here gone = let l = fewer_distinct (x ∷ xs) ys (gone, increasing_distinct xs increasing) into in omega arith
   where
@@ -54,7 +54,7 @@ one_part_whole M S i parts all few s =
     let e : b.0 ≡ a.0 = omega arith in
     s.apart (all.linked a.0 s.one s.two a.1 a.2 (subst (λ (z : ℕ). IsIn s.two (slice_index_or parts z [])) e b.2))
 
--- a row before another one of a increasing list
+-- a row before another row of an increasing list
 in_before : (before after : List ℕ) (i row : ℕ) → IsStrictlyIncreasing (before ++ i ∷ after) → IsIn row (before ++ i ∷ after) → row < i → IsIn row before
 in_before [] after i row rises (inl e) low = absurd (omega arith)
 in_before [] after i row rises (inr h) low = let l = head_below i row after rises h in absurd (omega arith)
@@ -84,11 +84,11 @@ module _ (M : ℕ → ℕ → Bool) (m n : ℕ) (short : (r c : ℕ) → M r c �
   part : ℕ → ℕ
   part r = part_or_first (number_at joint.part_of.items r)
 
-  -- a row but i has the number of its part
+  -- a row except i has the number of its part
   numbered : (r : ℕ) → IsIn r S → r ≢ i → (a : ℕ) × (a < length parts) × IsIn r (slice_index_or parts a []) × (number_at joint.part_of.items r ≡ Some a)
   numbered r hr nr = let q = all.all r hr nr in (q.0, q.1, q.2, J.numbered.inside q.0 r q.1 q.2)
 
-  -- the part that is named for a column
+  -- the part of a column
   touched_at : (c : ℕ) → IsPartTouched M i S joint.part_of.items c (number_at joint.part_with.items c)
   touched_at c = named_touched M i parts S joint.part_of.items all J.numbered c (number_at joint.part_with.items c) (J.with_columns c)
 
@@ -124,7 +124,7 @@ module _ (M : ℕ → ℕ → Bool) (m n : ℕ) (short : (r c : ℕ) → M r c �
       common_in a column e (inl l) = short i column (subst (λ (o : Option ℕ). MatchOption o ((c : ℕ) → ¬ (IsCommon M i (slice_index_or parts a []) c)) (IsCommon M i (slice_index_or parts a []))) e (J.branches.each a l).common).0
       common_in a column e (inr l) = absurd (no_number (branch_at joint.branches.items a).common column (ap (λ b. b.common) (get_or_past joint.branches.items a (record { end = false; weight = 0; common = None }) (let k = J.branches.many in omega arith))) e)
 
-  -- no part is named for the row's own columns
+  -- the row's own columns have no part
   pub named_off : AreOff M joint
   named_off c on = elim (touched_at c) [
     | inl used ↦ used.1
@@ -235,7 +235,7 @@ module _ (M : ℕ → ℕ → Bool) (m n : ℕ) (short : (r c : ℕ) → M r c �
             subst (λ (z : ℕ). KeepsCuts M i (slice_index_or parts z []) (side_in new) (end_in new)) (sym e)
             (keeps_own M i (slice_index_or parts a []) (side_in new) (end_in new) (is_fewer M (λ r. IsIn r T) (λ r. (r ≡ i) ⊎ IsIn r (slice_index_or parts a [])) (side_in new) (end_in new) list_with K))
 
-    -- beside the rows of this part and of earlier ones nothing lies
+    -- the arcs of the rows of this part and of earlier parts have nothing else on their sides true
     pub clear_more : (old new : ArcSides) → ((b r : ℕ) → b < a → IsIn r (slice_index_or parts b []) → IsClearBeside M joint old r) → KeepsOutside old new T → AreClear M T new
         → (b r : ℕ) → b < a + 1 → IsIn r (slice_index_or parts b []) → IsClearBeside M joint new r
     clear_more old new clear others own b r k hr = go (cases_lt b a)
@@ -335,7 +335,7 @@ module _ (M : ℕ → ℕ → Bool) (m n : ℕ) (short : (r c : ℕ) → M r c �
     pub joined_cuts : IsCuts M (λ r. IsIn r S) (side_in new) (end_in new)
     joined_cuts = is_same M (λ r. IsIn r S) (merged_side M i (hanging_of joint) (reversed_side i (side_in old))) (side_in new) (merged_lies M i (hanging_of joint) (reversed_lies i (side_in old) (end_in old))) (end_in new) sides tips cuts
 
-    -- beside all rows nothing lies
+    -- the arcs of all rows have nothing else on their sides true
     pub joined_clear : AreClear M S new
     joined_clear = record {
       arcs = λ r s hr n. beside r s hr n (cases_lt s m);

@@ -20,7 +20,7 @@ keeps_row_same a row = record { arcs = λ other. refl; ends = λ end column. ref
 
 -- ---- the rows of a list
 
--- one row more
+-- another row
 pub redrawn_more : (P : ℕ → ArcSides → Type 0) (same : (r : ℕ) (a b : ArcSides) → KeepsRow a b r → P r a → P r b) (rows : List ℕ) (count : ℕ) (old now new : ArcSides)
     → AreRedrawn P rows count old now → KeepsOtherArcs now new (get_or rows count 0) → P (get_or rows count 0) new → AreRedrawn P rows (count + 1) old new
 redrawn_more P same rows count old now new so others here = record {
@@ -38,6 +38,6 @@ redrawn_all P rows count old new le so = all_placed (λ r. P r new) rows count l
 pub redrawn_others : (P : ℕ → ArcSides → Type 0) (rows : List ℕ) (count : ℕ) (old new : ArcSides) → count ≤ length rows → AreRedrawn P rows count old new → KeepsOutside old new rows
 redrawn_others P rows count old new le so r h = so.kept r (λ k l e. h (subst (λ (x : ℕ). IsIn x rows) e (in_at rows k (omega arith))))
 
--- the row at a place is not one before
+-- the row at a position differs from the earlier rows
 pub not_before : (rows : List ℕ) (count : ℕ) → IsStrictlyIncreasing rows → count < length rows → (k : ℕ) → k < count → get_or rows k 0 ≢ get_or rows count 0
 not_before rows count increasing l k m e = let q = increasing_places rows k count increasing m l in absurd (omega arith)

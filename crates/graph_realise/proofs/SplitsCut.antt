@@ -1,4 +1,4 @@
--- What is graphic by splitting has cuts, and what has cuts is graphic by splitting.
+-- A matrix is graphic by splitting if and only if it has cuts.
 use Rattle.std.proofs.Common.{ℕ, zero, suc, Bool, true, false, List, [], ◌∷◌, ◌≡◌, ◌≢◌, ◌<◌, ◌↔◌, ◌∙◌, sym, ap, refl, arith, subst, ◌⊎◌, inl, inr, Option, Some, None}
 use Rattle.std.proofs.lemmas.List.FromFn.{length-range_with_len}
 use Rattle.cmr_base.specs.Matrix.{Matrix, IsRectangular, height}
@@ -86,7 +86,7 @@ module _ (M : ℕ → ℕ → Bool) (n : ℕ) (short : (r c : ℕ) → M r c ≡
   no_column s c hs ns (inl (d, u)) h w = absurd (no_number (Some d) d h refl)
   no_column s c hs ns (inr none) h w = false_is (M s c) (λ e. none c (w, (s, part_in part i (part s) s S hs ns refl, e)))
 
-  -- a row but i with a nonzero in the column, or there is none
+  -- a row except i with a nonzero in the column, or there is none
   abbrev Touch : ℕ → Type 0
   Touch c = ((r : ℕ) × IsIn r S × ((r ≢ i) × (M r c ≡ true))) ⊎ ((r : ℕ) → IsIn r S → r ≢ i → M r c ≡ false)
 
@@ -144,14 +144,14 @@ module _ (M : ℕ → ℕ → Bool) (n : ℕ) (short : (r c : ℕ) → M r c ≡
       lies_of : Bool → ℕ → ℕ → Bool
       lies_of end r c = lies_by (part r) (found (part r)) end r c
 
--- what is graphic by splitting has cuts
+-- rows that are graphic by splitting have cuts
 pub splits_cut : (M : ℕ → ℕ → Bool) (n : ℕ) → ((r c : ℕ) → M r c ≡ true → c < n) → (m : ℕ) (S : List ℕ) → SplitsGraphically M m S → HasCuts M (λ r. IsIn r S)
 splits_cut M n short zero S h = star_cuts M S h
 splits_cut M n short (suc m) S (inl h) = star_cuts M S h
 splits_cut M n short (suc m) S (inr a) =
     split_cuts M n short S a.row a.first.splits.here a.part a.naming a.side a.whole a.agree (λ j hj nj. splits_cut M n short m (with_row a.part a.row (a.part j) S) (a.rest j hj nj))
 
--- a matrix is graphic by splitting exactly where it has cuts
+-- a matrix is graphic by splitting if and only if it has cuts
 pub splitting_is_cuts : (m : Matrix) → IsRectangular m → IsGraphicBySplitting m ↔ HasCuts (support m) (λ row. row < height m)
 splitting_is_cuts m is = (
   λ h. has_fewer (support m) (λ row. IsIn row (first_lines (height m))) (λ row. row < height m) (λ row l. in_first_lines (height m) row l)

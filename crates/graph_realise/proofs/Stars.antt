@@ -1,4 +1,4 @@
--- The star that is drawn is the star of the rows.
+-- The code draws the star of the rows.
 use Rattle.std.proofs.Common.{◌≡◌, ◌<◌, ◌≤◌, ◌∙◌, ◌&&◌, ◌||◌, ◌+◌, ◌==◌, if◌then◌else◌, not, nat_eq, zero, suc, length, get_or, cond, ℕ, Bool, true, false, List, [], ◌∷◌, sym, ap, refl, arith, ◌⊎◌, inl, inr}
 use Rattle.cmr_base.specs.Cuts.{differ, IsCuts}
 use Rattle.cmr_base.specs.Members.{IsIn}
@@ -55,7 +55,7 @@ rays_clear M rows sides rays = record {
 -- ---- the columns that were seen
 
 module _ (M : ℕ → ℕ → Bool) where
-  -- a row whose column an earlier row has is not its first
+  -- a row is not the first row of a column that an earlier row has
   not_first : (S : List ℕ) (p q c : ℕ) → IsStrictlyIncreasing S → q < p → p < length S → M (get_or S q 0) c ≡ true → is_first M S (get_or S p 0) c ≡ false
   not_first [] p q c rises l k e = absurd (omega arith)
   not_first (r ∷ S) zero q c rises l k e = absurd (omega arith)
@@ -80,7 +80,7 @@ module _ (M : ℕ → ℕ → Bool) where
       go true f more = cc
       go false f more = more
 
-  -- the ray by what was seen is that of the star
+  -- the ray drawn by `seen` is the ray of the star
   pub ray_after : (S : List ℕ) (p : ℕ) (seen : ℕ → Bool) (sides : ArcSides) → IsStrictlyIncreasing S → p < length S → AreSeen M S p seen → IsRayAfter M seen (get_or S p 0) sides → IsRay M S (get_or S p 0) sides
   ray_after S p seen sides rises l were ray = record {
     arcs = ray.arcs;
@@ -128,7 +128,7 @@ module _ (M : ℕ → ℕ → Bool) where
       into c false true e f g = (p, omega arith, f)
       into c false false e f g = cc
 
--- one arc that is drawn by sets of columns
+-- one arc, drawn by sets of columns
 module _ (M : ℕ → ℕ → Bool) (n : ℕ) (short : (r c : ℕ) → M r c ≡ true → c < n) (columns seen : ℕ → Bool) (row : ℕ) (same : (c : ℕ) → columns c ≡ M row c) (old new : ArcSides) (first_wide : old.first.width ≡ n) (last_wide : old.last.width ≡ n)
     (cleared : IsRowFilled (λ column. false) old.arcs new.arcs row old.arcs.width) (first : IsRowFilled (λ column. columns column && not (seen column)) old.first new.first row old.first.width)
     (last : IsRowFilled (λ column. columns column && seen column) old.last new.last row old.last.width) where

@@ -21,7 +21,7 @@ cell_inside table row column l = ap (λ (b : Bool). cond b (is_in (words_for tab
 pub cell_past : (table : Grid) (row column : ℕ) → table.width ≤ column → cell table row column ≡ false
 cell_past table row column l = ap (λ (b : Bool). cond b (is_in (words_for table.width) table.words row column) false) (is_not_lt column table.width l)
 
--- each pair of a row and a chunk has its own place
+-- each pair of a row and a chunk has its own position
 earlier_row : (w r s c d : ℕ) → r < s → c < w → r * w + c < s * w + d
 earlier_row w r s c d l k =
     let up : r + 1 ≤ s = omega arith in
@@ -40,7 +40,7 @@ other_place w r s c d hc hd n e = go (cases_lt r s)
 other_chunk : (w r c d : ℕ) → c ≢ d → r * w + c ≢ r * w + d
 other_chunk w r c d n e = n (omega arith)
 
--- one word changed in the layout
+-- one changed word in the layout
 pub word_set : (table new : Grid) (row chunk word : ℕ) → length table.words ≡ table.height * words_for table.width → row < table.height → 64 * chunk < table.width
     → new ≡ record { height = table.height; width = table.width; words = set table.words (row * words_for table.width + chunk) word }
     → IsWordSet table new row chunk word
@@ -105,7 +105,7 @@ keeps_rows_trans a b c row h k = record {
   others = λ r column n. k.others r column n ∙ h.others r column n;
 }
 
--- 64 columns more
+-- 64 further columns
 pub filled_word : (values : ℕ → Bool) (old now new : Grid) (row chunk word : ℕ) → IsRowFilled values old now row (64 * chunk) → IsWordSet now new row chunk word
     → ((k : ℕ) → k < 64 → 64 * chunk + k < old.width → has_bit word k ≡ values (64 * chunk + k)) → IsRowFilled values old new row (64 * (chunk + 1))
 filled_word values old now new row chunk word so s bits = record {
@@ -136,7 +136,7 @@ filled_as values old now row chunk so bits = record {
         let at : 64 * chunk + c % 64 ≡ c = omega arith in
         subst (λ x. cell now row x ≡ values x) at (bits (c % 64) (omega arith) (omega arith))
 
--- and all of them
+-- the complete row
 pub filled_row : (values : ℕ → Bool) (old new : Grid) (row count : ℕ) → words_for old.width ≤ count → IsRowFilled values old new row (64 * count) → IsRowFilled values old new row old.width
 filled_row values old new row count many so = record {
   rows = so.rows;

@@ -1,4 +1,4 @@
--- Of two parts that agree, the heavier one does not cut the other's common columns.
+-- Of two parts that agree, the heavier part does not cut the other's common columns.
 use Rattle.std.proofs.Common.{ℕ, Bool, true, false, not, cond, List, [], ◌∷◌, ◌≡◌, ◌<◌, ◌≤◌, ◌+◌, ◌↔◌, ◌∙◌, sym, ap, refl, arith, subst, ◌⊎◌, inl, inr, count_by}
 use Rattle.std.proofs.lemmas.List.Sums.{sum_by-cons}
 use Rattle.cmr_base.specs.Members.{IsIn}
@@ -12,7 +12,7 @@ use Rattle.graph_realise.specs.Merging.{IsWeight}
 count_cons : (f : ℕ → Bool) (y : ℕ) (ys : List ℕ) → count_by f (y ∷ ys) ≡ cond (f y) 1 0 + count_by f ys
 count_cons f y ys = sum_by-cons (λ x. cond (f x) 1 0) y ys
 
--- what passes one test of numbers in a list passes another
+-- numbers of a list that pass one test pass another
 pub count_le : (f g : ℕ → Bool) (xs : List ℕ) → ((x : ℕ) → IsIn x xs → f x ≡ true → g x ≡ true) → count_by f xs ≤ count_by g xs
 count_le f g [] h = omega arith
 count_le f g (y ∷ ys) h = subst (λ (a : ℕ). a ≤ count_by g (y ∷ ys)) (sym (count_cons f y ys)) (subst (λ (b : ℕ). cond (f y) 1 0 + count_by f ys ≤ b) (sym (count_cons g y ys))
@@ -24,7 +24,7 @@ count_le f g (y ∷ ys) h = subst (λ (a : ℕ). a ≤ count_by g (y ∷ ys)) (s
     go false true a b l = omega arith
     go false false a b l = omega arith
 
--- and where as many pass, the same do
+-- if the counts are equal, the same numbers pass both tests
 pub count_same : (f g : ℕ → Bool) (xs : List ℕ) → ((x : ℕ) → IsIn x xs → f x ≡ true → g x ≡ true) → count_by g xs ≤ count_by f xs → (x : ℕ) → IsIn x xs → g x ≡ true → f x ≡ true
 count_same f g [] h k x m e = absurd m
 count_same f g (y ∷ ys) h k x m e = go (f y) (g y) refl refl
@@ -40,7 +40,7 @@ count_same f g (y ∷ ys) h k x m e = go (f y) (g y) refl refl
     go false false a b k (inr i) w r = r (omega arith) i
 
 module _ (M : ℕ → ℕ → Bool) (n : ℕ) (short : (r c : ℕ) → M r c ≡ true → c < n) (i : ℕ) where
-  -- the common columns of P are common columns of Q, and no fewer: so Q has no others
+  -- the common columns of P are common columns of Q, and P has as many or more: so Q has no others
   no_others : (P Q : List ℕ) (w v : ℕ) (p : IsWeight M n i P w) (q : IsWeight M n i Q v) → ((c : ℕ) → IsCommon M i P c → IsCommon M i Q c)
       → count_by q.common (first_lines n) ≤ count_by p.common (first_lines n) → (c : ℕ) → IsCommon M i Q c → IsCommon M i P c
   no_others P Q w v p q sub k c u = let l = short i c u.0 in (p.exact c l).0 (count_same p.common q.common (first_lines n)
@@ -140,7 +140,7 @@ module _ (M : ℕ → ℕ → Bool) where
         go (inl (c, h, u)) = inl (c, u)
         go (inr all) = inr (λ c u. all c (in_first_lines n c (short i c u.0)) u)
 
-    -- some common column has the value in row j, or all have the other
+    -- some common column has the value in row j, or all have the other value
     some_or_all : (j : ℕ) (b : Bool) → ((c : ℕ) × IsCommon M i Q c × (M j c ≡ b)) ⊎ ((c : ℕ) → IsCommon M i Q c → M j c ≡ not b)
     some_or_all j b = go (search_rows (λ c. IsCommon M i Q c × (M j c ≡ b)) (λ c. IsCommon M i Q c → M j c ≡ not b) decide (first_lines n))
       where

@@ -1,4 +1,5 @@
--- A row that does not split the rows S does not split row i with a part of the others either, nor does i: so each row is tested once.
+-- A row that does not split the rows S does not split row i with a part of the others either. Row i does not split these rows
+-- either. So the search tests each row once.
 use Rattle.std.proofs.Common.{ℕ, Bool, true, List, [], ◌∷◌, ◌≡◌, ◌<◌, sym, refl, subst, ◌⊎◌, inl, inr, slice_index_or, length}
 use Rattle.cmr_base.specs.Members.{IsIn}
 use Rattle.cmr_base.specs.Splits.{AreJoined, LeadsTo, AreLinked, Splits, AreParts}
@@ -23,7 +24,7 @@ module _ (M : ℕ → ℕ → Bool) (S : List ℕ) (i : ℕ) (P : List ℕ) (W :
       go (inr h) (inl e) = absurd (s.two_other e)
       go (inr h) (inr k) = let l = W.linked s.one s.two h k in (l.0, within s.one s.one s.two l.0 h ([], refl) l.1)
 
-  -- row i stands for the rows outside
+  -- row i represents the rows outside
   kept : (r : ℕ) → IsIn r T ⊎ (¬ (IsIn r T)) → ℕ
   kept r (inl h) = r
   kept r (inr m) = i
@@ -37,7 +38,7 @@ module _ (M : ℕ → ℕ → Bool) (S : List ℕ) (i : ℕ) (P : List ℕ) (W :
   crossing : (r s c : ℕ) → IsIn r P → IsIn s S → ¬ (IsIn s T) → M r c ≡ true → M s c ≡ true → M i c ≡ true
   crossing r s c hr hs out a b = true_is (M i c) (λ off. out (to s (inr (W.closed r s hr hs (λ z. out (to s (inl z))) (s ∷ [], (hs, (c, off, a, b), refl))))))
 
-  -- a step over a column without j stays a step, or is none
+  -- a step over a column without j remains a step, or disappears
   step : (j r s : ℕ) → IsIn r S → IsIn s S → (d : IsIn r T ⊎ (¬ (IsIn r T))) → (e : IsIn s T ⊎ (¬ (IsIn s T))) → AreJoined M j r s → (kept r d ≡ kept s e) ⊎ AreJoined M j (kept r d) (kept s e)
   unfolding kept
   step j r s hr hs (inl h) (inl k) join = inr join
@@ -66,7 +67,7 @@ module _ (M : ℕ → ℕ → Bool) (S : List ℕ) (i : ℕ) (P : List ℕ) (W :
       go (inl q) k = subst (λ (r : ℕ). AreLinked M T j r y) (sym q) k
       go (inr q) k = (kept z (in_or_not z T) ∷ k.0, (kept_in z (in_or_not z T), q, k.1))
 
-  -- what splits row i and the part splits all rows
+  -- a row that splits row i and the part splits all rows
   pub splits_all : IsIn i S → (j : ℕ) → Splits M T j → Splits M S j
   unfolding kept
   splits_all here j s = record {

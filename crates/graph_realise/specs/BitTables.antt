@@ -14,13 +14,13 @@ pub record Grid : Type 0 where
 abbrev pub cell : Grid → ℕ → ℕ → Bool
 cell table row column = cond (nat_lt column table.width) (is_in (words_for table.width) table.words row column) false
 
--- all cells of other rows are the same, and so are the sizes
+-- all cells of other rows and the sizes are the same
 pub record KeepsOtherRows (old new : Grid) (row : ℕ) : Type 0 where
   pub height : new.height ≡ old.height
   pub width : new.width ≡ old.width
   pub others : (r column : ℕ) → r ≢ row → cell new r column ≡ cell old r column
 
--- one cell is changed
+-- only one cell changes
 pub record IsCellSet (old new : Grid) (row column : ℕ) (value : Bool) : Type 0 where
   pub rows : KeepsOtherRows old new row
   pub here : cell new row column ≡ value
@@ -32,19 +32,19 @@ pub record IsWordSet (old new : Grid) (row chunk word : ℕ) : Type 0 where
   pub here : (k : ℕ) → k < 64 → 64 * chunk + k < old.width → cell new row (64 * chunk + k) ≡ has_bit word k
   pub others : (c : ℕ) → c / 64 ≢ chunk → cell new row c ≡ cell old row c
 
--- a increasing list of chunks of columns that has those of all columns of a set
+-- an increasing list of chunks of columns that contains the chunks of all columns of a set
 pub record AreChunksOf (columns : ℕ → Bool) (width : ℕ) (chunks : List ℕ) : Type 0 where
   pub increasing : IsStrictlyIncreasing chunks
   pub inside : (k : ℕ) → k < length chunks → 64 * slice_index chunks k < width
   pub all : (column : ℕ) → columns column ≡ true → IsIn (column / 64) chunks
 
--- the columns of one row in the first chunks of a list have the values of a function, so many of them
+-- the columns of one row in the first `count` chunks of a list have the values of a function
 pub record AreChunksFilled (values : ℕ → Bool) (old new : Grid) (row : ℕ) (chunks : List ℕ) (count : ℕ) : Type 0 where
   pub rows : KeepsOtherRows old new row
   pub done : (k column : ℕ) → k < count → column / 64 ≡ slice_index chunks k → column < old.width → cell new row column ≡ values column
   pub left : (column : ℕ) → ((k : ℕ) → k < count → column / 64 ≢ slice_index chunks k) → cell new row column ≡ cell old row column
 
--- the first columns of one row have the values of a function, so many of them
+-- the first `count` columns of one row have the values of a function
 pub record IsRowFilled (values : ℕ → Bool) (old new : Grid) (row count : ℕ) : Type 0 where
   pub rows : KeepsOtherRows old new row
   pub done : (column : ℕ) → column < count → column < old.width → cell new row column ≡ values column

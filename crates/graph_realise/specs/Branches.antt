@@ -1,4 +1,4 @@
--- The parts at a row, by what decides where they hang.
+-- The properties of the parts at a row that decide how they hang.
 use Rattle.std.specs.Prelude.{◌≡◌, ◌<◌, ◌==◌, ℕ, Bool, false, List, [], length, slice_index_or, None, MatchOption}
 use Rattle.cmr_base.specs.Splits.{IsCommon}
 use Rattle.graph_realise.specs.Merging.{IsWeight}
@@ -13,7 +13,7 @@ pub record IsBranch (M : ℕ → ℕ → Bool) (n i : ℕ) (P : List ℕ) (end :
 abbrev pub branch_at : List Branch → ℕ → Branch
 branch_at branches part = slice_index_or branches part (record { end = false; weight = 0; common = None })
 
--- one for each part, at its end of row i's arc: 1 stands for the first end
+-- one branch for each part, at its end of row i's arc: 1 is the first end
 pub record AreBranches (M : ℕ → ℕ → Bool) (n i : ℕ) (parts : List (List ℕ)) (ends : List ℕ) (count : ℕ) (branches : List Branch) : Type 0 where
   pub many : length branches ≡ count
   pub each : (a : ℕ) → a < count → IsBranch M n i (slice_index_or parts a []) (slice_index_or ends a 0 == 1) (branch_at branches a)

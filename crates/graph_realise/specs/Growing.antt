@@ -6,7 +6,7 @@ use Rattle.graph_realise.specs.declared.arc_sides.ArcSides.{ArcSides}
 use Rattle.graph_realise.specs.declared.growing.Spot.{Spot}
 use Rattle.graph_realise.specs.declared.growing.Spot.TheVariants.{Arc, First, Last}
 
--- for each arc the side where the first end of column 0 is
+-- for each arc the side that contains the first end of column 0
 pub record AreNear (sides : ArcSides) (m : ℕ) (near : List Bool) : Type 0 where
   pub count : length near ≡ m
   pub each : (row : ℕ) → row < m → slice_index_or near row false ≡ end_in sides true row 0
@@ -27,7 +27,7 @@ IsSpotIn m n (Arc arc) = arc < m
 IsSpotIn m n (First column) = column < n
 IsSpotIn m n (Last column) = column < n
 
--- behind the last arc of an order that lies beyond this one
+-- the position after the last arc of an order that lies beyond this arc
 pub record IsPlaceInOrder (sides : ArcSides) (order : List ℕ) (arc found : ℕ) : Type 0 where
   pub within : found ≤ length order
   pub last : (k : ℕ) → k + 1 ≡ found → is_beyond sides arc (slice_index order k) ≡ true

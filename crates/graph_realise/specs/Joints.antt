@@ -1,4 +1,4 @@
--- A row and the parts of the others: what is known of them, and the tree that they make.
+-- A row and the parts of the other rows: their properties, and the tree of all rows.
 use Rattle.std.specs.Prelude.{◌≡◌, ◌≢◌, ◌<◌, ◌≤◌, ◌⊎◌, ◌==◌, ◌&&◌, ◌||◌, not, nat_lt, if◌then◌else◌, ℕ, Bool, true, false, List, [], length, slice_index, slice_index_or, Option, Some, None}
 use Rattle.cmr_base.specs.declared.limits.TheConstants.{MAX_ROWS}
 use Rattle.cmr_base.specs.Cuts.{differ}
@@ -37,33 +37,33 @@ pub record AreNumbered (parts : List (List ℕ)) (count : ℕ) (numbers : List (
   pub inside : (a row : ℕ) → a < count → IsIn row (slice_index_or parts a []) → number_at numbers row ≡ Some a
   pub only : (a row : ℕ) → number_at numbers row ≡ Some a → (a < count) × IsIn row (slice_index_or parts a [])
 
--- the number of some row that is not 0 in the column, unless all are 0
+-- the number of a row that is not 0 in the column, unless all are 0
 abbrev pub IsPartWith : (ℕ → ℕ → Bool) → List ℕ → List (Option ℕ) → ℕ → Option ℕ → Type 0
 IsPartWith M rows numbers column found =
     (((r : ℕ) → IsIn r rows → M r column ≡ false) × (found ≡ None)) ⊎ ((r : ℕ) × IsIn r rows × (M r column ≡ true) × (found ≡ number_at numbers r))
 
--- the same for a column in which row i is 0, and none for the others
+-- the same for a column in which row i is 0, and no number for the other columns
 abbrev pub IsPartTouched : (ℕ → ℕ → Bool) → ℕ → List ℕ → List (Option ℕ) → ℕ → Option ℕ → Type 0
 IsPartTouched M i rows numbers column found = ((M i column ≡ true) × (found ≡ None)) ⊎ ((M i column ≡ false) × IsPartWith M rows numbers column found)
 
--- the number of some of the first parts with a row that is not 0 in a column in which row i is 0, unless there is none
+-- the number of one of the first parts that has a row with a nonzero in a column in which row i is 0, unless there is none
 abbrev pub IsPartNumber : (ℕ → ℕ → Bool) → ℕ → List (List ℕ) → ℕ → ℕ → Option ℕ → Type 0
 IsPartNumber M i parts count column found =
     (((a r : ℕ) → a < count → IsIn r (slice_index_or parts a []) → M i column ≡ false → M r column ≡ false) × (found ≡ None))
     ⊎ ((a : ℕ) × (r : ℕ) × (a < count) × IsIn r (slice_index_or parts a []) × (M i column ≡ false) × (M r column ≡ true) × (found ≡ Some a))
 
--- the columns of the rows before a place in which row i is 0
+-- the columns of the rows before `place` in which row i is 0
 pub record AreOfRows (M : ℕ → ℕ → Bool) (i : ℕ) (rows : List ℕ) (place : ℕ) (columns : ℕ → Bool) : Type 0 where
   pub into : (column : ℕ) → columns column ≡ true → (M i column ≡ false) × ((p : ℕ) × (p < place) × (M (slice_index rows p) column ≡ true))
   pub from : (p column : ℕ) → p < place → M i column ≡ false → M (slice_index rows p) column ≡ true → columns column ≡ true
 
--- a table with a line for each part, which marks the lines with its number
+-- a table with a line for each part, which marks the lines with the part's number
 pub record ArePartMarks (numbers : List (Option ℕ)) (count : ℕ) (marks : Grid) : Type 0 where
   pub tall : marks.height ≡ count
   pub wide : marks.width ≡ length numbers
   pub exact : (part line : ℕ) → part < count → line < length numbers → cell marks part line ≡ is_part part (number_at numbers line)
 
--- all of it, for a matrix of these sizes
+-- all fields, for a matrix of these sizes
 pub record IsJointOf (M : ℕ → ℕ → Bool) (m n i : ℕ) (parts : List (List ℕ)) (ends : List ℕ) (joint : Joint) : Type 0 where
   pub row : joint.row ≡ i
   pub rows : length joint.part_of.items ≡ m
@@ -100,42 +100,42 @@ pub record IsLineFor (joint : Joint) (sides : ArcSides) (arc part : ℕ) : Type 
   pub columns_wide : joint.column_marks.width ≡ sides.first.width
   pub ends_wide : sides.last.width ≡ sides.first.width
 
--- beside its part and the row, arc r has nothing on its side `true`
+-- except in its part and the row, arc r has nothing on its side `true`
 pub record IsClearBeside (M : ℕ → ℕ → Bool) (joint : Joint) (sides : ArcSides) (r : ℕ) : Type 0 where
   pub arcs : (s : ℕ) → s ≢ joint.row → number_at joint.part_of.items s ≢ number_at joint.part_of.items r → side_in sides r s ≡ false
   pub ends : (end : Bool) (c : ℕ) → M joint.row c ≡ false → number_at joint.part_with.items c ≢ number_at joint.part_of.items r → end_in sides end r c ≡ false
 
--- no part is named for a column that the row has
+-- columns of the row have no part
 abbrev pub AreOff : (ℕ → ℕ → Bool) → Joint → Type 0
 AreOff M joint = (column : ℕ) → M joint.row column ≡ true → number_at joint.part_with.items column ≡ None
 
--- it fits this matrix, is off the row's columns, and has the row's chunks
+-- the joint fits this matrix, its parts have no columns of the row, and it has the row's chunks
 pub record FitsMatrix (m : Matrix) (joint : Joint) : Type 0 where
   pub fits : FitsJoint (height m) m.width joint
   pub off : AreOff (support m) joint
   pub chunks : AreChunksOf (support m joint.row) m.width joint.row_chunks
 
--- the end of the row's arc where a part is
+-- the end of the row's arc to which a part belongs
 abbrev pub branch_end : Joint → Option ℕ → Bool
 branch_end joint None = false
 branch_end joint (Some part) = (branch_at joint.branches.items part).end
 
--- whether it is one of the first parts for which a test holds
+-- whether the part is one of the first parts and satisfies a test
 abbrev pub is_chosen : (ℕ → Bool) → ℕ → Option ℕ → Bool
 is_chosen test count None = false
 is_chosen test count (Some part) = nat_lt part count && test part
 
--- the first parts for which a test holds are put on the side true of arc r
+-- the first parts that satisfy a test are put on side true of arc r
 abbrev pub AreChosen : Joint → (ℕ → Bool) → ℕ → ℕ → ArcSides → ArcSides → Type 0
 AreChosen joint test r count old new =
     IsArcChanged (λ other. side_in old r other || is_chosen test count (number_at joint.part_of.items other)) (λ end column. end_in old end r column || is_chosen test count (number_at joint.part_with.items column)) old new r
 
--- the end of the row's arc where a part is is the first one
+-- the part belongs to the first end of the row's arc
 abbrev pub is_at_first : Joint → ℕ → Bool
 is_at_first joint part = (branch_at joint.branches.items part).end
 
 module _ (M : ℕ → ℕ → Bool) (joint : Joint) where
-  -- the side of arc r where a part is, which has the value `within` where it is the part of r
+  -- the side of arc r on which a part lies; within the part of r it has the value `within`
   abbrev pub by_part : ℕ → Bool → Option ℕ → Bool
   by_part r within None = false
   by_part r within (Some part) = if (hanging_of joint).part r == part then within else spot M joint.row (hanging_of joint) r part
@@ -145,16 +145,16 @@ module _ (M : ℕ → ℕ → Bool) (joint : Joint) where
       if r == joint.row then branch_end joint (number_at joint.part_of.items s)
       else by_part r (reversed_side joint.row (side_in old) r s) (number_at joint.part_of.items s)
 
-  -- whether one of the first parts but arc r's own hangs on the side true of it
+  -- whether the part is one of the first parts, differs from arc r's part, and hangs on side true of r
   abbrev pub hung : ℕ → ℕ → ℕ → Option ℕ → Bool
   hung r own count part = is_chosen (λ p. not (p == own) && spot M joint.row (hanging_of joint) r p) count part
 
-  -- the first parts but arc r's own are on the side of it where they hang
+  -- the first parts except arc r's own part are on the side of r on which they hang
   abbrev pub AreHung : ℕ → ℕ → ℕ → ArcSides → ArcSides → Type 0
   AreHung r own count old new =
       IsArcChanged (λ other. side_in old r other || hung r own count (number_at joint.part_of.items other)) (λ end column. end_in old end r column || hung r own count (number_at joint.part_with.items column)) old new r
 
-  -- the ends on the sides of arc r, with those of the columns that it has in common with the row
+  -- the ends on the sides of arc r, with the ends of the columns that r and the row have in common
   abbrev pub is_used : ℕ → ℕ → ArcSides → Bool → ℕ → Bool
   is_used r own old end column = end_in old end r column || (not (differ end (branch_at joint.branches.items own).end) && (M r column && M joint.row column))
 

@@ -5,8 +5,8 @@ use Rattle.cmr_base.specs.LineSets.{first_lines}
 use Rattle.cmr_base.specs.Members.{IsIn}
 use Rattle.cmr_base.specs.Splits.{IsCommon, IsUncutBy}
 
--- Twice the number of columns, of n, that row i has in common with a part, and one more where the part does not cut them
--- itself. Of two parts that agree, the heavier one does not cut the common columns of the other.
+-- Twice the number of columns that row i has in common with a part, among n columns, plus 1 if the part itself does not cut
+-- them. Of two parts that agree, the heavier part does not cut the common columns of the other.
 pub record IsWeight (M : ℕ → ℕ → Bool) (n i : ℕ) (P : List ℕ) (weight : ℕ) : Type 0 where
   pub common : ℕ → Bool
   pub exact : (c : ℕ) → c < n → (common c ≡ true) ↔ IsCommon M i P c
@@ -14,11 +14,11 @@ pub record IsWeight (M : ℕ → ℕ → Bool) (n i : ℕ) (P : List ℕ) (weigh
   pub uncut : (whole ≡ true) ↔ IsUncutBy M i P P
   pub value : weight ≡ count_by common (first_lines n) + count_by common (first_lines n) + cond whole 1 0
 
--- the number of the part of each row but i
+-- the number of the part of each row except i
 abbrev pub IsNumbering : List ℕ → ℕ → List (List ℕ) → (ℕ → ℕ) → Type 0
 IsNumbering S i parts part = (r : ℕ) → IsIn r S → r ≢ i → (part r < length parts) × IsIn r (slice_index_or parts (part r) [])
 
--- The part of each row but i; of each part its weight, and a column that it has in common with row i, if there is one; and of
+-- For each row except i its part; for each part its weight and a column that it has in common with row i, if there is one; for
 -- each column in which row i is 0 the part with its nonzeros.
 pub record DescribesParts (M : ℕ → ℕ → Bool) (n : ℕ) (S : List ℕ) (i : ℕ) (parts : List (List ℕ)) (part weight : ℕ → ℕ) (common touched : ℕ → Option ℕ) : Type 0 where
   pub numbers : IsNumbering S i parts part
@@ -34,12 +34,12 @@ pub record Hanging : Type 0 where
   pub half : ℕ → Bool
   -- whether the second part may hang at a node of the first
   pub above : ℕ → ℕ → Bool
-  -- a column that row i has in common with a part
+  -- a column that row i and a part have in common
   pub common : ℕ → Option ℕ
   -- the part with nonzeros in a column in which row i is 0
   pub touched : ℕ → Option ℕ
 
--- the heavier part, and of two of one weight the one with the greater number
+-- the heavier part, and of two parts with equal weights the part with the greater number
 abbrev pub heavier : (ℕ → ℕ) → ℕ → ℕ → Bool
 heavier weight p q = ltb (weight q) (weight p) || weight q == weight p && ltb q p
 
@@ -59,35 +59,36 @@ module _ (i : ℕ) (side : ℕ → ℕ → Bool) where
   reversed_lies lies end r c = differ (side r i) (lies end r c)
 
 module _ (M : ℕ → ℕ → Bool) (i : ℕ) (hanging : Hanging) where
-  -- the side of arc r on which another part lies: where it hangs at a node of r's part, the node at which its common columns leave
+  -- the side of arc r on which another part lies. If it hangs at a node of r's part, its common columns leave r's part at this
+  -- node.
   abbrev pub spot : ℕ → ℕ → Bool
   spot r q = not (differ (hanging.half (hanging.part r)) (hanging.half q)) && hanging.above (hanging.part r) q && is_in_some (M r) (hanging.common q)
 
-  -- the side of arc r on which arc s lies, where side tells it within each part
+  -- the side of arc r on which arc s lies; within each part it is given by `side`
   abbrev pub merged_side : (ℕ → ℕ → Bool) → ℕ → ℕ → Bool
   merged_side side r s =
       if r == i then hanging.half (hanging.part s) else if s == i then false else if hanging.part r == hanging.part s then side r s else spot r (hanging.part s)
 
-  -- the side of arc i on which a column lies that does not use i
+  -- the side of arc i on which a column without i lies
   abbrev pub column_half : Option ℕ → Bool
   column_half None = false
   column_half (Some q) = hanging.half q
 
   module _ (lies : Bool → ℕ → ℕ → Bool) where
-    -- the side of arc r on which an end of a column lies that does not use i, by the part that it touches
+    -- the side of arc r on which an end of a column without i lies, by the part that it touches
     abbrev pub end_off : Bool → ℕ → ℕ → Option ℕ → Bool
     end_off end r c None = false
     end_off end r c (Some q) = if hanging.part r == q then lies end r c else spot r q
 
-    -- and of any column, where lies tells it within the part
+    -- the same for any column; within the part it is given by `lies`
     abbrev pub merged_lies : Bool → ℕ → ℕ → Bool
     merged_lies end r c =
         if r == i then (if M i c then end else column_half (hanging.touched c))
         else if M i c then (if differ end (hanging.half (hanging.part r)) then false else M r c)
         else end_off end r c (hanging.touched c)
 
--- Tables in which those of row i with a part are left, as far as they are read: the sides of the part's arcs, and the ends of
--- the columns in which row i is 0.
+-- Tables that agree with the tables of row i with a part on the entries that are read: the sides of the part's arcs, and the
+-- ends of the columns in which row i is 0.
 pub record KeepsCuts (M : ℕ → ℕ → Bool) (i : ℕ) (P : List ℕ) (side : ℕ → ℕ → Bool) (lies : Bool → ℕ → ℕ → Bool) : Type 0 where
   pub own_side : ℕ → ℕ → Bool
   pub own_lies : Bool → ℕ → ℕ → Bool

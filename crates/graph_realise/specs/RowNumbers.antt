@@ -1,4 +1,4 @@
--- Lists of rows by their numbers.
+-- Lists of rows without common rows.
 use Rattle.std.specs.Prelude.{◌≡◌, ◌<◌, ℕ, List, [], length, slice_index_or}
 use Rattle.cmr_base.specs.Members.{IsIn}
 

@@ -1,4 +1,4 @@
--- The tables of a star: each arc has the middle and all other arcs on side false.
+-- The tables of a star: the middle and all other arcs are on side false of each arc.
 use Rattle.std.specs.Prelude.{ℕ, Bool, false, not, cond, ◌==◌, List, [], ◌∷◌}
 use Rattle.cmr_base.specs.Cuts.{differ}
 
@@ -8,7 +8,7 @@ module _ (M : ℕ → ℕ → Bool) where
   lead [] c = 0
   lead (r ∷ S) c = cond (M r c) r (lead S c)
 
-  -- The first end of a column is the leaf of its first row, the last end that of its second; an end without such a row is the
-  -- middle.
+  -- The first end of a column is the leaf of its first row, and the last end the leaf of its second row. An end without such a
+  -- row is the middle.
   abbrev pub star_lies : List ℕ → Bool → ℕ → ℕ → Bool
   star_lies S end r c = cond (M r c) (not (differ end (r == lead S c))) false

@@ -1,4 +1,4 @@
--- What a search for a tree gives.
+-- The results of a search for a tree.
 use Rattle.std.specs.Prelude.{◌<◌, ◌≤◌, ℕ, Bool, List, length}
 use Rattle.cmr_base.specs.Cuts.{IsCuts, HasCuts}
 use Rattle.cmr_base.specs.Members.{IsIn}
@@ -14,7 +14,7 @@ pub record AreTreeSides (M : ℕ → ℕ → Bool) (S : List ℕ) (sides : ArcSi
   pub cuts : IsCuts M (λ r. IsIn r S) (side_in sides) (end_in sides)
   pub clear : AreClear M S sides
 
--- a tree in the tables, or none at all
+-- a tree in the tables, or no tree exists
 abbrev pub IsSearch : (ℕ → ℕ → Bool) → List ℕ → ArcSides → TreeSearch → Type 0
 IsSearch M S sides Found = AreTreeSides M S sides
 IsSearch M S sides NoTree = ¬ (HasCuts M (λ r. IsIn r S))
@@ -23,7 +23,7 @@ IsSearch M S sides NoTree = ¬ (HasCuts M (λ r. IsIn r S))
 abbrev pub AreWholeBelow : (ℕ → ℕ → Bool) → List ℕ → ℕ → Type 0
 AreWholeBelow M S untested = (row : ℕ) → row < untested → ¬ (Splits M S row)
 
--- the first row that splits the others, and their parts, which are two or more
+-- the first row that splits the others, and their parts, of which there are at least two
 pub record IsSplit (M : ℕ → ℕ → Bool) (S : List ℕ) (split : SplitRow) : Type 0 where
   pub here : IsIn split.row S
   pub parts : AreParts M S split.row split.parts

@@ -6,8 +6,8 @@ use crate::table::Table;
 use cmr_base::{Matrix, Memory};
 use std::alloc::Global;
 
-/// A tree told by its arcs alone: for each row's arc, on which of its two sides the other arcs lie, and the first and
-/// the last end of each column's path. The sides are called by truth values.
+/// A tree, described by its arcs only. Each arc has two sides, which are truth values. For the arc of each row the tables
+/// contain the side on which each other arc lies, and the sides of the first and the last end of each column's path.
 #[derive(Debug, Drop)]
 pub struct ArcSides {
     pub arcs: Table,

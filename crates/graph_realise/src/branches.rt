@@ -1,4 +1,4 @@
-// The parts at a row, by what decides where they hang.
+// The properties of the parts at a row that decide how they hang.
 ghost use Rattle.std.specs.Prelude.{◌≡◌, ◌<◌, IfOk, length};
 ghost use Rattle.cmr_base.specs.LineSets.{AllBelow};
 ghost use Rattle.cmr_base.specs.Matrix.{height};
@@ -11,8 +11,8 @@ use cmr_base::columns::{count_columns, empty_set, next_column};
 use cmr_base::{Indices, Matrix, Memory, PartList, SideList};
 use std::alloc::Global;
 
-/// A part at a row: the end of the row's arc at which it is, its weight, and a column that it has in common with the
-/// row. Of two parts at one end, the lighter one hangs at a node of the heavier one.
+/// A part at a row: the end of the row's arc to which it belongs, its weight, and a column that it has in common with the row.
+/// Of two parts at one end, the lighter part hangs at a node of the heavier part.
 #[derive(Debug, Clone, Copy)]
 pub struct Branch {
     pub end: bool,

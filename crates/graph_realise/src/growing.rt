@@ -1,4 +1,4 @@
-// A tree grown arc by arc from the sides of its arcs.
+// Trees grown arc by arc from the sides of the arcs.
 ghost use Rattle.std.specs.Prelude.{◌≡◌, ◌<◌, ◌≤◌, true, IfOk, length};
 ghost use Rattle.cmr_base.specs.Cuts.{IsCuts};
 ghost use Rattle.cmr_base.specs.GrownTrees.{arcs_by, grown, node_of, pair_of, reversed_unless, walks_by};
@@ -13,7 +13,7 @@ use crate::arc_sides::ArcSides;
 use cmr_base::{MAX_ROWS, Matrix, Memory, Network, Pair, PairList};
 use std::alloc::Global;
 
-/// A spot in a tree: where an arc lies, or the first or the last end of a column.
+/// A spot in a tree: an arc, or the first or the last end of a column.
 #[derive(Debug, Clone, Copy)]
 pub enum Spot {
     Arc(u32),
@@ -21,8 +21,8 @@ pub enum Spot {
     Last(u32),
 }
 
-/// The tree with these sides, and the paths of the columns in it. It is seen from the first end of column 0, which is node
-/// 0; the k-th arc that is grown leads to node k.
+/// The tree with these sides, and the paths of the columns in it. The first end of column 0 is node 0, and the k-th arc that is
+/// grown leads to node k.
 pub fn grow_network(alloc: Global, matrix: &Matrix, sides: &ArcSides) -> Result<Network, Memory>
     requires tables { AreTablesOf matrix.now sides.now }
     requires cuts { IsCuts (support matrix.now) (λ r. r < height matrix.now) (side_in sides.now)
@@ -38,7 +38,7 @@ pub fn grow_network(alloc: Global, matrix: &Matrix, sides: &ArcSides) -> Result<
     })
 }
 
-// For each arc the side where the first end of column 0 is.
+// For each arc the side that contains the first end of column 0.
 fn near_sides(alloc: Global, matrix: &Matrix, sides: &ArcSides) -> Result<Vec<bool>, Memory>
     requires { AreTablesOf matrix.now sides.now }
     ensures shape { IsMatrix matrix.now }
@@ -79,7 +79,7 @@ fn is_past(matrix: &Matrix, sides: &ArcSides, near: &[bool], spot: Spot, row: u3
     side != near[row as usize]
 }
 
-// The arcs in an order in which none lies beyond one that stands before it: those that are grown first stand last.
+// The arcs in an order in which no arc lies beyond an earlier one. The tree grows from the end of the order to its beginning.
 fn growing_order(
     alloc: Global,
     matrix: &Matrix,
@@ -101,7 +101,7 @@ fn growing_order(
     Ok(order)
 }
 
-// The place behind the last arc that lies beyond this one.
+// The position after the last arc that lies beyond this arc.
 fn place_in(matrix: &Matrix, sides: &ArcSides, near: &[bool], order: &[u32], arc: u32) -> usize
     requires tables { AreTablesOf matrix.now sides.now }
     requires near { AreNear sides.now (height matrix.now) near.now }
@@ -119,7 +119,7 @@ fn place_in(matrix: &Matrix, sides: &ArcSides, near: &[bool], order: &[u32], arc
     0
 }
 
-// The node of a spot in the tree of the arcs in an order.
+// The node of a spot in the tree of the arcs in `order`.
 fn node_of(matrix: &Matrix, sides: &ArcSides, near: &[bool], order: &[u32], spot: Spot) -> u32
     requires tables { AreTablesOf matrix.now sides.now }
     requires near { AreNear sides.now (height matrix.now) near.now }
@@ -178,7 +178,7 @@ fn arc_of(matrix: &Matrix, sides: &ArcSides, near: &[bool], order: &[u32], row: 
     }
 }
 
-// The node where the arc of a row hangs, and the node to which it leads.
+// The node at which the arc of a row hangs, and the node to which it leads.
 fn pair_of(matrix: &Matrix, sides: &ArcSides, near: &[bool], order: &[u32], row: u32) -> Pair
     requires tables { AreTablesOf matrix.now sides.now }
     requires near { AreNear sides.now (height matrix.now) near.now }

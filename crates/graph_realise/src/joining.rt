@@ -1,4 +1,4 @@
-// The tree that the parts at a row make.
+// The tree of all rows from the trees of a row with each part.
 ghost use Rattle.std.specs.Prelude.{◌≡◌, ◌≢◌, ◌<◌, ◌==◌, ◌&&◌, ◌||◌, not, ltb, ℕ, false, Some, None, length};
 ghost use Rattle.cmr_base.specs.Cuts.{differ};
 ghost use Rattle.cmr_base.specs.LineSets.{AllBelow};
@@ -15,8 +15,7 @@ use crate::branches::Branch;
 use crate::joint::Joint;
 use cmr_base::{Indices, Matrix};
 
-/// Makes one tree of the trees of the row with each part. All arcs of a part are reversed so that the row's arc is on their
-/// side `false`.
+/// Joins the trees of the row with each part. The arcs of a part are reversed so that the row's arc is on their side `false`.
 pub fn join(matrix: &Matrix, rows: &Indices, joint: &Joint, sides: &mut ArcSides)
     requires rows { AllBelow (height matrix.now) rows.now }
     requires joint { FitsMatrix matrix.now joint.now }
@@ -39,7 +38,7 @@ pub fn join(matrix: &Matrix, rows: &Indices, joint: &Joint, sides: &mut ArcSides
     }
 }
 
-// The arc of the row itself: the parts at its first end lie on its side `true`, and so do the first ends of its columns.
+// The arc of the row itself. Its side `true` has the parts at its first end and the first ends of its columns.
 fn join_row(matrix: &Matrix, joint: &Joint, sides: &mut ArcSides)
     requires joint { FitsMatrix matrix.now joint.now }
     requires tables { AreTablesOf matrix.now sides.old }
@@ -96,7 +95,7 @@ fn add_first_ends(matrix: &Matrix, joint: &Joint, sides: &mut ArcSides)
     sides.first.add_common(row, matrix, row, row, chunks);
 }
 
-// The arc of another row. Its sides are kept within its part, and each other part lies on the side where it hangs.
+// The arc of another row. It keeps its sides within its part. Each other part lies on the side on which it hangs.
 fn join_arc(matrix: &Matrix, joint: &Joint, arc: u32, sides: &mut ArcSides)
     requires arc { arc < height matrix.now }
     requires other { arc ≢ joint.now.row }
@@ -116,7 +115,7 @@ fn join_arc(matrix: &Matrix, joint: &Joint, arc: u32, sides: &mut ArcSides)
     }
 }
 
-// Keeps the sides of an arc for its own part, reversed or not, and clears all others.
+// Keeps the sides of an arc for its own part, reversed or not, and clears the rest.
 fn keep_part(
     matrix: &Matrix,
     joint: &Joint,
@@ -148,7 +147,7 @@ fn keep_part(
     }
 }
 
-// Turns the sides of an arc round for its own part, and clears all others.
+// Reverses the sides of an arc for its own part, and clears the rest.
 fn reverse_part(joint: &Joint, arc: u32, own: usize, sides: &mut ArcSides)
     requires { IsLineFor joint.now sides.old arc own }
     ensures { IsArcChanged
@@ -163,7 +162,7 @@ fn reverse_part(joint: &Joint, arc: u32, own: usize, sides: &mut ArcSides)
     sides.last.reverse(arc, &joint.column_marks, line);
 }
 
-// Puts the other parts that hang on the side `true` of an arc there.
+// Puts each other part that hangs on the side `true` of an arc on this side.
 fn add_hung(matrix: &Matrix, joint: &Joint, arc: u32, own: usize, sides: &mut ArcSides)
     requires arc { arc < height matrix.now }
     requires own { number_at joint.now.part_of.items arc ≡ Some own }
@@ -205,7 +204,8 @@ fn add_part(joint: &Joint, arc: u32, part: usize, sides: &mut ArcSides)
     sides.last.add(arc, &joint.column_marks, line);
 }
 
-// A column that the row and the arc have leaves the part where the row's arc is.
+// Puts one end of each column that the row and the arc have in common on the side `true` of the arc: the end that lies on the
+// part's side of the row's arc.
 fn add_used(matrix: &Matrix, joint: &Joint, arc: u32, own: usize, sides: &mut ArcSides)
     requires arc { arc < height matrix.now }
     requires own { own < length joint.now.branches.items }
@@ -224,7 +224,7 @@ fn add_used(matrix: &Matrix, joint: &Joint, arc: u32, own: usize, sides: &mut Ar
     }
 }
 
-// The side of an arc of part `own` where another part hangs.
+// The side of an arc of part `own` on which another part hangs.
 fn side_of_other(matrix: &Matrix, joint: &Joint, arc: u32, own: usize, other: usize) -> bool
     requires arc { arc < height matrix.now }
     requires own { number_at joint.now.part_of.items arc ≡ Some own }
@@ -246,7 +246,7 @@ fn side_of_other(matrix: &Matrix, joint: &Joint, arc: u32, own: usize, other: us
     }
 }
 
-// Whether part `own` is heavier than another, or as heavy and has the greater number.
+// Whether part `own` is heavier than the other part, or as heavy with a greater number.
 fn is_above(own_branch: Branch, own: usize, other_branch: Branch, other: usize) -> bool
     ensures { result ≡ (ltb other_branch.weight own_branch.weight
         || other_branch.weight == own_branch.weight && ltb other own) }

@@ -1,4 +1,4 @@
-// A row and the parts of the others.
+// A row and the parts of the other rows.
 ghost use Rattle.std.specs.Prelude.{◌≡◌, ◌<◌, ◌≤◌, ◌⊎◌, ◌↔◌, ◌||◌, true, false, ℕ, Some, None, IfOk, IsTrue, length};
 ghost use Rattle.cmr_base.specs.LineSets.{AllBelow};
 ghost use Rattle.std.specs.List.Sorted.{IsStrictlyIncreasing};
@@ -17,9 +17,9 @@ use cmr_base::columns::{add_common, add_outside, clear_set, empty_set, next_colu
 use cmr_base::{Indices, MAX_ROWS, Matrix, Memory, PartList, SideList, words_for};
 use std::alloc::Global;
 
-/// A row and the parts of the others: the part of each row, the branches that the parts are, and for each column that the
-/// row does not have the part that has it. The chunks are those of 64 columns in which the row is not 0. The tables have a
-/// line for each part, which marks its rows and these columns.
+/// A row and the parts of the other rows: the part of each row, the branch of each part, and for each column in which the row
+/// is 0 the part with its nonzeros. The chunks are the chunks of 64 columns in which the row is not 0. The tables have a line
+/// for each part, which marks its rows and these columns.
 #[derive(Debug, Drop)]
 pub struct Joint {
     pub row: u32,
@@ -32,7 +32,7 @@ pub struct Joint {
 }
 
 impl Joint {
-    /// The parts of the rows without this one, with their ends of its arc, 1 for the first end and 0 for the last.
+    /// The parts of the rows without `row`, each with its end of the row's arc: 1 for the first end and 0 for the last.
     pub fn new(
         alloc: Global,
         matrix: &Matrix,
@@ -83,7 +83,7 @@ impl Joint {
         Ok(rows)
     }
 
-    // Whether it is the row itself or one of the part.
+    // Whether `other` is the row itself or a row of the part.
     fn is_with(&self, row: u32, part: usize) -> bool
         requires { row < length self.now.part_of.items }
         ensures { IsTrue result
@@ -125,7 +125,7 @@ fn number_rows(numbers: &mut Vec<Option<usize>>, part: &Indices, number: usize)
     }
 }
 
-// For each column that the row does not have the part with a row that has it.
+// For each column in which `row` is 0 the part with its nonzeros.
 fn parts_with_columns(
     alloc: Global,
     matrix: &Matrix,
@@ -162,7 +162,7 @@ fn chunks_of_row(alloc: Global, matrix: &Matrix, row: u32) -> Result<Indices, Me
     Ok(chunks)
 }
 
-// No number for each of so many columns.
+// No number for each of these columns.
 fn no_numbers(alloc: Global, columns: u32) -> Result<Vec<Option<usize>>, Memory>
     ensures size { IfOk result (λ numbers. length numbers.items ≡ columns) }
     ensures none { IfOk result (λ numbers. (column : ℕ) → number_at numbers.items column ≡ None) }
@@ -203,7 +203,7 @@ fn set_columns_of_part(matrix: &Matrix, row: u32, part: &Indices, columns: &mut 
     }
 }
 
-// Gives the columns of a set a number.
+// Gives the columns of a set one number.
 fn number_columns(columns: &[u64], number: Option<usize>, numbers: &mut Vec<Option<usize>>)
     requires few { length columns.now ≤ 16 }
     requires inside { (column : ℕ) → has_column columns.now column ≡ true

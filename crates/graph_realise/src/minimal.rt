@@ -8,9 +8,8 @@ use cmr_base::{LineSet, Matrix, Memory};
 use minimal_sets::{Property, minimal_without};
 use std::alloc::Global;
 
-/// `None` exactly where the matrix is graphic, and else a set of lines whose submatrix is not graphic, but becomes
-/// graphic as soon as any one of the lines is left out: what stays where the lines are gone through once, rows first,
-/// and each is left out where the others still make a matrix that is not graphic.
+/// A minimal set of lines whose submatrix is not graphic, and `None` if and only if the matrix is graphic. The search visits
+/// each line once, rows first, and removes a line if the others still make a matrix that is not graphic.
 pub fn minimal_not_graphic(alloc: Global, matrix: &Matrix) -> Result<Option<LineSet>, Memory>
     requires { IsBinary matrix.now }
     ensures found { IfOk result (λ found. MatchOption found
@@ -23,7 +22,7 @@ pub fn minimal_not_graphic(alloc: Global, matrix: &Matrix) -> Result<Option<Line
     minimal_without(alloc, matrix, &Graphic)
 }
 
-// That a 0/1 matrix is graphic.
+// The property of a 0/1 matrix to be graphic.
 #[derive(Drop)]
 struct Graphic;
 

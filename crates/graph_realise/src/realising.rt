@@ -8,8 +8,8 @@ use crate::side_search::{TreeSearch, find_sides};
 use cmr_base::{LineSet, Matrix, Memory, Network};
 use std::alloc::Global;
 
-/// A tree whose arcs are the rows, and for each column the path whose arcs are the column's support; `None` exactly
-/// where there is none. Of a 0/1 matrix this says that it is not graphic; the signs of another one do not count.
+/// A tree whose arcs are the rows, and for each column the path whose arcs are the column's support; `None` if and only if
+/// there is none. Signs do not matter. A 0/1 matrix is graphic if and only if there is such a tree.
 pub fn realise(alloc: Global, matrix: &Matrix) -> Result<Option<Network>, Memory>
     ensures { IfOk result (λ found. MatchOption found (¬ (HasGraphicSupport matrix.now))
         (λ net. ReproducesSupport net matrix.now)) }

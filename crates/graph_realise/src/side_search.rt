@@ -15,16 +15,16 @@ use bridge_split::{PartSides, SplitRow, first_splitting_row, has_column_with_thr
 use cmr_base::{Indices, Matrix, Memory, SideList};
 use std::alloc::Global;
 
-/// Whether some rows are the arcs of a tree in which the columns are paths.
+/// Whether the rows are the arcs of a tree in which the columns are paths.
 #[derive(Debug, Clone, Copy, PartialEq, Eq)]
 pub enum TreeSearch {
     Found,
     NoTree,
 }
 
-/// Finds a tree for these rows and writes its sides into the rows of the tables. No row below `untested` splits the
-/// others: a row that does not split some rows does not split the row that does and one of its parts either, and so each
-/// row is tested once.
+/// Finds a tree for these rows and writes its sides into the rows of the tables. Each row is tested once, since no row below
+/// `untested` splits the others: a row that does not split S does not split a smaller set of the search either, which consists
+/// of the row that splits S and one of its parts.
 #[cycle(find_sides)]
 pub fn find_sides(
     alloc: Global,
@@ -82,7 +82,8 @@ fn join_parts(
     Ok(TreeSearch::Found)
 }
 
-// The first row without which the others fall into two parts or more. Each row is tested by one walk over the same room.
+// The first row that splits the others, with their parts. Each test is one walk over the rows, and all walks share their
+// memory.
 fn find_split(
     alloc: Global,
     matrix: &Matrix,

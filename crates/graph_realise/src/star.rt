@@ -17,8 +17,8 @@ use cmr_base::columns::empty_set;
 use cmr_base::{Indices, Matrix, Memory};
 use std::alloc::Global;
 
-/// Draws the rows as a star, where no column has three nonzeros in them: the first end of a column is the leaf of its
-/// first row, and the last end that of its second row, or the middle.
+/// Draws the rows as a star if no column has three nonzeros in them. The first end of a column is the leaf of its first row.
+/// The last end is the leaf of its second row, or the middle if there is none.
 pub fn draw_star(
     alloc: Global,
     matrix: &Matrix,
@@ -42,7 +42,7 @@ pub fn draw_star(
     Ok(())
 }
 
-// One arc of the star. The columns of earlier rows were seen.
+// One arc of the star. `seen` contains the columns of earlier rows.
 fn draw_ray(matrix: &Matrix, row: u32, seen: &[u64], sides: &mut ArcSides)
     requires shape { IsMatrix matrix.now }
     requires row { row < height matrix.now }

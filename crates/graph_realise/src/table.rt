@@ -11,7 +11,7 @@ use cmr_base::{MAX_COLUMNS, MAX_ROWS, Matrix, Memory, has_bit, with_bit, words_f
 use std::alloc::Global;
 use std::marker::Model;
 
-/// A table of truth values. Each row is a row of words: the value in column c is the bit 2^(c mod 64) of word c / 64.
+/// A table of truth values. Each row is a list of words: the value in column c is the bit 2^(c mod 64) of word c / 64.
 #[derive(Debug, Drop)]
 pub struct Table {
     height: u32,
@@ -32,7 +32,7 @@ impl Model for Table {
 }
 
 impl Table {
-    /// The table in which nothing holds.
+    /// The table of the value `false`.
     pub fn new(alloc: Global, height: u32, width: u32) -> Result<Table, Memory>
         requires height { height ≤ MAX_ROWS }
         requires width { width ≤ MAX_COLUMNS }
@@ -56,7 +56,7 @@ impl Table {
         has_bit(self.word(row, column / 64), column % 64)
     }
 
-    /// Changes that value and no other.
+    /// Changes only the value in this row and column.
     pub fn set(&mut self, row: u32, column: u32, value: bool)
         requires row { row < self.old.height }
         requires column { column < self.old.width }
@@ -67,8 +67,7 @@ impl Table {
         self.set_word(row, chunk, word);
     }
 
-    /// Turns the values in the columns that are marked in a line of another table into their opposites, and clears all
-    /// others of the row.
+    /// Negates the values in the columns that are marked in a line of another table, and clears the rest of the row.
     pub fn reverse(&mut self, row: u32, marks: &Table, line: u32)
         requires row { row < self.old.height }
         requires line { line < marks.now.height }
@@ -83,7 +82,8 @@ impl Table {
         }
     }
 
-    /// Clears the values of the row in the columns in which a row of a matrix is not 0. The chunks have all these columns.
+    /// Clears the values of the row in the columns in which a row of a matrix is not 0. `chunks` contains the chunks of all
+    /// these columns.
     pub fn take_out(&mut self, row: u32, matrix: &Matrix, other: u32, chunks: &[u32])
         requires row { row < self.old.height }
         requires other { other < height matrix.now }
@@ -117,8 +117,8 @@ impl Table {
         }
     }
 
-    /// Sets the values of the row in the columns in which two rows of a matrix are not 0. The chunks have all columns of
-    /// the other row.
+    /// Sets the values of the row in the columns in which both rows of a matrix are not 0. `chunks` contains the chunks of all
+    /// columns of the other row.
     pub fn add_common(&mut self, row: u32, matrix: &Matrix, one: u32, other: u32, chunks: &[u32])
         requires row { row < self.old.height }
         requires one { one < height matrix.now }
@@ -148,7 +148,7 @@ impl Table {
         }
     }
 
-    /// Sets the values of a row in the columns that are in both of two sets, and clears all others.
+    /// Sets the values of a row in the columns that are in both sets, and clears the rest.
     pub fn fill_common(&mut self, row: u32, one: &[u64], two: &[u64])
         requires row { row < self.old.height }
         requires one { length one.now ≡ words_for self.old.width }
@@ -163,7 +163,7 @@ impl Table {
         }
     }
 
-    /// Sets the values of a row in the columns that are in one set and not in another, and clears all others.
+    /// Sets the values of a row in the columns that are in `one` and not in `other`, and clears the rest.
     pub fn fill_outside(&mut self, row: u32, one: &[u64], other: &[u64])
         requires row { row < self.old.height }
         requires one { length one.now ≡ words_for self.old.width }
@@ -178,7 +178,7 @@ impl Table {
         }
     }
 
-    // How many words a row has.
+    // The number of words of a row.
     fn chunks(&self) -> u32
         ensures { result ≡ words_for self.now.width }
     {

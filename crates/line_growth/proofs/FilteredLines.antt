@@ -1,4 +1,4 @@
--- Lists of the numbers that pass a test.
+-- Lists of the numbers that satisfy a predicate.
 use Rattle.std.proofs.Common.{◌≡◌, ◌+◌, ◌∙◌, ◌++◌, cond, filter, ℕ, Bool, true, false, List, [], ◌∷◌, get_or, ap, sym, refl, zero-add}
 use Rattle.cmr_base.specs.Indices.{IsAbove}
 use Rattle.cmr_base.specs.LineSets.{first_lines}

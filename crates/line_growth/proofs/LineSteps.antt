@@ -1,4 +1,4 @@
--- Lines that are taken into a set, step by step.
+-- Lines added to a set, step by step.
 use Rattle.std.proofs.Common.{ℕ, zero, suc, ◌+◌, ◌*◌, ◌%◌, ◌*ℤ◌, ◌&&◌, ℤ, Bool, true, false, not, cond, nat_eq, List, [], ◌∷◌, ◌++◌, ◌≡◌, ◌<◌, ◌≤◌, ◌∙◌, sym, ap, refl, arith, subst, ◌⊎◌, inl, inr, length, length-append}
 use Rattle.std.specs.Ordering.{int_eq}
 use Rattle.std.proofs.lemmas.Bool.{false≢true, cases_lt, cases_eq}
@@ -17,7 +17,7 @@ use Rattle.cmr_base.proofs.Booleans.{false_is, is_ne, not_both, same_test, self_
 use Rattle.line_growth.specs.declared.growing_lines.GrowingLines.{GrowingLines}
 use Rattle.line_growth.specs.GrowingLines.{is_inside, AreGrowing, AreSame, HasGrown, HasAdded, HasTaken}
 
--- ---- lists of lines that wait
+-- ---- lists of waiting lines
 
 pushed_more : (xs ys : List ℕ) (x y : ℕ) → ys ≡ xs ++ x ∷ [] → IsIn y xs → IsIn y ys
 pushed_more xs ys x y e h = subst (λ (z : List ℕ). IsIn y z) (sym e) ((in-append xs x y).1 (inl h))
@@ -31,9 +31,9 @@ in_pushed xs ys x y e h = (in-append xs x y).0 (subst (λ (z : List ℕ). IsIn y
 pushed_length : (xs ys : List ℕ) (x : ℕ) → ys ≡ xs ++ x ∷ [] → length ys ≡ suc (length xs)
 pushed_length xs ys x e = ap (λ (z : List ℕ). length z) e ∙ length-append xs (x ∷ []) ∙ omega arith
 
--- ---- how many lines are outside
+-- ---- the number of lines outside
 
--- one line less
+-- one line fewer
 left_less : (before after : ℕ → Bool) (line count : ℕ) → line < count → before line ≡ false → after line ≡ true → ((x : ℕ) → before x ≡ true → after x ≡ true) → ((x : ℕ) → after x ≡ true → (x ≡ line) ⊎ (before x ≡ true))
     → number_of_lines (λ x. not (before x)) count ≡ suc (number_of_lines (λ x. not (after x)) count)
 left_less before after line count l out here kept only =
@@ -55,7 +55,7 @@ count_most test (suc k) = elim (two_cases (test k)) [
   | inr e ↦ rw e (let h = count_most test k in omega arith)
 ]
 
--- all of them
+-- all lines
 all_left : (test : ℕ → Bool) (size : ℕ) → ((x : ℕ) → test x ≡ true) → number_of_lines test size ≡ size
 all_left test zero h = refl
 all_left test (suc k) h = rw (h k) (ap suc (all_left test k h))
@@ -151,7 +151,7 @@ same_growing count one two s w = record {
   left = s.left ∙ w.left ∙ count_same (λ x. not (is_inside two x)) (λ x. not (is_inside one x)) count (λ x l. ap not (ap (λ (v : List ℕ). has_column v x) (sym s.inside)));
 }
 
--- ---- pulls by words
+-- ---- pulls, a word at a time
 
 differs_not : (a b : ℤ) → differ a b ≡ false → a ≡ b
 differs_not a b e = go (int_eq a b) refl e
@@ -163,12 +163,12 @@ differs_not a b e = go (int_eq a b) refl e
 differs_from : (a b : ℤ) → differ a b ≡ true → ¬ (a ≡ b)
 differs_from a b d e = not_both (differ a b) d (ap not ((Decides-int_eq a b).1 e))
 
--- what is found for the first time passes the test
+-- a line found for the first time passes the test
 pub found_passes : (word t s : Bool) → word ≡ (t && not s) → word ≡ true → t ≡ true
 found_passes word true s is e = refl
 found_passes word false s is e = sym is ∙ e
 
--- what passes the test was inside before, or is found
+-- a line that passes the test was inside before, or is found
 seen_or_found : (word t s : Bool) → word ≡ (t && not s) → t ≡ true → (s ≡ true) ⊎ (word ≡ true)
 seen_or_found word true true is e = inl refl
 seen_or_found word true false is e = inr is
@@ -178,7 +178,7 @@ seen_or_found word false s is e = absurd (false≢true e)
 pub bit_in : (word k : ℕ) → k < 64 → has_column (word ∷ []) k ≡ has_bit word k
 bit_in word k l = ap (has_column (word ∷ [])) (omega arith) ∙ column_at (word ∷ []) 0 k l
 
--- the bits before the next one are inside, and so is this one
+-- the bits up to the next bit are inside
 pub found_until : (bits : List ℕ) (lines after : GrowingLines) (first from next : ℕ) → ((line : ℕ) → is_inside lines line ≡ true → is_inside after line ≡ true) → ((k : ℕ) → k < from → has_column bits k ≡ true → is_inside lines (first + k) ≡ true)
     → ((k : ℕ) → from ≤ k → k < next → has_column bits k ≡ false) → is_inside after (first + next) ≡ true → (k : ℕ) → k < next + 1 → has_column bits k ≡ true → is_inside after (first + k) ≡ true
 found_until bits lines after first from next kept before none here k l e = elim (cases_lt k from) [
@@ -189,7 +189,7 @@ found_until bits lines after first from next kept before none here k l e = elim 
   ]
 ]
 
--- at the end all of them are
+-- at the end all bits are inside
 pub found_all : (bits : List ℕ) (lines : GrowingLines) (first from : ℕ) → ((k : ℕ) → k < from → has_column bits k ≡ true → is_inside lines (first + k) ≡ true) → ((k : ℕ) → from ≤ k → has_column bits k ≡ false) → (k : ℕ) → has_column bits k ≡ true
     → is_inside lines (first + k) ≡ true
 found_all bits lines first from before none k e = elim (cases_lt k from) [
@@ -204,7 +204,7 @@ module _ (m : Matrix) (row : ℕ) (factor : ℤ) (model : ℕ) where
   pub differing : (x : ℕ) → differs_at m row factor model x ≡ true → ¬ (IsMultipleAt x)
   differing x e = differs_from (entry m row x) (factor *ℤ entry m model x) e
 
-  -- the lines of a chunk and of those before it
+  -- the lines of a chunk and of the chunks before it
   pub pulled_until : (chunk word : ℕ) (lines after : GrowingLines) → ((k : ℕ) → k < 64 → has_bit word k ≡ (differs_at m row factor model (64 * chunk + k) && not (is_inside lines (64 * chunk + k))))
       → ((x : ℕ) → x < 64 * chunk → is_inside lines x ≡ false → IsMultipleAt x) → ((x : ℕ) → is_inside lines x ≡ true → is_inside after x ≡ true) → ((k : ℕ) → k < 64 → has_bit word k ≡ true → is_inside after (64 * chunk + k) ≡ true)
       → (x : ℕ) → x < 64 * (chunk + 1) → is_inside after x ≡ false → IsMultipleAt x

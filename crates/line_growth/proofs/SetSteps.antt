@@ -1,4 +1,4 @@
--- A set that grows, step by step.
+-- A growing set, step by step.
 use Rattle.std.proofs.Common.{ℕ, ◌+◌, ◌-◌, drop, ap₂, true, false, not, List, [], ◌∷◌, ◌≡◌, ◌<◌, ◌≤◌, ◌∙◌, sym, ap, refl, arith, subst, ◌⊎◌, inl, inr, length, get_or, ℤ, suc, Bool}
 use Rattle.std.specs.List.{AllByRecursion}
 use Rattle.std.proofs.lemmas.List.{drop_all, drop_more}
@@ -148,7 +148,7 @@ module _ (m : Matrix) (upper lower : ℕ → ℕ → ℤ) (before after : Growin
   column_followed : IsGrowing m upper lower start after
   column_followed = record { has = all_weaker (λ x. set_of before x ≡ true) (λ x. set_of after x ≡ true) column_has start g.has; least = column_least; upper = column_right; lower = column_below }
 
--- ---- the steps in the words of the code
+-- ---- the steps as the code takes them
 
 module _ (m : Matrix) (upper lower : ℕ → ℕ → ℤ) (before after : GrowingSet) (room : HasRoom m before) where
   pub row_step : (row : ℕ) (n : Matrix) (sum : Sum) → n ≡ m → HasTaken before.rows.size row before.rows after.rows → HasPulled before.columns.size (λ x. entry n row x ≡ sum_at n sum x) before.columns after.columns
@@ -169,7 +169,7 @@ module _ (m : Matrix) (upper lower : ℕ → ℕ → ℤ) (before after : Growin
       (subst (λ (z : Matrix). HasPulled before.rows.size (λ x. entry z column x ≡ sum_at z sum x) before.rows after.rows) same w))
       (λ r h. entry-transposed m r column shape ∙ h ∙ sym (is r)) (λ r h. sym (entry-transposed m r column shape) ∙ h ∙ is r) start g
 
--- ---- one more line
+-- ---- another line
 
 module _ (m : Matrix) (upper lower : ℕ → ℕ → ℤ) (before after : GrowingSet) (start : List Line) (g : IsGrowing m upper lower start before) where
   pub row_added : (row : ℕ) → HasAdded (height m) row before.rows after.rows → after.columns ≡ before.columns → IsGrowing m upper lower (Row row ∷ start) after
@@ -270,16 +270,16 @@ module _ (m : Matrix) (rule : GrowthRule) (start out : List Line) (least : ℕ) 
   pub some_inside : AllByRecursion (IsLine (height m) m.width) out → (HasNone (set_of set) out → ⊥) → HasNoLeaving m rule start out least
   some_inside lines some T closed has leaves = some (all_both (IsLine (height m) m.width) (λ x. T x ≡ false) (λ x. set_of set x ≡ false) (λ x l e. false_is (set_of set x) (λ t. not_both (T x) (g.least T closed has x l t) e)) out lines leaves.none)
 
--- a set that leaves few
+-- a set with few lines outside
 pub few_shown : (m : Matrix) (out : List Line) (least : ℕ) (set : GrowingSet) → Leaves m out least (set_of set) → ¬ (count_outside (height m) m.width (set_of set) < least)
 few_shown m out least set leaves few = let b = outside_is (height m) m.width (set_of set) in let c = leaves.enough in omega arith
 
--- what is to leave nothing is closed in the end, since the set of all lines is
+-- a set that needs no lines outside is closed in the end, since the set of all lines is
 pub always_closed : (m : Matrix) (rule : GrowthRule) (start : List Line) (told : Bool) (S : Lines) → TellsClosed m rule start [] 0 told S → IsGrown (height m) m.width (entry m) (upper_of m rule) (lower_of m rule) start S
 always_closed m rule start true S told = told.grown
 always_closed m rule start false S told = absurd (told (λ x. true) (record { upper = λ r k hr hk er ek. absurd (not_both true refl ek); lower = λ r k hr hk er ek. absurd (not_both true refl er) }) (all_of (λ x. true ≡ true) (λ x. refl) start) (record { none = tt; enough = omega arith }))
 
--- what is told, by the answer
+-- the meaning of each answer
 module _ (m : Matrix) (rule : GrowthRule) (start out : List Line) (least : ℕ) where
   pub told_yes : (told : Bool) (S : Lines) → TellsClosed m rule start out least told S → told ≡ true → IsLeaving m rule start out least S
   told_yes true S h e = h
@@ -295,7 +295,7 @@ pub all_at : {A : Type 0} (P : A → Type 0) (xs : List A) (d : A) → ((p : ℕ
 all_at P [] d h = tt
 all_at P (x ∷ xs) d h = (h 0 (omega arith), all_at P xs d (λ p l. h (suc p) (omega arith)))
 
--- the lines from one on, when they are taken in from the last one on
+-- the lines from a position on are added, beginning with the last
 pub none_taken : (m : Matrix) (upper lower : ℕ → ℕ → ℤ) (lines : List Line) (set : GrowingSet) → IsGrowing m upper lower [] set → IsGrowing m upper lower (drop (length lines) lines) set
 none_taken m upper lower lines set g = subst (λ (xs : List Line). IsGrowing m upper lower xs set) (sym (drop_all (length lines) lines (omega arith))) g
 

@@ -1,4 +1,4 @@
--- What a line of a block is to be, as a sum of multiples of other lines.
+-- A line of a block as a sum of multiples of other lines.
 use Rattle.std.proofs.Common.{◌≡◌, ◌∙◌, ap, ap₂, sym, refl, arith, ◌+ℤ◌, ◌-ℤ◌, ◌*ℤ◌, ℕ, ℤ, pos, w8, to_z, of_z}
 use Rattle.cmr_base.specs.Matrix.{Matrix, entry, transposed, IsMatrix, IsEntry}
 use Rattle.cmr_base.specs.Separations.{spread}
@@ -33,7 +33,7 @@ product_column m is place column row factor f =
 pub factor_is : (factor x a b : ℤ) → IsEntry factor → IsEntry x → factor ≡ to_z w8 (of_z w8 x) *ℤ b → x ≡ a → to_z w8 (of_z w8 factor) ≡ a *ℤ b
 factor_is factor x a b small sx e f = entry_as_byte factor small ∙ e ∙ ap (λ (z : ℤ). z *ℤ b) (entry_as_byte x sx ∙ f)
 
--- ---- what two rows and two columns make
+-- ---- the block that two rows and two columns make
 
 -- the rows and the columns exchanged
 pub spread_transposed : (d x y z w row_first row_other column_first column_other : ℤ) → spread d x y z w row_first row_other column_first column_other ≡ spread d x z y w column_first column_other row_first row_other

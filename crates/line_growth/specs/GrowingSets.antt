@@ -22,7 +22,7 @@ pub record HasRoom (m : Matrix) (set : GrowingSet) : Type 0 where
   pub rows : AreGrowing (height m) set.rows
   pub columns : AreGrowing m.width set.columns
 
--- what is still to be done at most
+-- a bound on the remaining work
 abbrev pub work : GrowingSet → ℕ
 work set = room set.rows + room set.columns
 
@@ -30,7 +30,8 @@ work set = room set.rows + room set.columns
 abbrev pub IsClosedIn : Matrix → (upper lower : ℕ → ℕ → ℤ) → Lines → Type 0
 IsClosedIn m upper lower T = IsClosed (height m) m.width (entry m) upper lower T
 
--- It has the start and is in every closed set that has it, and where a line breaks a rule with a line of it, that one waits.
+-- The set contains the start, and each closed set with the start contains the set. If a line breaks a rule with a line of the
+-- set, the line of the set waits.
 pub record IsGrowing (m : Matrix) (upper_entry lower_entry : ℕ → ℕ → ℤ) (start : List Line) (set : GrowingSet) : Type 0 where
   pub has : HasAll (set_of set) start
   pub least : (T : Lines) → IsClosedIn m upper_entry lower_entry T → HasAll T start → (x : Line) → IsLine (height m) m.width x → set_of set x ≡ true → T x ≡ true
@@ -39,30 +40,30 @@ pub record IsGrowing (m : Matrix) (upper_entry lower_entry : ℕ → ℕ → ℤ
   pub lower : (r k : ℕ) → r < height m → k < m.width → set_of set (Row r) ≡ false → set_of set (Column k) ≡ true
       → IsIn k set.columns.fresh.items ⊎ (entry m r k ≡ lower_entry r k)
 
--- what holds of a start before holds after
+-- a set that is growing from a start before is growing from it after
 abbrev pub KeepsGrowing : Matrix → (upper lower : ℕ → ℕ → ℤ) → GrowingSet → GrowingSet → Type 0
 KeepsGrowing m upper lower before after = (start : List Line) → IsGrowing m upper lower start before → IsGrowing m upper lower start after
 
--- ---- what a set leaves
+-- ---- the lines outside a set
 
 abbrev pub HasNone : Lines → List Line → Type 0
 HasNone S lines = AllByRecursion (λ line. S line ≡ false) lines
 
--- none of some lines is in the set, and enough are outside
+-- the set has none of the lines `out`, and at least `least` lines are outside
 pub record Leaves (m : Matrix) (out : List Line) (least : ℕ) (S : Lines) : Type 0 where
   pub none : HasNone S out
   pub enough : least ≤ count_lines_in (opposite S) (first_lines (height m)) (first_lines m.width)
 
--- no closed set that has the start leaves so much
+-- no closed set with the start satisfies `Leaves`
 abbrev pub HasNoLeaving : Matrix → GrowthRule → (start out : List Line) → ℕ → Type 0
 HasNoLeaving m rule start out least = (T : Lines) → IsClosedIn m (upper_of m rule) (lower_of m rule) T → HasAll T start → ¬ (Leaves m out least T)
 
--- the least closed set that has the start, which leaves so much
+-- the set is the least closed set with the start, and it satisfies `Leaves`
 pub record IsLeaving (m : Matrix) (rule : GrowthRule) (start out : List Line) (least : ℕ) (S : Lines) : Type 0 where
   pub grown : IsGrown (height m) m.width (entry m) (upper_of m rule) (lower_of m rule) start S
   pub leaves : Leaves m out least S
 
--- whether the set is the least closed one and leaves so much, or no closed one does
+-- the set is the least closed set with the start and satisfies `Leaves`, or no closed set with the start does
 abbrev pub TellsClosed : Matrix → GrowthRule → (start out : List Line) → ℕ → Bool → Lines → Type 0
 TellsClosed m rule start out least true S = IsLeaving m rule start out least S
 TellsClosed m rule start out least false S = HasNoLeaving m rule start out least

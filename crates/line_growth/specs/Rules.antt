@@ -1,4 +1,4 @@
--- Rules of what stands between the lines of a set and the other lines.
+-- Rules for the blocks between the lines of a set and the other lines.
 use Rattle.std.specs.Prelude.{◌≡◌, ◌<◌, ◌+ℤ◌, ◌-ℤ◌, ◌*ℤ◌, ℕ, ℤ}
 use Rattle.cmr_base.specs.Cores.{HasEntries, IsBounded, IsCoreAt}
 use Rattle.cmr_base.specs.Matrix.{Matrix, IsEntry, height, entry}
@@ -24,7 +24,7 @@ lower_of m rule = block_entry (entry m) rule.lower
 abbrev pub exchanged : GrowthRule → GrowthRule
 exchanged rule = record { upper = rule.lower; lower = rule.upper }
 
--- two rows and two columns of the matrix, with the entries where they cross
+-- two rows and two columns of the matrix, with the entries in which they cross
 pub record IsSpreadOf (m : Matrix) (lines : SpreadLines) : Type 0 where
   pub upper : lines.upper < height m
   pub lower : lines.lower < height m
@@ -35,7 +35,7 @@ pub record IsSpreadOf (m : Matrix) (lines : SpreadLines) : Type 0 where
   pub determinant : lines.determinant ≡ lines.core.x *ℤ lines.core.w -ℤ lines.core.y *ℤ lines.core.z
   pub small : IsBounded 2 lines.determinant
 
--- its lines are those of the matrix
+-- its lines are lines of the matrix
 abbrev pub IsBlockOf : Matrix → Block → Type 0
 IsBlockOf m Zero = Unit {0}
 IsBlockOf m (Product place) = (place.row < height m) × (place.column < m.width)
@@ -51,7 +51,7 @@ pub record IsRuleOf (m : Matrix) (rule : GrowthRule) : Type 0 where
 abbrev pub sum_at : Matrix → Sum → ℕ → ℤ
 sum_at m sum column = sum.factors.first *ℤ entry m sum.first column +ℤ sum.factors.other *ℤ entry m sum.other column
 
--- of rows of the matrix
+-- a sum of rows of the matrix
 pub record IsSumOf (m : Matrix) (sum : Sum) : Type 0 where
   pub first : sum.first < height m
   pub other : sum.other < height m

@@ -1,4 +1,4 @@
-// The rows, or the columns, of a set of lines that grows.
+// The rows, or the columns, of a growing set of lines.
 ghost use Rattle.std.specs.Prelude.{◌≡◌, ◌<◌, ◌≤◌, ◌+◌, ◌*◌, ◌*ℤ◌, ◌&&◌, ◌⊎◌, not, filter, ℕ, true, false, length, IfOk, OnOk, MatchOption};
 ghost use Rattle.cmr_base.specs.Differences.{differs_at};
 ghost use Rattle.cmr_base.specs.LineSets.{first_lines};
@@ -13,8 +13,8 @@ use cmr_base::columns::{add_column, clear_set, empty_set, has_column, next_colum
 use cmr_base::{Indices, MAX_ROWS, Matrix, Memory};
 use std::alloc::Global;
 
-/// The rows, or the columns, of a set that grows: which are in it, how many there are and how many are outside, and those
-/// in it whose pulls were not followed yet.
+/// The rows, or the columns, of a growing set of lines: the lines inside, the number of lines and of lines outside, and the
+/// lines inside whose pulls are not followed yet.
 #[derive(Drop)]
 pub struct GrowingLines {
     inside: Vec<u64>,
@@ -24,7 +24,7 @@ pub struct GrowingLines {
 }
 
 impl GrowingLines {
-    /// So many lines, none of which is in the set.
+    /// `size` lines, all outside the set.
     pub fn new(alloc: Global, size: u32) -> Result<GrowingLines, Memory>
         requires { size ≤ MAX_ROWS }
         ensures whole { IfOk result (AreGrowing size) }
@@ -38,7 +38,7 @@ impl GrowingLines {
         })
     }
 
-    /// Takes all lines out.
+    /// Removes all lines.
     pub fn clear(&mut self)
         requires { AreGrowing self.old.size self.old }
         ensures whole { AreGrowing self.old.size self.new }
@@ -49,7 +49,7 @@ impl GrowingLines {
         self.fresh.clear();
     }
 
-    /// Becomes equal to others.
+    /// Becomes equal to `other`.
     pub fn copy(&mut self, other: &GrowingLines) -> Result<(), Memory>
         ensures { OnOk result (AreSame self.new other.now) }
     {
@@ -71,28 +71,28 @@ impl GrowingLines {
         has_column(&self.inside, line)
     }
 
-    /// The lines inside, as words.
+    /// The lines inside, as a set of words.
     pub fn words(&self) -> &[u64]
         ensures { result.now ≡ self.now.inside.items }
     {
         &self.inside
     }
 
-    /// How many lines are outside.
+    /// The number of lines outside.
     pub fn left(&self) -> u32
         ensures { result ≡ self.now.left }
     {
         self.left
     }
 
-    /// How many lines have pulls that were not followed yet.
+    /// The number of lines whose pulls are not followed yet.
     pub fn waiting(&self) -> usize
         ensures { result ≡ length self.now.fresh.items }
     {
         self.fresh.len()
     }
 
-    /// A line whose pulls were not followed yet, which counts as followed from now on.
+    /// A line whose pulls are not followed yet. The line then counts as followed.
     pub fn next(&mut self) -> Option<u32>
         requires { AreGrowing self.old.size self.old }
         ensures { MatchOption result (length self.old.fresh.items ≡ 0) (λ line.
@@ -101,7 +101,7 @@ impl GrowingLines {
         self.fresh.pop()
     }
 
-    /// Takes a line in.
+    /// Adds a line.
     pub fn add(&mut self, line: u32) -> Result<(), Memory>
         requires lines { AreGrowing self.old.size self.old }
         requires line { line < self.old.size }
@@ -116,7 +116,7 @@ impl GrowingLines {
         Ok(())
     }
 
-    /// Takes in the lines outside at which the entry of a row is not that of a sum. The lines are the columns of the
+    /// Adds each line outside at which the entry of a row differs from the entry of a sum. The lines are the columns of the
     /// matrix.
     pub fn pull(&mut self, matrix: &Matrix, row: u32, sum: Sum) -> Result<(), Memory>
         requires lines { AreGrowing self.old.size self.old }
@@ -132,7 +132,7 @@ impl GrowingLines {
         }
     }
 
-    // The same of a multiple, by words.
+    // The same for a multiple, a word at a time.
     fn pull_by_words(&mut self, matrix: &Matrix, row: u32, multiple: Multiple) -> Result<(), Memory>
         requires lines { AreGrowing self.old.size self.old }
         requires width { matrix.now.width ≡ self.old.size }
@@ -154,7 +154,8 @@ impl GrowingLines {
         Ok(())
     }
 
-    // Of the 64 columns of a chunk those outside in which a row, which has these words, is not a multiple of another.
+    // The columns of a chunk of 64 that are outside and in which a row, given by these words, differs from a multiple of
+    // another row.
     fn unlike(
         &self,
         matrix: &Matrix,
@@ -183,7 +184,7 @@ impl GrowingLines {
         outside(word, self.inside[chunk])
     }
 
-    // Takes in the lines of the bits of a word, which have the numbers from `first` on.
+    // Adds the lines of the bits of a word. Bit k is the line `first` + k.
     fn add_word(&mut self, first: u32, word: u64) -> Result<(), Memory>
         requires growing { AreGrowing self.old.size self.old }
         requires first { first ≤ MAX_ROWS }
@@ -202,7 +203,7 @@ impl GrowingLines {
         Ok(())
     }
 
-    // The same as `pull`, along the nonzeros of the three rows.
+    // The same as `pull`, over the nonzeros of the three rows.
     fn pull_by_nonzeros(&mut self, matrix: &Matrix, row: u32, sum: Sum) -> Result<(), Memory>
         requires lines { AreGrowing self.old.size self.old }
         requires width { matrix.now.width ≡ self.old.size }
@@ -217,7 +218,8 @@ impl GrowingLines {
         Ok(())
     }
 
-    // Takes in such lines among those at which the row `along` is not 0. Where all three rows are 0, the sum is right.
+    // Adds such lines among the columns in which the row `along` is not 0. If all three rows are 0 in a column, the sum is
+    // right there.
     fn pull_along(&mut self, matrix: &Matrix, along: u32, row: u32, sum: Sum) -> Result<(), Memory>
         requires lines { AreGrowing self.old.size self.old }
         requires width { matrix.now.width ≡ self.old.size }
@@ -241,7 +243,7 @@ impl GrowingLines {
         Ok(())
     }
 
-    // Whether a line is outside and the entry of a row there is not that of a sum.
+    // Whether a line is outside and the entry of a row differs there from the entry of a sum.
     fn is_unlike(&self, matrix: &Matrix, row: u32, sum: Sum, line: u32) -> bool
         requires lines { AreGrowing self.now.size self.now }
         requires width { matrix.now.width ≡ self.now.size }

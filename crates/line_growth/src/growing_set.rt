@@ -1,4 +1,4 @@
-// A set of lines that grows until it is closed.
+// Sets of lines that grow until they are closed.
 ghost use Rattle.std.specs.Prelude.{◌≡◌, ◌<◌, ◌+◌, ◌∷◌, ◌↔◌, [], filter, ℕ, ℤ, List, length, true, false, IsTrue, IfOk, OnOk};
 ghost use Rattle.std.specs.List.{AllByRecursion};
 ghost use Rattle.cmr_base.specs.ColumnSets.{has_column};
@@ -16,8 +16,8 @@ use crate::rule::{Block, GrowthRule};
 use cmr_base::{Line, LineSet, Memory, RowsAndColumns};
 use std::alloc::Global;
 
-/// A set of the lines of a matrix. It begins with some lines, and grows by a rule: a line outside that breaks the rule with
-/// a line inside is pulled in.
+/// A growing set of lines of a matrix. It begins with given lines and grows by a rule: the set adds each line outside that
+/// breaks the rule with a line inside.
 #[derive(Drop)]
 pub struct GrowingSet {
     rows: GrowingLines,
@@ -38,7 +38,7 @@ impl GrowingSet {
         })
     }
 
-    // Takes all lines out.
+    // Removes all lines.
     fn clear(&mut self, matrix: &RowsAndColumns<'_>)
         requires { HasRoom matrix.now self.old }
         ensures room { HasRoom matrix.now self.new }
@@ -49,7 +49,7 @@ impl GrowingSet {
         self.columns.clear();
     }
 
-    /// Begins with some lines.
+    /// Begins with these lines.
     pub fn start(&mut self, matrix: &RowsAndColumns<'_>, lines: &[Line]) -> Result<(), Memory>
         requires room { HasRoom matrix.now self.old }
         requires lines { AllByRecursion (IsLine (height matrix.now) matrix.now.width) lines.now }
@@ -66,7 +66,7 @@ impl GrowingSet {
         Ok(())
     }
 
-    /// Takes a line in.
+    /// Adds a line.
     pub fn add(&mut self, matrix: &RowsAndColumns<'_>, line: Line) -> Result<(), Memory>
         requires room { HasRoom matrix.now self.old }
         requires line { IsLine (height matrix.now) matrix.now.width line }
@@ -87,7 +87,7 @@ impl GrowingSet {
         }
     }
 
-    /// Becomes equal to another.
+    /// Becomes equal to `other`.
     pub fn copy(&mut self, other: &GrowingSet) -> Result<(), Memory>
         ensures room { OnOk result ((m : Matrix) → HasRoom m other.now → HasRoom m self.new) }
         ensures growing { OnOk result ((m : Matrix) (upper lower : ℕ → ℕ → ℤ) (start : List Line)
@@ -99,8 +99,8 @@ impl GrowingSet {
         Ok(())
     }
 
-    /// Grows until it is closed, and says so; or until it has a line of some that are to stay out, or leaves fewer than
-    /// `least`, and says that. It has then grown so far that it shows this.
+    /// Grows by the rule and returns whether the set is closed. It stops earlier and returns `false` if it contains a line of
+    /// `out`, or if fewer than `least` lines are outside.
     pub fn close(
         &mut self,
         matrix: &RowsAndColumns<'_>,
@@ -133,7 +133,7 @@ impl GrowingSet {
         Ok(false)
     }
 
-    /// How many lines are outside.
+    /// The number of lines outside.
     pub fn left(&self, matrix: &RowsAndColumns<'_>) -> u32
         requires { HasRoom matrix.now self.now }
         ensures { result ≡ count_outside (height matrix.now) matrix.now.width (set_of self.now) }
@@ -153,7 +153,7 @@ impl GrowingSet {
         }
     }
 
-    // Whether none of some lines is in the set.
+    // Whether the set has none of these lines.
     fn has_none(&self, matrix: &RowsAndColumns<'_>, lines: &[Line]) -> bool
         requires room { HasRoom matrix.now self.now }
         requires lines { AllByRecursion (IsLine (height matrix.now) matrix.now.width) lines.now }
@@ -167,7 +167,7 @@ impl GrowingSet {
         true
     }
 
-    // Follows the pulls of one line that waits.
+    // Follows the pulls of one waiting line.
     fn follow(&mut self, matrix: &RowsAndColumns<'_>, rule: GrowthRule) -> Result<(), Memory>
         requires room { HasRoom matrix.now self.old }
         requires rule { IsRuleOf matrix.now rule }
@@ -185,7 +185,7 @@ impl GrowingSet {
         }
     }
 
-    // Whether a row is followed next: where fewer rows are left than columns.
+    // Whether to follow a row next, that is if fewer rows are outside than columns.
     fn rows_first(&self) -> bool
         requires { 0 < length self.now.rows.fresh.items + length self.now.columns.fresh.items }
         ensures row { result ≡ true → 0 < length self.now.rows.fresh.items }
@@ -232,7 +232,7 @@ impl GrowingSet {
         Ok(())
     }
 
-    /// The rows of the set, as words.
+    /// The rows of the set, as a set of words.
     pub fn rows(&self, matrix: &RowsAndColumns<'_>) -> &[u64]
         requires { HasRoom matrix.now self.now }
         ensures size { length result.now ≡ words_for (height matrix.now) }
@@ -241,7 +241,7 @@ impl GrowingSet {
         self.rows.words()
     }
 
-    /// The columns of the set, as words.
+    /// The columns of the set, as a set of words.
     pub fn columns(&self, matrix: &RowsAndColumns<'_>) -> &[u64]
         requires { HasRoom matrix.now self.now }
         ensures size { length result.now ≡ words_for matrix.now.width }
@@ -266,7 +266,7 @@ impl GrowingSet {
     }
 }
 
-/// The line at a place in line order, the rows first.
+/// The line with a number. Rows have the first numbers.
 pub fn line_at(matrix: &RowsAndColumns<'_>, place: u32) -> Line
     requires { place < height matrix.now + matrix.now.width }
     ensures line { IsLine (height matrix.now) matrix.now.width result }

@@ -1,4 +1,5 @@
-//! The least set of lines that has some lines and in which no line outside breaks a rule.
+//! The closure of a set of lines under a rule: the least set that contains the lines and in which no line outside breaks the
+//! rule.
 #![tactic(auto)]
 
 mod growing_lines;

@@ -1,4 +1,4 @@
-// Rules of what stands between the lines of a set and the other lines.
+// Rules for the blocks between the lines of a set and the other lines.
 ghost use Rattle.std.specs.Prelude.{◌≡◌, ◌<◌, ◌*ℤ◌, ◌↔◌, ℕ, pos, true, IsTrue, MatchOption};
 ghost use Rattle.cmr_base.specs.Cores.{IsBounded};
 ghost use Rattle.cmr_base.specs.Matrix.{Matrix, height, entry, transposed, IsEntry};
@@ -14,7 +14,7 @@ pub struct Place {
     pub column: u32,
 }
 
-/// Two rows and two columns, with the entries where they cross and the determinant of these.
+/// Two rows and two columns, with the entries in which they cross and the determinant of these entries.
 #[derive(Clone, Copy, Debug)]
 pub struct SpreadLines {
     pub upper: u32,
@@ -25,7 +25,7 @@ pub struct SpreadLines {
     pub determinant: i8,
 }
 
-/// What a block is to be: zero, or the product of the column and the row of a place, times the entry there, or what two
+/// A block that is 0, the product of the column and the row of a place, times the entry there, or the sum of products that two
 /// columns and two rows make.
 #[derive(Clone, Copy, Debug)]
 pub enum Block {
@@ -34,7 +34,7 @@ pub enum Block {
     Spread(SpreadLines),
 }
 
-/// The block of the rows inside and the columns outside, and that of the rows outside and the columns inside.
+/// The block of the rows inside and the columns outside, and the block of the rows outside and the columns inside.
 #[derive(Clone, Copy, Debug)]
 pub struct GrowthRule {
     pub upper: Block,
@@ -48,7 +48,7 @@ pub struct Multiple {
     pub model: u32,
 }
 
-/// The sum of multiples of two lines: what another line of their kind is to be.
+/// The sum of multiples of two lines, which another line of their kind has to equal.
 #[derive(Clone, Copy, Debug)]
 pub struct Sum {
     pub factors: Factors,
@@ -84,7 +84,7 @@ impl SpreadLines {
         }
     }
 
-    // What a row is to be, as a sum of the two rows.
+    // The sum of the two rows that a row has to equal.
     fn row(self, matrix: &RowsAndColumns<'_>, row: u32) -> Sum
         requires spread { IsSpreadOf matrix.now self }
         requires row { row < height matrix.now }
@@ -101,7 +101,7 @@ impl SpreadLines {
         }
     }
 
-    // What a column is to be, as a sum of the two columns.
+    // The sum of the two columns that a column has to equal.
     fn column(self, matrix: &RowsAndColumns<'_>, column: u32) -> Sum
         requires spread { IsSpreadOf matrix.now self }
         requires column { column < matrix.now.width }
@@ -141,7 +141,7 @@ impl Place {
 }
 
 impl Multiple {
-    // The multiple, and nothing of another line.
+    // The multiple as a sum, with the factor 0 of another line.
     fn alone(self) -> Sum
         requires { IsEntry self.factor }
         ensures { (matrix : Matrix) → self.model < height matrix → IsSumOf matrix result
@@ -160,7 +160,7 @@ impl Multiple {
 }
 
 impl Sum {
-    /// Whether the entry of a row in a column is that of the sum.
+    /// Whether the entry of a row in a column is the entry of the sum.
     pub fn is_at(self, matrix: &Matrix, row: u32, column: u32) -> bool
         requires sum { IsSumOf matrix.now self }
         requires row { row < height matrix.now }
@@ -172,7 +172,7 @@ impl Sum {
         matrix.entry(row, column) == self.factors.entry(first, other)
     }
 
-    /// The same as a multiple of one line, where one of the factors is 0 and the other -1, 0 or 1.
+    /// The same as a multiple of one line, if one of the factors is 0 and the other is -1, 0 or 1.
     pub fn as_multiple(self) -> Option<Multiple>
         requires first { IsBounded 4 self.factors.first }
         requires other { IsBounded 4 self.factors.other }
@@ -208,7 +208,7 @@ fn is_entry(factor: i8) -> bool
 }
 
 impl Block {
-    /// What a row of the block is to be.
+    /// The sum that a row of the block has to equal.
     pub fn row(self, matrix: &RowsAndColumns<'_>, row: u32) -> Sum
         requires block { IsBlockOf matrix.now self }
         requires row { row < height matrix.now }
@@ -231,7 +231,7 @@ impl Block {
         }
     }
 
-    /// What a column of the block is to be.
+    /// The sum that a column of the block has to equal.
     pub fn column(self, matrix: &RowsAndColumns<'_>, column: u32) -> Sum
         requires block { IsBlockOf matrix.now self }
         requires column { column < matrix.now.width }
@@ -257,7 +257,7 @@ impl Block {
 }
 
 impl GrowthRule {
-    /// With the blocks exchanged: what pulls a line in by the rule is what the line pulls in by this one.
+    /// The rule with the blocks exchanged. A line y pulls in a line x by the rule if and only if x pulls in y by this rule.
     pub fn exchanged(self) -> GrowthRule
         ensures { result ≡ exchanged self }
     {

@@ -1,4 +1,5 @@
--- Rows that are those of a matrix without violator have no cycle fault, and first rows without fault are those of such a matrix of their support.
+-- First rows that are the first rows of a matrix without violator have no cycle fault. Conversely, first rows without fault are
+-- the first rows of such a matrix with their support.
 use Rattle.std.proofs.Common.{zero, suc, [], ◌∷◌, refl, ◌≡◌, ◌≢◌, ◌<◌, ◌≤◌, ◌↔◌, ◌⊎◌, inl, inr, ◌∙◌, ℕ, ℤ, pos, ◌*ℤ◌, List, get_or, ap, sym, subst, arith}
 use Rattle.std.specs.List.{AllByRecursion}
 use Rattle.std.proofs.lemmas.Bool.{cases_lt}
@@ -27,7 +28,7 @@ use Rattle.network_orient.proofs.Orientations.{beyond_sizes}
 use Rattle.network_orient.proofs.SignedSupports.{filled_is_ternary}
 use Rattle.network_orient.proofs.SignedRows.{AreRowsMultiplied}
 
--- ---- a place looks at the rows up to its own alone
+-- ---- a cycle place depends only on the rows up to its own
 
 module _ (M N : ℕ → ℕ → ℤ) (count : ℕ) (agree : (r x : ℕ) → r < count → M r x ≡ N r x) where
   nonzero_on : (r x : ℕ) → r < count → M r x ≢ pos 0 → N r x ≢ pos 0
@@ -66,7 +67,7 @@ fault_on M N count agree t c d path l f =
           f.two_mod_four;
     }
 
--- ---- the matrix without violator whose first rows these are
+-- ---- the matrix without violator that has these first rows
 
 sign_at : (signs : List ℤ) → AllByRecursion IsSign signs → (k : ℕ) → IsSign (get_or signs k (pos 1))
 sign_at [] all k = inl refl
@@ -128,7 +129,7 @@ module _ (m n : Matrix) (is_m : IsMatrix m) (is_n : IsMatrix n) (height_same : h
 
 -- ---- first rows without fault
 
--- the entries before a row, with zeros from it on
+-- the entries of the first `count` rows, and zeros below
 abbrev first_entry : (ℕ → ℕ → ℤ) → (count row column : ℕ) → (row < count) ⊎ (count ≤ row) → ℤ
 first_entry M count row column (inl l) = M row column
 first_entry M count row column (inr l) = pos 0
@@ -172,7 +173,7 @@ first_rows_clean m count clean t c d path fault =
     let low = first_rows_low (entry m) count t c fault.place.first in
     clean t c d path low (fault_on (first_rows (entry m) count) (entry m) count (first_rows_same (entry m) count) t c d path low fault)
 
--- first rows without fault agree up to signs with those of a matrix without fault
+-- first rows without fault agree up to signs with the first rows of a matrix without fault
 first_rows_agree : (m n : Matrix) (count : ℕ) → IsMatrix m → IsMatrix n → HaveOneSupport m n → HasNoFaultBefore m count → HasNoFaultBefore n count → AgreeBefore (entry m) (entry n) count
 first_rows_agree m n count is_m is_n one clean_m clean_n = record {
   row_sign = agreement.row_sign;
@@ -194,12 +195,12 @@ first_rows_agree m n count is_m is_n one clean_m clean_n = record {
         let there = first_rows_nonzero (entry m) count row column nonzero in
         (row_in m row column there, column_in m row column is_m.rectangular there))
 
--- so where they do not agree, one of them has a fault
+-- if they do not agree, one of them has a fault
 pub faulty_where_apart : (m n : Matrix) (count : ℕ) → IsMatrix m → IsMatrix n → HaveOneSupport m n → ¬ (AgreeBefore (entry m) (entry n) count) → HasNoViolator m → ¬ (HasNoFaultBefore n count)
 faulty_where_apart m n count is_m is_n one apart free clean =
     apart (first_rows_agree m n count is_m is_n one (λ t c d path low. no_violator_no_fault m is_m.rectangular is_m.small free t c d path) clean)
 
--- the transposed matrix of what a network reproduces has no violator
+-- the transpose of a matrix that a network reproduces has no violator
 pub none_in_transposed : (net : Network) (m other : Matrix) → IsMatrix m → Reproduces net m → other ≡ transposed m → HasNoViolator other
 none_in_transposed net m other is reproduced e = subst HasNoViolator (sym e) (λ rows columns row_set column_set violator.
     (network_matrices m is (net, reproduced)).1 columns rows (row_set_from_transposed m columns column_set) (column_set_from_transposed m rows row_set) (violator_from_transposed m columns rows is violator))

@@ -1,4 +1,4 @@
--- The signs that an agreement of two matrices has in a group of columns, up to one factor.
+-- The signs of an agreement of two matrices in a group of columns, up to one factor.
 use Rattle.std.proofs.Common.{◌≡◌, ◌≢◌, ◌<◌, ◌≤◌, ◌∙◌, ◌⊎◌, inl, inr, ◌+◌, ◌*ℤ◌, w8, to_z, of_z, ℕ, zero, suc, ℤ, pos, negsuc, List, length, replicate, refl, ap, ap₂, sym, subst, arith}
 use Rattle.std.proofs.lemmas.Bool.{cases_eq, cases_lt}
 use Rattle.std.proofs.lemmas.List.{get_or-replicate, get_or_past, length-replicate}
@@ -32,7 +32,7 @@ own_groups m n = record {
         let same : c ≡ d = omega arith in
         ap₂ (λ x y. x *ℤ y) (one c (inl lc)) (one d (inl ld)) ∙ sym (ap (λ k. agreement.column_sign c *ℤ agreement.column_sign k) (sym same) ∙ sign_square (agreement.column_sign c) (agreement.column_signs c))
 
--- what holds of all signs that turn the first rows holds of those that turn more
+-- a property of all signs that turn the first rows is a property of all signs that turn more rows
 abbrev agree_earlier : (M N : ℕ → ℕ → ℤ) (count later : ℕ) → count ≤ later → AgreeBefore M N later → AgreeBefore M N count
 agree_earlier M N count later fits agreement = record {
   row_sign = agreement.row_sign;
@@ -55,7 +55,7 @@ groups_later m n count later groups signs fits all = record {
 square_left : (s x : ℤ) → s *ℤ s ≡ pos 1 → s *ℤ (s *ℤ x) ≡ x
 square_left s x e = sym (mul_assoc s s x) ∙ ap (λ z. z *ℤ x) e ∙ one-mul x
 
--- what a row says of the product of the signs of two columns
+-- the equation of a row for the product of the signs of two columns
 row_says : (s t a b r u v : ℤ) → IsSign a → IsSign b → IsSign r → (s *ℤ (a *ℤ (r *ℤ (u *ℤ a)))) *ℤ (t *ℤ (b *ℤ (r *ℤ (v *ℤ b)))) ≡ (s *ℤ t) *ℤ (u *ℤ v)
 row_says s t a b r u v ia ib ir =
     ap₂ (λ x y. (s *ℤ x) *ℤ (t *ℤ y)) (inner a u ia) (inner b v ib)
@@ -73,7 +73,7 @@ row_says s t a b r u v ia ib ir =
         moved : (s t u v : ℤ) → (s *ℤ (r *ℤ u)) *ℤ (t *ℤ (r *ℤ v)) ≡ r *ℤ (r *ℤ ((s *ℤ t) *ℤ (u *ℤ v)))
         moved s t u v = simp products
 
--- a column of the one group and a column of the other, where a factor joins the groups
+-- a column of one group and a column of the other, if a factor joins the groups
 across : (x y s t f u v w z : ℤ) → IsSign u → IsSign v → f ≡ (s *ℤ t) *ℤ (u *ℤ v) → x *ℤ t ≡ w *ℤ v → y *ℤ s ≡ z *ℤ u → (x *ℤ f) *ℤ y ≡ w *ℤ z
 across x y s t f u v w z iu iv e p q =
     ap (λ k. (x *ℤ k) *ℤ y) e ∙ gather x y s t u v ∙ ap₂ (λ k l. (k *ℤ l) *ℤ (u *ℤ v)) p q ∙ spread w z u v
@@ -91,7 +91,7 @@ both_moved x y f i = moved x y f ∙ square_left f (x *ℤ y) (sign_square f i)
     moved : (x y f : ℤ) → (x *ℤ f) *ℤ (y *ℤ f) ≡ f *ℤ (f *ℤ (x *ℤ y))
     moved x y f = simp products
 
--- an entry of a row, where a column gives the row its sign
+-- an entry of a row, if a column gives the row its sign
 multiplied_entry : (s t a b r u v : ℤ) → IsSign a → IsSign u → s *ℤ t ≡ u *ℤ v → r *ℤ (v *ℤ b) ≡ (s *ℤ (a *ℤ (r *ℤ (u *ℤ a)))) *ℤ (t *ℤ b)
 multiplied_entry s t a b r u v ia iu e =
     sym (gather s t a b r u
@@ -160,7 +160,7 @@ module _ (m n : Matrix) where
           ∙ row_says (sign_of signs first) (sign_of signs other) (entry m row first) (entry m row other) (agreement.row_sign row) (agreement.column_sign first) (agreement.column_sign other)
           first_sign other_sign (agreement.row_signs row)
 
-      -- the first column moved, the second not
+      -- the first column is moved, the second is not
       one_moved : (agreement : AgreeBefore (entry m) (entry n) (row + 1)) (c d : ℕ) → c < m.width → d < m.width → group_of new_groups c ≡ group_of new_groups d
           → group_of groups c ≡ group_of groups other → group_of groups d ≢ group_of groups other → sign_of new_signs c *ℤ sign_of new_signs d ≡ agreement.column_sign c *ℤ agreement.column_sign d
       one_moved agreement c d lc ld e f k =
@@ -208,7 +208,7 @@ module _ (m n : Matrix) where
 
 -- ---- the columns of a row, one after another
 
--- the columns of nonzeros below a number are in the group of the first
+-- the columns of the nonzeros below `count` are in the group of the first
 pub record IsRowJoinedTo (m n : Matrix) (row first count : ℕ) (old_groups groups : List ℕ) (old_signs signs : List ℤ) : Type 0 where
   pub all : AreSignedGroups m n (row + 1) groups signs
   pub coarser : IsCoarser m.width old_groups groups
@@ -244,7 +244,7 @@ module _ (m n : Matrix) (row first : ℕ) (old_groups : List ℕ) (old_signs : L
   pub all_joined : (groups : List ℕ) (signs : List ℤ) → IsRowJoinedTo m n row first m.width old_groups groups old_signs signs → IsRowJoined m groups row
   all_joined groups signs all c d lc ld hc hd = all.joined c lc hc ∙ sym (all.joined d ld hd)
 
--- the rows below a number are joined
+-- the rows below `count` are joined
 pub record AreRowsJoined (m n : Matrix) (count : ℕ) (groups : List ℕ) (signs : List ℤ) : Type 0 where
   pub all : AreSignedGroups m n count groups signs
   pub joined : (row : ℕ) → row < count → IsRowJoined m groups row
@@ -272,7 +272,7 @@ no_row_joined m n groups signs e f = record { all = rw (e, f) (own_groups m n); 
 
 -- ---- the entries of a row multiplied
 
--- what an entry is compared with, as signed bytes
+-- the product with which the code compares an entry, as signed bytes
 pub multiplied_bytes : (sign s x p q : ℤ) → IsSign sign → IsEntry s → IsEntry x → IsEntry p → IsEntry q → p ≡ to_z w8 (of_z w8 s) *ℤ to_z w8 (of_z w8 x)
     → q ≡ to_z w8 (of_z w8 sign) *ℤ to_z w8 (of_z w8 p) → q ≡ sign *ℤ (s *ℤ x)
 multiplied_bytes sign s x p q is_sign hs hx hp hq e f = product_bytes sign p q (sign_is_entry sign is_sign) hp f ∙ ap (λ z. sign *ℤ z) (product_bytes s x p hs hx e)
@@ -281,7 +281,7 @@ multiplied_bytes sign s x p q is_sign hs hx hp hq e f = product_bytes sign p q (
 pub zero_multiplied : (m n : Matrix) (row column : ℕ) (sign s : ℤ) → HaveOneSupport m n → entry m row column ≡ pos 0 → entry n row column ≡ sign *ℤ (s *ℤ entry m row column)
 zero_multiplied m n row column sign s same e = (same.zeros_same row column).0 e ∙ sym (ap (λ z. sign *ℤ (s *ℤ z)) e ∙ ap (λ z. sign *ℤ z) (mul-zero s) ∙ mul-zero sign)
 
--- the columns before a place, those from there to the next one, and that one
+-- the columns before a position, the columns from there to the next one, and the next one
 pub columns_to_next : (P : ℕ → Type 0) (place next : ℕ) → ((column : ℕ) → column < place → P column) → ((column : ℕ) → place ≤ column → column < next → P column) → P next → (column : ℕ) → column < next + 1 → P column
 columns_to_next P place next before between here column l = go (cases_lt column place) (cases_eq column next)
   where

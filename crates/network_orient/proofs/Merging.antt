@@ -1,10 +1,10 @@
--- The columns of a group moved into another one, column by column.
+-- The columns of a group moved into another group, column by column.
 use Rattle.std.proofs.Common.{◌≡◌, ◌≢◌, ◌<◌, ◌≤◌, ◌∙◌, ◌⊎◌, inl, inr, ◌+◌, ◌*ℤ◌, ℕ, ℤ, pos, List, length, set, refl, ap, sym, arith}
 use Rattle.std.proofs.lemmas.Bool.{cases_eq}
 use Rattle.std.proofs.lemmas.List.{length-set, get_or-set_same, get_or-set_other}
 use Rattle.network_orient.specs.SignedGroups.{group_of, sign_of, IsMerged}
 
--- the columns below a number are done
+-- the columns below `count` are moved
 pub record IsMergedTo (count : ℕ) (old_groups : List ℕ) (old_signs : List ℤ) (groups : List ℕ) (signs : List ℤ) (gone stays : ℕ) (factor : ℤ) : Type 0 where
   pub group_each : length groups ≡ length old_groups
   pub sign_each : length signs ≡ length old_signs

@@ -1,4 +1,5 @@
--- A network matrix agrees, up to the signs of lines, with what any directions of a tree for its support reproduce.
+-- A network matrix agrees, up to the signs of lines, with each matrix that a tree for its support reproduces, whatever its
+-- directions.
 use Rattle.std.proofs.Common.{◌≡◌, ◌<◌, ◌≤◌, ◌↔◌, ◌⊎◌, inl, inr, ◌∙◌, ℕ, ℤ, pos, get_or, List, [], sym, ap, subst, arith}
 use Rattle.std.proofs.lemmas.Bool.{cases_lt}
 use Rattle.std.proofs.lemmas.List.{get_or_past}
@@ -28,7 +29,7 @@ beyond_sizes m is row column (inr far) = inside (cases_lt row (height m))
 same_zeros : (x y : ℤ) → is_nonzero x ≡ is_nonzero y → (x ≡ pos 0) ↔ (y ≡ pos 0)
 same_zeros x y e = ((λ z. zero_is y (sym e ∙ ap is_nonzero z)), (λ z. zero_is x (e ∙ ap is_nonzero z)))
 
--- what one network reproduces, with directions and without
+-- the matrices that a network reproduces with and without directions have one support
 pub one_support : (net : Network) (m n : Matrix) → IsRectangular m → IsRectangular n → height m ≡ height n → m.width ≡ n.width → Reproduces net m → ReproducesSupport net n → HaveOneSupport m n
 one_support net m n is_m is_n height_same width_same directed undirected = record {
   height_same = height_same;
@@ -51,13 +52,13 @@ one_support net m n is_m is_n height_same width_same directed undirected = recor
     zeros row column (inr high) far = ((λ e. beyond_sizes n is_n row column (inl (omega (arith, high, height_same)))), (λ e. beyond_sizes m is_m row column (inl high)))
     zeros row column low (inr far) = ((λ e. beyond_sizes n is_n row column (inr (omega (arith, far, width_same)))), (λ e. beyond_sizes m is_m row column (inr far)))
 
--- so a matrix of that support that does not agree with it is no network matrix
+-- a matrix with that support is not a network matrix if it does not agree
 pub agrees_where_network : (net : Network) (m n : Matrix) → IsTernary m → IsTernary n → height m ≡ height n → m.width ≡ n.width → Reproduces net m → ReproducesSupport net n → IsNetworkMatrix n → AgreeUpToSigns (entry m) (entry n)
 agrees_where_network net m n is_m is_n height_same width_same directed undirected network =
     signs_are_unique m n is_m.rectangular is_n.rectangular is_m.small is_n.small (one_support net m n is_m.rectangular is_n.rectangular height_same width_same directed undirected)
     (networks_are_unimodular m is_m (net, directed)).1 (networks_are_unimodular n is_n network).1
 
--- signs of all rows are signs of the first
+-- signs of all rows are signs of the first rows
 pub agree_before : (M N : ℕ → ℕ → ℤ) (count : ℕ) → AgreeUpToSigns M N → AgreeBefore M N count
 agree_before M N count agreement = record {
   row_sign = agreement.row_sign;
@@ -67,14 +68,14 @@ agree_before M N count agreement = record {
   entries = λ row column low. agreement.entries row column;
 }
 
--- and the network reversed by the signs reproduces the matrix
+-- the network reversed by the signs reproduces the matrix
 pub reversed_reproduces : (net : Network) (m n : Matrix) (rows columns : List ℤ) → height m ≡ height n → m.width ≡ n.width → Reproduces net m → IsMultiplied (entry m) (entry n) (height m) m.width rows columns
     → Reproduces (reversed_network net rows columns) n
 reversed_reproduces net m n rows columns height_same width_same directed multiplied =
     subst (λ h. Realises (reversed_network net rows columns) (entry n) h n.width) height_same (subst (λ w. Realises (reversed_network net rows columns) (entry n) (height m) w) width_same
     (reversed_realises net (entry m) (entry n) (height m) m.width rows columns multiplied directed))
 
--- a matrix whose transposed has the support of another one has the support of the other's transposed
+-- if the transpose of a matrix has the support of another matrix, the matrix has the support of the other's transpose
 pub one_support_transposed : (m n : Matrix) → IsRectangular m → IsRectangular n → HaveOneSupport m (transposed n) → HaveOneSupport (transposed m) n
 one_support_transposed m n is_m is_n one = record {
   height_same = height-transposed m ∙ one.width_same;

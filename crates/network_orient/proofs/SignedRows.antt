@@ -13,7 +13,7 @@ use Rattle.cmr_base.proofs.SignEntries.{sign_of_entry}
 use Rattle.network_orient.specs.SignedGroups.{AgreeBefore, AreSignedGroups, IsRowForced, IsRowMultiplied, row_sign_by, sign_of}
 use Rattle.network_orient.proofs.ForcedSigns.{row_multiplied, zero_row_multiplied}
 
--- the rows below a number are multiplied
+-- the rows below `count` are multiplied
 pub record AreRowsMultiplied (m n : Matrix) (count : ℕ) (rows columns : List ℤ) : Type 0 where
   pub row_each : length rows ≡ count
   pub row_signs : AllByRecursion IsSign rows
@@ -47,7 +47,7 @@ module _ (m n : Matrix) where
     entries = λ row column l near. multiplied.multiplied row l column near;
   }
 
-  -- a row that its sign does not turn
+  -- a row that its sign does not turn into the other row
   pub none_agrees : (columns : List ℤ) (row : ℕ) (sign : ℤ) → HaveOneSupport m n → IsRowForced m n columns row
       → ((column : ℕ) → entry m row column ≡ pos 0) ⊎ ((first : ℕ) × (first < m.width) × (entry m row first ≢ pos 0) × (sign ≡ row_sign_by m n columns row first))
       → ((column : ℕ) → IsEntry (entry m row column)) → ¬ (IsRowMultiplied m n columns row sign) → ¬ (AgreeBefore (entry m) (entry n) (row + 1))

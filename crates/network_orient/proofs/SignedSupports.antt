@@ -1,4 +1,5 @@
--- Network matrices are the matrices without cycle fault whose support is graphic, and their transposes those whose support is cographic.
+-- Network matrices are the matrices without cycle fault whose support is graphic. Their transposes are the matrices without
+-- cycle fault whose support is cographic.
 use Rattle.std.proofs.Common.{[], length, refl, ◌<◌, ◌≤◌, ◌⊎◌, inl, inr, ◌∙◌, ℕ, ℤ, pos, ◌*ℤ◌, map, sym, ap, ap₂, subst, arith}
 use Rattle.std.proofs.Math.Path.{fun_ext}
 use Rattle.std.proofs.lemmas.Bool.{cases_lt}
@@ -28,7 +29,7 @@ use Rattle.ghouila.proofs.SignsUnique.{column_in, fault_free_has_no_violator, no
 use Rattle.network_orient.specs.Laws.{ConetworkMatricesAreSignedCographic, NetworkMatricesAreSignedGraphic}
 use Rattle.network_orient.proofs.Orientations.{one_support, one_support_transposed, reversed_reproduces}
 
--- a network matrix has both
+-- a network matrix has both properties
 network_has_none : (m : Matrix) → IsTernary m → IsNetworkMatrix m → HasGraphicSupport m × HasNoCycleFault (entry m)
 network_has_none m is (net, N) = (
   (net, support_realised net (entry m) (height m) m.width N),
@@ -62,7 +63,7 @@ module _ (m : Matrix) (net : Network) (G : ReproducesSupport net m) where
   given_small row column (inl l) = direction_is_small (G.paths column l).steps row
   given_small row column (inr out) = record { low = omega (arith, sums); high = omega (arith, sums) }
 
-  -- and the matrix of these entries
+  -- the matrix of these entries
   abbrev entries : ℕ → ℕ → ℤ
   entries row column = given row column (cases_lt column m.width)
 
@@ -88,7 +89,7 @@ module _ (m : Matrix) (net : Network) (G : ReproducesSupport net m) where
   directed_reproduced : Reproduces net directed
   directed_reproduced = subst (λ h. Realises net (entry directed) h m.width) (sym (height-filled (height m) m.width entries)) directed_realised
 
-  -- without cycle fault the network can be reversed
+  -- if the matrix has no cycle fault, the network can be reversed
   reversed : IsTernary m → HasNoCycleFault (entry m) → IsNetworkMatrix m
   reversed is clean =
       let same = height-filled (height m) m.width entries in
@@ -118,7 +119,7 @@ conetwork_has_none m is network = (
 )
 
 module _ (m : Matrix) (is : IsTernary m) (net : Network) (G : ReproducesSupport net (transposed m)) where
-  -- what the network of the rows' supports reproduces, transposed, has the support of m and no violator
+  -- the transpose of a matrix that the network of the rows' supports reproduces has the support of m and no violator
   abbrev across : Matrix
   across = directed (transposed m) net G
 

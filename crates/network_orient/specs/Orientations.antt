@@ -12,7 +12,7 @@ IsOrientation m (Directed net) = Reproduces net m
 IsOrientation m (WrongSigns row net) = (¬ (IsNetworkMatrix m)) × ReproducesSupport net m × IsFirstFaultyRow m row
 IsOrientation m NoTree = (¬ (IsNetworkMatrix m)) × (¬ (HasGraphicSupport m))
 
--- the directed tree with its paths, where they are found
+-- the directed tree with its paths, if there is one
 abbrev pub directed : Orientation → Option Network
 directed (Directed net) = Some net
 directed (WrongSigns row net) = None

@@ -1,4 +1,4 @@
-// Columns in groups: the signs that turn one matrix into another are known up to one factor for each group.
+// Groups of columns. The signs that turn one matrix into another are known up to one factor for each group.
 ghost use Rattle.std.specs.Prelude.{◌≡◌, ◌≢◌, ◌<◌, ◌+◌, ◌⊎◌, ◌↔◌, ℕ, pos, replicate, length, IfOk, IsTrue, MatchOption};
 ghost use Rattle.cmr_base.specs.LineSets.{first_lines};
 ghost use Rattle.cmr_base.specs.Matrix.{height, entry, IsEntry};
@@ -9,7 +9,7 @@ ghost use Rattle.network_orient.specs.SignedGroups.{AreSignedGroups, IsCoarser, 
 use cmr_base::{Matrix, Memory, own_labels, product};
 use std::alloc::Global;
 
-/// A group for each column, and a sign for each that is right up to one factor for all columns of a group.
+/// A group and a sign for each column. The signs are right up to one factor for all columns of a group.
 #[derive(Debug, Drop)]
 pub struct ColumnGroups {
     pub groups: Vec<u32>,
@@ -17,7 +17,7 @@ pub struct ColumnGroups {
 }
 
 impl ColumnGroups {
-    /// The groups with the fewest columns in which each row has the columns of its nonzeros in one group.
+    /// The finest groups in which the columns of the nonzeros of each row are in one group.
     pub fn of(alloc: Global, from: &Matrix, to: &Matrix) -> Result<ColumnGroups, Memory>
         requires { HaveOneSupport from.now to.now }
         ensures groups { IfOk result (λ all.
@@ -45,7 +45,7 @@ impl ColumnGroups {
         })
     }
 
-    // Makes one group of those of the columns in which a row has nonzeros.
+    // Joins the groups of the columns in which a row has nonzeros.
     fn join_row(&mut self, from: &Matrix, to: &Matrix, row: u32)
         requires support { HaveOneSupport from.now to.now }
         requires row { row < height from.now }
@@ -68,7 +68,7 @@ impl ColumnGroups {
         }
     }
 
-    // Makes one group of those of two columns in which a row has nonzeros.
+    // Joins the groups of two columns in which a row has nonzeros.
     fn join(&mut self, from: &Matrix, to: &Matrix, row: u32, first: u32, other: u32)
         requires support { HaveOneSupport from.now to.now }
         requires row { row < height from.now }
@@ -95,7 +95,7 @@ impl ColumnGroups {
         }
     }
 
-    // Moves the columns of a group into another one and multiplies their signs by a factor.
+    // Moves the columns of a group into another group and multiplies their signs by a factor.
     fn merge(&mut self, gone: u32, stays: u32, factor: i8)
         requires each { length self.old.signs.items ≡ length self.old.groups.items }
         requires signs { (column : ℕ) → IsSign (sign_of self.old.signs.items column) }
@@ -112,7 +112,7 @@ impl ColumnGroups {
         }
     }
 
-    // The sign that a row has where the sign of a column is right.
+    // The sign of a row that follows from the sign of a column.
     fn row_sign_by(&self, from: &Matrix, to: &Matrix, row: u32, column: u32) -> i8
         requires support { HaveOneSupport from.now to.now }
         requires row { row < height from.now }
@@ -138,7 +138,7 @@ impl ColumnGroups {
         self.signs[column]
     }
 
-    /// The sign that a row has where the signs of its columns are right.
+    /// The sign of a row that follows from the signs of its columns.
     pub fn row_sign(&self, from: &Matrix, to: &Matrix, row: u32) -> i8
         requires support { HaveOneSupport from.now to.now }
         requires row { row < height from.now }
@@ -157,7 +157,7 @@ impl ColumnGroups {
         }
     }
 
-    /// Whether a sign of a row and the signs of the columns turn the row of one matrix into that of the other.
+    /// Whether a sign of a row and the signs of the columns turn the row of one matrix into the row of the other.
     pub fn is_row_multiplied(&self, from: &Matrix, to: &Matrix, row: u32, sign: i8) -> bool
         requires support { HaveOneSupport from.now to.now }
         requires row { row < height from.now }

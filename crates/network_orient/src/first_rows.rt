@@ -1,4 +1,4 @@
-// Rows that are those of a network matrix or of a transposed one, and so have no cycle fault.
+// First rows without cycle fault, since they agree with a network matrix or a transposed network matrix.
 ghost use Rattle.std.specs.Prelude.{IfOk};
 ghost use Rattle.cmr_base.specs.Matrix.{transposed};
 ghost use Rattle.cmr_base.specs.Trees.{ReproducesSupport};
@@ -10,9 +10,9 @@ use cmr_base::{Matrix, Memory, Network, RowsAndColumns};
 use graph_realise::realise;
 use std::alloc::Global;
 
-/// How many of the first rows are shown to have no cycle fault by a network matrix or a transposed one: where a tree has the
-/// supports of the columns as paths, or else those of the rows, those before the first row whose signs are not the network's,
-/// however lines are multiplied by -1. No row is shown to have none where there is no such tree.
+/// The number of first rows that a tree shows to have no cycle fault. The tree has the supports of the columns as paths, or
+/// otherwise the supports of the rows. The rows end before the first row that differs from the network's signs, however lines
+/// are multiplied by -1. The number is 0 if there is no such tree.
 pub fn rows_without_fault(alloc: Global, matrix: &RowsAndColumns<'_>) -> Result<u32, Memory>
     ensures { IfOk result (HasNoFaultBefore matrix.now) }
 {
@@ -23,7 +23,7 @@ pub fn rows_without_fault(alloc: Global, matrix: &RowsAndColumns<'_>) -> Result<
     }
 }
 
-// How many of the first rows are shown to have none by a tree that has the supports of the rows as paths.
+// The number of first rows that a tree with the supports of the rows as paths shows to have no cycle fault.
 fn rows_by_columns(alloc: Global, matrix: &RowsAndColumns<'_>) -> Result<u32, Memory>
     ensures { IfOk result (HasNoFaultBefore matrix.now) }
 {
@@ -33,8 +33,8 @@ fn rows_by_columns(alloc: Global, matrix: &RowsAndColumns<'_>) -> Result<u32, Me
     }
 }
 
-/// The same by a tree that has the supports of the rows as paths: those before the first row whose signs are not the
-/// transposed network's, however lines are multiplied by -1.
+/// The number of first rows that this tree shows to have no cycle fault. Its paths are the supports of the rows. The rows end
+/// before the first row that differs from the transposed network's signs, however lines are multiplied by -1.
 pub fn rows_of_transposed(alloc: Global, net: &Network, matrix: &Matrix) -> Result<u32, Memory>
     requires { ReproducesSupport net.now (transposed matrix.now) }
     ensures { IfOk result (HasNoFaultBefore matrix.now) }

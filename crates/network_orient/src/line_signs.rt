@@ -1,4 +1,4 @@
-// Signs of lines that turn one matrix into another one.
+// Signs of lines that turn one matrix into another.
 ghost use Rattle.std.specs.Prelude.{IfOk};
 ghost use Rattle.cmr_base.specs.Supports.{HaveOneSupport};
 ghost use Rattle.network_orient.specs.SignsBetween.{AreSignsBetween};
@@ -14,17 +14,17 @@ pub struct LineSigns {
     pub columns: Vec<i8>,
 }
 
-/// Whether signs of the lines turn one matrix into another one.
+/// Whether signs of the lines turn one matrix into another.
 #[derive(Debug, Drop)]
 pub enum SignsBetween {
-    /// Signs that do.
+    /// Signs that turn the first matrix into the second.
     Found(LineSigns),
-    /// No signs do: none turn the rows up to this one. If the first matrix has no violator, this is the first row of the
-    /// second that has a cycle fault.
+    /// No signs turn the rows up to this row. If the first matrix has no violator, this is the first row of the second matrix
+    /// with a cycle fault.
     WrongRow(u32),
 }
 
-/// The signs of the lines by which one matrix is multiplied to give another one of its support.
+/// Signs of the lines that turn one matrix into another with the same support.
 pub fn signs_between(alloc: Global, from: &Matrix, to: &Matrix) -> Result<SignsBetween, Memory>
     requires { HaveOneSupport from.now to.now }
     ensures { IfOk result (AreSignsBetween from.now to.now) }

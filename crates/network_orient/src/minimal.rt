@@ -1,4 +1,4 @@
-// A minimal submatrix that is no network matrix.
+// A minimal submatrix that is not a network matrix.
 ghost use Rattle.std.specs.Prelude.{IfOk, IfSome, MatchOption};
 ghost use Rattle.cmr_base.specs.GreedySets.{IsGreedySet, IsMinimalWithout};
 ghost use Rattle.cmr_base.specs.Trees.{IsNetworkMatrix};
@@ -8,9 +8,9 @@ use cmr_base::{LineSet, Matrix, Memory};
 use minimal_sets::{Property, minimal_without};
 use std::alloc::Global;
 
-/// `None` exactly where the matrix is a network matrix, and else a set of lines whose submatrix is none, but becomes one
-/// as soon as any one of the lines is left out: what stays where the lines are gone through once, rows first, and each is
-/// left out where the others still make no network matrix.
+/// A minimal set of lines whose submatrix is not a network matrix, and `None` if and only if the matrix is a network matrix.
+/// The search visits each line once, rows first, and removes a line if the others still make a matrix that is not a network
+/// matrix.
 pub fn minimal_not_network(alloc: Global, matrix: &Matrix) -> Result<Option<LineSet>, Memory>
     ensures found { IfOk result (λ found. MatchOption found
         (IsNetworkMatrix matrix.now)
@@ -22,7 +22,7 @@ pub fn minimal_not_network(alloc: Global, matrix: &Matrix) -> Result<Option<Line
     minimal_without(alloc, matrix, &NetworkMatrices)
 }
 
-// That a matrix is a network matrix.
+// The property of a matrix to be a network matrix.
 #[derive(Drop)]
 struct NetworkMatrices;
 

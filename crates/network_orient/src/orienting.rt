@@ -12,17 +12,18 @@ use std::alloc::Global;
 /// How the columns of a matrix are paths of a tree whose arcs are the rows.
 #[derive(Debug, Drop)]
 pub enum Orientation {
-    /// A directed tree, and for each column a path that uses the arcs as its entries say, +1 forwards and -1 backwards.
+    /// A directed tree, and for each column a path. The path uses an arc forwards if the entry is +1, and backwards if it is
+    /// -1.
     Directed(Network),
-    /// The supports of the columns are the paths of this tree, but the signs are not those of a directed one. This row is
-    /// the first that has a cycle fault.
+    /// The supports of the columns are the paths of this tree, but no directions of its arcs give the signs. This row is the
+    /// first with a cycle fault.
     WrongSigns { row: u32, net: Network },
     /// The supports of the columns are not the paths of a tree.
     NoTree,
 }
 
 impl Orientation {
-    /// The directed tree and its paths, where they are found.
+    /// The directed tree and its paths, if there is one.
     pub fn directed(self) -> Option<Network>
         ensures { result ≡ directed self }
     {
@@ -37,7 +38,7 @@ impl Orientation {
     }
 }
 
-/// How the columns are paths of a tree, told by one tree for their supports.
+/// Decides how the columns are paths of a tree. It searches for one tree for their supports.
 pub fn orientation_of(alloc: Global, matrix: &Matrix) -> Result<Orientation, Memory>
     ensures { IfOk result (IsOrientation matrix.now) }
 {
@@ -53,8 +54,8 @@ pub fn orientation_of(alloc: Global, matrix: &Matrix) -> Result<Orientation, Mem
     }
 }
 
-/// A directed tree whose arcs are the rows, and for each column a path that uses the arcs as its entries say, +1
-/// forwards and -1 backwards; `None` exactly where there is none, that is where the matrix is no network matrix.
+/// A directed tree whose arcs are the rows, and for each column a path; `None` if and only if the matrix is not a network
+/// matrix. The path uses an arc forwards if the entry is +1, and backwards if it is -1.
 pub fn orient(alloc: Global, matrix: &Matrix) -> Result<Option<Network>, Memory>
     ensures { IfOk result (λ found.
         MatchOption found (¬ (IsNetworkMatrix matrix.now)) (λ net. Reproduces net matrix.now)) }
@@ -66,7 +67,7 @@ pub fn orient(alloc: Global, matrix: &Matrix) -> Result<Option<Network>, Memory>
     }
 }
 
-/// Whether the supports of the columns are the paths of some tree, whatever the signs.
+/// Whether the supports of the columns are the paths of some tree. Signs do not matter.
 pub fn has_graphic_support(alloc: Global, matrix: &Matrix) -> Result<bool, Memory>
     ensures { IfOk result (λ yes. IsTrue yes ↔ HasGraphicSupport matrix.now) }
 {

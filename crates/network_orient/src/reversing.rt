@@ -6,7 +6,7 @@ use crate::line_signs::LineSigns;
 use cmr_base::{Memory, Network, Pair, PairList};
 use std::alloc::Global;
 
-/// The network whose arcs are reversed where the sign of their row is -1, and its walks by the signs of columns.
+/// The network with the arcs of the rows of sign -1 reversed, and with its walks reversed by the signs of columns.
 pub fn reversed_network(alloc: Global, net: &Network, signs: &LineSigns) -> Result<Network, Memory>
     requires arcs { length net.now.arcs ≡ length signs.now.rows.items }
     requires walks { length net.now.walks ≡ length signs.now.columns.items }

@@ -43,7 +43,7 @@ child_fails read trees text e fails = bind_fails e (read text) (λ (tree : Tree 
 pub child_joined : (read : Reader Tree) (trees : List Tree) (text : Text) (tree : Tree) (rest : Text) → read text ≡ Ok (tree, rest) → another_tree read trees text ≡ Ok (trees ++ tree ∷ [], rest)
 child_joined read trees text tree rest made = rw made refl
 
--- one more tree was read
+-- the reader has read another tree
 pub one_more : (read : Reader Tree) (trees : List Tree) (text : Text) (next : List Tree) (rest : Text) → another_tree read trees text ≡ Ok (next, rest) → (tree : Tree) × (read text ≡ Ok (tree, rest)) × (next ≡ trees ++ tree ∷ [])
 one_more read trees text next rest made =
     let b = bind_ok (read text) (λ (tree : Tree × Text). Ok (trees ++ tree.0 ∷ [], tree.1)) (next, rest) made in
@@ -58,7 +58,7 @@ one_node_more read nodes next text rest made =
 abbrev push : Tree × Text → Result (List Tree × Text) (Fault TreeKind)
 push found = Ok (found.0 ∷ [], found.1)
 
--- what fails as the first tree fails by itself
+-- a text that fails at the first tree fails as a list of trees
 pub first_fails : (read : Reader Tree) (text : Text) (e : FieldError TreeKind) → Fails e (another_tree read [] text) → Fails e (read text)
 first_fails read text errors.Memory fails = tt
 first_fails read text (errors.Fault kind place) fails = go (read text) fails
@@ -67,7 +67,7 @@ first_fails read text (errors.Fault kind place) fails = go (read text) fails
     go (Ok found) h = absurd (cc)
     go (Err fault) h = ap Err (err_same fault (kind, place) h)
 
--- the one tree that was read is the last one
+-- the only tree that was read is the last one
 pub only_one : (read : Reader Tree) (text : Text) (others : List Node) (root : Node) (rest : Text) → another_tree read [] text ≡ Ok (map tree_of (others ++ root ∷ []), rest) → read text ≡ Ok (tree_of root, rest)
 only_one read text others root rest made =
     let one = one_more read [] text (map tree_of (others ++ root ∷ [])) rest made in
@@ -81,7 +81,7 @@ only_one read text others root rest made =
 pub not_none : (read : Reader Tree) (text : Text) (nodes : List Node) (rest : Text) → another_tree read [] text ≡ Ok (map tree_of nodes, rest) → length nodes ≡ 0 → ⊥
 not_none read text nodes rest made none = let more = one_node_more read [] nodes text rest made in omega (arith, more, none)
 
--- the words in front of the root, with some way to read the root
+-- the words before the root, with a reader for the root
 abbrev pub read_whole : (Header → Reader Tree) → Text → Result PlainTree (Fault TreeKind)
 read_whole read text = do
   title ← field Short title_in text
@@ -99,7 +99,7 @@ whole_fails read text title_text version_text rows_text columns_text title versi
     rw (named, versioned, row_count, column_count)
     (bind_fails e (read (record { version = version; sizes = record { rows = rows; columns = columns } }) columns_text) (λ (root : Tree × Text). ended Extra (record { rows = rows; columns = columns; root = root.0 }) root.1) fails)
 
--- what fails at the root fails as a whole
+-- a text that fails at the root fails as a whole
 pub root_fails : (text title_text version_text rows_text columns_text : Text) (title : Title) (version : Version) (rows columns : ℕ) (e : FieldError TreeKind)
     → field Short title_in text ≡ Ok (title, title_text) → field Short (version_in title) title_text ≡ Ok (version, version_text)
     → field Short (limited 1000) version_text ≡ Ok (rows, rows_text) → field Short (limited 1000) rows_text ≡ Ok (columns, columns_text)

@@ -1,4 +1,4 @@
--- What was read as a tree is written as a text of the same tree.
+-- A tree that was read is written as a text of the same tree.
 use Rattle.std.proofs.Common.{◌≡◌, ◌≤◌, ℕ, List, [], ◌∷◌, None, Ok, subst}
 use Rattle.text_fields.specs.TextWords.{Text, text_of}
 use Rattle.text_fields.specs.Reading.{field, ended_of}

@@ -1,4 +1,4 @@
--- A tree's text is read again as the same tree.
+-- Reading the text of a tree gives the same tree.
 use Rattle.std.proofs.Common.{◌≡◌, ◌<◌, ◌≤◌, ◌+◌, ◌-◌, ◌∙◌, ℕ, suc, Bool, true, false, List, [], ◌∷◌, ◌++◌, length, map, get_or, Contains, Option, Some, None, Ok, refl, ap, ap₂, sym, subst, append_assoc, zero-le, arith}
 use Rattle.std.specs.Prelude.{option_map}
 use Rattle.std.proofs.lemmas.Bool.{true≢false}
@@ -88,7 +88,7 @@ names_are : (steps : List Line) → flat_map (λ line. line_name line ∷ []) st
 names_are [] = refl
 names_are (step ∷ steps) = ap (λ ws. line_name step ∷ ws) (names_are steps)
 
--- what a node says of its lines
+-- the finding of a node
 module _ (sizes : Sizes) (few_rows : sizes.rows ≤ 1000) (few_columns : sizes.columns ≤ 1000) (lines : LineSet) (rise_rows : IsStrictlyIncreasing lines.rows) (rise_columns : IsStrictlyIncreasing lines.columns) (rows_in : AllBelow sizes.rows lines.rows) (columns_in : AllBelow sizes.columns lines.columns) where
   some_from : (part : LineSet) → AreLinesOf part lines → IsSome sizes (Some lines) part
   some_from part is = record {
@@ -232,7 +232,7 @@ all_words (Violator fault) = refl
 all_words Undecided = refl
 all_words (Pivoted place) = refl
 
--- version 2 has a word for each kind but that of pivoted nodes
+-- version 2 has a word for each kind except the kind of pivoted nodes
 most_words : (finding : Finding) → is_pivot finding ≡ false → has_word version.Two (kind_of finding) ≡ true
 most_words Empty none = refl
 most_words (Cycle fault) none = refl
@@ -274,7 +274,7 @@ known tree = go (has_pivot tree) refl
     go true e = rw e (known_with_pivots tree)
     go false e = rw e (known_without tree e)
 
--- the words of a node and of those below it
+-- the words of a node and of the nodes below it
 abbrev opening_words : LineSet → Finding → Trees → List (List ℕ)
 opening_words lines finding trees = word_of_kind (kind_of finding) ∷ (set_words lines ++ own_words finding trees)
 
@@ -345,7 +345,7 @@ mutual
   forest_joined NoTrees = refl
   forest_joined (MoreTrees tree trees) = flat_map-append (λ line. line) (node_lines tree) (forest_lines trees) ∙ ap₂ (λ (xs ys : List (List ℕ)). xs ++ ys) (node_joined tree) (forest_joined trees)
 
--- each word of a tree's text is a word
+-- each word of a tree's text is a valid word
 abbrev AreWords : List (List ℕ) → Type 0
 AreWords words = AllByRecursion IsWord words
 
@@ -462,7 +462,7 @@ module _ (sizes : Sizes) (few_rows : sizes.rows ≤ 1000) (few_columns : sizes.c
         let some = some_from sizes few_rows few_columns lines rows columns rows_in columns_in (lines_at_root tree) (part_of lines levels tree within.0) in
         all-append AreWords (node_lines tree) (forest_lines trees) (node_all levels (Some lines) tree lines some within.0) (forest_all levels lines trees rows columns rows_in columns_in within.1)
 
--- the words in front of the root, and some way to read the root back
+-- the words before the root, with a reader for the root that inverts writing
 titled_again : (v : Version) → title_in (title_word (title_of v)) ≡ Ok (title_of v)
 titled_again version.One = refl
 titled_again version.Two = refl

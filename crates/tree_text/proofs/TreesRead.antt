@@ -1,4 +1,4 @@
--- What was read as a tree keeps the rules of all trees.
+-- A tree that was read has the properties of all trees.
 use Rattle.std.proofs.Common.{◌≡◌, ◌≤◌, ◌-◌, ◌∙◌, ℕ, zero, suc, Bool, true, false, List, [], ◌∷◌, ◌++◌, length, Contains, Option, Some, None, Result, Ok, refl, ap, sym, subst, arith}
 use Rattle.std.specs.Prelude.{option_map}
 use Rattle.std.specs.List.{AllByRecursion}
@@ -40,11 +40,11 @@ use Rattle.tree_text.specs.TreeValues.{limited, line_of, step_in}
 use Rattle.tree_text.specs.TreeReading.{increasing_lines, line_set, another_pair, network, connector, two, three, pivot_place, own_part, opening, another_tree, too_deep, node}
 use Rattle.tree_text.proofs.WordsRead.{times_keep, spelled_all, limited_ok, IsAmong, line_of_ok, step_ok, lines_ok}
 
--- a value that was read by a field
+-- a value that a field has read
 pub field_value : {A : Type 0} (parse : List ℕ → Result A TreeKind) (P : A → Type 0) → ((word : List ℕ) (x : A) → parse word ≡ Ok x → P x) → (text : Text) (x : A × Text) → field Short parse text ≡ Ok x → P x.0
 field_value parse P each text x h = let f = field_ok Short parse text x.0 x.1 h in each f.word.1 x.0 f.parsed
 
--- a increasing list of lines below a bound, among those of a whole
+-- an increasing list of lines below a bound, all of them among the lines of `whole`
 pub record AreSome (most : ℕ) (whole : Option (List ℕ)) (lines : List ℕ) : Type 0 where
   pub rise : IsStrictlyIncreasing lines
   pub below : AllBelow most lines
@@ -168,7 +168,7 @@ module _ (sizes : Sizes) (lines : LineSet) where
       let e = ap (λ (p : Three × Text). p.0) (ok_same (made, side.0.1) found side.2) in
       subst (λ three. FitsLines lines (ThreeSum three) trees) e (set_ok second.0.1 side.0 side.1, connector_ok (first_is_flat form) text first.0 first.1, connector_ok (second_is_flat form) first.0.1 second.0 second.1)
 
-  -- what was said fits the lines, whatever the children, where they are as many as was said
+  -- the finding fits the lines, whatever the children, if their number is right
   abbrev IsFitting : Finding × ℕ → Type 0
   IsFitting own = (trees : Trees) → count_trees trees ≡ own.1 → FitsLines lines own.0 trees × HasChildren own.0 (count_trees trees)
 
@@ -239,7 +239,7 @@ count_from : (trees : List Tree) → count_trees (trees_from trees) ≡ length t
 count_from [] = refl
 count_from (tree ∷ trees) = ap suc (count_from trees)
 
--- a node that was read: its lines are some of the parent's, and all else is as in a tree
+-- a node that was read: its lines are lines of the parent, and the rest is as in every tree
 record IsRead (sizes : Sizes) (levels : ℕ) (parent : Option LineSet) (tree : Tree) : Type 0 where
   lines : IsSome sizes parent (lines_at_root tree)
   within : (whole : LineSet) → AreLinesOf (lines_at_root tree) whole → IsTreeWithin whole levels tree
@@ -276,7 +276,7 @@ node_ok header (suc levels) parent text tree h =
 itself : (lines : LineSet) → IsStrictlyIncreasing lines.rows → IsStrictlyIncreasing lines.columns → AreLinesOf lines lines
 itself lines rows columns = record { rows_rise = rows; columns_rise = columns; rows = λ row h. h; columns = λ column h. h }
 
--- what was read as the root is a tree for a matrix of these sizes
+-- a root that was read is a tree for a matrix of these sizes
 pub root_ok : (version : Version) (rows columns : ℕ) (text : Text) (tree : Tree) (rest : Text) → rows ≤ 1000 → columns ≤ 1000
     → node (record { version = version; sizes = record { rows = rows; columns = columns } }) 2001 None text ≡ Ok (tree, rest) → IsTreeFor rows columns tree
 root_ok version rows columns text tree rest few_rows few_columns h =

@@ -1,4 +1,4 @@
--- What stands for a tree in version 1 stands for it in version 2.
+-- Words that represent a tree in version 1 represent it in version 2.
 use Rattle.std.proofs.Common.{◌≡◌, ℕ, zero, suc, true, List, [], ◌∷◌, ◌++◌, cond, Option, Some, None, Result, Ok, Err, refl, ap, sym, subst}
 use Rattle.cmr_base.specs.declared.line_set.LineSet.{LineSet}
 use Rattle.text_fields.specs.TextWords.{Text}
@@ -40,7 +40,7 @@ more_words kinds.Violator has = refl
 more_words kinds.Undecided has = refl
 more_words kinds.Pivoted has = has
 
--- a word of version 1 for a kind is one of version 2
+-- a word of version 1 for a kind is a word of version 2 for this kind
 kind_kept : (word : List ℕ) (kind : KindWord) → kind_in One word ≡ Ok kind → kind_in Two word ≡ Ok kind
 kind_kept word kind h =
     let found = bind_ok (kind_among kind_words word) (λ k. cond (has_word One k) (Ok k) (Err UnknownKind)) kind h in
@@ -85,7 +85,7 @@ module _ (sizes : Sizes) where
       let children = bind_ok (times first (head.0.0).children [] head.0.1) (λ (children : List Tree × Text). Ok (Branch lines (head.0.0).finding (trees_from children.0), children.1)) tree head.2 in
       rw (opening_kept parent text head.0 head.1, times_kept first second (child_kept levels lines (node_kept levels (Some lines))) (head.0.0).children [] head.0.1 children.0 children.1) children.2
 
--- the words in front of the root, with some way to read the root
+-- the words before the root, with a reader for the root
 module _ (read : Header → Reader Tree) (kept : (sizes : Sizes) (text : Text) (tree : Tree × Text) → read (in_version sizes One) text ≡ Ok tree → read (in_version sizes Two) text ≡ Ok tree) where
   abbrev behind : Version → Text → Result PlainTree (Fault TreeKind)
   behind version text = do

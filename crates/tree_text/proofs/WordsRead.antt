@@ -1,4 +1,4 @@
--- What the words of a tree text that were read stood for.
+-- The values of the words of a tree text that was read.
 use Rattle.std.proofs.Common.{◌≡◌, ◌<◌, ◌≤◌, ◌+◌, ◌-◌, ◌∙◌, ℕ, zero, suc, Bool, true, false, cond, leb, eqb, List, [], ◌∷◌, ◌++◌, length, Contains, Option, Some, None, Result, Ok, Err, refl, ap, sym, subst, append_assoc, arith}
 use Rattle.std.specs.List.{AllByRecursion}
 use Rattle.std.proofs.lemmas.Bool.{leb-true}
@@ -25,7 +25,7 @@ use Rattle.tree_text.specs.Faults.{tree_kind}
 use Rattle.tree_text.specs.TreeValues.{limited, line_in, among, line_of, last_number, next_line, step_in}
 use Rattle.tree_text.specs.TreeReading.{another_line}
 
--- what each step keeps, all steps keep
+-- an invariant of each step is an invariant of all steps
 pub times_keep : {S F : Type 0} (step : S → Text → Result (S × Text) F) (P : ℕ → S → Type 0) → ((k : ℕ) (s : S) (text : Text) (next : S) (rest : Text) → P k s → step s text ≡ Ok (next, rest) → P (suc k) next)
     → (n k : ℕ) (s : S) (text : Text) (last : S) (rest : Text) → P k s → times step n s text ≡ Ok (last, rest) → P (n + k) last
 times_keep {S} step P keeps zero k s text last rest h made = let e = ok_same (s, text) (last, rest) made in let same : 0 + k ≡ k = omega arith in rw same (subst (P k) (ap (λ (p : S × Text). p.0) e) h)
@@ -51,7 +51,7 @@ line_in_ok most word line h =
     let number = numbers.line_in_ok tree_kind most word b.0 b.1 in
     omega (arith, is, number.1, number.2)
 
--- one of these lines, where there are some to be one of
+-- one of these lines, if there is a list of lines
 abbrev pub IsAmong : Option (List ℕ) → ℕ → Type 0
 IsAmong None line = Unit {0}
 IsAmong (Some lines) line = Contains lines line
@@ -96,7 +96,7 @@ step_ok sizes lines (letter ∷ number) line h = go (eqb letter 114) (eqb letter
     go false true h = column h
     go false false h = absurd (cc)
 
--- so many lines were read, behind those before them
+-- n lines were read, after the lines before them
 pub record AreLinesRead (most n : ℕ) (whole : Option (List ℕ)) (before lines : List ℕ) : Type 0 where
   pub read : List ℕ
   pub lines_are : lines ≡ before ++ read

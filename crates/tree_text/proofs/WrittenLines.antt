@@ -18,7 +18,7 @@ use Rattle.tree_type.proofs.NodeTrees.{said, tree_is, said_one_sum}
 use Rattle.tree_text.specs.Versions.{title_word, title_of, version_word}
 use Rattle.tree_text.specs.CanonicalTrees.{pair_words, network_words, line_for, own_text_line, node_lines, forest_lines, tree_text, version_of}
 
--- a line whose words were written
+-- a line with written words
 pub ended_as : (text start : Draft) (words : List (List ℕ)) → text ≡ fold with_word start words → start.is_begun ≡ false → with_end text ≡ with_line start words
 ended_as text start words written none = ap with_end written ∙ line_written start words none
 
@@ -38,7 +38,7 @@ later_words : (words : List (List ℕ)) (pairs : List Pair) → 0 < length pairs
 later_words words [] some = absurd (omega (arith, some))
 later_words words (pair ∷ pairs) some = behind words (flat_map pair_words (pair ∷ pairs)) (omega arith)
 
--- the line of a network that has a line
+-- the line of a network that has words
 pub network_ended : (text middle start : Draft) (n : net.Network) → text ≡ fold with_word middle (flat_map pair_words n.walks) → middle ≡ fold with_word start (flat_map pair_words n.arcs) → start.is_begun ≡ false
     → 0 < length (network_words n) → with_end text ≡ fold with_line start (line_for (network_words n))
 network_ended text middle start n walks arcs none some =
@@ -61,7 +61,7 @@ pub both_written : (start : Draft) (opening one two : List (List (List ℕ))) �
 both_written start opening one two =
     sym (fold-append with_line start opening (one ++ (two ++ [])) ∙ fold-append with_line (fold with_line start opening) one (two ++ []) ∙ ap (fold with_line (fold with_line (fold with_line start opening) one)) (append-nil two))
 
--- the lines of one more child
+-- the lines of another child
 pub child_written : (start : Draft) (nodes : List Node) (i : ℕ) (after : Draft) (total : Draft) (node : Node) → i < length nodes → node ≡ get_or nodes i node
     → after ≡ fold with_line start (node_lines (tree_of node)) → fold with_line start (forest_lines (trees_from (map tree_of (drop i nodes)))) ≡ total → fold with_line after (forest_lines (trees_from (map tree_of (drop (i + 1) nodes)))) ≡ total
 child_written start nodes i after total node within is written whole =

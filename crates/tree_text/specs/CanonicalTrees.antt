@@ -1,4 +1,4 @@
--- The canonical text of a tree, which is of version 2, or a text of pivots where a node is pivoted: its lines, each a list of words.
+-- The canonical text of a tree, in version 2, or a text of pivots if a node is pivoted. Each of its lines is a list of words.
 use Rattle.std.specs.Prelude.{◌++◌, ◌||◌, if◌then◌else◌, Bool, true, false, ℕ, List, [], ◌∷◌, length, map}
 use Rattle.std.specs.List.{flat_map}
 use Rattle.std.specs.Fmt.{decimal}
@@ -22,7 +22,7 @@ network_words n = flat_map pair_words n.arcs ++ flat_map pair_words n.walks
 abbrev pub connector_words : Connector → List (List ℕ)
 connector_words c = number_of_line c.row ∷ number_of_line c.column ∷ number_of_line c.other ∷ []
 
--- what a node says of its lines, or how many children it has
+-- the words of the finding of a node, or the number of its children
 abbrev pub own_words : Finding → Trees → List (List ℕ)
 own_words (Cycle fault) trees = set_words fault
 own_words (Reduced steps) trees = decimal (length steps) ∷ map line_name steps
@@ -35,7 +35,7 @@ own_words (Violator fault) trees = set_words fault
 own_words (Pivoted place) trees = number_of_line place.row ∷ number_of_line place.column ∷ []
 own_words finding trees = []
 
--- a line for some words, where there are any
+-- a line for some words, if there are any
 abbrev pub line_for : List (List ℕ) → List (List (List ℕ))
 line_for [] = []
 line_for (word ∷ words) = (word ∷ words) ∷ []
@@ -43,12 +43,12 @@ line_for (word ∷ words) = (word ∷ words) ∷ []
 abbrev pub own_text_line : Tree → List (List (List ℕ))
 own_text_line (Branch lines finding trees) = line_for (own_words finding trees)
 
--- a line with the kind and the lines of a node, and one with its own part
+-- a line with the kind and the lines of a node, and a line with its own part
 abbrev pub opening_lines : Tree → List (List (List ℕ))
 opening_lines (Branch lines finding trees) = (word_of_kind (kind_of finding) ∷ set_words lines) ∷ own_text_line (Branch lines finding trees)
 
 abbrev mutual
-  -- a node's own lines, and those of its children
+  -- a node's own lines, and the lines of its children
   pub node_lines : Tree → List (List (List ℕ))
   node_lines (Branch lines finding trees) = opening_lines (Branch lines finding trees) ++ forest_lines trees
 

@@ -33,25 +33,25 @@ kind_words =
     Empty ∷ Cycle ∷ Reduced ∷ OneSum ∷ Network ∷ Conetwork ∷ R10 ∷ TwoSum ∷ ThreeSum Delta ∷ ThreeSum YForm ∷ ThreeSum Mixed
     ∷ ThreeSum Concentrated ∷ Enumerated ∷ Violator ∷ Undecided ∷ Pivoted ∷ []
 
--- the first of some kinds whose word it is
+-- the first of these kinds that has this word
 abbrev pub kind_among : List KindWord → List ℕ → Result KindWord TreeKind
 kind_among [] word = Err UnknownKind
 kind_among (kind ∷ kinds) word = if bytes_eq word (word_of_kind kind) then Ok kind else kind_among kinds word
 
--- version 1 has no word for concentrated three-sums, and only texts of pivots have one for pivoted nodes
+-- version 1 has no word for concentrated three-sums, and only texts of pivots have a word for pivoted nodes
 abbrev pub has_word : Version → KindWord → Bool
 has_word version.One (ThreeSum Concentrated) = false
 has_word version.One Pivoted = false
 has_word version.Two Pivoted = false
 has_word version kind = true
 
--- the kind whose word it is in texts of a version
+-- the kind with this word in texts of a version
 abbrev pub kind_in : Version → List ℕ → Result KindWord TreeKind
 kind_in version word = do
   kind ← kind_among kind_words word
   if has_word version kind then Ok kind else Err UnknownKind
 
--- the kind of a node that says this
+-- the kind of a node with this finding
 abbrev pub kind_of : said.Finding → KindWord
 kind_of said.Empty = Empty
 kind_of (said.Cycle fault) = Cycle

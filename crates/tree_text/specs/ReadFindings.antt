@@ -1,4 +1,4 @@
--- What was read of a node's own part.
+-- The value of a node's own part.
 use Rattle.std.specs.Prelude.{ℕ}
 use Rattle.cmr_base.specs.declared.line_set.LineSet.{LineSet}
 use Rattle.tree_type.specs.DecompositionTrees.{Finding}
@@ -9,7 +9,7 @@ use Rattle.tree_text.specs.declared.own_part.Opening.{Opening}
 abbrev pub own_shown : OwnPart → Finding × ℕ
 own_shown own = (finding_shown own.finding, own.children)
 
--- what stands in front of a node's children: its lines, what it says of them, and how many children it has
+-- the part of a node before its children: its lines, its finding, and the number of its children
 pub record NodeOpening : Type 0 where
   pub lines : LineSet
   pub finding : Finding

@@ -1,4 +1,4 @@
--- Reading a tree text: the tree that it stands for, or its first fault.
+-- Reading a tree text: the tree that it represents, or its first fault.
 use Rattle.std.specs.Prelude.{◌+◌, ◌++◌, if◌then◌else◌, ℕ, zero, suc, Bool, List, [], ◌∷◌, length, Option, Some, None, option_map, Result, Ok, Err}
 use Rattle.cmr_base.specs.declared.limits.TheConstants.{MAX_COLUMNS, MAX_DEPTH, MAX_ROWS}
 use Rattle.cmr_base.specs.declared.line_set.LineSet.{LineSet}
@@ -26,11 +26,11 @@ use Rattle.tree_text.specs.Versions.{title_in, version_in}
 use Rattle.tree_text.specs.KindWords.{kind_in}
 use Rattle.tree_text.specs.TreeValues.{limited, line_of, last_number, next_line, step_in}
 
--- reading a value off the opening of a text
+-- a reader of a value at the beginning of a text
 abbrev pub Reader : Type 0 → Type 0
 Reader A = Text → Result (A × Text) (Fault TreeKind)
 
--- one more line behind those that were read
+-- another line after the lines read so far
 abbrev pub another_line : ℕ → Option (List ℕ) → List ℕ → Reader (List ℕ)
 another_line most whole lines text = do
   line ← field Short (next_line most whole (last_number lines)) text
@@ -39,7 +39,7 @@ another_line most whole lines text = do
 abbrev pub increasing_lines : ℕ → Option (List ℕ) → ℕ → Reader (List ℕ)
 increasing_lines most whole n text = times (another_line most whole) n [] text
 
--- two counts, and so many rows and so many columns, which are among the lines of a whole
+-- two counts, then the rows and the columns; they are lines of `whole`, if it is given
 abbrev pub line_set : Sizes → Option LineSet → Reader LineSet
 line_set sizes whole text = do
   row_count ← field Short (limited sizes.rows) text
@@ -61,7 +61,7 @@ network arc_count walk_count text = do
   walks ← times (another_pair arc_count) walk_count [] arcs.1
   Ok (record { arcs = arcs.0; walks = walks.0 }, walks.1)
 
--- a row, a column and one more line: a column where the connector is flat, a row where it is tall
+-- a row, a column and a further line: a column if the connector is flat, a row if it is tall
 abbrev pub connector : Sizes → LineSet → Bool → Reader Connector
 connector sizes lines flat text = do
   row ← field Short (line_of sizes.rows lines.rows) text
@@ -90,7 +90,7 @@ pivot_place sizes lines text = do
   column ← field Short (line_of sizes.columns lines.columns) row.1
   Ok (record { row = row.0; column = column.0 }, column.1)
 
--- what a node says of its lines, and how many children it has
+-- the finding of a node, and the number of its children
 abbrev pub own_part : Sizes → LineSet → KindWord → Reader (Finding × ℕ)
 own_part sizes lines kind.Empty text = Ok ((Empty, 0), text)
 own_part sizes lines kind.Cycle text = do
@@ -133,7 +133,7 @@ opening header parent text = do
   own ← own_part header.sizes lines.0 kind.0 lines.1
   Ok (record { lines = lines.0; finding = (own.0).0; children = (own.0).1 }, own.1)
 
--- one more tree behind those that were read
+-- another tree after the trees read so far
 abbrev pub another_tree : Reader Tree → List Tree → Reader (List Tree)
 another_tree read trees text = do
   tree ← read text
@@ -143,7 +143,7 @@ another_tree read trees text = do
 abbrev pub too_deep : List ℕ → Result Tree TreeKind
 too_deep word = Err TooDeep
 
--- a node and the nodes below it, on at most so many levels
+-- a node and the nodes below it, on at most this number of levels
 abbrev pub node : Header → ℕ → Option LineSet → Reader Tree
 node header zero parent text = field Short too_deep text
 node header (suc levels) parent text = do

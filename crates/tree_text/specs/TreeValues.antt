@@ -1,4 +1,4 @@
--- What the words of tree texts stand for. Lines are counted from 1 in words, and from 0 in what they stand for.
+-- The values of the words of tree texts. Lines are counted from 1 in words, and from 0 in values.
 use Rattle.std.specs.Prelude.{◌-◌, ◌==◌, nat_le, if◌then◌else◌, ℕ, List, [], ◌∷◌, Option, Some, None, Result, Ok, Err}
 use Rattle.cmr_base.specs.declared.line.Line.{Line}
 use Rattle.cmr_base.specs.declared.line.Line.TheVariants.{Row, Column}
@@ -12,17 +12,17 @@ use Rattle.tree_text.specs.declared.error.TreeKind.TheVariants.{NotNumber, NotRi
 use Rattle.tree_text.specs.declared.value.Sizes.{Sizes}
 use Rattle.tree_text.specs.Faults.{tree_kind}
 
--- a count of at most so much
+-- a count up to a limit
 abbrev pub limited : ℕ → List ℕ → Result ℕ TreeKind
 limited most word = renamed tree_kind (limits.limited most word)
 
--- one of so many lines
+-- the number of a line, from 1 to a limit
 abbrev pub line_in : ℕ → List ℕ → Result ℕ TreeKind
 line_in most word = do
   n ← renamed tree_kind (limits.line_in most word)
   Ok (n - 1)
 
--- it is to be one of these lines; at the root all lines of the matrix are allowed
+-- the line must be one of these lines; at the root all lines of the matrix are allowed
 abbrev pub among : Option (List ℕ) → ℕ → Result ℕ TreeKind
 among None line = Ok line
 among (Some lines) line = if is_among lines line then Ok line else Err NotPart
@@ -33,7 +33,7 @@ line_of most lines word = do
   line ← line_in most word
   among (Some lines) line
 
--- the next line of a increasing list
+-- the next line of an increasing list
 abbrev pub next_line : ℕ → Option (List ℕ) → ℕ → List ℕ → Result ℕ TreeKind
 next_line most whole before word = do
   line ← line_in most word

@@ -1,4 +1,4 @@
--- The first two words of tree texts: what the text holds, and its version.
+-- The first two words of tree texts: their content, and their version.
 use Rattle.std.specs.Prelude.{if◌then◌else◌, ℕ, List, Result, Ok, Err, codes, bytes_eq}
 use Rattle.tree_text.specs.declared.error.TreeKind.{TreeKind}
 use Rattle.tree_text.specs.declared.error.TreeKind.TheVariants.{WrongVersion}
@@ -11,7 +11,7 @@ abbrev pub title_word : Title → List ℕ
 title_word title.Tree = codes "cmr-tree"
 title_word title.Pivots = codes "cmr-pivots"
 
--- the title whose word it is
+-- the title with this word
 abbrev pub title_in : List ℕ → Result Title TreeKind
 title_in word =
     if bytes_eq word (title_word title.Tree) then Ok title.Tree
@@ -28,7 +28,7 @@ version_word One = codes "1"
 version_word Two = codes "2"
 version_word Pivoted = codes "1"
 
--- the version whose word it is behind a title
+-- the version with this word after a title
 abbrev pub version_in : Title → List ℕ → Result Version TreeKind
 version_in title.Tree word =
     if bytes_eq word (version_word One) then Ok One

@@ -3,32 +3,32 @@ ghost use Rattle.tree_text.specs.Faults.{tree_kind};
 
 use text_fields::{FieldError, LimitFault, NumberFault};
 
-/// What is wrong with a word of a tree text.
+/// The faults of a word of a tree text.
 #[derive(Clone, Copy, Debug, PartialEq, Eq)]
 pub enum TreeKind {
-    /// It has not the form of a number.
+    /// The word is not a number.
     NotNumber,
-    /// Its value is above 2^31 - 1 in size.
+    /// The absolute value is above 2^31 - 1.
     TooBig,
-    /// It names no kind of node.
+    /// The word names no kind of node.
     UnknownKind,
-    /// The text ends where a word is due.
+    /// The text ends before this word.
     Short,
-    /// It stands behind all that is due.
+    /// The word is after the end of the tree.
     Extra,
-    /// It is not above the number before it.
+    /// The number is not greater than the number before it.
     NotRising,
-    /// It is no line of the matrix, or a number above all that are allowed.
+    /// The number is not a line of the matrix, or it is above its limit.
     OutOfRange,
-    /// It is a line of the matrix, but none of the parent's or of the node's.
+    /// The number is a line of the matrix, but not a line of the parent or of the node.
     NotPart,
-    /// It begins a node that stands too deep.
+    /// The word begins a node that is too deep.
     TooDeep,
-    /// It does not begin a tree text, or begins one of another version.
+    /// The word does not begin a tree text, or begins a tree text of another version.
     WrongVersion,
 }
 
-/// Why a tree text was not read: its first fault with its place, or want of memory.
+/// The error of reading a tree text: its first fault with its position, or out of memory.
 pub type TreeError = FieldError<TreeKind>;
 
 impl From<LimitFault> for TreeKind {

@@ -1,4 +1,4 @@
-// What the next word of a tree text stands for.
+// Reads the next word of a tree text.
 ghost use Rattle.std.specs.Prelude.{◌≤◌, ◌<◌, IfOk, option_copied};
 ghost use Rattle.text_fields.specs.Reading.{field, Reads};
 ghost use Rattle.tree_text.specs.declared.error.TreeKind.TheVariants.{Short};

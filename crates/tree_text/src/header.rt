@@ -1,4 +1,4 @@
-// What a tree text says before its root: its title, its version and the sizes of its matrix.
+// The header of a tree text: its title, its version and the sizes of its matrix.
 ghost use Rattle.std.specs.Prelude.{◌≡◌};
 ghost use Rattle.tree_type.specs.DecompositionTrees.{tree_of};
 ghost use Rattle.tree_text.specs.Versions.{title_word, title_in, title_of, version_word, version_in};
@@ -20,22 +20,22 @@ pub enum Title {
 /// A version of tree texts.
 #[derive(Clone, Copy, Debug, PartialEq, Eq)]
 pub enum Version {
-    /// It has no word for concentrated three-sums.
+    /// Has no word for concentrated three-sums.
     One,
-    /// It has a word for each kind of node but pivoted ones, and trees without these are written in it.
+    /// Has a word for each kind of node except pivoted nodes. Trees without pivoted nodes are written in this version.
     Two,
-    /// It has a word for each kind of node, and trees with pivoted nodes are written in it.
+    /// Has a word for each kind of node. Trees with pivoted nodes are written in this version.
     Pivoted,
 }
 
-/// The version of a text, and the sizes of the matrix that its tree is for.
+/// The version of a text, and the sizes of the matrix of its tree.
 #[derive(Clone, Copy, Debug, PartialEq, Eq)]
 pub struct Header {
     pub version: Version,
     pub sizes: Sizes,
 }
 
-/// The title's word.
+/// The word of a title.
 pub fn title_word(title: Title) -> &'static [u8]
     ensures { result.now ≡ title_word title }
 {
@@ -45,7 +45,7 @@ pub fn title_word(title: Title) -> &'static [u8]
     }
 }
 
-/// The title whose word it is.
+/// The title with this word.
 pub fn title_in(word: &[u8]) -> Result<Title, TreeKind>
     ensures { result ≡ title_in word.now }
 {
@@ -68,7 +68,7 @@ pub fn title_of(version: Version) -> Title
     }
 }
 
-/// The version's word.
+/// The word of a version.
 pub fn version_word(version: Version) -> &'static [u8]
     ensures { result.now ≡ version_word version }
 {
@@ -78,7 +78,7 @@ pub fn version_word(version: Version) -> &'static [u8]
     }
 }
 
-/// The version whose word it is behind a title.
+/// The version with this word after a title.
 pub fn version_in(title: Title, word: &[u8]) -> Result<Version, TreeKind>
     ensures { result ≡ version_in title word.now }
 {

@@ -8,7 +8,7 @@ use crate::header::Version;
 use cmr_base::Form;
 use tree_type::{Kind, Node};
 
-/// What the first word of a node says.
+/// The meaning of the first word of a node.
 #[derive(Clone, Copy, Debug, PartialEq, Eq)]
 pub enum KindWord {
     Empty,
@@ -26,7 +26,7 @@ pub enum KindWord {
     Pivoted,
 }
 
-/// All of them.
+/// All kinds.
 const KIND_WORDS: [KindWord; 16] = [
     KindWord::Empty,
     KindWord::Cycle,
@@ -46,7 +46,7 @@ const KIND_WORDS: [KindWord; 16] = [
     KindWord::Pivoted,
 ];
 
-/// The kind's word.
+/// The word of a kind.
 pub fn word_of(kind: KindWord) -> &'static [u8]
     ensures { result.now ≡ word_of_kind kind }
 {
@@ -70,7 +70,7 @@ pub fn word_of(kind: KindWord) -> &'static [u8]
     }
 }
 
-/// The kind whose word it is in texts of this version.
+/// The kind with this word in texts of this version.
 pub fn kind_in(version: Version, word: &[u8]) -> Result<KindWord, TreeKind>
     ensures { result ≡ kind_in version word.now }
 {
@@ -82,7 +82,7 @@ pub fn kind_in(version: Version, word: &[u8]) -> Result<KindWord, TreeKind>
     }
 }
 
-// Version 1 has no word for concentrated three-sums, and only texts of pivots have one for pivoted nodes.
+// Version 1 has no word for concentrated three-sums. Only texts of pivots have a word for pivoted nodes.
 fn has_word(version: Version, kind: KindWord) -> bool
     ensures { result ≡ has_word version kind }
 {

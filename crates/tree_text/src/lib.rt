@@ -1,4 +1,4 @@
-//! The text of decomposition trees: read to the first fault, and written in its canonical form.
+//! The text of decomposition trees, read up to the first fault and written in canonical form.
 #![tactic(auto)]
 
 mod error;

@@ -1,4 +1,4 @@
-// What a node says of its lines.
+// Reads the finding of a node.
 ghost use Rattle.std.specs.Prelude.{◌≡◌, ◌≤◌, [], IfOk, option_copied, length};
 ghost use Rattle.cmr_base.specs.Separations.{first_is_flat, second_is_flat};
 ghost use Rattle.text_fields.specs.Reading.{times, fields, Reads};
@@ -21,14 +21,14 @@ use std::alloc::Global;
 use text_fields::Words;
 use tree_type::{Finding, PlacedPivot};
 
-/// What a node says, and how many children it has.
+/// The finding of a node, and the number of its children.
 #[derive(Debug, Drop)]
 pub struct OwnPart {
     pub finding: Finding,
     pub children: u32,
 }
 
-/// What stands in front of a node's children.
+/// The part of a node before its children.
 #[derive(Debug, Drop)]
 pub struct Opening {
     pub lines: LineSet,
@@ -36,7 +36,7 @@ pub struct Opening {
     pub children: u32,
 }
 
-/// Two counts, and so many rows and so many columns of the matrix, which are among the lines of a whole.
+/// Two counts, then the rows and the columns. They are lines of the matrix and of `whole`, if it is given.
 pub fn read_line_set(
     alloc: Global,
     words: &mut Words<'_>,
@@ -195,7 +195,7 @@ fn read_place(
     Ok(PlacedPivot { row, column })
 }
 
-/// What a node of this kind says of its lines, and how many children it has.
+/// The finding of a node of this kind, and the number of its children.
 pub fn read_own_part(
     alloc: Global,
     words: &mut Words<'_>,

@@ -1,4 +1,4 @@
-// Reading of trees.
+// Reads trees.
 ghost use Rattle.std.specs.Prelude.{◌≡◌, ◌≤◌, ◌<◌, ◌++◌, ◌∷◌, [], Some, None, map, length, OnOk, option_copied};
 ghost use Rattle.text_fields.specs.TextWords.{text_of};
 ghost use Rattle.text_fields.specs.Reading.{field, Fails, Gives, Reads};
@@ -17,7 +17,7 @@ use std::alloc::Global;
 use text_fields::Words;
 use tree_type::{DecTree, Node, join_node};
 
-/// The tree that a text stands for, or the text's first fault.
+/// The tree that a text represents, or the text's first fault.
 pub fn read_tree(alloc: Global, bytes: &[u8]) -> Result<DecTree, TreeError>
     ensures { Gives plain_of result (tree (text_of bytes.now)) }
 {
@@ -35,7 +35,7 @@ pub fn read_tree(alloc: Global, bytes: &[u8]) -> Result<DecTree, TreeError>
     Ok(DecTree::make(rows, columns, root))
 }
 
-// Reads the node at the root and the nodes below it, on at most so many levels.
+// Reads the root and the nodes below it, on at most `levels` levels.
 fn read_root(
     alloc: Global,
     words: &mut Words<'_>,
@@ -54,8 +54,8 @@ fn read_root(
     Ok(root)
 }
 
-// Reads a node and the nodes below it, on at most so many levels, and puts it behind the nodes that were read. The
-// recursion goes by the ordinary stack: what is large stands on the heap.
+// Reads a node and the nodes below it, on at most `levels` levels, and appends the node to the nodes read so far. The recursion
+// uses the ordinary stack; large values are on the heap.
 fn read_node(
     alloc: Global,
     words: &mut Words<'_>,
@@ -91,7 +91,7 @@ fn read_node(
     Ok(())
 }
 
-// Joins a node from its opening and its children, and puts it behind others.
+// Joins a node from its opening and its children, and appends it to the others.
 fn push_node(
     alloc: Global,
     opening: Box<Opening>,
@@ -110,7 +110,7 @@ fn push_node(
     Ok(())
 }
 
-// The fault where a node begins and no further level is allowed.
+// The fault of a node that begins at a level that is not allowed.
 fn too_deep(words: &mut Words<'_>) -> TreeError
     ensures { Fails result (field Short too_deep words.old) }
 {

@@ -1,4 +1,4 @@
-// What a word of a tree text stands for.
+// The values of the words of a tree text.
 ghost use Rattle.std.specs.Prelude.{◌≡◌, ◌≤◌, ◌<◌, IfOk, option_copied};
 ghost use Rattle.tree_text.specs.TreeValues.{limited, line_in, among, line_of, next_line, step_in};
 
@@ -6,14 +6,14 @@ use crate::TreeKind;
 use cmr_base::{Indices, Line, LineSet};
 use tree_type::has_line;
 
-/// The sizes of the matrix that a tree is for.
+/// The sizes of the matrix of a tree.
 #[derive(Clone, Copy, Debug, PartialEq, Eq)]
 pub struct Sizes {
     pub rows: u32,
     pub columns: u32,
 }
 
-/// A count of at most `most`.
+/// A count up to `most`.
 pub fn limited(word: &[u8], most: u32) -> Result<u32, TreeKind>
     ensures value { result ≡ limited most word.now }
     ensures within { IfOk result (λ n. n ≤ most) }
@@ -21,7 +21,7 @@ pub fn limited(word: &[u8], most: u32) -> Result<u32, TreeKind>
     Ok(text_fields::limited(word, most)?)
 }
 
-/// One of so many lines.
+/// The number of a line, from 1 to `most`, as a line counted from 0.
 pub fn line_in(word: &[u8], most: u32) -> Result<u32, TreeKind>
     ensures value { result ≡ line_in most word.now }
     ensures within { IfOk result (λ line. line < most) }
@@ -29,7 +29,7 @@ pub fn line_in(word: &[u8], most: u32) -> Result<u32, TreeKind>
     Ok(text_fields::line_in(word, most)? - 1)
 }
 
-/// The line, where it is one of these.
+/// The line, if it is one of these lines.
 pub fn among(line: u32, lines: Option<&Indices>) -> Result<u32, TreeKind>
     ensures value { result ≡ among (option_copied lines.entry) line }
     ensures same { IfOk result (λ found. found ≡ line) }
@@ -48,7 +48,7 @@ pub fn line_of(word: &[u8], most: u32, lines: &Indices) -> Result<u32, TreeKind>
     among(line_in(word, most)?, Some(lines))
 }
 
-/// The next line of a increasing list. The last line before it has the number `before`, counted from 1.
+/// The next line of an increasing list. The line before it has the number `before`, counted from 1.
 pub fn next_line(
     word: &[u8],
     most: u32,
@@ -67,7 +67,7 @@ pub fn next_line(
     }
 }
 
-/// A row or a column of the node, by its letter and its number.
+/// A row or a column of the node, given by its letter and its number.
 pub fn step_in(word: &[u8], sizes: Sizes, lines: &LineSet) -> Result<Line, TreeKind>
     ensures { result ≡ step_in sizes lines.now word.now }
 {

@@ -1,4 +1,4 @@
-// Writing of trees.
+// Writes trees.
 ghost use Rattle.std.specs.Prelude.{◌≡◌, ◌≤◌, ◌+◌, ◌++◌, ◌∷◌, [], false, fold, length, map, Ok, IfOk, OnOk};
 ghost use Rattle.std.specs.Fmt.{decimal};
 ghost use Rattle.std.specs.List.{flat_map};
@@ -18,14 +18,14 @@ use std::alloc::Global;
 use text_fields::{Writer, push_line_name};
 use tree_type::{DecTree, Kind, Node, PlacedPivot};
 
-/// The canonical text of a tree: in version 2, or a text of pivots where a node is pivoted.
+/// The canonical text of a tree: in version 2, or a text of pivots if a node is pivoted.
 pub fn write_tree(alloc: Global, tree: &DecTree) -> Result<Vec<u8>, Memory>
     ensures text { IfOk result (λ v. v.items ≡ tree_text tree.now.rows tree.now.columns
         (tree_of tree.now.root)) }
-    // It is read again as the same tree.
+    // Reading gives the same tree.
     ensures again { IfOk result (λ v. reading.tree (text_of v.items)
         ≡ Ok (reading.plain_of tree.now)) }
-    // It has a byte or more for each node.
+    // The text has at least one byte for each node.
     ensures nodes { IfOk result (λ v. node_count (tree_of tree.now.root) ≤ length v.items) }
 {
     let mut text = Writer::new(alloc);
@@ -79,7 +79,7 @@ fn write_node(alloc: Global, text: &mut Writer, node: &Node) -> Result<(), Memor
     }
 }
 
-// A line with the node's kind and its lines, and one with its own part.
+// A line with the node's kind and its lines, and a line with its own part.
 fn write_opening(alloc: Global, text: &mut Writer, node: &Node) -> Result<(), Memory>
     requires { text.old.is_begun ≡ false }
     ensures lines { OnOk result (text.new ≡ fold with_line text.old (opening_lines
@@ -195,7 +195,7 @@ fn write_connector(text: &mut Writer, connector: Connector) -> Result<(), Memory
     write_line(text, connector.other)
 }
 
-// How many rows and columns there are, the rows, the columns.
+// The number of rows and of columns, the rows, and the columns.
 fn write_set(text: &mut Writer, lines: &LineSet) -> Result<(), Memory>
     ensures { OnOk result (text.new ≡ fold with_word text.old (set_words lines.now)) }
 {

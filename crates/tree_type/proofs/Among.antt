@@ -1,4 +1,4 @@
--- Lines that are among some lines.
+-- Lines that are members of lists of lines.
 use Rattle.std.proofs.Common.{◌≡◌, ◌<◌, ◌≤◌, ◌||◌, inl, inr, ℕ, true, false, not, eqb, List, [], ◌∷◌, length, get_or, Contains, Result, Ok, Err, is_ok, ap, sym, subst, arith, eqb-true}
 use Rattle.std.proofs.lemmas.Bool.{eq-eqb, cases_lt}
 use Rattle.std.specs.List.Sorted.{IsStrictlyIncreasing, IsBinarySearchResult}
@@ -38,7 +38,7 @@ rises xs up i j le lt = elim (cases_lt i j) [
   | inr l ↦ let same : i ≡ j = omega (arith, l, le) in let e = ap (λ k. get_or xs k 0) same in omega (arith, e)
 ]
 
--- a search by halves finds what is there
+-- a binary search finds each member
 pub searched_among : (xs : List ℕ) (x : ℕ) (r : Result ℕ ℕ) → IsStrictlyIncreasing xs → IsBinarySearchResult (λ y. nat_cmp y x) xs r → is_ok r ≡ is_among xs x
 searched_among xs x (Ok i) up h = let at = searched xs x (Ok i) h (rises xs up) in sym (in_among xs x (subst (λ (y : ℕ). IsIn y xs) at.1 (in-get_or xs i at.0)))
 searched_among xs x (Err i) up h = let parted = searched xs x (Err i) h (rises xs up) in sym (not_in xs x (λ g. apart parted.1 parted.2 (place_of x xs) (place_is x xs g).in_range (place_is x xs g).there))
@@ -49,7 +49,7 @@ searched_among xs x (Err i) up h = let parted = searched xs x (Err i) h (rises x
       | inr a ↦ let high = after k a l in omega (arith, high, e)
     ]
 
--- no line more
+-- no further lines
 pub inside_alone : (set xs : List ℕ) → inside_with set [] xs ≡ inside set xs
 inside_alone set xs = filter_same (λ x. is_among set x || false) (is_among set) (λ x. or_false (is_among set x)) xs
 

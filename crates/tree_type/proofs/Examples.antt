@@ -1,4 +1,4 @@
--- Small trees that keep the rules, and some that break one.
+-- Small trees that keep the rules, and trees that break one.
 use Rattle.std.proofs.Common.{◌≡◌, ◌<◌, ℕ, zero, suc, pos, List, [], ◌∷◌, map, Contains, length, refl, ap, arith, sym}
 use Rattle.std.proofs.lemmas.Int.{ints}
 use Rattle.cmr_base.specs.declared.separation.Two.{Two}
@@ -25,7 +25,7 @@ unit_matrix = record { rows = (pos 1 ∷ pos 0 ∷ []) ∷ (pos 0 ∷ pos 1 ∷ 
 abbrev ones : Matrix
 ones = record { rows = (pos 1 ∷ pos 1 ∷ []) ∷ (pos 1 ∷ pos 1 ∷ []) ∷ []; width = 2 }
 
--- all lines are removed, rows first, and nothing is left
+-- all lines are removed, rows first, and none remains
 abbrev reduced : Tree
 reduced = Branch both (Reduced (Row 0 ∷ Row 1 ∷ Column 0 ∷ Column 1 ∷ [])) (one_tree (Branch (lines [] []) Empty NoTrees))
 
@@ -55,7 +55,7 @@ reduced_sound = (root, (child, tt))
     child rule.NotEmpty = refl
     child _ = tt
 
--- in a matrix of ones the second row alone has two nonzeros
+-- in a matrix of ones, the second row has two nonzeros, so it is not reducible after the first row is removed
 reduced_broken : IsBrokenTree ones 2 2 reduced [] rule.NotReducible
 reduced_broken = record {
   before = [];
@@ -139,7 +139,7 @@ joined_broken = record {
     kept rule.Lines l = absurd (omega (arith, l))
     kept _ l = tt
 
--- a one-sum of one child is none
+-- one child does not make a one-sum
 lone_broken : (m : Matrix) → m ≡ record { rows = [] ∷ []; width = 0 } → IsBrokenTree m 1 0 (Branch (lines (0 ∷ []) []) OneSum (one_tree (Branch (lines [] []) Empty NoTrees))) [] rule.NotApart
 lone_broken m e = record {
   before = [];

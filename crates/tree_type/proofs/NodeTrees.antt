@@ -16,7 +16,7 @@ use Rattle.tree_type.specs.declared.tree.Kind.TheOpen as open'
 use Rattle.tree_type.specs.declared.tree.Kind.TheVariants as kind
 use Rattle.tree_type.specs.DecompositionTrees.{Finding, Empty, Cycle, Reduced, OneSum, TwoSum, ThreeSum, Violator, Pivoted, Tree, Trees, Branch, NoTrees, one_tree, two_trees, kind_step, node_step, list_step, tree_of, trees_of}
 
--- what a kind says, and the trees of the children
+-- the finding of a kind, and the trees of the children
 abbrev pub said : Kind → Finding × Trees
 said = fold-Kind (Finding × Trees) Tree Trees kind_step node_step list_step
 

@@ -1,4 +1,4 @@
--- The rules on the sides of a sum say that its lines have a separation.
+-- If the sides of a sum keep the rules, its lines have a separation.
 use Rattle.std.proofs.Common.{◌≡◌, ◌≤◌, ◌+◌, ◌∙◌, ◌||◌, ◌↔◌, ℕ, ℤ, Bool, true, false, not, nat_eq, filter, List, [], ◌∷◌, length, Contains, ap, ap₂, sym, subst, refl}
 use Rattle.std.specs.List.{list_any}
 use Rattle.cmr_base.specs.declared.line.Line.TheVariants.{Row, Column}

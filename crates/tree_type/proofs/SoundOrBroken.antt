@@ -10,7 +10,7 @@ use Rattle.tree_type.specs.Soundness.{Keeps, KeepsAll, rule_number, BreaksFirst,
 use Rattle.tree_type.proofs.OneRefusal.{same_rule}
 
 module _ (m : Matrix) (place : Place) (none : (broken : Rule) → ¬ (BreaksFirst m place broken)) where
-  -- all rules with a number below are kept
+  -- all rules with lower numbers are kept
   abbrev KeepsBelow : ℕ → Type 0
   KeepsBelow n = (earlier : Rule) → rule_number earlier < n → Keeps m place earlier
 

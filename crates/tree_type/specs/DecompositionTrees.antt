@@ -11,7 +11,7 @@ use Rattle.tree_type.specs.declared.tree.Kind.TheOpen as open'
 use Rattle.tree_type.specs.declared.tree.Kind.TheFolds.{fold-Node, fold-NodeList}
 use Rattle.tree_type.specs.declared.tree.NodeList.{NodeList, out-NodeList}
 
--- what a node says of the submatrix on its lines
+-- the finding of a node about the submatrix on its lines
 pub data Finding : Type 0 where
   Empty : Finding
   Cycle : LineSet → Finding
@@ -28,7 +28,7 @@ pub data Finding : Type 0 where
   Pivoted : PlacedPivot → Finding
 
 mutual
-  -- a node: its lines, what it says of them, and its children
+  -- a node: its lines, its finding, and its children
   pub data Tree : Type 0 where
     Branch : LineSet → Finding → Trees → Tree
 
@@ -52,7 +52,7 @@ one_tree tree = MoreTrees tree NoTrees
 abbrev pub two_trees : Tree → Tree → Trees
 two_trees one two = MoreTrees one (one_tree two)
 
--- what a kind says, and the trees of its children
+-- the finding of a kind, and the trees of its children
 abbrev pub kind_step : open'.Kind-F (Finding × Trees) Tree Trees → Finding × Trees
 kind_step open'.Empty = (Empty, NoTrees)
 kind_step (open'.Cycle fault) = (Cycle fault, NoTrees)

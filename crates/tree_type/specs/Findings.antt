@@ -1,4 +1,4 @@
--- What a node says, as the code holds it and as a plain value.
+-- The finding of a node, in the code's form and as a plain value.
 use Rattle.tree_type.specs.DecompositionTrees.{Finding, Empty, Cycle, Reduced, OneSum, Network, Conetwork, R10, TwoSum, ThreeSum, Enumerated, Violator, Undecided, Pivoted}
 use Rattle.tree_type.specs.declared.finding.Finding.{Finding as Held}
 use Rattle.tree_type.specs.declared.finding.Finding.TheVariants as held

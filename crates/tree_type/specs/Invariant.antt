@@ -1,4 +1,4 @@
--- What every decomposition tree is.
+-- The properties of every decomposition tree.
 use Rattle.std.specs.Prelude.{◌≡◌, ◌≤◌, ◌<◌, ◌+◌, ◌-◌, ℕ, length, Contains}
 use Rattle.std.specs.List.{AllByRecursion}
 use Rattle.std.specs.List.Sorted.{IsStrictlyIncreasing}
@@ -17,14 +17,14 @@ pub record AreLines (m : Matrix) (lines : LineSet) : Type 0 where
   pub rows : IsRowSet m lines.rows
   pub columns : IsColumnSet m lines.columns
 
--- increasing lists of rows and of columns that are among those of the second
+-- increasing lists of rows and of columns that are subsets of the second set
 pub record AreLinesOf (part whole : LineSet) : Type 0 where
   pub rows_rise : IsStrictlyIncreasing part.rows
   pub columns_rise : IsStrictlyIncreasing part.columns
   pub rows : (row : ℕ) → Contains part.rows row → Contains whole.rows row
   pub columns : (column : ℕ) → Contains part.columns column → Contains whole.columns column
 
--- so many arcs and walks, and nodes of a tree with so many arcs
+-- this number of arcs and of walks, between nodes of a tree with this number of arcs
 pub record HasArcsAndWalks (arcs walks : ℕ) (n : net.Network) : Type 0 where
   pub arc_count : length n.arcs ≡ arcs
   pub walk_count : length n.walks ≡ walks
@@ -34,7 +34,7 @@ pub record HasArcsAndWalks (arcs walks : ℕ) (n : net.Network) : Type 0 where
 abbrev pub size_of : LineSet → ℕ
 size_of lines = length lines.rows + length lines.columns
 
--- the lines that a node names in what it says are lines of the node, and its lists are as long as its lines allow
+-- the lines in the finding of a node are lines of the node, and its lists have the lengths that these lines allow
 abbrev pub FitsLines : LineSet → Finding → Trees → Type 0
 FitsLines lines (Cycle fault) trees = AreLinesOf fault lines
 FitsLines lines (Violator fault) trees = AreLinesOf fault lines
@@ -49,7 +49,7 @@ FitsLines lines (ThreeSum three) trees = AreLinesOf three.side lines
 FitsLines lines (Pivoted place) trees = Contains lines.rows place.row × Contains lines.columns place.column
 FitsLines lines finding trees = Unit {0}
 
--- how many children a node has
+-- the number of children that a finding requires
 abbrev pub HasChildren : Finding → ℕ → Type 0
 HasChildren (Reduced steps) count = count ≡ 1
 HasChildren OneSum count = Unit {0}
@@ -59,7 +59,8 @@ HasChildren (Pivoted place) count = count ≡ 1
 HasChildren finding count = count ≡ 0
 
 abbrev mutual
-  -- the node has lines of its parent, what it says fits them, and so do its children and theirs, down to at most so many levels
+  -- the node has lines of its parent, its finding fits them, and the same is true of all nodes below it, on at most `levels`
+  -- levels
   pub IsTreeWithin : LineSet → ℕ → Tree → Type 0
   IsTreeWithin parent levels (Branch lines finding trees) =
       (0 < levels) × AreLinesOf lines parent × FitsLines lines finding trees × HasChildren finding (count_trees trees) × AreTreesWithin lines (levels - 1) trees
@@ -68,7 +69,7 @@ abbrev mutual
   AreTreesWithin parent levels NoTrees = Unit {0}
   AreTreesWithin parent levels (MoreTrees tree trees) = IsTreeWithin parent levels tree × AreTreesWithin parent levels trees
 
--- a tree for a matrix of at most 1,000 rows and columns, whose nodes stand no deeper than 2,000
+-- a tree for a matrix of at most 1,000 rows and columns, with nodes of depth at most 2,000
 pub record IsTreeFor (rows columns : ℕ) (tree : Tree) : Type 0 where
   pub rows_in : rows ≤ MAX_ROWS
   pub columns_in : columns ≤ MAX_COLUMNS
@@ -76,6 +77,6 @@ pub record IsTreeFor (rows columns : ℕ) (tree : Tree) : Type 0 where
   pub root_columns : AllBelow columns (lines_at_root tree).columns
   pub nodes : IsTreeWithin (lines_at_root tree) (MAX_DEPTH + 1) tree
 
--- what every decomposition tree is
+-- the invariant of every decomposition tree
 abbrev pub IsDecTree : SizedTree → Type 0
 IsDecTree tree = IsTreeFor tree.rows tree.columns (tree_of tree.root)

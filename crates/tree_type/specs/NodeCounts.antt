@@ -1,4 +1,4 @@
--- How many nodes a tree has.
+-- The number of nodes of a tree.
 use Rattle.std.specs.Prelude.{◌+◌, ℕ, suc}
 use Rattle.tree_type.specs.DecompositionTrees.{Tree, Trees, Branch, NoTrees, MoreTrees}
 

@@ -1,4 +1,4 @@
--- The nodes of a tree in preorder, each with its path, with the lines that it is to have, and with the pivots above it.
+-- The nodes of a tree in preorder, each with its path, the lines that it must have, and the pivots above it.
 use Rattle.std.specs.Prelude.{ℕ, zero, suc, List, [], ◌∷◌, ◌++◌}
 use Rattle.cmr_base.specs.declared.line.Line.{Line}
 use Rattle.cmr_base.specs.declared.line_set.LineSet.{LineSet}
@@ -9,8 +9,8 @@ use Rattle.pivots.specs.PivotedParts.{pivoted_part}
 use Rattle.tree_type.specs.Sides.{two_one, two_two, three_one, three_two}
 use Rattle.tree_type.specs.DecompositionTrees.{Finding, Reduced, TwoSum, ThreeSum, Pivoted, Tree, Trees, Branch, NoTrees, MoreTrees, lines_at_root}
 
--- the lines that a node is to have: the root all lines of a matrix of these sizes, a child those that its parent gives it, and a
--- child of a one-sum none that are named here
+-- The lines that a node must have. The root must have all lines of a matrix of these sizes, and a child the lines that its
+-- parent gives it. The parent names no lines for a child of a one-sum.
 pub data Due : Type 0 where
   AllLines : ℕ → ℕ → Due
   These : LineSet → Due
@@ -21,7 +21,7 @@ pub record MadePivot : Type 0 where
   pub lines : LineSet
   pub place : PlacedPivot
 
--- the matrix after some pivots, of which the last one stands first
+-- the matrix after a list of pivots, the last of which is the first of the list
 abbrev pub matrix_after : Matrix → List MadePivot → Matrix
 matrix_after m [] = m
 matrix_after m (last ∷ pivots) = pivoted_part (matrix_after m pivots) last.lines last.place
@@ -34,12 +34,12 @@ pub record Place : Type 0 where
   pub finding : Finding
   pub children : List LineSet
 
--- what some removals leave
+-- the lines that remain after some removals
 abbrev pub lines_left : LineSet → List Line → LineSet
 lines_left lines [] = lines
 lines_left lines (line ∷ steps) = lines_left (record { rows = rows_without lines.rows line; columns = columns_without lines.columns line }) steps
 
--- the lines that a child is to have, by its number
+-- the lines that a child must have, by its number
 abbrev pub due_child : LineSet → Finding → ℕ → Due
 due_child lines (Reduced steps) k = These (lines_left lines steps)
 due_child lines (TwoSum two) zero = These (two_one lines two)
@@ -49,7 +49,7 @@ due_child lines (ThreeSum three) (suc k) = These (three_two lines three)
 due_child lines (Pivoted place) k = These lines
 due_child lines finding k = Unnamed
 
--- the pivots above the children of a node: those above it, and its own
+-- the pivots above the children of a node: the pivots above the node, and its own pivot
 abbrev pub pivots_below : LineSet → Finding → List MadePivot → List MadePivot
 pivots_below lines (Pivoted place) pivots = record { lines = lines; place = place } ∷ pivots
 pivots_below lines finding pivots = pivots
@@ -59,13 +59,13 @@ lines_of_each NoTrees = []
 lines_of_each (MoreTrees tree trees) = lines_at_root tree ∷ lines_of_each trees
 
 abbrev mutual
-  -- a node, and behind it the nodes below it
+  -- a node, followed by the nodes below it
   pub places_from : List ℕ → List MadePivot → Due → Tree → List Place
   places_from path pivots due (Branch lines finding trees) =
       record { path = path; pivots = pivots; due = due; lines = lines; finding = finding; children = lines_of_each trees }
       ∷ places_below path (pivots_below lines finding pivots) lines finding 0 trees
 
-  -- the nodes in the trees of a node's children, from child k on, below these pivots
+  -- the nodes in the trees of a node's children from child k on, below these pivots
   pub places_below : List ℕ → List MadePivot → LineSet → Finding → ℕ → Trees → List Place
   places_below path pivots lines finding k NoTrees = []
   places_below path pivots lines finding k (MoreTrees tree trees) =

@@ -1,4 +1,4 @@
--- What the rules on the sides of a sum say in the words of separations.
+-- The rules on the sides of a sum, in terms of separations.
 use Rattle.std.specs.Prelude.{◌≡◌, ◌↔◌, ℕ, ℤ, [], ◌∷◌}
 use Rattle.cmr_base.specs.declared.line.Line.TheVariants.{Row, Column}
 use Rattle.cmr_base.specs.declared.line_set.LineSet.{LineSet}
@@ -7,21 +7,21 @@ use Rattle.cmr_base.specs.declared.separation.Three.{Three}
 use Rattle.cmr_base.specs.Separations.{Lines, listed, rows_in, columns_in, child_one, child_two, connector_lines, first_is_flat, second_is_flat, IsTwoSeparation, IsThreeSeparation}
 use Rattle.tree_type.specs.Sides.{sides, HaveLines, IsReference, AreTwoBlocks, two_one, two_two, AreConnectorsOfSides, AreThreeBlocks, three_one, three_two}
 
--- side one, as a test
+-- the predicate of side one
 abbrev pub side_one : LineSet → Lines
 side_one set = listed set.rows set.columns
 
--- those of some lines that are in a set
+-- the lines that are in a set
 abbrev pub lines_kept : Lines → LineSet → LineSet
 lines_kept set lines = record { rows = rows_in set lines.rows; columns = columns_in set lines.columns }
 
--- a two-sum keeps the rules on its sides exactly where its lines have this two-separation
+-- a two-sum keeps the rules on its sides if and only if its lines have this two-separation
 abbrev pub TwoSumsSeparate : Type 0
 TwoSumsSeparate = (M : ℕ → ℕ → ℤ) (lines : LineSet) (two : Two)
     → (HaveLines 2 (sides lines two.side) × IsReference M (sides lines two.side) two.row two.column × AreTwoBlocks M (sides lines two.side) two.row two.column)
     ↔ IsTwoSeparation M lines.rows lines.columns (side_one two.side) two.row two.column
 
--- a three-sum keeps the rules on its sides exactly where its lines have this three-separation
+-- a three-sum keeps the rules on its sides if and only if its lines have this three-separation
 abbrev pub ThreeSumsSeparate : Type 0
 ThreeSumsSeparate = (M : ℕ → ℕ → ℤ) (lines : LineSet) (t : Three)
     → (HaveLines 4 (sides lines t.side) × AreConnectorsOfSides M (sides lines t.side) t × AreThreeBlocks M (sides lines t.side) t)

@@ -1,5 +1,5 @@
--- The sides of the separations that nodes name, as lists of lines, and what each rule demands of them. Where all of them hold the
--- lines have a separation.
+-- The sides of the separations that nodes name, as lists of lines, and the demands of each rule. If a sum keeps all these
+-- rules, its lines have a separation.
 use Rattle.std.specs.Prelude.{◌≡◌, ◌≢◌, ◌≤◌, ◌+◌, ◌==◌, not, ◌||◌, Bool, true, false, ℕ, ℤ, pos, List, [], ◌∷◌, length, filter, Contains}
 use Rattle.std.specs.List.{list_any}
 use Rattle.cmr_base.specs.declared.line_set.LineSet.{LineSet}
@@ -13,14 +13,14 @@ use Rattle.cmr_base.specs.Separations.{product_at, first_is_flat, second_is_flat
 abbrev pub is_among : List ℕ → ℕ → Bool
 is_among lines line = list_any (λ other. line == other) lines
 
--- the lines that are in a set, and those that are not
+-- the lines in a set, and the lines outside it
 abbrev pub inside : List ℕ → List ℕ → List ℕ
 inside set lines = filter (is_among set) lines
 
 abbrev pub outside : List ℕ → List ℕ → List ℕ
 outside set lines = filter (λ line. not (is_among set line)) lines
 
--- the same with some lines more
+-- the same with further lines
 abbrev pub inside_with : List ℕ → List ℕ → List ℕ → List ℕ
 inside_with set more lines = filter (λ line. is_among set line || is_among more line) lines
 
@@ -34,7 +34,7 @@ pub record Sides : Type 0 where
   pub rows_two : List ℕ
   pub columns_two : List ℕ
 
--- side one has the lines that are in the set, side two the others
+-- side one has the lines in the set, and side two has the others
 abbrev pub sides : LineSet → LineSet → Sides
 sides lines one = record {
   rows_one = inside one.rows lines.rows;
@@ -43,17 +43,17 @@ sides lines one = record {
   columns_two = outside one.columns lines.columns;
 }
 
--- at least so many lines on each side
+-- each side has at least `low` lines
 pub record HaveLines (low : ℕ) (s : Sides) : Type 0 where
   pub one : low ≤ length s.rows_one + length s.columns_one
   pub two : low ≤ length s.rows_two + length s.columns_two
 
--- each entry of these rows and columns is as it is to be
+-- each entry of these rows and columns has a given value
 abbrev pub AreEntries : (ℕ → ℕ → ℤ) → List ℕ → List ℕ → (ℕ → ℕ → ℤ) → Type 0
 AreEntries M rows columns to_be = (r c : ℕ) → Contains rows r → Contains columns c → M r c ≡ to_be r c
 
--- Two-separations: the rows of side one are 0 in the columns of side two, and the other block is made from one row
--- and one column of it that cross in a nonzero.
+-- Two-separations: the rows of side one are 0 in the columns of side two. The other block is made from one row and one column
+-- of it that cross in a nonzero.
 
 pub record IsReference (M : ℕ → ℕ → ℤ) (s : Sides) (i j : ℕ) : Type 0 where
   pub row : Contains s.rows_two i
@@ -77,9 +77,9 @@ two_two lines two = record {
   columns = outside_with two.side.columns (two.column ∷ []) lines.columns;
 }
 
--- Three-separations: both blocks are made from the connectors, as the form says.
+-- Three-separations: both blocks are made from the connectors, as the form requires.
 
--- a row, a column and one more line of a side: a column where the connector is flat, a row where it is tall
+-- a row, a column and a further line of a side: a column if the connector is flat, a row if it is tall
 abbrev pub HasConnector : Bool → List ℕ → List ℕ → Connector → Type 0
 HasConnector true rows columns c = Contains rows c.row × Contains columns c.column × Contains columns c.other
 HasConnector false rows columns c = Contains rows c.row × Contains columns c.column × Contains rows c.other
@@ -98,7 +98,7 @@ pub record AreConnectorsOfSides (M : ℕ → ℕ → ℤ) (s : Sides) (t : Three
   pub second : HasConnector (second_is_flat t.form) s.rows_two s.columns_two t.second
   pub values : separations.AreConnectors M t.form t.first t.second
 
--- the signs of the corners, where the form has them
+-- the signs of the corners, if the form has them
 abbrev pub HasCornerSign : (ℕ → ℕ → ℤ) → Three → Type 0
 HasCornerSign M t = HaveCornerSign M t.form t.first t.second
 

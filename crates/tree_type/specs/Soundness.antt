@@ -20,7 +20,7 @@ use Rattle.tree_type.specs.DecompositionTrees.{Finding, Empty, Cycle, Reduced, O
 use Rattle.tree_type.specs.Invariant.{size_of}
 use Rattle.tree_type.specs.Places.{Due, AllLines, These, Unnamed, MadePivot, matrix_after, Place, places}
 
--- the submatrix on some lines
+-- the submatrix on these lines
 abbrev pub part : Matrix → LineSet → Matrix
 part m lines = submatrix m lines.rows lines.columns
 
@@ -30,20 +30,20 @@ HasItsSizes m (AllLines rows columns) = (rows ≡ height m) × (columns ≡ m.wi
 HasItsSizes m (These lines) = Unit {0}
 HasItsSizes m Unnamed = Unit {0}
 
--- the node has the lines that it is to have
+-- the node has the lines that it must have
 abbrev pub HasItsLines : Due → LineSet → Type 0
 HasItsLines (AllLines rows columns) lines = (lines.rows ≡ first_lines rows) × (lines.columns ≡ first_lines columns)
 HasItsLines (These due) lines = (lines.rows ≡ due.rows) × (lines.columns ≡ due.columns)
 HasItsLines Unnamed lines = Unit {0}
 
--- removed in this order, each line stays until its turn and is then reducible
+-- each of these lines is present when it is removed in this order, and it is reducible then
 abbrev pub AreReductions : (ℕ → ℕ → ℤ) → List ℕ → List ℕ → List Line → Type 0
 AreReductions M rows columns [] = Unit {0}
 AreReductions M rows columns (line ∷ lines) =
     HasLine rows columns line × IsSome (line_reason false M rows columns line)
     × AreReductions M (rows_without rows line) (columns_without columns line) lines
 
--- two or more children, each with a line; each line of the node is in exactly one, and each nonzero is in one of them
+-- two or more children, each with a line; each line of the node is in exactly one child, and each nonzero is in a child
 pub record AreApart (M : ℕ → ℕ → ℤ) (lines : LineSet) (children : List LineSet) : Type 0 where
   pub two : 2 ≤ length children
   pub filled : AllByRecursion (λ child. 0 < size_of child) children
@@ -52,7 +52,7 @@ pub record AreApart (M : ℕ → ℕ → ℤ) (lines : LineSet) (children : List
   pub nonzeros : (row column : ℕ) → Contains lines.rows row → Contains lines.columns column → M row column ≢ pos 0
       → list_any (λ child. is_among child.rows row && is_among child.columns column) children ≡ true
 
--- What a rule demands of a node by what it says. It demands nothing of the others.
+-- the demands of a rule on the finding of a node; a rule demands nothing of other findings
 abbrev pub Demands : Rule → Matrix → LineSet → Finding → List LineSet → Type 0
 Demands rule.NotEmpty m lines Empty children = size_of lines ≡ 0
 Demands rule.NotViolator m lines (Cycle fault) children = IsViolator (entry m) fault.rows fault.columns
@@ -75,7 +75,7 @@ Demands rule.NotClean m lines Enumerated children = HasNoViolator (part m lines)
 Demands rule.NotPivot m lines (Pivoted place) children = (entry m place.row place.column ≢ pos 0) × IsTernaryPivot m lines place
 Demands other m lines finding children = Unit {0}
 
--- Below a pivot no node names a fault or leaves its lines open: a fault would be one of the pivoted matrix.
+-- Below a pivot no node names a fault or leaves its lines open, since its fault would be a fault of the pivoted matrix.
 abbrev pub MayStand : List MadePivot → Finding → Type 0
 MayStand [] finding = Unit {0}
 MayStand pivots (Cycle fault) = ⊥
@@ -83,7 +83,7 @@ MayStand pivots (Violator fault) = ⊥
 MayStand pivots Undecided = ⊥
 MayStand pivots finding = Unit {0}
 
--- a node keeps a rule, of the matrix after the pivots above it
+-- a node keeps a rule for the matrix after the pivots above it
 abbrev pub Keeps : Matrix → Place → Rule → Type 0
 Keeps m place rule.Size = HasItsSizes m place.due
 Keeps m place rule.Lines = HasItsLines place.due place.lines
@@ -97,7 +97,7 @@ KeepsAll m place = (rule : Rule) → Keeps m place rule
 abbrev pub IsSoundTree : Matrix → ℕ → ℕ → Tree → Type 0
 IsSoundTree m rows columns tree = AllByRecursion (KeepsAll m) (places rows columns tree)
 
--- the order in which the rules are tried
+-- the order in which the checker tests the rules
 abbrev pub rule_number : Rule → ℕ
 rule_number rule.Size = 0
 rule_number rule.Lines = 1
@@ -122,7 +122,7 @@ pub record BreaksFirst (m : Matrix) (place : Place) (broken : Rule) : Type 0 whe
   pub breaks : ¬ (Keeps m place broken)
   pub keeps : (earlier : Rule) → rule_number earlier < rule_number broken → Keeps m place earlier
 
--- the first of some nodes that breaks a rule, by its path, with the first rule that it breaks
+-- the path and the first broken rule of the first of these nodes that breaks a rule
 pub record IsFirstBroken (m : Matrix) (nodes : List Place) (path : List ℕ) (broken : Rule) : Type 0 where
   pub before : List Place
   pub place : Place
@@ -136,7 +136,7 @@ pub record IsFirstBroken (m : Matrix) (nodes : List Place) (path : List ℕ) (br
 abbrev pub IsBrokenTree : Matrix → ℕ → ℕ → Tree → List ℕ → Rule → Type 0
 IsBrokenTree m rows columns tree path broken = IsFirstBroken m (places rows columns tree) path broken
 
--- what stands of a whole tree
+-- soundness of a whole tree
 abbrev pub IsSound : Matrix → SizedTree → Type 0
 IsSound m tree = IsSoundTree m tree.rows tree.columns (tree_of tree.root)
 

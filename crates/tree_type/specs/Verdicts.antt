@@ -1,4 +1,4 @@
--- What a tree says of the matrix.
+-- The verdict of a tree on the matrix.
 use Rattle.std.specs.Prelude.{Option, Some, None}
 use Rattle.std.specs.Option.{option_or}
 use Rattle.cmr_base.specs.declared.line_set.LineSet.{LineSet}
@@ -12,7 +12,7 @@ pub data Verdict : Type 0 where
   Open : LineSet → Verdict
 
 abbrev mutual
-  -- the lines that the first node in preorder gives that gives any
+  -- the lines that the test gives for the first node in preorder for which it gives any
   pub first_in : (LineSet → Finding → Option LineSet) → Tree → Option LineSet
   first_in f (Branch lines finding trees) = option_or (f lines finding) (first_among f trees)
 
@@ -20,18 +20,18 @@ abbrev mutual
   first_among f NoTrees = None
   first_among f (MoreTrees tree trees) = option_or (first_in f tree) (first_among f trees)
 
--- a fault that a node names
+-- the fault that a node names
 abbrev pub fault_at : LineSet → Finding → Option LineSet
 fault_at lines (Cycle fault) = Some fault
 fault_at lines (Violator fault) = Some fault
 fault_at lines finding = None
 
--- the lines of a node that is undecided
+-- the lines of an undecided node
 abbrev pub open_at : LineSet → Finding → Option LineSet
 open_at lines Undecided = Some lines
 open_at lines finding = None
 
--- no, with the first fault; where there is none, undecided, with the lines of the first undecided node; and else yes
+-- no, with the first fault; without a fault undecided, with the lines of the first undecided node; otherwise yes
 abbrev pub verdict_from : (fault undecided : Option LineSet) → Verdict
 verdict_from (Some fault) undecided = No fault
 verdict_from None (Some lines) = Open lines

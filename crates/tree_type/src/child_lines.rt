@@ -1,18 +1,18 @@
-// The lines on the sides of a separation, and those that the children of a sum are to have.
+// The lines on the sides of a separation, and the lines that the children of a sum must have.
 ghost use Rattle.std.specs.Prelude.{◌≡◌, IfOk};
 ghost use Rattle.tree_type.specs.Sides.{is_among, inside, outside, inside_with, outside_with, two_one, two_two, three_one, three_two};
 
 use cmr_base::{Connector, Indices, LineSet, Memory, Three, Two};
 use std::alloc::Global;
 
-/// Whether a set has a line, by halving.
+/// Whether a set has a line, by binary search.
 pub fn has_line(set: &Indices, line: u32) -> bool
     ensures { result ≡ is_among set.now line }
 {
     set.as_slice().binary_search(&line).is_ok()
 }
 
-/// The lines of side one, those that are in the set.
+/// The lines of side one, that is the lines in the set.
 pub fn side_one(alloc: Global, lines: &LineSet, set: &LineSet) -> Result<LineSet, Memory>
     ensures rows { IfOk result (λ one. one.rows ≡ inside set.now.rows lines.now.rows) }
     ensures columns { IfOk result (λ one. one.columns ≡ inside set.now.columns lines.now.columns) }
@@ -20,7 +20,7 @@ pub fn side_one(alloc: Global, lines: &LineSet, set: &LineSet) -> Result<LineSet
     one_with(alloc, lines, set, &[], &[])
 }
 
-/// The lines of side two, those that are not in the set.
+/// The lines of side two, that is the lines outside the set.
 pub fn side_two(alloc: Global, lines: &LineSet, set: &LineSet) -> Result<LineSet, Memory>
     ensures rows { IfOk result (λ two. two.rows ≡ outside set.now.rows lines.now.rows) }
     ensures columns { IfOk result (λ two. two.columns ≡ outside set.now.columns lines.now.columns) }
@@ -28,7 +28,7 @@ pub fn side_two(alloc: Global, lines: &LineSet, set: &LineSet) -> Result<LineSet
     other_with(alloc, lines, set, &[], &[])
 }
 
-/// The same lines.
+/// A copy of the lines.
 pub fn copy_of(alloc: Global, lines: &LineSet) -> Result<LineSet, Memory>
     ensures { IfOk result (λ copy. copy ≡ lines.now) }
 {
@@ -76,7 +76,7 @@ pub fn three_two(alloc: Global, lines: &LineSet, three: &Three) -> Result<LineSe
     }
 }
 
-// Side one, and a few rows and columns more.
+// Side one with a few further rows and columns.
 fn one_with(
     alloc: Global,
     lines: &LineSet,
@@ -95,7 +95,7 @@ fn one_with(
     })
 }
 
-// Side two, and a few rows and columns more.
+// Side two with a few further rows and columns.
 fn other_with(
     alloc: Global,
     lines: &LineSet,
@@ -114,7 +114,7 @@ fn other_with(
     })
 }
 
-// The lines that are in a set or among a few more.
+// The lines that are in a set or among a few further lines.
 fn inside_with(
     alloc: Global,
     set: &Indices,
@@ -132,7 +132,7 @@ fn inside_with(
     Ok(inside)
 }
 
-// The lines that are not in a set, and those among a few more.
+// The lines that are outside a set, or among a few further lines.
 fn outside_with(
     alloc: Global,
     set: &Indices,

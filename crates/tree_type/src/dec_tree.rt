@@ -6,7 +6,7 @@ ghost use Rattle.tree_type.specs.Invariant.{IsDecTree};
 use crate::Node;
 use std::marker::Model;
 
-/// A decomposition tree for a matrix of stated sizes. All line numbers in it are those of that matrix.
+/// A decomposition tree for a matrix of given sizes. All line numbers in it are line numbers of this matrix.
 #[derive(Debug, Drop)]
 pub struct DecTree {
     rows: u32,

@@ -1,4 +1,4 @@
-// What a node says, without its lines and its children.
+// The finding of a node, without its lines and its children.
 ghost use Rattle.std.specs.Prelude.{◌≡◌, ◌<◌, ◌++◌, ◌∷◌, [], length, map, IfOk};
 ghost use Rattle.tree_type.specs.DecompositionTrees.{Branch, tree_of, trees_from};
 ghost use Rattle.tree_type.specs.Invariant.{HasChildren};
@@ -9,7 +9,7 @@ use cmr_base::{LineList, LineSet, Memory, Network, Three, Two};
 use pivots::PlacedPivot;
 use std::alloc::Global;
 
-/// What a node says of the submatrix on its lines.
+/// The finding of a node about the submatrix on its lines.
 #[derive(Debug, Drop)]
 pub enum Finding {
     Empty,
@@ -27,7 +27,7 @@ pub enum Finding {
     Pivoted(PlacedPivot),
 }
 
-/// The node that says this of these lines, over these children, which are as many as it is to have.
+/// The node with these lines, this finding and these children. The number of children is the number that the finding requires.
 pub fn join_node(
     alloc: Global,
     lines: LineSet,
@@ -80,7 +80,7 @@ pub fn join_node(
     Ok(Node { lines, kind })
 }
 
-// Takes the last node.
+// Removes the last node and returns it.
 fn last_child(alloc: Global, children: &mut Vec<Node>) -> Result<Box<Node>, Memory>
     requires { 0 < length children.old.items }
     ensures { IfOk result (λ child. children.old.items ≡ children.new.items ++ child.value ∷ []) }

@@ -1,4 +1,4 @@
-//! Decomposition trees: what is known of a matrix, told by what is known of its submatrices.
+//! Decomposition trees: facts about a matrix, derived from facts about its submatrices.
 #![tactic(auto)]
 
 mod child_lines;

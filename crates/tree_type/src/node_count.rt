@@ -1,11 +1,11 @@
-// How many nodes a tree has.
+// The number of nodes of a tree.
 ghost use Rattle.std.specs.Prelude.{◌≡◌, ◌<◌, ◌^◌};
 ghost use Rattle.tree_type.specs.DecompositionTrees.{tree_of};
 ghost use Rattle.tree_type.specs.NodeCounts.{node_count};
 
 use crate::{DecTree, Kind, Node};
 
-/// How many nodes a tree has.
+/// The number of nodes of a tree.
 pub fn count_nodes(tree: &DecTree) -> u64
     requires { node_count (tree_of tree.now.root) < 2 ^ 64 }
     ensures { result ≡ node_count (tree_of tree.now.root) }
@@ -13,7 +13,7 @@ pub fn count_nodes(tree: &DecTree) -> u64
     count_from(tree.root())
 }
 
-// A node and the nodes below it.
+// The number of nodes of a subtree.
 fn count_from(node: &Node) -> u64
     requires { node_count (tree_of node.now) < 2 ^ 64 }
     ensures { result ≡ node_count (tree_of node.now) }

@@ -1,7 +1,7 @@
-// The rules that evidence is to keep.
+// The rules that evidence must keep.
 use cmr_base::PathList;
 
-/// The rules of decomposition trees, in the order in which they are tried at a node.
+/// The rules of decomposition trees, in the order in which the checker tests them at a node.
 #[derive(Clone, Copy, Debug, PartialEq, Eq)]
 pub enum Rule {
     Size,
@@ -23,7 +23,7 @@ pub enum Rule {
     BelowPivot,
 }
 
-/// A node, by the child numbers that lead to it from the root, and a rule that it breaks.
+/// A node and a rule that it breaks. The path contains the child numbers from the root to the node.
 #[derive(Debug, Drop)]
 pub struct Refusal {
     pub path: PathList,

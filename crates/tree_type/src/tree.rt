@@ -6,7 +6,7 @@ use cmr_base::{LineList, LineSet, Memory, Network, Three, Two};
 use pivots::PlacedPivot;
 use std::alloc::Global;
 
-/// A node: some lines of the matrix, and what is known of the submatrix on them.
+/// A node: some lines of the matrix, and facts about the submatrix on these lines.
 #[derive(Debug, Drop)]
 #[cycle(tree)]
 pub struct Node {
@@ -14,7 +14,7 @@ pub struct Node {
     pub kind: Kind,
 }
 
-/// What is known of the submatrix of a node.
+/// The facts about the submatrix of a node.
 #[derive(Debug, Drop)]
 #[cycle(tree)]
 pub enum Kind {
@@ -51,14 +51,14 @@ pub enum Kind {
         fault: LineSet,
     },
     Undecided,
-    /// The submatrix is what its child says of the matrix in which it is replaced by its pivot at this place.
+    /// The child describes the matrix after the pivot of the submatrix at this place.
     Pivoted {
         place: PlacedPivot,
         child: Box<Node>,
     },
 }
 
-/// Some nodes, in an order.
+/// Nodes, in an order.
 #[derive(Debug, Drop)]
 #[cycle(tree)]
 pub struct NodeList {
@@ -92,14 +92,14 @@ impl NodeList {
         Ok(())
     }
 
-    /// How many nodes there are.
+    /// The number of nodes.
     pub fn len(&self) -> usize
         ensures { result ≡ length (nodes_in self.now) }
     {
         self.items.len()
     }
 
-    /// The node at a place, counted from 0.
+    /// The node at a position, counted from 0.
     pub fn get(&self, index: usize) -> &Node
         requires { index < length (nodes_in self.now) }
         ensures { slice_get (nodes_in self.now) index ≡ Some result.now }

@@ -1,4 +1,4 @@
-// What a tree says of the matrix.
+// The verdict of a tree on the matrix.
 ghost use Rattle.std.specs.Prelude.{◌≡◌, option_copied};
 ghost use Rattle.tree_type.specs.DecompositionTrees.{tree_of};
 ghost use Rattle.tree_type.specs.Verdicts.{first_in, fault_at, open_at, verdict_of, verdict_shown};
@@ -6,7 +6,7 @@ ghost use Rattle.tree_type.specs.Verdicts.{first_in, fault_at, open_at, verdict_
 use crate::{DecTree, Kind, Node};
 use cmr_base::LineSet;
 
-/// What a tree says of the matrix: it is totally unimodular; it is not, by this violator; or that is undecided, since
+/// The verdict of a tree on the matrix: totally unimodular; not totally unimodular, with this violator; or undecided, since
 /// nothing is known of the submatrix on these lines.
 #[derive(Drop)]
 pub enum VerdictOf<'a> {
@@ -15,15 +15,15 @@ pub enum VerdictOf<'a> {
     Undecided(&'a LineSet),
 }
 
-/// What a tree says: no with the fault of the first node, in preorder, that names one; else undecided with the lines
-/// of the first undecided node; else yes.
+/// The verdict of a tree: no, with the fault of the first node in preorder that names one; if there is none, undecided, with
+/// the lines of the first undecided node; otherwise yes.
 pub fn verdict(tree: &DecTree) -> VerdictOf<'_>
     ensures { verdict_shown result ≡ verdict_of (tree_of tree.now.root) }
 {
     verdict_at(tree.root())
 }
 
-/// The same of a tree that is given by its root.
+/// The same for a tree that is given by its root.
 pub fn verdict_at(root: &Node) -> VerdictOf<'_>
     ensures { verdict_shown result ≡ verdict_of (tree_of root.now) }
 {

@@ -1,4 +1,4 @@
--- A nonzero between the sides of a two-separation makes its block; so its lines are together where no seed there is good.
+-- A nonzero between the sides of a two-separation makes its block. So the lines of a nonzero without a good seed are together.
 use Rattle.std.proofs.Common.{◌≡◌, ◌≢◌, ◌<◌, ◌≤◌, ◌+◌, ◌⊎◌, inl, inr, ◌∙◌, ◌*ℤ◌, cond, nat_eq, ℕ, ℤ, pos, Bool, true, false, List, length, map, get_or, ap, ap₂, sym, subst, refl, arith}
 use Rattle.std.specs.List.{Contains, range_with_len}
 use Rattle.std.proofs.lemmas.Bool.{false≢true, cases_lt}
@@ -93,7 +93,7 @@ module _ (m : Matrix) where
       label x l = ap (λ (xs : List ℕ). get_or xs x 0) e ∙ (let f = get_or-range_with_len 0 (height m + m.width) x 0 l in omega arith)
 
   module _ (row column : ℕ) (labels : List ℕ) (p : ArePassed m row column labels) where
-    -- a place whose entry is 0, or whose lines have one label
+    -- a position whose entry is 0, or whose lines have one label
     pub passed_on : row < height m → column < m.width → (entry m row column ≡ pos 0) ⊎ (get_or labels row 0 ≡ get_or labels (height m + column) 0) → ArePassed m row (column + 1) labels
     passed_on lr lc why = record {
       matrix = p.matrix;

@@ -1,4 +1,4 @@
--- One more connected part.
+-- Another connected part.
 use Rattle.std.proofs.Common.{◌≡◌, ◌<◌, ◌≤◌, ◌+◌, ◌⊎◌, inl, inr, ◌∙◌, ◌++◌, ◌||◌, not, cond, filter, nat_eq, ℕ, zero, suc, ℤ, Bool, true, false, List, [], ◌∷◌, length, ap, ap₂, sym, subst, refl, arith}
 use Rattle.std.specs.List.{list_any}
 use Rattle.std.proofs.lemmas.Bool.{false≢true, cases_lt}
@@ -78,7 +78,7 @@ pub none_seen : (rows columns : List ℕ) → ((r : ℕ) → has_column rows r �
 none_seen rows columns no_row no_column (Row r) = no_row r
 none_seen rows columns no_row no_column (Column c) = no_column c
 
--- what was seen before, and a set
+-- the lines seen before, joined with a set
 pub seen_joined : (rows columns rows' columns' more_rows more_columns : List ℕ) (S : Lines) → ((r : ℕ) → has_column rows' r ≡ (has_column rows r || has_column more_rows r)) → ((c : ℕ) → has_column columns' c ≡ (has_column columns c || has_column more_columns c))
     → ((r : ℕ) → has_column more_rows r ≡ S (Row r)) → ((c : ℕ) → has_column more_columns c ≡ S (Column c)) → (x : Line) → seen_lines rows' columns' x ≡ (seen_lines rows columns x || S x)
 seen_joined rows columns rows' columns' more_rows more_columns S added_rows added_columns are_rows are_columns (Row r) = added_rows r ∙ ap (λ (t : Bool). has_column rows r || t) (are_rows r)
@@ -102,7 +102,7 @@ module _ (m : Matrix) where
   }
 
   module _ (parts : List LineSet) (seen : Lines) (number : ℕ) (found : ArePartsFound m parts seen number) (line : Line) (inside : IsLine (height m) m.width line) (number_is : line_number (height m) line ≡ number) where
-    -- a line with this number is that line
+    -- a line with this number is this line
     line_here : (other : Line) → IsLine h m.width other → number ≤ line_number h other → line_number h other < number + 1 → other ≡ line
     line_here other l low high = line_is h m.width other line l inside (omega arith)
 
@@ -122,7 +122,7 @@ module _ (m : Matrix) where
       early = λ a l. let e = found.early a l in omega arith;
     }
 
-    -- what was seen is apart from the rest
+    -- the lines seen so far have no nonzeros in common with the rest
     unseen_apart : IsApart h m.width (entry m) (opposite seen)
     unseen_apart = record {
       upper = λ r c hr hc er ec.
@@ -150,7 +150,7 @@ module _ (m : Matrix) where
       first_in : (n x : ℕ) → IsIn x (first_lines n) → x < n
       first_in n x i = first_lines_contain n x (contains_from_in (first_lines n) x i)
 
-      -- lines that the part has are lines of the matrix
+      -- lines of the part are lines of the matrix
       in_part : (other : Line) → HasLine part.rows part.columns other → IsLine h m.width other
       in_part (Row x) k = first_in h x (in_filter (λ y. S (Row y)) x (first_lines h) (subst (λ (xs : List ℕ). IsIn x xs) rows_are (in_from_contains part.rows x k))).0
       in_part (Column x) k = first_in m.width x (in_filter (λ y. S (Column y)) x (first_lines m.width) (subst (λ (xs : List ℕ). IsIn x xs) columns_are (in_from_contains part.columns x k))).0
@@ -203,7 +203,7 @@ module _ (m : Matrix) where
               let f = first_pass (λ x. S (Column x)) m.width c l (sym (ap S e) ∙ grown.has.0) (λ q k. before (Column q) (omega arith) (omega arith)) in
               by_lists [] (c ∷ f.0) (rows_are ∙ none_pass (λ x. S (Row x)) h (λ k a. before (Row k) a (omega arith))) (columns_are ∙ f.1) ∙ at
 
-      -- the parts with this one
+      -- the parts with this part
       pub found_more : (seen' : Lines) → ((x : Line) → seen' x ≡ (seen x || S x)) → ArePartsFound m (parts ++ part ∷ []) seen' (number + 1)
       found_more seen' is = record {
         row_sets = λ a l. each (λ p. IsRowSet m p.rows) found.row_sets (subst (IsRowSet m) (sym rows_are) (row_set_from_within m (filter (λ x. S (Row x)) (first_lines h)) (IsStrictlyIncreasing-filter (λ x. S (Row x)) (first_lines h) (first_lines_increase h)) (λ x i. (in_filter (λ x. S (Row x)) x (first_lines h) i).0))) a l;
@@ -283,7 +283,7 @@ module _ (m : Matrix) where
     ordered = found.ordered;
   }
 
--- a line of a part that was found adds none
+-- a line of a part found before adds none
 pub found_passed : (m : Matrix) (number : ℕ) (found : FoundParts) → HasFound m number found → (line : Line) → IsLine (height m) m.width line → line_number (height m) line ≡ number → lines_found found line ≡ true → HasFound m (number + 1) found
 found_passed m number found has line inside number_is here = record {
   rows = has.rows;

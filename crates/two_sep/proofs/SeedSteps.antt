@@ -1,4 +1,4 @@
--- What grows at a nonzero, and good seeds.
+-- The set that grows at a nonzero, and good seeds.
 use Rattle.std.proofs.Common.{◌≡◌, ◌≢◌, ◌<◌, ◌≤◌, ◌+◌, inl, inr, ◌∙◌, not, ℕ, pos, true, [], ◌∷◌, ap, sym, subst, arith}
 use Rattle.std.proofs.lemmas.Bool.{false≢true, cases_lt}
 use Rattle.cmr_base.specs.declared.line.Line.{Line}
@@ -27,7 +27,7 @@ module _ (m : Matrix) (i j : ℕ) (row : i < height m) (column : j < m.width) (n
   NotGood seed = (side : Lines) → ¬ (IsGoodTwo (height m) m.width (entry m) i j seed side)
 
   module _ (place : ℕ) (seed : Line) (seed_in : IsLine (height m) m.width seed) (number : line_number (height m) seed ≡ place) where
-    -- what leaves the row and two lines is the side of a good seed
+    -- a set that leaves the row and two lines outside is the side of a good seed
     good_side : place ≢ i → place ≢ h + j → (S : Lines) → IsLeaving m (rule_at i j) (seed ∷ Column j ∷ []) (Row i ∷ []) 2 S → IsGoodTwo h m.width (entry m) i j seed S
     good_side not_row not_column S is = (
       record { row = row; column = column; nonzero = nonzero },
@@ -41,11 +41,11 @@ module _ (m : Matrix) (i j : ℕ) (row : i < height m) (column : j < m.width) (n
       },
     )
 
-    -- else it is not good
+    -- otherwise the seed is not good
     pub not_good : HasNoLeaving m (rule_at i j) (seed ∷ Column j ∷ []) (Row i ∷ []) 2 → NotGood seed
     not_good none side g = none side g.1.grown.closed g.1.grown.has (record { none = g.1.two; enough = g.1.enough })
 
-    -- and no line from which the seed is pulled in is good
+    -- no line that pulls the seed in is good
     pub bad_backwards : HasNoLeaving m (rule_at i j) (seed ∷ Column j ∷ []) (Row i ∷ []) 2 → (bad : GrowingSet) → IsGrowing m (product_at (entry m) i j) zeros (seed ∷ []) bad → (y : Line) → IsLine h m.width y → set_of bad y ≡ true → NotGood y
     bad_backwards none bad grows y y_in e side g = elim (two_cases (side seed)) [
       | inl t ↦ none side g.1.grown.closed (t, g.1.grown.has.1) (record { none = g.1.two; enough = g.1.enough })

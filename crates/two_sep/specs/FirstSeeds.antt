@@ -1,4 +1,4 @@
--- Two-separations by their first good seeds.
+-- Two-separations and their first good seeds.
 use Rattle.std.specs.Prelude.{◌≡◌, ◌≢◌, ◌<◌, ◌+◌, ◌-◌, ◌⊎◌, cond, nat_lt, ℕ, pos, List, length, slice_index_or}
 use Rattle.cmr_base.specs.declared.line.Line.{Line}
 use Rattle.cmr_base.specs.declared.line.Line.TheVariants.{Column, Row}
@@ -33,9 +33,9 @@ pub record IsFirstGoodSide (m : Matrix) (i j : ℕ) (side : Lines) : Type 0 wher
   pub good : IsGoodTwo (height m) m.width (entry m) i j seed side
   pub first : (other : Line) (side' : Lines) → IsGoodTwo (height m) m.width (entry m) i j other side' → ¬ (line_number (height m) other < line_number (height m) seed)
 
--- ---- lines that no two-separation parts
+-- ---- lines that no two-separation separates
 
--- the line of a number, where there are so many rows
+-- the line with a number in a matrix with `rows` rows
 abbrev pub line_at_number : ℕ → ℕ → Line
 line_at_number rows k = cond (nat_lt k rows) (Row k) (Column (k - rows))
 

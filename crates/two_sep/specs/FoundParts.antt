@@ -1,4 +1,4 @@
--- Connected parts that were found one after another.
+-- Connected parts, found one after another.
 use Rattle.std.specs.Prelude.{◌≡◌, ◌<◌, ℕ, true, List, length}
 use Rattle.cmr_base.specs.declared.line.Line.{Line}
 use Rattle.cmr_base.specs.declared.line.Line.TheVariants.{Column, Row}
@@ -21,7 +21,7 @@ abbrev pub seen_lines : (rows columns : List ℕ) → Lines
 seen_lines rows columns (Row row) = has_column rows row
 seen_lines rows columns (Column column) = has_column columns column
 
--- the parts of the lines before one, which are those that were seen
+-- the parts of the lines with numbers below `number`; their lines are the lines seen
 pub record ArePartsFound (m : Matrix) (parts : List LineSet) (seen : Lines) (number : ℕ) : Type 0 where
   pub row_sets : (a : ℕ) → a < length parts → IsRowSet m (part_at parts a).rows
   pub column_sets : (a : ℕ) → a < length parts → IsColumnSet m (part_at parts a).columns
@@ -33,11 +33,11 @@ pub record ArePartsFound (m : Matrix) (parts : List LineSet) (seen : Lines) (num
   pub ordered : (a b : ℕ) → a < b → b < length parts → first_number (height m) (part_at parts a) < first_number (height m) (part_at parts b)
   pub early : (a : ℕ) → a < length parts → first_number (height m) (part_at parts a) < number
 
--- the lines of the parts that were found
+-- the lines of the parts found so far
 abbrev pub lines_found : FoundParts → Lines
 lines_found found = seen_lines found.rows.items found.columns.items
 
--- the parts of the lines before one were found
+-- the parts of the lines with numbers below `number` are found
 pub record HasFound (m : Matrix) (number : ℕ) (found : FoundParts) : Type 0 where
   pub rows : length found.rows.items ≡ words_for (height m)
   pub columns : length found.columns.items ≡ words_for m.width

@@ -13,7 +13,7 @@ use cmr_base::{Line, LineSetList, Matrix, Memory, RowsAndColumns};
 use line_growth::{Block, GrowingSet, GrowthRule, line_at};
 use std::alloc::Global;
 
-// The parts that were found, and their lines as words.
+// The parts found so far, and their lines as sets of words.
 #[derive(Drop)]
 pub struct FoundParts {
     pub parts: LineSetList,
@@ -21,7 +21,8 @@ pub struct FoundParts {
     pub columns: Vec<u64>,
 }
 
-/// The connected parts, by their first lines: two lines are in one part where nonzeros link them.
+/// The connected parts, in the order of their first lines. Two lines are in one part if and only if a path of nonzeros links
+/// them.
 pub fn components(alloc: Global, matrix: &Matrix) -> Result<LineSetList, Memory>
     ensures { IfOk result (AreComponents matrix.now) }
 {
@@ -29,7 +30,7 @@ pub fn components(alloc: Global, matrix: &Matrix) -> Result<LineSetList, Memory>
     components_of(alloc, &RowsAndColumns::of(matrix, &columns))
 }
 
-/// The same, of a matrix by its rows and its columns.
+/// The same for a matrix by its rows and its columns.
 pub fn components_of(alloc: Global, matrix: &RowsAndColumns<'_>) -> Result<LineSetList, Memory>
     ensures { IfOk result (AreComponents matrix.now) }
 {
@@ -55,7 +56,7 @@ impl FoundParts {
         })
     }
 
-    // Whether a line is in one of them.
+    // Whether a line is in a part found so far.
     fn has(&self, matrix: &RowsAndColumns<'_>, line: Line) -> bool
         requires rows { length self.now.rows.items ≡ words_for (height matrix.now) }
         requires columns { length self.now.columns.items ≡ words_for matrix.now.width }
@@ -68,7 +69,7 @@ impl FoundParts {
         }
     }
 
-    // Adds the part of a line that is in none of them. The set that is given has room for it.
+    // Adds the part of a line that is in no part so far. `part` provides room for it.
     fn add_part_of(
         &mut self,
         alloc: Global,

@@ -8,8 +8,8 @@ use cmr_base::{Line, Memory, RowsAndColumns};
 use line_growth::{Block, GrowingSet, GrowthRule, Place, line_at};
 use std::alloc::Global;
 
-/// The side to which the first good seed at a nonzero grows, `None` where no seed there is good. Where a line grows to all
-/// lines but the row, no line from which it is pulled in is good, so those need no look.
+/// The side to which the first good seed at a nonzero grows, and `None` if no seed there is good. If a seed is not good, no
+/// line that pulls it in is good either, so the search skips these lines.
 pub fn first_good_side(
     alloc: Global,
     matrix: &RowsAndColumns<'_>,

@@ -7,9 +7,9 @@ use crate::seeds::first_good_side;
 use cmr_base::{Matrix, Memory, RowsAndColumns, Two, join_labels, own_labels};
 use std::alloc::Global;
 
-/// The two-separation of the first good seed, in the order of the rows, columns and lines of seeds; `None` where the matrix
-/// has no two-separation. A nonzero without a good seed has its row and its column on one side of every two-separation, so
-/// of the nonzeros only those whose lines are not linked by earlier ones need a look.
+/// The two-separation of the first good seed, in the order of the rows, columns and lines of seeds, and `None` if the matrix
+/// has no two-separation. A nonzero without a good seed has its row and its column on one side of every two-separation. So the
+/// search skips nonzeros whose lines are linked by earlier nonzeros.
 pub fn two_separation(alloc: Global, matrix: &Matrix) -> Result<Option<Two>, Memory>
     ensures { IfOk result (λ found. MatchOption found (HasNoTwoSeparation matrix.now)
         (λ two. IsFirstTwoSeparation matrix.now two)) }
@@ -18,7 +18,7 @@ pub fn two_separation(alloc: Global, matrix: &Matrix) -> Result<Option<Two>, Mem
     two_separation_of(alloc, &RowsAndColumns::of(matrix, &columns))
 }
 
-/// The same, of a matrix by its rows and its columns.
+/// The same for a matrix by its rows and its columns.
 pub fn two_separation_of(alloc: Global, matrix: &RowsAndColumns<'_>) -> Result<Option<Two>, Memory>
     ensures { IfOk result (λ found. MatchOption found (HasNoTwoSeparation matrix.now)
         (λ two. IsFirstTwoSeparation matrix.now two)) }
@@ -33,7 +33,7 @@ pub fn two_separation_of(alloc: Global, matrix: &RowsAndColumns<'_>) -> Result<O
     Ok(None)
 }
 
-// The first two-separation at a nonzero of a row, and the labels after all of them.
+// The first two-separation at a nonzero of a row. Without one, the labels join the lines of all nonzeros of the row.
 fn separation_at(
     alloc: Global,
     matrix: &RowsAndColumns<'_>,

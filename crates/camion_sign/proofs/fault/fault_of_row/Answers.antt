@@ -11,14 +11,14 @@ use Rattle.camion_sign.proofs.fault.fault_of_row.Goals as goal
 use Rattle.camion_sign.proofs.fault.fault_of_row.Goals.{then-entry-ne0+in_ok-fault+in_default, else-entry-ne0}
 
 module _ (m : Matrix) (t column : ℕ) (before : (x y : ℕ) → x < column → HasNoFaultAt m t x y) where
-  -- one more column has no fault
+  -- another column has no fault
   column_passed : ((y : ℕ) → HasNoFaultAt m t column y) → (x y : ℕ) → x < column + 1 → HasNoFaultAt m t x y
   column_passed here x y l = elim (cases_lt x column) [
     | inl low ↦ before x y low
     | inr high ↦ let is : x ≡ column = omega (arith, l, high) in subst (λ (z : ℕ). HasNoFaultAt m t z y) (sym is) (here y)
   ]
 
-  -- the column has one
+  -- the column has a fault
   column_found : (f : Fault) → (f.row ≡ t) × (f.first ≡ column) × IsColumnFault m t column f.last f.lines.items
       → (f.row ≡ t) × IsColumnFault m t f.first f.last f.lines.items × ((x y : ℕ) → x < f.first → HasNoFaultAt m t x y)
   column_found f (row, first, fault) = (

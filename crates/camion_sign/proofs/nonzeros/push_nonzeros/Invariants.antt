@@ -3,7 +3,7 @@ use Rattle.cmr_base.specs.Matrix.{row_of}
 use Rattle.camion_sign.specs.Nonzeros.{nonzeros_from}
 use Rattle.camion_sign.proofs.nonzeros.push_nonzeros.Given as goal
 
--- the places so far, with those of what is left
+-- the positions so far, and the positions of the rest
 abbrev pub invariant-columns : goal.invariant-columns
 invariant-columns l = record {
   few : l.from ≤ 1000;

@@ -13,11 +13,11 @@ decreases-check_child l = 3 * size-Node l.child.now + 1
 abbrev pub decreases-check_pivoted : goal.decreases-check_pivoted
 decreases-check_pivoted l = 3 * size-Node l.child.now + 2
 
--- the deeper one of the two
+-- the deeper of the two children
 abbrev pub decreases-check_both : goal.decreases-check_both
 decreases-check_both l = 3 * max (size-Node l.one_child.now) (size-Node l.two_child.now) + 2
 
--- the children that are left decide
+-- the remaining children decide
 abbrev pub invariant-check_below-loop-child : goal.invariant-check_below-loop-child
 invariant-check_below-loop-child l = record {
   same : l.number ≡ l.child-index;

@@ -4,7 +4,7 @@ use Rattle.tree_type.specs.Invariant.{AreLines}
 use Rattle.tree_type.specs.Soundness.{AreReductions}
 use Rattle.cert_check.proofs.reduced_rule.are_reductions.Given as goal
 
--- the steps that are left are reductions of what is left exactly where all are of all lines
+-- the remaining steps are reductions of the remaining lines if and only if all steps are reductions of all lines
 abbrev pub invariant-loop-step : goal.invariant-loop-step
 invariant-loop-step l = record {
   lines : AreLines l.matrix l.left;

@@ -5,7 +5,7 @@ use Rattle.cmr_base.proofs.Booleans.{not_both}
 use Rattle.cuts.proofs.line_words.add_others.Goals as goal
 use Rattle.cuts.proofs.line_words.add_others.Goals.{then-not-has_column, else-not-has_column}
 
--- one more line has had its turn
+-- another line is done
 rest_next : (own old new : List ℕ) (line : ℕ) → ((x : ℕ) → x < line → has_column own x ≡ false → has_column old x ≡ true)
     → ((x : ℕ) → has_column old x ≡ true → has_column new x ≡ true) → (has_column own line ≡ false → has_column new line ≡ true)
     → (x : ℕ) → x < line + 1 → has_column own x ≡ false → has_column new x ≡ true

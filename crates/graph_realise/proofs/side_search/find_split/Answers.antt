@@ -8,7 +8,7 @@ use Rattle.graph_realise.specs.TreeSearches.{AreWholeBelow, IsSplit}
 use Rattle.graph_realise.proofs.SearchLemmas.{split_is}
 use Rattle.graph_realise.proofs.side_search.find_split.Goals as goal
 
--- what was found in a list is found in the same list
+-- a row found in a list is found in an equal list
 found : (M : ℕ → ℕ → Bool) (S given : List ℕ) (o : Option SplitRow) → given ≡ S → IsStrictlyIncreasing S
     → MatchOption o ((row : ℕ) → ¬ (Splits M given row)) (λ split. IsFirstSplit M given split.row × AreParts M given split.row split.parts) → MatchOption o ((row : ℕ) → ¬ (Splits M S row)) (IsSplit M S)
 found M S given None e rises none = subst (λ (rows : List ℕ). (row : ℕ) → ¬ (Splits M rows row)) e none

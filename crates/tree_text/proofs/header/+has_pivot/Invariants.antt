@@ -6,6 +6,6 @@ use Rattle.tree_text.proofs.header.+has_pivot.Given as goal
 abbrev pub decreases-has_pivot : goal.decreases-has_pivot
 decreases-has_pivot l = goal.size-has_pivot l
 
--- whether one of the children that are left has a pivot tells whether the node has
+-- the node has a pivot if and only if one of the remaining children has
 abbrev pub invariant-loop-child : goal.invariant-loop-child
 invariant-loop-child l = have_pivot (trees_from (map tree_of (drop l.child-index l.child-items))) ≡ has_pivot (tree_of l.node)

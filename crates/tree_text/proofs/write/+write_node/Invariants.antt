@@ -8,7 +8,7 @@ use Rattle.tree_text.proofs.write.+write_node.Given as goal
 abbrev pub decreases-write_node : goal.decreases-write_node
 decreases-write_node l = goal.size-write_node l
 
--- the children that are left make the whole
+-- the text so far and the remaining children make the whole text
 abbrev pub invariant-loop-child : goal.invariant-loop-child
 invariant-loop-child l = record {
   whole : fold with_line l.text (forest_lines (trees_from (map tree_of (drop l.child-index l.child-items)))) ≡ fold with_line l.fn.text (node_lines (tree_of l.node));

@@ -4,6 +4,6 @@ use Rattle.text_fields.specs.Written.{with_word}
 use Rattle.tree_text.specs.CanonicalTrees.{number_of_line}
 use Rattle.tree_text.proofs.write.write_lines.Given as goal
 
--- what is left makes the whole
+-- the text so far and the remaining lines make the whole text
 abbrev pub invariant-loop-line : goal.invariant-loop-line
 invariant-loop-line l = fold with_word l.text (map number_of_line (drop l.line-index l.lines)) ≡ fold with_word l.fn.text (map number_of_line l.lines)

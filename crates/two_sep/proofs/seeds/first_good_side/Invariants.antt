@@ -6,7 +6,7 @@ use Rattle.cmr_base.specs.Seeds.{IsGoodTwo, IsLine, line_number}
 use Rattle.line_growth.specs.GrowingSets.{HasRoom, set_of}
 use Rattle.two_sep.proofs.seeds.first_good_side.Given as goal
 
--- the seeds so far are not good, and those from which the last of them is pulled in are not good either
+-- the seeds so far are not good, and no line that pulls the last of them in is good
 abbrev pub invariant-loop-place : goal.invariant-loop-place
 invariant-loop-place l = record {
   side_room : HasRoom l.matrix l.side;

@@ -10,7 +10,7 @@ module _ (table : CutTable) (depths parents reached : List ℕ) (room : HasTreeR
   low : (x y : ℕ) → AreInOneTree (joins table) table.count (depth_at depths) (parent_at parents) reached x y → x < length depths
   low x y t = let l = t.are.inside x t.one_in in let r = room.depths_are in omega arith
 
-  -- what the code reads of a part that is at least as deep as the other
+  -- the values that the code reads for a part that is at least as deep as the other
   up_here : (x y v a b : ℕ) → AreInOneTree (joins table) table.count (depth_at depths) (parent_at parents) reached x y → x ≢ y → a ≡ get_or depths x a → b ≡ get_or depths y b → b ≤ a → v ≡ get_or parents x v
       → AreInOneTree (joins table) table.count (depth_at depths) (parent_at parents) reached v y × (x < table.count) × (joins table x v ≡ true) × (depth_at depths x ≡ suc (depth_at depths v))
   up_here x y v a b t n ea eb l ev =

@@ -1,7 +1,7 @@
 use Rattle.std.proofs.Common.{◌+◌, ◌*◌}
 use Rattle.cuts.proofs.cut_search.CutSearch.+search.Given as goal
 
--- each search is one deeper than the one that it is begun by
+-- each search is one level deeper than the search that begins it
 abbrev pub decreases-search : goal.decreases-search
 decreases-search l = 4 * l.depth
 

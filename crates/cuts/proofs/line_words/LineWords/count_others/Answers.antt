@@ -5,7 +5,7 @@ use Rattle.cmr_base.specs.Seeds.{count}
 use Rattle.cuts.proofs.PatternLemmas.{count_both}
 use Rattle.cuts.proofs.line_words.LineWords.count_others.Goals as goal
 
--- so many of the lines are not in the set, by whatever name it goes
+-- the number of lines outside the set, if the set has another name
 others : (known set : List ℕ) (found rows size : ℕ) → known ≡ set → rows ≡ size → found ≡ count (λ x. not (has_column known x)) rows → found ≡ count (λ x. not (has_column set x)) size
 others known set found rows size e s is = is ∙ ap₂ (λ (xs : List ℕ) (n : ℕ). count (λ x. not (has_column xs x)) n) e s
 
@@ -14,7 +14,7 @@ returns c = ap₂ (λ (a b : ℕ). a + b)
     (others c.deref.result.now c.args.self.now.rows.items c.count_others-rows.result c.rows.result (height c.args.matrix.now) c.deref.ensures.value c.rows.ensures.rows c.count_others-rows.ensures)
     (others c.deref-2.result.now c.args.self.now.columns.items c.count_others.result c.columns.result c.args.matrix.now.width c.deref-2.ensures.value c.columns.ensures.columns c.count_others.ensures)
 
--- the two counts are of at most 1,000 lines each
+-- both counts are at most 1,000
 pub overflow_add-result : goal.overflow_add-result
 overflow_add-result c =
     let rows = count_both (has_column c.deref.result.now) c.rows.result in

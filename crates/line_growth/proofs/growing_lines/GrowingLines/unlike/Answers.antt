@@ -10,7 +10,7 @@ use Rattle.cmr_base.proofs.Integers.{products}
 use Rattle.cmr_base.proofs.SmallEntries.{entry_as_byte}
 use Rattle.line_growth.proofs.growing_lines.GrowingLines.unlike.Goals as goal
 
--- a bit by its test
+-- a bit and its test
 bit_is : (t : Bool) (bit : ℕ) → bit ≡ cond t 1 0 → eqb bit 1 ≡ t
 bit_is true bit e = rw e refl
 bit_is false bit e = rw e refl
@@ -22,7 +22,7 @@ is_nonzero_by (negsuc zero) a = refl
 is_nonzero_by (pos (suc (suc n))) a = too_large n a
 is_nonzero_by (negsuc (suc n)) a = too_small n a
 
--- not 0 exactly where it differs from a multiple by 0
+-- a number is not 0 if and only if it differs from a multiple by 0
 nonzero_differs : (x y : ℤ) → IsEntry x → is_nonzero x ≡ differ x (pos 0 *ℤ y)
 nonzero_differs x y small = is_nonzero_by x small ∙ ap (differ x) (sym (simp products))
 

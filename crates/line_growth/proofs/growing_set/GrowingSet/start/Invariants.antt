@@ -2,7 +2,7 @@ use Rattle.std.proofs.Common.{◌≤◌, ℕ, ℤ, length, drop}
 use Rattle.line_growth.specs.GrowingSets.{HasRoom, IsGrowing}
 use Rattle.line_growth.proofs.growing_set.GrowingSet.start.Given as goal
 
--- the lines from one on are those that were taken in
+-- the set contains the lines from a position on
 abbrev pub invariant-lines : goal.invariant-lines
 invariant-lines l = record {
   inside : l.from ≤ length l.lines;

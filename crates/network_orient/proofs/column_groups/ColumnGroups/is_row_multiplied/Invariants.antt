@@ -3,7 +3,7 @@ use Rattle.cmr_base.specs.Matrix.{entry}
 use Rattle.network_orient.specs.SignedGroups.{sign_of}
 use Rattle.network_orient.proofs.column_groups.ColumnGroups.is_row_multiplied.Given as goal
 
--- the columns so far are multiplied
+-- the columns before `place` are multiplied
 abbrev pub invariant-loop-column : goal.invariant-loop-column
 invariant-loop-column l = record {
   few : l.place ≤ 1000;
