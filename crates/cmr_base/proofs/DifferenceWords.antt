@@ -110,7 +110,7 @@ module _ (m : Matrix) (row model chunk i : ℕ) (is : IsMatrix m) (low : i < 64)
       ∙ ap₂ (λ (a b : ℕ). (a + b) % 2) minus_bit (bit_at_xor (word_of is_nonzero (row_of m model) chunk) (word_of is_minus (row_of m model) chunk) i ∙ ap₂ (λ (a b : ℕ). (a + b) % 2) other_support_bit other_minus_bit))
       ∙ minus_bits (entry m row (64 * chunk + i)) (entry m model (64 * chunk + i)) (is.small row (64 * chunk + i)) (is.small model (64 * chunk + i))
 
--- the meaning of the tests of a factor
+-- an entry is 1 if its byte is 1, and -1 if its byte is not 0 and not 1
 pub factor_one : (x : ℤ) → IsEntry x → of_z w8 x ≡ 1 → x ≡ pos 1
 factor_one (pos zero) a e = absurd (omega (arith, e))
 factor_one (pos (suc zero)) a e = refl

@@ -37,7 +37,7 @@ pair_of (arc ∷ arcs) row = cond (nat_eq row arc.row) (record { tail = arc.node
 abbrev pub reversed_unless : Bool → Pair → Pair
 reversed_unless as_it_is pair = cond as_it_is pair (record { tail = pair.head; head = pair.tail })
 
--- node 0 contains the first end of column 0
+-- the first end of column 0 is at node 0
 module _ (side : ℕ → ℕ → Bool) (lies : Bool → ℕ → ℕ → Bool) where
   abbrev pub beyond : ℕ → ℕ → Bool
   beyond r s = differ (lies true r 0) (side r s)

@@ -18,7 +18,7 @@ pub renamed_ok : {A J K : Type 0} (name : J → K) (r : Result A J) (x : A) → 
 renamed_ok name (Ok y) x h = let e : y ≡ x = ok_same y x h in rw e refl
 renamed_ok name (Err fault) x h = absurd (cc)
 
--- a guard that passed, and a guard that failed
+-- the test of a guard that passed is true, and the test of a bar that passed is false
 pub guard_ok : {A E : Type 0} (t : Bool) (x y : A) (e : E) → cond t (Ok x) (Err e) ≡ Ok y → (t ≡ true) × (x ≡ y)
 guard_ok true x y e h = (refl, ok_same x y h)
 guard_ok false x y e h = absurd (cc)
