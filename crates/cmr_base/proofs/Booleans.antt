@@ -1,4 +1,4 @@
--- What tests of numbers and of entries say, and Booleans made of them.
+-- Tests of numbers and of entries, and Booleans made of them.
 use mir.Val.{bool_byte}
 use Rattle.std.proofs.Common.{◌≡◌, ◌≢◌, ◌<◌, ◌≤◌, ◌&&◌, ◌||◌, ◌∙◌, ◌⊎◌, inl, inr, ℕ, zero, suc, ℤ, pos, negsuc, Bool, true, false, not, cond, nat_eq, nat_lt, refl, ap, arith}
 use Rattle.std.specs.Prelude.{◌↔◌, IsTrue}
@@ -9,7 +9,7 @@ use Rattle.cmr_base.specs.Matrix.{is_nonzero}
 
 -- ---- Booleans
 
--- neither of two tests holds
+-- neither of two tests is true
 pub not_either : (a b : Bool) → (a || b) ≡ false → (a ≡ false) × (b ≡ false)
 not_either true b h = absurd (cc)
 not_either false b h = (refl, h)
@@ -30,7 +30,7 @@ bool_same true false = inr refl
 bool_same false true = inr refl
 bool_same false false = inl refl
 
--- two tests that hold of the same are the same
+-- two tests are equal if each of them implies the other
 pub same_test : (a b : Bool) → (a ≡ true → b ≡ true) → (b ≡ true → a ≡ true) → a ≡ b
 same_test true true to back = refl
 same_test true false to back = true_is_false (sym_of (to refl))
@@ -51,7 +51,7 @@ pub true_is : (b : Bool) → (b ≡ false → ⊥) → b ≡ true
 true_is true none = refl
 true_is false none = absurd (none refl)
 
--- not b is true exactly where b is false, and the other way round
+-- not b is true if and only if b is false
 pub not_is : (b : Bool) → not b ≡ true → b ≡ false
 not_is true e = cc
 not_is false e = refl

@@ -1,4 +1,4 @@
--- Numbers that pass a test, counted.
+-- Counts of numbers that pass a test.
 use Rattle.std.proofs.Common.{◌≡◌, ◌<◌, ◌≤◌, ◌+◌, ◌-◌, ◌∙◌, ◌++◌, ℕ, zero, suc, Bool, true, false, cond, count_by, List, [], ◌∷◌, sym, ap, refl, arith, zero-add, inl, inr}
 use Rattle.std.proofs.lemmas.Bool.{cases_lt}
 use Rattle.std.proofs.lemmas.List.Sums.{sum_by-append}
@@ -15,7 +15,7 @@ module _ (f : ℕ → Bool) where
       one : (t : Bool) → count_by f (first_lines k) + count_by f (k ∷ []) ≡ count_by f (first_lines k) + cond (f k) 1 0
       one t = ap (λ (z : ℕ). count_by f (first_lines k) + z) (zero-add (cond (f k) 1 0))
 
-  -- none of so many more
+  -- none of the next d numbers passes
   count_skip : (a d : ℕ) → ((c : ℕ) → a ≤ c → c < a + d → f c ≡ false) → count_by f (first_lines (a + d)) ≡ count_by f (first_lines a)
   count_skip a zero none = ap (λ (z : ℕ). count_by f (first_lines z)) (let e : a + 0 ≡ a = omega arith in e)
   count_skip a (suc d) none =

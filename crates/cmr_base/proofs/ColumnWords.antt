@@ -18,7 +18,7 @@ use Rattle.std.specs.Prelude.{◌↔◌}
 use Rattle.cmr_base.specs.ColumnSets.{has_column, Denies, HasCommon, IsApart, IsWithin, IsAdded}
 use Rattle.cmr_base.proofs.WordBits.{has_bit-and, has_bit-not, has_bit-or, has_bit-zero, bit_at_chunk}
 
--- a column by its chunk and its place there
+-- a column by its chunk and its position in the chunk
 pub chunk_of : (chunk k : ℕ) → k < 64 → (64 * chunk + k) / 64 ≡ chunk
 chunk_of chunk k l = omega arith
 
@@ -51,7 +51,7 @@ row_columns m row is l column = go (cases_lt (column / 64) (words_for m.width))
         none_past (words_of (words_for m.width) is_nonzero (row_of m row)) column (let e = length-words_of (words_for m.width) is_nonzero (row_of m row) in omega arith)
         ∙ sym (past k (support m row column) refl)
 
--- the same for words that are those of a row
+-- the same for words that are equal to the words of a row
 pub words_long : (m : Matrix) (row : ℕ) (words : List ℕ) → words ≡ words_of (words_for m.width) is_nonzero (row_of m row) → length words ≡ words_for m.width
 words_long m row words is = ap length is ∙ length-words_of (words_for m.width) is_nonzero (row_of m row)
 
@@ -110,7 +110,7 @@ zero_bits n fits none = elim (cases_lt 0 n) [
 pub some_bit : (n : ℕ) → n < 2 ^ 64 → n ≢ 0 → (k : ℕ) × (k < 64) × (has_bit n k ≡ true)
 some_bit n fits n0 = let b = bit_at-trailing_zeros w64 n (omega arith) fits in (trailing_zeros w64 n, b.0, ap (λ bit. eqb bit 1) b.1)
 
--- two words without a common bit
+-- two words share a bit
 pub bits_shared : (a b : ℕ) → a < 2 ^ 64 → b < 2 ^ 64 → bit_and a b ≢ 0 → (k : ℕ) × (k < 64) × (has_bit a k ≡ true) × (has_bit b k ≡ true)
 bits_shared a b fa fb n =
     let s = some_bit (bit_and a b) (and_lt 64 a b fa fb) n in
@@ -133,7 +133,7 @@ zero_is n e = go (same_or_not n 0)
     go (inl z) = z
     go (inr z) = absurd (true≢false (sym e ∙ is_ne n 0 z))
 
--- a word whose bits are all bits of another
+-- each bit of the first word is a bit of the second word
 pub part_bits : (a b : ℕ) → b < 2 ^ 64 → eqb (bit_and a (bit_not w64 b)) 0 ≡ true → (k : ℕ) → k < 64 → has_bit a k ≡ true → has_bit b k ≡ true
 part_bits a b fb e k small h = and_not (has_bit a k) (has_bit b k) (sym (left_out a b fb k small) ∙ ap (λ n. has_bit n k) (zero_is (bit_and a (bit_not w64 b)) e) ∙ has_bit-zero k) h
   where

@@ -1,10 +1,10 @@
--- Components counted: each pair joins at most two of them into one.
+-- Counts of components: each pair joins at most two components into one.
 use Rattle.std.proofs.Common.{ℕ, zero, suc, Bool, true, false, cond, List, [], ◌∷◌, ◌≡◌, ◌<◌, ◌≤◌, ◌+◌, ◌∙◌, sym, ap, refl, arith, nat_eq, length}
 use Rattle.cmr_base.specs.declared.network.Pair.{Pair}
 use Rattle.cmr_base.proofs.RowLists.{eq_of, self_eq, is_ne}
 use Rattle.cmr_base.proofs.ComponentLabels.{joined, labels}
 
--- how many nodes below n are the labels of their own components
+-- the number of nodes below n that are the labels of their own components
 abbrev pub representatives : ℕ → (ℕ → ℕ) → ℕ
 representatives zero label = 0
 representatives (suc n) label = cond (nat_eq (label n) n) 1 0 + representatives n label
@@ -20,7 +20,7 @@ label_label-joined label u v h x = go (nat_eq (label x) (label v)) refl
     go true e = rw (h u) (either_way (nat_eq (label u) (label v)) refl)
     go false e = rw (h x, e) refl
 
--- 1 where p is below n, and else 0
+-- 1 if p is below n, and 0 otherwise
 abbrev pub count_at : ℕ → ℕ → ℕ
 count_at p zero = 0
 count_at p (suc n) = cond (nat_eq n p) 1 0 + count_at p n
@@ -40,7 +40,7 @@ count_at_most_one p (suc n) = go (nat_eq n p) refl (count_at_most_one p n)
     go true e k = let z : count_at p n ≡ 0 = count_at-above p n (same n p (eq_of n p e)) in omega arith
     go false e k = omega arith
 
--- one join takes at most one representative away
+-- one join removes at most one representative
 fewer_by_join : (label : ℕ → ℕ) (u v : ℕ) → ((x : ℕ) → label (label x) ≡ label x) → (n : ℕ) → representatives n label ≤ representatives n (joined label u v) + count_at (label v) n
 fewer_by_join label u v h zero = omega arith
 fewer_by_join label u v h (suc n) =
@@ -59,7 +59,7 @@ fewer_by_join label u v h (suc n) =
         let other : nat_eq (label n) (label v) ≡ false = ap (λ (z : ℕ). nat_eq z (label v)) own ∙ f in
         rw (other, e) (omega arith)
 
--- all pairs take at most as many representatives away as there are pairs
+-- the pairs remove at most as many representatives as there are pairs
 pub fewer_representatives : (n : ℕ) (label : ℕ → ℕ) (pairs : List Pair) → ((x : ℕ) → label (label x) ≡ label x) → representatives n label ≤ representatives n (labels label pairs) + length pairs
 fewer_representatives n label [] h = omega arith
 fewer_representatives n label (p ∷ ps) h =
@@ -75,7 +75,7 @@ representatives-own (suc n) = rw (self_eq n, representatives-own n) (plain n)
     plain : (n : ℕ) → 1 + n ≡ suc n
     plain n = omega arith
 
--- where all nodes have one label there is at most one representative
+-- if all nodes have one label, there is at most one representative
 pub one_representative : (n : ℕ) (label : ℕ → ℕ) (p : ℕ) → ((x : ℕ) → x < n → label x ≡ p) → representatives n label ≤ count_at p n
 one_representative zero label p h = omega arith
 one_representative (suc n) label p h =

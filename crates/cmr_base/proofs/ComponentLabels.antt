@@ -1,4 +1,4 @@
--- Labels of components: pairs of nodes are joined one after another, and what is joined gets one label.
+-- Labels of components: pairs of nodes are joined one after another, and joined nodes get one label.
 use Rattle.std.proofs.Common.{ℕ, Bool, true, false, cond, List, [], ◌∷◌, ◌≡◌, ◌∙◌, sym, ap, refl, ◌⊎◌, inl, inr, nat_eq}
 use Rattle.cmr_base.specs.declared.network.Pair.{Pair}
 use Rattle.cmr_base.proofs.RowLists.{eq_of, self_eq}
@@ -20,7 +20,7 @@ abbrev pub EveryPair : (ℕ → ℕ → Type 0) → List Pair → Type 0
 EveryPair E [] = Unit {0}
 EveryPair E (pair ∷ pairs) = E pair.tail pair.head × EveryPair E pairs
 
--- what has one label keeps one
+-- nodes with one label keep one label
 pub labels_keep : (label : ℕ → ℕ) (pairs : List Pair) (x y : ℕ) → label x ≡ label y → labels label pairs x ≡ labels label pairs y
 labels_keep label [] x y e = e
 labels_keep label (p ∷ ps) x y e = labels_keep (joined label p.tail p.head) ps x y (ap (λ (n : ℕ). cond (nat_eq n (label p.head)) (label p.tail) n) e)
@@ -40,7 +40,7 @@ labels_join label (p ∷ ps) u v (inl (a, b)) =
     (ap (joined label p.tail p.head) a ∙ joined_ends label p.tail p.head ∙ ap (joined label p.tail p.head) (sym b))
 labels_join label (p ∷ ps) u v (inr h) = labels_join (joined label p.tail p.head) ps u v h
 
--- what gets one label is equivalent, where the nodes of each pair are
+-- nodes that get one label are equivalent, if the nodes of each pair are equivalent
 pub labels_only : (E : ℕ → ℕ → Type 0) → ((x y : ℕ) → E x y → E y x) → ((x y z : ℕ) → E x y → E y z → E x z)
     → (label : ℕ → ℕ) (pairs : List Pair) → EveryPair E pairs → ((x y : ℕ) → label x ≡ label y → E x y) → (x y : ℕ) → labels label pairs x ≡ labels label pairs y → E x y
 labels_only E flip trans label [] all h x y e = h x y e

@@ -14,9 +14,9 @@ use Rattle.cmr_base.proofs.PlaneSteps.{zero_entry}
 use Rattle.cmr_base.proofs.Submatrices.{increasing_places}
 use Rattle.cmr_base.proofs.WholeMatrices.{is_ternary, same_matrix}
 
--- ---- places
+-- ---- indices
 
--- the first so many of the chosen columns have their places
+-- the first `count` of the chosen columns have their indices
 pub record AreSomePlaces (width : ℕ) (chosen : List ℕ) (count : ℕ) (places : List ℕ) : Type 0 where
   pub long : length places ≡ width
   pub there : (k : ℕ) → k < count → get_or places (get_or chosen k 0) 0 ≡ k
@@ -62,7 +62,7 @@ all_places width chosen places count increasing below few all are = record {
 
 -- ---- a row
 
--- of the chosen entries those before a column are copied
+-- the chosen entries before a column are copied
 pub record IsCopiedBefore (m : Matrix) (row : ℕ) (columns : List ℕ) (to : ℕ) (old : Matrix) (from : ℕ) (new : Matrix) : Type 0 where
   pub is_matrix : IsMatrix new
   pub height_same : height new ≡ height old
@@ -99,7 +99,7 @@ module _ (m : Matrix) (row : ℕ) (columns : List ℕ) (to : ℕ) (old : Matrix)
     }
 
     module _ (places : List ℕ) (are : ArePlaces m.width columns places) (next : ℕ) (ordered : from ≤ next) (none : (c : ℕ) → from ≤ c → c < next → support m row c ≡ false) where
-      -- the next nonzero is in no chosen column
+      -- the column of the next nonzero is not chosen
       pub passed_over : length columns ≤ get_or places next 0 → IsCopiedBefore m row columns to old (next + 1) new
       passed_over outside = record {
         is_matrix = before.is_matrix;
@@ -114,7 +114,7 @@ module _ (m : Matrix) (row : ℕ) (columns : List ℕ) (to : ℕ) (old : Matrix)
           apart k l h (inl q) = let there = sym (ap (λ (c : ℕ). get_or places c 0) q) ∙ are.there k l in absurd (omega (arith, there, outside, l))
           apart k l h (inr d) = omega (arith, h, d)
 
-      -- it is in a chosen column
+      -- the column of the next nonzero is chosen
       pub one_copied : (value : ℤ) → value ≡ entry m row next → IsEntry value → next < m.width → get_or places next 0 < length columns → to < height old → old.width ≡ length columns
           → IsCopiedBefore m row columns to old (next + 1) (with_entry new to (get_or places next 0) value)
       one_copied value is small in_width inside high wide = record {
@@ -150,7 +150,7 @@ module _ (m : Matrix) (row : ℕ) (columns : List ℕ) (to : ℕ) (old : Matrix)
 
 -- ---- all rows
 
--- the first so many rows are copied, and the others are empty
+-- the first `count` rows are copied, and the other rows are empty
 pub record AreRowsCopied (m : Matrix) (rows columns : List ℕ) (count : ℕ) (part : Matrix) : Type 0 where
   pub is_matrix : IsMatrix part
   pub height_is : height part ≡ length rows

@@ -15,12 +15,12 @@ use Rattle.cmr_base.proofs.Members.{increasing_are_distinct}
 use Rattle.cmr_base.proofs.GrownNodes.{beyond_in, node_of_in_range, rows_of, rows-grown, length-grown, IsOrderOf, beyond_in-node_of, has_order}
 use Rattle.cmr_base.proofs.GrownPaths.{AreLaid, HasPath, grown_path}
 
--- each arc hangs at a node of those before it, and no row stands twice
+-- each arc is attached to a node of the earlier arcs, and no row occurs twice
 AreHung : List HungArc → Type 0
 AreHung [] = Unit {0}
 AreHung (a ∷ t) = (a.node ≤ length t) × (¬ (IsIn a.row (rows_of t))) × AreHung t
 
--- f gives the ends of each arc
+-- f returns the ends of each arc
 GivesEnds : (ℕ → Pair) → List HungArc → Type 0
 GivesEnds f [] = Unit {0}
 GivesEnds f (a ∷ t) = (f a.row ≡ record { tail = a.node; head = suc (length t) }) × GivesEnds f t
@@ -106,7 +106,7 @@ first_lines_distinct : (count : ℕ) → IsDistinct (first_lines count)
 first_lines_distinct count = increasing_are_distinct 0 count (first_lines count) (rises-range 0 count count (omega arith))
 
 module _ (M : ℕ → ℕ → Bool) (m : ℕ) (side : ℕ → ℕ → Bool) (lies : Bool → ℕ → ℕ → Bool) (K : IsCuts M (λ r. r < m) side lies) where
-  -- of three arcs two say the same, and of two one does not lie beyond the other
+  -- of three arcs, s and t are on one side of r, or r and t are on one side of s; of two arcs, one does not lie beyond the other
   pub three_beyond : (r s t : ℕ) → r < m → s < m → t < m → r ≢ s → r ≢ t → s ≢ t → (beyond side lies r t ≡ beyond side lies r s) ⊎ (beyond side lies s t ≡ beyond side lies s r)
   three_beyond r s t hr hs ht rs rt st = go (K.three r s t hr hs ht rs rt st)
     where
@@ -128,7 +128,7 @@ module _ (M : ℕ → ℕ → Bool) (m : ℕ) (side : ℕ → ℕ → Bool) (lie
       go (inl a) = inl (ap (differ (lies true r 0)) a)
       go (inr a) = inr (ap (differ (lies true s 0)) a)
 
-  -- the rows have an order in which they grow
+  -- the rows have an order in which the tree grows
   pub cuts_order : (list : List ℕ) × IsOrderOf (beyond side lies) (first_lines m) list
   cuts_order = has_order (beyond side lies) (λ r. r < m) three_beyond root_beyond (first_lines m) (first_lines_distinct m) (first_lines_in m)
 
@@ -225,7 +225,7 @@ module _ (M : ℕ → ℕ → Bool) (m : ℕ) (side : ℕ → ℕ → Bool) (lie
         paths : (c : ℕ) → c < n → IsPathOf arcs m (λ r. M r c) (tail (walks_by side lies order n) c) (head (walks_by side lies order n) c)
         paths c l = subst (λ (q : Pair). IsPathOf arcs m (λ r. M r c) q.tail q.head) (sym (walk_at n c l)) (path_of c)
 
-    -- and a matrix with these signs
+    -- the tree also realises a matrix with these signs
     pub cuts_realise : (n : ℕ) (N : ℕ → ℕ → ℤ) → ((r c : ℕ) → r < m → N r c ≡ bit (lies true r c) -ℤ bit (lies false r c))
         → Realises (record { arcs = arcs_by side lies order m; walks = walks_by side lies order n }) N m n
     cuts_realise n N signed = record { network = cuts_network n; paths = paths }

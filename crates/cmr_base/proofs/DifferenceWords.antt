@@ -1,4 +1,4 @@
--- Where two rows differ, by the words of both.
+-- The columns in which two rows differ, from the words of both rows.
 use Rattle.std.proofs.Common.{◌≡◌, ◌<◌, ◌+◌, ◌*◌, ◌%◌, ◌∙◌, ◌*ℤ◌, max, ℕ, zero, suc, ℤ, pos, negsuc, Bool, true, cond, refl, ap, ap₂, sym, inl, inr, arith, ◌≢◌, w8, of_z}
 use Rattle.std.specs.Int.{bit_at}
 use Rattle.std.specs.Int.Bits.{bit_xor, bit_or}
@@ -15,7 +15,7 @@ use Rattle.cmr_base.proofs.Integers.{products, mul-zero}
 abbrev bit : Bool → ℕ
 bit b = cond b 1 0
 
--- no entry is above 1 or below -1
+-- an entry is at most 1 and at least -1
 pub too_large : {P : Type 0} (n : ℕ) → IsEntry (pos (suc (suc n))) → P
 too_large n small = absurd (let l = small.high in omega (arith, ints))
 
@@ -110,7 +110,7 @@ module _ (m : Matrix) (row model chunk i : ℕ) (is : IsMatrix m) (low : i < 64)
       ∙ ap₂ (λ (a b : ℕ). (a + b) % 2) minus_bit (bit_at_xor (word_of is_nonzero (row_of m model) chunk) (word_of is_minus (row_of m model) chunk) i ∙ ap₂ (λ (a b : ℕ). (a + b) % 2) other_support_bit other_minus_bit))
       ∙ minus_bits (entry m row (64 * chunk + i)) (entry m model (64 * chunk + i)) (is.small row (64 * chunk + i)) (is.small model (64 * chunk + i))
 
--- what the tests of a factor mean
+-- an entry is 1 if its byte is 1, and -1 if its byte is not 0 and not 1
 pub factor_one : (x : ℤ) → IsEntry x → of_z w8 x ≡ 1 → x ≡ pos 1
 factor_one (pos zero) a e = absurd (omega (arith, e))
 factor_one (pos (suc zero)) a e = refl
@@ -125,7 +125,7 @@ factor_minus (negsuc zero) a e f = refl
 factor_minus (pos (suc (suc n))) a e f = too_large n a
 factor_minus (negsuc (suc n)) a e f = too_small n a
 
--- two rows differ within the width
+-- two rows differ only in columns within the width
 pub difference_in : (m : Matrix) (row : ℕ) (factor : ℤ) (model column : ℕ) → IsMatrix m → row < height m → model < height m → differs_at m row factor model column ≡ true → column < m.width
 difference_in m row factor model column is l k e = elim (cases_lt column m.width) [
   | inl h ↦ h

@@ -1,4 +1,4 @@
--- The entries of a matrix in which one entry was changed, and entries that are 0 or 1.
+-- The entries of a matrix after a change of one entry, and entries that are 0 or 1.
 use Rattle.std.proofs.Common.{◌≡◌, ◌≢◌, ◌<◌, ◌∙◌, inl, inr, ℕ, ℤ, pos, negsuc, [], length, get_or, set, ap, sym, subst, arith}
 use Rattle.std.proofs.lemmas.List.{length-set, set_past, get_or-set_same, get_or-set_other}
 use Rattle.std.proofs.lemmas.Bool.{cases_eq, cases_lt}

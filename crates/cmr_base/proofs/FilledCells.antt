@@ -1,4 +1,4 @@
--- The cells of a matrix given by its entries, one after another.
+-- The cells of a matrix that a function of rows and columns defines, one after another.
 use Rattle.std.proofs.Common.{◌≡◌, ◌≤◌, ◌+◌, ◌*◌, ◌∙◌, ◌++◌, ℕ, ℤ, pos, List, [], ◌∷◌, map, length, get_or, ap, sym, subst, refl, inl, inr, zero-add, arith}
 use Rattle.std.specs.List.{flat_map}
 use Rattle.std.proofs.lemmas.Bool.{cases_lt}
@@ -44,7 +44,7 @@ module _ (m n : ℕ) (entries : ℕ → ℕ → ℤ) where
   pub small : IsEntry (pos 0) → ((r c : ℕ) → IsEntry (entries r c)) → (k : ℕ) → IsEntry (get_or (flat_map (λ row. map (entries row) (first_lines n)) (first_lines m)) k (pos 0))
   small none each = each-flat_map IsEntry (λ row. map (entries row) (first_lines n)) (first_lines m) none (λ row j. each-map IsEntry (entries row) (first_lines n) none (each row) j)
 
--- past the last row
+-- past the last row entries are 0
 pub entry-past : (m : Matrix) (r c : ℕ) → height m ≤ r → entry m r c ≡ pos 0
 entry-past m r c l = ap (λ (row : List ℤ). get_or row c (pos 0)) (get_or_past m.rows r [] l)
 

@@ -1,4 +1,5 @@
--- The lowest bit of a word, from a place on: the first number that passes a test, where the bits of the word tell the test.
+-- The lowest bit of a word, from a position on: the first number that passes a test, if the bits of the word are the values of the
+-- test.
 use Rattle.std.proofs.Common.{◌≡◌, ◌<◌, ◌≤◌, ◌+◌, ◌-◌, ◌*◌, ◌/◌, ◌%◌, ◌^◌, ◌∙◌, ◌⊎◌, ℕ, Bool, true, false, cond, refl, ap, sym, subst, inl, inr, arith, w64}
 use Rattle.std.specs.Int.{bit_at, trailing_zeros}
 use Rattle.std.proofs.Math.Nat.{div-div-eq-div-mul}
@@ -37,7 +38,7 @@ module _ (test : ℕ → Bool) (column word : ℕ) (fits : word < 2 ^ 64) (tells
       subst (λ (x : ℕ). test x ≡ false) at
       (no_bit_is (test (column + (c - column))) (bit_at (word / 2 ^ (column % 64)) (c - column)) (bit (c - column) (omega arith)) (ap (λ (n : ℕ). bit_at n (c - column)) empty ∙ bit_at-zero (c - column)))
 
-  -- its lowest bit is that of the first number
+  -- the lowest bit of the rest is the bit of the first number that passes
   pub first_by_bits : 0 < word / 2 ^ (column % 64) → word / 2 ^ (column % 64) < 2 ^ 64
       → (test (column + trailing_zeros w64 (word / 2 ^ (column % 64))) ≡ true) × ((c : ℕ) → column ≤ c → c < column + trailing_zeros w64 (word / 2 ^ (column % 64)) → test c ≡ false)
   first_by_bits some low = go (bit_at-trailing_zeros w64 rest some low)

@@ -1,4 +1,4 @@
--- Graphic supports and network matrices are those that have cuts, and their submatrices are such too.
+-- Graphic supports and network matrices are the matrices that have cuts, and their submatrices also have cuts.
 use Rattle.std.proofs.Common.{◌≡◌, ◌≢◌, ◌<◌, ◌≤◌, ◌⊎◌, inl, inr, ◌∙◌, ◌↔◌, ℕ, ℤ, pos, Bool, true, false, cond, List, [], map, length, get_or, refl, ap, sym, arith, nat_lt}
 use Rattle.std.proofs.lemmas.Bool.{cases_lt}
 use Rattle.std.proofs.lemmas.List.{get_or_past, length-map}
@@ -15,7 +15,7 @@ use Rattle.cmr_base.proofs.ReproducedCuts.{support_has_cuts, has_signed_cuts}
 use Rattle.cmr_base.proofs.CutTrees.{cuts_order, cuts_realise_support, cuts_realise}
 use Rattle.cmr_base.proofs.Booleans.{is_lt, lt_of}
 
--- ---- what has cuts is realised, and only that
+-- ---- a matrix is realised if and only if it has cuts
 
 pub cuts_have_tree : (M : ℕ → ℕ → Bool) (m n : ℕ) → HasCuts M (λ r. r < m) → (net : Network) × RealisesSupport net M m n
 cuts_have_tree M m n K =
@@ -27,7 +27,7 @@ signed_cuts_have_tree M m n K =
     let order = cuts_order (λ r c. is_nonzero (M r c)) m K.side K.lies K.cuts in
     (_, cuts_realise (λ r c. is_nonzero (M r c)) m K.side K.lies K.cuts order.0 order.1 n M K.signed)
 
--- a nonzero stands in a column below the width
+-- the column of a nonzero is below the width
 pub nonzero_in_range : (m : Matrix) → IsRectangular m → (r c : ℕ) → support m r c ≡ true → c < m.width
 nonzero_in_range m is r c e = go (cases_lt c m.width)
   where
@@ -72,7 +72,7 @@ realised_same net m n M N same G = record {
 
 -- ---- submatrices
 
--- rows among those that have cuts, none of them twice, and any columns
+-- distinct rows of a matrix that has cuts, and any columns
 abbrev pub cuts_of_rows : (M : ℕ → ℕ → Bool) (R S : ℕ → Type 0) (side : ℕ → ℕ → Bool) (lies : Bool → ℕ → ℕ → Bool) (row column : ℕ → ℕ)
     → ((r : ℕ) → S r → R (row r)) → ((r s : ℕ) → S r → S s → r ≢ s → row r ≢ row s) → IsCuts M R side lies
     → IsCuts (λ r c. M (row r) (column c)) S (λ r s. side (row r) (row s)) (λ end r c. lies end (row r) (column c))
@@ -82,7 +82,7 @@ cuts_of_rows M R S side lies row column inside apart K = record {
   uses = λ r c h. K.uses (row r) (column c) (inside r h);
 }
 
--- p rows and q columns of m rows and n columns, no row twice
+-- p rows and q columns of m rows and n columns; the rows are distinct
 module _ (m n p q : ℕ) (row column : ℕ → ℕ) (inside : (r : ℕ) → r < p → row r < m) (apart : (r s : ℕ) → r < p → s < p → r ≢ s → row r ≢ row s)
     (in_columns : (c : ℕ) → c < q → column c < n) where
   pub part_has_graphic_support : (net : Network) (M : ℕ → ℕ → Bool) → RealisesSupport net M m n → (other : Network) × RealisesSupport other (λ r c. M (row r) (column c)) p q

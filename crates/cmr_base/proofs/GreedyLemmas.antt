@@ -1,4 +1,4 @@
--- The greedy set for a property that smaller sets inherit is minimal.
+-- The greedy set for a hereditary property is minimal.
 use Rattle.std.proofs.Common.{inl, inr, ℕ, List, [], ◌∷◌, sym, subst}
 use Rattle.std.specs.List.Sorted.{IsStrictlyIncreasing}
 use Rattle.cmr_base.specs.declared.line.Line.{Line}
@@ -9,7 +9,7 @@ use Rattle.cmr_base.specs.GreedySets.{IsGreedyFrom, IsGreedySet, IsMinimalWithou
 use Rattle.cmr_base.proofs.Members.{IsWithin}
 use Rattle.cmr_base.proofs.RemovedLines.{IsAmong, among_from_has_line, rows_increase, columns_increase, rows_within, columns_within, rows_without-within, columns_without-within, has_line-within, line_gone, first_lines_increase, row_set_from_within, column_set_from_within}
 
--- a set of lines has the property where a greater one has it
+-- a subset of a set of lines inherits the property
 abbrev pub IsInherited : (Matrix → Type 0) → Matrix → Type 0
 IsInherited P m = (rows columns rows' columns' : List ℕ) → IsStrictlyIncreasing rows → IsStrictlyIncreasing columns → IsStrictlyIncreasing rows' → IsStrictlyIncreasing columns'
     → IsWithin rows' rows → IsWithin columns' columns → P (submatrix m rows columns) → P (submatrix m rows' columns')

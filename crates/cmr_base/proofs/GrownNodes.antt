@@ -1,4 +1,4 @@
--- Trees grown by their arcs, in an order in which none lies beyond a later one: where their nodes lie.
+-- Trees that grow arc by arc, in an order in which no arc lies beyond a later one, and the arcs beyond which their nodes lie.
 use Rattle.std.proofs.Common.{ℕ, suc, Bool, true, false, cond, List, [], ◌∷◌, ◌≡◌, ◌≢◌, ◌≤◌, ◌∙◌, sym, ap, refl, arith, subst, ◌⊎◌, inl, inr, nat_eq, length}
 use Rattle.cmr_base.specs.Members.{IsIn, IsDistinct}
 use Rattle.cmr_base.specs.GrownTrees.{IsOrdered, HungArc, node_of, grown}
@@ -40,21 +40,21 @@ module _ (beyond : ℕ → ℕ → Bool) where
   length-grown [] = refl
   length-grown (h ∷ L) = ap (λ (z : ℕ). suc z) (length-grown L)
 
-  -- the same rows in such an order
+  -- the same rows in an order in which the tree grows
   pub record IsOrderOf (rows list : List ℕ) : Type 0 where
     pub order : IsOrdered beyond list
     pub all : (x : ℕ) → IsIn x rows → IsIn x list
     pub only : (x : ℕ) → IsIn x list → IsIn x rows
     pub count : length list ≡ length rows
 
-  -- the arcs beyond which some node lies
+  -- the arcs beyond which a node lies: of two arcs, one has the node and the other arc on one side
   abbrev pub IsNode : (ℕ → Type 0) → (ℕ → Bool) → Type 0
   IsNode R x = (r s : ℕ) → R r → R s → r ≢ s → (x r ≡ beyond r s) ⊎ (x s ≡ beyond s r)
 
   module _ (R : ℕ → Type 0)
       (three : (r s t : ℕ) → R r → R s → R t → r ≢ s → r ≢ t → s ≢ t → (beyond r t ≡ beyond r s) ⊎ (beyond s t ≡ beyond s r))
       (root : (r s : ℕ) → R r → R s → r ≢ s → (beyond r s ≡ false) ⊎ (beyond s r ≡ false)) where
-    -- the node of given arcs lies beyond them and no others
+    -- the node of a set of arcs lies beyond exactly these arcs
     pub beyond_in-node_of : (L : List ℕ) → IsOrdered beyond L → ((y : ℕ) → IsIn y L → R y) → (x : ℕ → Bool) → IsNode (λ r. IsIn r L) x → (j : ℕ) → IsIn j L
         → beyond_in (grown beyond L) j (node_of (grown beyond L) x) ≡ x j
     beyond_in-node_of [] o sub x n j h = absurd h
@@ -63,7 +63,7 @@ module _ (beyond : ℕ → ℕ → Bool) where
         (λ m. beyond_in-node_of L o.1 (λ y m. sub y (inr m)) (λ j. beyond j h)
         (λ r s hr hs rs. three r s h (sub r (inr hr)) (sub s (inr hs)) (sub h (inl refl)) rs (λ e. (o.0 r hr).0 (sym e)) (λ e. (o.0 s hs).0 (sym e))) j m)
       where
-        -- where the node is beyond h, it is where h hangs, but for h
+        -- if the node lies beyond h, it lies beyond the same earlier arcs as h
         passed : x h ≡ true → IsIn j L → x j ≡ beyond j h
         passed e m = pick (n h j (inl refl) (inr m) (o.0 j m).0)
           where
@@ -84,7 +84,7 @@ module _ (beyond : ℕ → ℕ → Bool) where
         go false e (inl f) r q = rw (old (node_of (grown beyond L) x) (node_of_in_range (grown beyond L) x)) (ap (λ (z : ℕ). beyond_in (grown beyond L) z (node_of (grown beyond L) x)) f ∙ beyond_in-absent (grown beyond L) h (node_of (grown beyond L) x) not_in ∙ sym (ap x f ∙ e))
         go false e (inr m) r q = rw (old (node_of (grown beyond L) x) (node_of_in_range (grown beyond L) x)) (r m)
 
-    -- what lies beyond what lies beyond
+    -- lying beyond is transitive
     beyond_trans : (r s t : ℕ) → R r → R s → R t → r ≢ s → r ≢ t → s ≢ t → beyond r s ≡ true → beyond s t ≡ true → beyond r t ≡ true
     beyond_trans r s t hr hs ht rs rt st a b = go (three r s t hr hs ht rs rt st) (root r s hr hs rs)
       where
@@ -93,7 +93,7 @@ module _ (beyond : ℕ → ℕ → Bool) where
         go (inr e) (inl q) = absurd (not_both (beyond r s) a q)
         go (inr e) (inr q) = absurd (not_both (beyond s t) b (e ∙ q))
 
-    -- a row more
+    -- one more row
     HasInserted : ℕ → List ℕ → Type 0
     HasInserted x ys = (zs : List ℕ) × IsOrdered beyond zs × ((z : ℕ) → (z ≡ x) ⊎ IsIn z ys → IsIn z zs) × ((z : ℕ) → IsIn z zs → (z ≡ x) ⊎ IsIn z ys) × (length zs ≡ suc (length ys))
 

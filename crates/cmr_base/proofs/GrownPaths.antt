@@ -55,9 +55,9 @@ module _ (arcs : List Pair) where
   pub walk_to : (x : ℕ) (steps : List WalkStep) (y y' : ℕ) → y ≡ y' → IsWalk arcs x steps y → IsWalk arcs x steps y'
   walk_to x steps y y' e w = subst (λ (z : ℕ). IsWalk arcs x steps z) e w
 
--- `leads_away r` says that the arc of row r leads away from node 0
+-- `leads_away r` is true if and only if the arc of row r leads away from node 0
 module _ (arcs : List Pair) (leads_away : ℕ → Bool) where
-  -- the steps over the arc of a row: away from node 0 and back
+  -- the step over the arc of a row, away from node 0
   abbrev pub away : HungArc → WalkStep
   away a = record { arc = a.row; forwards = leads_away a.row }
 
@@ -86,7 +86,7 @@ module _ (arcs : List Pair) (leads_away : ℕ → Bool) where
   in_bit true = refl
   in_bit false = refl
 
-  -- the arc of a row leads from the node where it hangs to the new node
+  -- the arc of a row leads from the node to which it is attached to the new node
   pub record IsLaid (a : HungArc) (t : List HungArc) : Type 0 where
     pub in_list : a.row < length arcs
     pub from_node : from arcs (away a) ≡ a.node
@@ -98,7 +98,7 @@ module _ (arcs : List Pair) (leads_away : ℕ → Bool) where
   AreLaid [] = Unit {0}
   AreLaid (a ∷ t) = IsLaid a t × AreLaid t
 
-  -- a path between two nodes, which uses the arcs beyond which exactly one of them lies
+  -- a path between two nodes, which uses the arcs beyond which exactly one of the two nodes lies
   pub record HasPath (t : List HungArc) (a b : ℕ) : Type 0 where
     pub steps : List WalkStep
     pub walk : IsWalk arcs a steps b

@@ -1,4 +1,4 @@
--- Each start grows to a least closed set.
+-- Each start has a closure: a least closed set that contains it.
 use Rattle.std.proofs.Common.{◌≡◌, ◌<◌, ◌≤◌, ◌+◌, ◌⊎◌, inl, inr, ◌∙◌, ℕ, ℤ, zero, suc, Bool, true, false, not, cond, nat_eq, List, [], ◌∷◌, ap, ap₂, sym, subst, refl, arith}
 use Rattle.std.proofs.lemmas.Bool.{false≢true}
 use Rattle.std.proofs.lemmas.Bool.Decides.{nat_tests, Decides-int_eq}
@@ -19,7 +19,7 @@ int_dec a b = go (int_eq a b) refl
     go true e = inl ((Decides-int_eq a b).0 e)
     go false e = inr (λ f. false≢true (sym e ∙ (Decides-int_eq a b).1 f))
 
--- for each number below k, or not for some
+-- P is true of each number below k, or false of one of them
 below_all : (P : ℕ → Type 0) (k : ℕ) → ((x : ℕ) → P x ⊎ (P x → ⊥)) → ((x : ℕ) → x < k → P x) ⊎ ((x : ℕ) × (x < k) × (P x → ⊥))
 below_all P zero d = inl (λ x l. absurd (omega arith))
 below_all P (suc k) d = go (d k) (below_all P k d)
@@ -55,7 +55,7 @@ module _ (m n : ℕ) (M : ℕ → ℕ → ℤ) (upper lower : ℕ → ℕ → �
       go false true x (inl h) = inl (λ e f. absurd (false≢true e), λ e f. h)
       go false true x (inr h) = inr (λ k. h (k.1 refl refl))
 
-  -- a line outside that stands in every closed set that holds T
+  -- a line outside T that each closed set with T contains
   record Forced (T : Lines) : Type 0 where
     line : Line
     is : IsLine m n line
@@ -101,7 +101,7 @@ module _ (m n : ℕ) (M : ℕ → ℕ → ℤ) (upper lower : ℕ → ℕ → �
       go (inl h) = inl (record { upper = λ r c l k e f. (h r (first_lines_contain m r l) c (first_lines_contain n c k)).0 e f; lower = λ r c l k e f. (h r (first_lines_contain m r l) c (first_lines_contain n c k)).1 e f })
       go (inr (r, l, h)) = inr (column r l (below_all (λ c. Keeps T r c) n (λ c. keeps T r c)) h)
 
-  -- with the line
+  -- the set with the line
   abbrev plus : Line → Lines → Lines
   plus x T y = cond (same x y) true (T y)
 

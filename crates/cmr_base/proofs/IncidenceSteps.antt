@@ -1,4 +1,4 @@
--- The arcs at each node, taken in one after another, and gone through from the last.
+-- The arcs at each node, added one after another, and traversed from the last.
 use Rattle.std.proofs.Common.{◌≡◌, ◌≢◌, ◌<◌, ◌≤◌, ◌+◌, ◌++◌, ◌⊎◌, inl, inr, ◌∙◌, ℕ, zero, suc, Bool, true, false, cond, nat_eq, List, [], ◌∷◌, Option, Some, None, length, get_or, set, refl, ap, sym, subst, arith, length-append}
 use Rattle.std.proofs.lemmas.Bool.{cases_lt}
 use Rattle.std.proofs.lemmas.List.{get_or-set_same, get_or-set_other, length-set, get_or_append_left, get_or-append-add, get_or_read}
@@ -7,7 +7,7 @@ use Rattle.cmr_base.specs.declared.incidences.End.{End}
 use Rattle.cmr_base.specs.Incidences.{end_at, last_at}
 use Rattle.cmr_base.proofs.RowLists.{same_or_not, self_eq, is_ne, eq_of, ne_of}
 
--- the arcs below a number are taken in
+-- the arcs below a number are added
 pub record AreTaken (arcs : List Pair) (end : End) (nodes number : ℕ) (last previous : List (Option ℕ)) : Type 0 where
   pub nodes_count : length last ≡ nodes
   pub arcs_count : length previous ≡ number
@@ -66,7 +66,7 @@ bound None = 0
 bound (Some arc) = suc arc
 
 module _ (arcs : List Pair) (end : End) (node : ℕ) where
-  -- the last arc at a node is at it
+  -- the last arc at a node has its end at this node
   pub last_is_there : (number arc : ℕ) → last_at arcs end node number ≡ Some arc → (arc < number) × (end_at arcs end arc ≡ node)
   last_is_there zero arc e = absurd (no_none e)
     where
@@ -86,7 +86,7 @@ module _ (arcs : List Pair) (end : End) (node : ℕ) where
       go true f e k = let q = item e in (omega (arith, q), ap (end_at arcs end) (sym q) ∙ eq_of (end_at arcs end number) node f)
       go false f e k = let w = k e in (omega (arith, w.0), w.1)
 
-  -- and none after it is
+  -- no arc after it has its end at this node
   pub none_after_last : (number arc : ℕ) → bound (last_at arcs end node number) ≤ arc → arc < number → end_at arcs end arc ≢ node
   none_after_last zero arc b l e = absurd (omega (arith, l))
   none_after_last (suc number) arc b l e = go (nat_eq (end_at arcs end number) node) refl b (cases_lt arc number) (none_after_last number arc)

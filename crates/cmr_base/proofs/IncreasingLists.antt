@@ -1,4 +1,4 @@
--- Increasing lists of numbers, and the increasing list of what stands an odd number of times in a list.
+-- Increasing lists of numbers, and the increasing list of the numbers that occur an odd number of times in a list.
 use Rattle.std.proofs.Common.{◌≡◌, ◌≢◌, ◌<◌, ◌≤◌, ◌+◌, ◌⊎◌, inl, inr, ℕ, zero, suc, Bool, true, false, cond, nat_eq, nat_lt, ℤ, pos, ◌+ℤ◌, ◌-ℤ◌, List, [], ◌∷◌, length, take, get_or, refl, ap, sym, subst, arith}
 use Rattle.std.specs.List.{AllByRecursion, range_with_len}
 use Rattle.std.specs.List.Sorted.{IsStrictlyIncreasing}
@@ -12,7 +12,7 @@ use Rattle.cmr_base.proofs.Parity.{IsFour}
 use Rattle.cmr_base.proofs.Lists.{IsJoined, one_more_first, joined_later}
 use Rattle.cmr_base.proofs.Booleans.{eq_of}
 
--- each number from low on and below high, and each above the one before it
+-- each number is at least low and below high, and above the previous number
 abbrev pub RisesIn : ℕ → ℕ → List ℕ → Type 0
 RisesIn low high [] = Unit {0}
 RisesIn low high (x ∷ xs) = (low ≤ x) × (x < high) × RisesIn (x + 1) high xs
@@ -39,7 +39,7 @@ increasing_at_least low high [] rises k h = absurd (omega arith)
 increasing_at_least low high (x ∷ xs) rises zero h = rises.0
 increasing_at_least low high (x ∷ xs) rises (suc k) h = let from = increasing_at_least (x + 1) high xs rises.2 k (omega arith) in omega (arith, rises.0)
 
--- what stands before a place is below what stands there
+-- the numbers before an index are below the number at the index
 pub increasing_prefix : (low high : ℕ) (xs : List ℕ) → RisesIn low high xs → (k : ℕ) → k < length xs → AllByRecursion (λ x. x < get_or xs k 0) (take k xs)
 increasing_prefix low high [] rises k h = absurd (omega arith)
 increasing_prefix low high (x ∷ xs) rises zero h = tt
@@ -86,14 +86,14 @@ increasing_column_set m columns rises = record {
   in_range = increasing_in_range 0 m.width columns rises;
 }
 
--- ---- one number put in, or taken out
+-- ---- one number inserted or removed
 
--- the list without the number where it is there, and else with it
+-- the list without the number if it contains the number, and with the number otherwise
 abbrev pub toggle : ℕ → List ℕ → List ℕ
 toggle n [] = n ∷ []
 toggle n (x ∷ xs) = cond (nat_lt n x) (n ∷ x ∷ xs) (cond (nat_eq n x) xs (x ∷ toggle n xs))
 
--- the numbers that stand an odd number of times, increasing
+-- the increasing list of the numbers that occur an odd number of times
 abbrev pub odd_times : List ℕ → List ℕ
 odd_times [] = []
 odd_times (x ∷ xs) = toggle x (odd_times xs)
@@ -111,7 +111,7 @@ pub all-odd_times : (P : ℕ → Type 0) (xs : List ℕ) → AllByRecursion P xs
 all-odd_times P [] h = tt
 all-odd_times P (x ∷ xs) h = all-toggle P x (odd_times xs) h.0 (all-odd_times P xs h.1)
 
--- the number comes in, or goes out
+-- the number is inserted or removed
 toggle_adds : (n : ℕ) (xs : List ℕ) (f : ℕ → ℤ) → (sum_over (toggle n xs) f ≡ f n +ℤ sum_over xs f) ⊎ (sum_over xs f ≡ f n +ℤ sum_over (toggle n xs) f)
 toggle_adds n [] f = inl refl
 toggle_adds n (x ∷ xs) f = go (nat_lt n x) (nat_eq n x) refl (toggle_adds n xs f)
@@ -171,7 +171,7 @@ pub rises-odd_times : (high : ℕ) (xs : List ℕ) → AllByRecursion (λ x. x <
 rises-odd_times high [] h = tt
 rises-odd_times high (x ∷ xs) h = rises-toggle 0 high x (odd_times xs) (omega arith) h.0 (rises-odd_times high xs h.1)
 
--- ---- a increasing list with one number counted apart
+-- ---- an increasing list with one smaller number
 
 pub increasing_apart : (low high n : ℕ) (xs : List ℕ) → n < low → RisesIn low high xs → AllByRecursion (λ x. x ≢ n) xs
 increasing_apart low high n [] h rises = tt

@@ -1,9 +1,9 @@
--- The ring of whole numbers: `simp products (omega (arith, sums))` proves an identity of polynomials.
+-- The ring of integers: `simp products (omega (arith, sums))` proves an identity of polynomials.
 use Rattle.std.proofs.Common.{◌≡◌, ◌*◌, ◌∙◌, ℕ, zero, suc, ℤ, pos, negsuc, neg_ℤ, ◌+ℤ◌, ◌*ℤ◌, refl, ap, sym, arith}
 use Rattle.std.proofs.lemmas.Int.{ints}
 use borrow.Author.Differences.{up, down, sum_is_lem, product_is, neg_is, same_in, same_out, Apart-out, lt_out, le_out, below_in, at_most_in}
 
--- for `omega`: sums of whole numbers, in which each product is an unknown
+-- for `omega`: sums of integers, in which each product is an unknown
 pub ruleset sums = (same_out, Apart-out, same_in, lt_out, le_out, below_in, at_most_in, sum_is_lem, neg_is)
 
 pub mul-add : (a b c : ℤ) → a *ℤ (b +ℤ c) ≡ a *ℤ b +ℤ a *ℤ c

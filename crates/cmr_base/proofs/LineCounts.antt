@@ -1,4 +1,4 @@
--- How many lines a set has.
+-- The number of lines of a set.
 use Rattle.std.proofs.Common.{◌≡◌, ◌≢◌, ◌<◌, ◌≤◌, ◌+◌, ◌++◌, ◌∙◌, ℕ, zero, suc, Bool, true, false, cond, filter, nat_eq, List, [], ◌∷◌, length, ap, ap₂, sym, subst, refl, arith, zero-add}
 use Rattle.std.proofs.lemmas.Bool.{false≢true}
 use Rattle.std.proofs.lemmas.Bool.Decides.{nat_tests}
@@ -12,7 +12,7 @@ pub use Rattle.cmr_base.specs.Seeds.{count, count_inside, count_outside}
 use Rattle.cmr_base.proofs.LineSetLemmas.{range_more}
 use Rattle.cmr_base.proofs.Booleans.{eq_of, is_ne, ne_of, self_eq}
 
--- each line of the list is another
+-- the lines of the list are distinct
 abbrev pub AreApart : List Line → Type 0
 AreApart [] = Unit {0}
 AreApart (x ∷ xs) = AllByRecursion (λ y. x ≢ y) xs × AreApart xs
@@ -45,7 +45,7 @@ inside_is m n S = ap₂ (λ (a b : ℕ). a + b) (count-filter (λ r. S (Row r)) 
 pub outside_is : (m n : ℕ) (S : Lines) → count_lines_in (opposite S) (first_lines m) (first_lines n) ≡ count_outside m n S
 outside_is m n S = inside_is m n (opposite S)
 
--- without the number x
+-- the test without the number x
 abbrev pub less : ℕ → (ℕ → Bool) → ℕ → Bool
 less x p y = cond (nat_eq x y) false (p y)
 
@@ -53,7 +53,7 @@ pub count_same : (p q : ℕ → Bool) (k : ℕ) → ((y : ℕ) → y < k → p y
 count_same p q zero h = refl
 count_same p q (suc k) h = ap₂ (λ (b : Bool) (n : ℕ). cond b (suc n) n) (h k (omega arith)) (count_same p q k (λ y l. h y (omega arith)))
 
--- taking a number out takes away one at most
+-- without a number, the count decreases by at most one
 pub count_less : (x : ℕ) (p : ℕ → Bool) (k : ℕ) → count p k ≤ suc (count (less x p) k)
 count_less x p zero = omega arith
 count_less x p (suc k) = go (nat_eq x k) refl (p k) (count_less x p k)
@@ -70,7 +70,7 @@ count_less x p (suc k) = go (nat_eq x k) refl (p k) (count_less x p k)
     go false e true h = omega arith
     go false e false h = h
 
--- and one exactly where the number was there
+-- it decreases by one if the number passes
 pub count_more : (x : ℕ) (p : ℕ → Bool) (k : ℕ) → x < k → p x ≡ true → count p k ≡ suc (count (less x p) k)
 count_more x p zero l e = absurd (omega arith)
 count_more x p (suc k) l e = go (nat_eq x k) refl (p k) refl (λ l. count_more x p k l e)
@@ -90,7 +90,7 @@ count_more x p (suc k) l e = go (nat_eq x k) refl (p k) refl (λ l. count_more x
         small : (x k : ℕ) → x < suc k → x ≢ k → x < k
         small x k l n = omega arith
 
--- what has a number has one that can be named
+-- if the count is positive, there is a number that passes
 pub one_of : (p : ℕ → Bool) (k : ℕ) → 0 < count p k → (x : ℕ) × (x < k) × (p x ≡ true)
 one_of p zero l = absurd (omega arith)
 one_of p (suc k) l = go (p k) refl l (λ h. one_of p k h)
@@ -138,7 +138,7 @@ line_same (Row r) (Column c) e = absurd (false≢true e)
 line_same (Column c) (Row r) e = absurd (false≢true e)
 line_same (Column c) (Column c') e = ap Column (eq_of c c' e)
 
--- a set with more lines than the list has one beside it
+-- a set with more lines than the list has a line that is not in the list
 pub one_beside : (m n : ℕ) (xs : List Line) (S : Lines) → length xs < count_inside m n S → (x : Line) × (IsLine m n x) × (S x ≡ true) × AllByRecursion (λ y. x ≢ y) xs
 one_beside m n [] S l = let h = one_line m n S l in (h.0, h.1, h.2, tt)
 one_beside m n (y ∷ ys) S l =
@@ -155,7 +155,7 @@ one_beside m n (y ∷ ys) S l =
     not_it : (x : Line) → y ≡ x → cond (same y x) false (S x) ≡ true → ⊥
     not_it x e h = false≢true (sym (ap (λ (s : Bool). cond s false (S x)) (same_line y x e)) ∙ h)
 
--- a set has as many lines as a list of its lines that are is_ne
+-- a set has at least as many lines as a list of distinct lines of the set
 pub at_least : (m n : ℕ) (xs : List Line) (S : Lines) → AllByRecursion (λ x. IsLine m n x) xs → AllByRecursion (λ x. S x ≡ true) xs → AreApart xs → length xs ≤ count_inside m n S
 at_least m n [] S ls ins far = omega arith
 at_least m n (x ∷ xs) S ls ins far =

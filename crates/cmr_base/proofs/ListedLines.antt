@@ -1,4 +1,4 @@
--- Lines that two lists have.
+-- The lines of two lists.
 use Rattle.std.proofs.Common.{◌≡◌, ◌<◌, ◌⊎◌, ◌∙◌, ◌||◌, inl, inr, nat_eq, ℕ, Bool, true, false, List, [], ◌∷◌, sym, refl}
 use Rattle.std.specs.List.{Contains, list_any}
 use Rattle.std.proofs.lemmas.Bool.{false≢true}
@@ -30,7 +30,7 @@ listed_from_in x (y ∷ ys) h = go (nat_eq y x) refl h (listed_from_in x ys)
     go false f (inl q) more = absurd (false≢true (sym f ∙ is_eq y x (sym q)))
     go false f (inr i) more = more i
 
--- a line is listed exactly where the lists have it
+-- a line is listed if and only if the lists have it
 pub has_line_from_listed : (rows columns : List ℕ) (line : Line) → listed rows columns line ≡ true → HasLine rows columns line
 has_line_from_listed rows columns (Row row) e = contains_from_in rows row (in_from_listed row rows e)
 has_line_from_listed rows columns (Column column) e = contains_from_in columns column (in_from_listed column columns e)

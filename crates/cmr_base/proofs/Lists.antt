@@ -1,4 +1,4 @@
--- What holds of each item of a list, a list with one item more, and the items that pass a test.
+-- Properties of all items of a list, lists with one more item, and the items that pass a test.
 use Rattle.std.proofs.Common.{◌≡◌, ◌<◌, ◌≤◌, ◌+◌, ◌++◌, ◌||◌, ◌∙◌, inl, inr, ℕ, zero, suc, Bool, true, false, cond, filter, ℤ, ◌+ℤ◌, List, [], ◌∷◌, length, get_or, take, map, replicate, refl, ap, sym, subst, arith}
 use Rattle.std.specs.List.{AllByRecursion, Contains}
 use Rattle.std.proofs.lemmas.Bool.{cases_lt}
@@ -31,7 +31,7 @@ pub all_back : {A : Type 0} (P : A → Type 0) (xs ys : List A) → AllByRecursi
 all_back P [] ys h = h
 all_back P (x ∷ xs) ys h = all_back P xs ys h.1
 
--- the longer list is the shorter one with the item somewhere in it
+-- the longer list is the shorter list with the item inserted
 pub record HasOneMore {A : Type 0} (item : A) (fewer more : List A) : Type 0 where
   pub prefix : List A
   pub back : List A
@@ -71,7 +71,7 @@ all_without P item fewer more h all =
 pub item_of_one_more : {A : Type 0} (P : A → Type 0) (item : A) (fewer more : List A) → HasOneMore item fewer more → AllByRecursion P more → P item
 item_of_one_more P item fewer more h all = (all_back P h.prefix (item ∷ h.back) (subst (AllByRecursion P) h.more_is all)).0
 
--- with the item where the answer is yes, and else the same
+-- with the item if the test is true, and the same list otherwise
 abbrev pub IsJoined : {A : Type 0} → Bool → A → List A → List A → Type 0
 IsJoined true item fewer more = HasOneMore item fewer more
 IsJoined false item fewer more = more ≡ fewer
@@ -80,7 +80,7 @@ pub joined_later : {A : Type 0} (yes : Bool) (x item : A) (fewer more : List A) 
 joined_later true x item fewer more h = one_more_later x item fewer more h
 joined_later false x item fewer more h = ap (λ xs. x ∷ xs) h
 
--- ---- by places
+-- ---- by indices
 
 pub all_at : {A : Type 0} (P : A → Type 0) (xs : List A) (k : ℕ) (d : A) → AllByRecursion P xs → k < length xs → P (get_or xs k d)
 all_at P [] k d all h = absurd (omega arith)
@@ -130,13 +130,13 @@ one_more_nil {A = A} x xs h = h.more_is ∙ go h.prefix h.back h.fewer_is
     go [] back e = ap (λ ys. x ∷ ys) (sym e)
     go (y ∷ prefix) back e = absurd cc
 
--- ---- lengths, and what passes a test
+-- ---- lengths, and the items that pass a test
 
 pub length-more : {A : Type 0} (xs : List A) (x : A) → length (xs ++ x ∷ []) ≡ suc (length xs)
 length-more [] x = refl
 length-more (y ∷ ys) x = ap suc (length-more ys x)
 
--- copies of one item, also past the end
+-- copies of one item; the default is the same item
 pub get_or-replicated : {A : Type 0} (n k : ℕ) (x : A) → get_or (replicate n x) k x ≡ x
 get_or-replicated n k x = elim (cases_lt k n) [
   | inl in_range ↦ get_or-replicate n k x x in_range

@@ -1,4 +1,4 @@
--- Numbers of a list and their places, and a list without one of them.
+-- Numbers of a list and their indices, and a list without one of its numbers.
 use Rattle.std.proofs.Common.{◌≡◌, ◌≢◌, ◌<◌, ◌≤◌, ◌+◌, ◌∙◌, ◌⊎◌, inl, inr, ℕ, zero, suc, Bool, true, false, cond, not, eqb, List, [], ◌∷◌, length, get_or, Contains, refl, ap, sym, subst, arith, eqb-true}
 use Rattle.std.specs.List.Sorted.{IsStrictlyIncreasing}
 use Rattle.std.proofs.lemmas.Bool.{eqb-false, cases_eq}
@@ -37,7 +37,7 @@ pub increasing_distinct : (xs : List ℕ) → IsStrictlyIncreasing xs → IsDist
 increasing_distinct [] rises = tt
 increasing_distinct (x ∷ xs) rises = ((λ h. let l = head_below x x xs rises h in omega (arith, l)), increasing_distinct xs (increasing_tail x xs rises))
 
--- places in a list without repeats
+-- indices in a list without repeats
 pub same_place : (xs : List ℕ) (i k : ℕ) → IsDistinct xs → i < length xs → k < length xs → get_or xs i 0 ≡ get_or xs k 0 → i ≡ k
 same_place [] i k d h g e = absurd (omega arith)
 same_place (x ∷ xs) zero zero d h g e = refl
@@ -45,7 +45,7 @@ same_place (x ∷ xs) zero (suc k) d h g e = absurd (d.0 (subst (λ (y : ℕ). I
 same_place (x ∷ xs) (suc i) zero d h g e = absurd (d.0 (subst (λ (y : ℕ). IsIn y xs) e (in_at xs i (omega arith))))
 same_place (x ∷ xs) (suc i) (suc k) d h g e = ap suc (same_place xs i k d.1 (omega arith) (omega arith) e)
 
--- the first place of a number in a list
+-- the first index of a number in a list
 abbrev pub place_of : ℕ → List ℕ → ℕ
 place_of x [] = 0
 place_of x (y ∷ ys) = cond (eqb y x) 0 (suc (place_of x ys))
@@ -93,7 +93,7 @@ without-within i xs ys h x g = let w = without_in i x xs g in in_without i x ys 
 pub without_increases : (i : ℕ) (xs : List ℕ) → IsStrictlyIncreasing xs → IsStrictlyIncreasing (without xs i)
 without_increases i xs rises = IsStrictlyIncreasing-filter (λ line. not (eqb line i)) xs rises
 
--- the list gets no longer, and shorter where the number was there
+-- the list gets no longer, and shorter if it contained the number
 pub without_short : (i : ℕ) (xs : List ℕ) → length (without xs i) ≤ length xs
 without_short i [] = omega arith
 without_short i (x ∷ xs) = go (eqb x i) (without_short i xs)
@@ -111,7 +111,7 @@ without_shorter i (x ∷ xs) h = go (eqb x i) refl h (λ g. without_shorter i xs
     go false e (inl q) k s = absurd (eqb-false x i e (sym q))
     go false e (inr h) k s = let m = k h in omega (arith, m)
 
--- a number that f takes to i, or none
+-- a number that f maps to i, or a proof that there is none
 pub preimage : (f : ℕ → ℕ) (i : ℕ) (xs : List ℕ) → ((x : ℕ) × IsIn x xs × (f x ≡ i)) ⊎ ((x : ℕ) → IsIn x xs → f x ≢ i)
 preimage f i [] = inr (λ x h. absurd h)
 preimage f i (y ∷ ys) = go (cases_eq (f y) i) (preimage f i ys)

@@ -1,4 +1,4 @@
--- Numbers that are in a list, lists in which no number stands twice, and increasing lists of given numbers.
+-- Members of a list, lists of distinct numbers, and increasing lists of given numbers.
 use Rattle.std.proofs.Common.{◌≡◌, ◌≢◌, ◌<◌, ◌≤◌, ◌+◌, ◌⊎◌, inl, inr, ◌∙◌, ◌++◌, ◌↔◌, ℕ, zero, suc, Bool, true, false, cond, nat_eq, ℤ, ◌+ℤ◌, List, [], ◌∷◌, length, get_or, refl, ap, sym, subst, arith}
 use Rattle.std.specs.List.{AllByRecursion}
 use Rattle.std.specs.List.Sorted.{IsStrictlyIncreasing}
@@ -115,7 +115,7 @@ length-removed x (y ∷ ys) h = go (nat_eq y x) refl (length-removed x ys h.1)
         let f : length (removed x ys) ≡ length ys = ap length (removed_none x ys (λ i. h.0 (subst (λ (v : ℕ). IsIn v ys) (sym q) i))) in omega arith
     go false e k = omega arith
 
--- distinct numbers below n are at most n
+-- a list of distinct numbers below n has at most n numbers
 pub distinct_few : (n : ℕ) (xs : List ℕ) → IsDistinct xs → ((x : ℕ) → IsIn x xs → x < n) → length xs ≤ n
 distinct_few zero [] h low = omega arith
 distinct_few zero (x ∷ xs) h low = absurd (let l = low x (inl refl) in omega arith)

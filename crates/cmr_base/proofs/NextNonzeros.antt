@@ -1,4 +1,4 @@
--- Nonzeros of a row, found in the words of its support.
+-- Nonzeros of a row, from the words of its support.
 use Rattle.std.proofs.Common.{pos, eqb, ◌≡◌, ◌<◌, ◌≤◌, ◌+◌, ◌-◌, ◌*◌, ◌/◌, ◌%◌, ◌^◌, ◌∙◌, ℕ, true, false, cond, refl, ap, sym, subst, inl, inr, arith, w64}
 use Rattle.std.specs.Int.{bit_at, trailing_zeros}
 use Rattle.std.proofs.lemmas.Bool.{cases_lt, true≢false}
@@ -37,7 +37,7 @@ module _ (m : Matrix) (row column word : ℕ) (is : word ≡ word_of is_nonzero 
   pub none_in_word : word / 2 ^ (column % 64) ≡ 0 → (c : ℕ) → column ≤ c → c < column - column % 64 + 64 → support m row c ≡ false
   none_in_word = none_by_bits (support m row) column word fits tells
 
-  -- its lowest bit is that of the first nonzero
+  -- the lowest bit of the rest is the bit of the first nonzero
   pub first_in_word : 0 < word / 2 ^ (column % 64) → word / 2 ^ (column % 64) < 2 ^ 64
       → (support m row (column + trailing_zeros w64 (word / 2 ^ (column % 64))) ≡ true) × ((c : ℕ) → column ≤ c → c < column + trailing_zeros w64 (word / 2 ^ (column % 64)) → support m row c ≡ false)
   first_in_word = first_by_bits (support m row) column word fits tells

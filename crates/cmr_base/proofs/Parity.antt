@@ -4,7 +4,7 @@ use Rattle.std.specs.List.{AllByRecursion}
 use Rattle.cmr_base.specs.Sums.{sum_over, IsEven, IsOdd, IsTwoModFour}
 use Rattle.cmr_base.proofs.Integers.{sums, products}
 
--- four times a whole number
+-- four times an integer
 abbrev pub IsFour : ℤ → Type 0
 IsFour z = (k : ℤ) × (z ≡ (k +ℤ k) +ℤ (k +ℤ k))
 
@@ -40,7 +40,7 @@ even-sub a b (k, e) (l, f) = (k -ℤ l, omega (arith, sums))
 pub even-mul_right : (a b : ℤ) → IsEven b → IsEven (a *ℤ b)
 even-mul_right a b (k, e) = (a *ℤ k, rw e (simp products))
 
--- an even difference leaves an even number even
+-- if a difference and one of its two numbers are even, so is the other number
 pub even_by_difference : (a b : ℤ) → IsEven (a -ℤ b) → IsEven a → IsEven b
 even_by_difference a b (k, e) (l, f) = (l -ℤ k, omega (arith, sums))
 
@@ -59,7 +59,7 @@ four-mul_right a b (k, e) = (a *ℤ k, rw e (simp products))
 pub two_mod_four-add : (a b : ℤ) → IsTwoModFour a → IsFour b → IsTwoModFour (a +ℤ b)
 two_mod_four-add a b (k, e) (l, f) = (k +ℤ l, omega (arith, sums))
 
--- a difference that four divides changes nothing modulo four
+-- numbers whose difference is a multiple of four are equal modulo four
 pub two_mod_four_by_difference : (a b : ℤ) → IsFour (a -ℤ b) → IsTwoModFour a → IsTwoModFour b
 two_mod_four_by_difference a b (k, e) (l, f) = (l -ℤ k, omega (arith, sums))
 

@@ -1,4 +1,4 @@
--- The rows but one have names for their parts.
+-- The rows except one have names for their parts.
 use Rattle.std.proofs.Common.{ℕ, zero, suc, Bool, true, false, cond, List, [], ◌∷◌, ◌++◌, ◌≡◌, ◌<◌, ◌≤◌, ◌∙◌, sym, ap, refl, arith, subst, ◌⊎◌, inl, inr}
 use Rattle.std.proofs.lemmas.Bool.{cases_lt}
 use Rattle.cmr_base.specs.declared.network.Pair.{Pair}
@@ -26,12 +26,12 @@ module _ (M : ℕ → ℕ → Bool) (S : List ℕ) (i : ℕ) where
   pairs_with c r [] = []
   pairs_with c r (s ∷ T) = cond (M s c) (record { tail = r; head = s } ∷ pairs_with c r T) (pairs_with c r T)
 
-  -- the pairs of rows that are 1 in column c, the first of them in a list
+  -- the pairs of rows that are 1 in column c; the first row of each pair is in a list
   pairs_in : ℕ → List ℕ → List Pair
   pairs_in c [] = []
   pairs_in c (r ∷ T) = cond (M r c) (pairs_with c r S ++ pairs_in c T) (pairs_in c T)
 
-  -- the pairs of joined rows, by the first columns
+  -- the pairs of joined rows in the first columns
   pairs : ℕ → List Pair
   pairs zero = []
   pairs (suc c) = cond (M i c) (pairs c) (pairs_in c S ++ pairs c)
@@ -70,7 +70,7 @@ module _ (M : ℕ → ℕ → Bool) (S : List ℕ) (i : ℕ) where
       go false f (inr m) k = let q : n ≡ c = omega arith in
           has_left r s (pairs_in n S) (pairs n) (pairs_in_has n r s S hr hs (ap (M r) q ∙ d) (ap (M s) q ∙ e))
 
-  -- what is linked both ways
+  -- rows j and k are linked in both directions
   Both : ℕ → ℕ → Type 0
   Both j k = AreLinked M S i j k × AreLinked M S i k j
 

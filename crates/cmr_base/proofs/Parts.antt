@@ -1,4 +1,4 @@
--- Cells that are made one row after another, and the entries of a submatrix and of a transposed matrix.
+-- Cells that are made row by row, and the entries of submatrices and of transposed matrices.
 use Rattle.std.proofs.Common.{◌≡◌, ◌<◌, ◌≤◌, ◌*◌, ◌++◌, ◌∙◌, ℕ, zero, suc, ℤ, pos, List, [], ◌∷◌, map, length, take, drop, get_or, refl, ap, sym, subst, ◌⊎◌, inl, inr, arith, length-append}
 use Rattle.std.proofs.lemmas.List.{get_or-map, get_or_past, length-map}
 use Rattle.std.proofs.lemmas.Bool.{cases_lt}
@@ -23,7 +23,7 @@ take_prefix xs ys w e = subst (λ n. take n (xs ++ ys) ≡ xs) e (take-append_se
 drop_prefix : (xs ys : List ℤ) (w : ℕ) → length xs ≡ w → drop w (xs ++ ys) ≡ ys
 drop_prefix xs ys w e = subst (λ n. drop n (xs ++ ys) ≡ ys) e (drop-append_seam xs ys)
 
--- cells made row by row are those rows
+-- cells that are made row by row are the cells of these rows
 pub rows_of-flat_map : {A : Type 0} (f : A → List ℤ) (w : ℕ) (xs : List A) → ((x : A) → length (f x) ≡ w) → rows_of (length xs) w (flat_map f xs) ≡ map f xs
 rows_of-flat_map f w [] each = refl
 rows_of-flat_map f w (x ∷ xs) each = rw (take_prefix (f x) (flat_map f xs) w (each x), drop_prefix (f x) (flat_map f xs) w (each x)) (ap (λ rows. f x ∷ rows) (rows_of-flat_map f w xs each))
@@ -37,7 +37,7 @@ pub each-flat_map : {A : Type 0} (P : ℤ → Type 0) (f : A → List ℤ) (xs :
 each-flat_map P f [] z each k = z
 each-flat_map P f (x ∷ xs) z each k = either_side P (f x) (flat_map f xs) k (each x) (each-flat_map P f xs z each)
 
--- entries of a list made by a function, or 0 past the end
+-- a property of the values of a function, and of 0, is a property of the items of the mapped list
 pub each-map : {A : Type 0} (P : ℤ → Type 0) (f : A → ℤ) (xs : List A) → P (pos 0) → ((x : A) → P (f x)) → (k : ℕ) → P (get_or (map f xs) k (pos 0))
 each-map P f [] z each k = z
 each-map P f (x ∷ xs) z each zero = each x
@@ -49,7 +49,7 @@ entry-submatrix m rows columns i j hi hj =
     ap (λ row. get_or row j (pos 0)) (get_or-map (λ row. map (entry m row) columns) rows i 0 [] hi)
     ∙ get_or-map (entry m (get_or rows i 0)) columns j 0 (pos 0) hj
 
--- what holds of 0 and of each entry of a matrix holds of each entry of a submatrix
+-- a property of 0 and of each entry of a matrix is a property of each entry of a submatrix
 pub each-submatrix : (P : ℤ → Type 0) (m : Matrix) (rows columns : List ℕ) → P (pos 0) → ((row column : ℕ) → P (entry m row column))
     → (row column : ℕ) → P (entry (submatrix m rows columns) row column)
 each-submatrix P m [] columns z each row column = z
@@ -70,7 +70,7 @@ is_matrix-submatrix m rows columns is few_rows few_columns = let part = is_terna
   width_in = few_columns;
 }
 
--- a column of the matrix is a row of the transposed one
+-- a column of the matrix is a row of the transposed matrix
 pub row-transposed : (m : Matrix) (column : ℕ) → column < m.width → get_or (transposed m).rows column [] ≡ column_of m column
 row-transposed m column h = get_or-map-range_with_len (column_of m) 0 m.width column column [] h (omega arith)
 
@@ -111,6 +111,6 @@ is_matrix-transposed m is = let of_transposed = is_ternary-transposed m (record 
   width_in = is.height_in;
 }
 
--- increasing lines below a bound are at most so many
+-- an increasing list of lines below a bound has at most `bound` lines
 pub length-increasing : (lines : List ℕ) (bound : ℕ) → IsStrictlyIncreasing lines → AllBelow bound lines → length lines ≤ bound
 length-increasing lines bound increasing below = omega (arith, increasing_short 0 bound lines (rises_in 0 bound lines increasing below (λ h. omega arith)) (omega arith))

@@ -1,4 +1,4 @@
--- Numbers of a list by their places, and lists by their numbers.
+-- Numbers of a list by their indices, and lists by their numbers.
 use Rattle.std.proofs.Common.{refl, ap₂, ◌≡◌, ◌≢◌, ◌∙◌, ◌<◌, ◌≤◌, ◌+◌, ℕ, suc, List, [], ◌∷◌, length, get_or, sym, ap, subst, arith, ◌⊎◌, inl, inr}
 use Rattle.std.proofs.lemmas.Bool.{cases_lt}
 use Rattle.std.proofs.lemmas.List.{get_or_default}
@@ -15,11 +15,11 @@ found_at [] x h = absurd h
 found_at (y ∷ ys) x (inl e) = (0, omega arith, sym e)
 found_at (y ∷ ys) x (inr h) = let r = found_at ys x h in let l = r.1 in (suc r.0, omega arith, r.2)
 
--- what holds at all places
+-- a property of the numbers at all indices
 pub all_placed : (P : ℕ → Type 0) (xs : List ℕ) (count : ℕ) → length xs ≤ count → ((k : ℕ) → k < count → P (get_or xs k 0)) → (x : ℕ) → IsIn x xs → P x
 all_placed P xs count le so x h = let q = found_at xs x h in let l = q.1 in subst P q.2 (so q.0 (omega arith))
 
--- what holds at each number below a count, at one number more
+-- a property of each number below a count, and of one more number
 pub each_more : (P : ℕ → Type 0) (count : ℕ) → ((k : ℕ) → k < count → P k) → P count → (k : ℕ) → k < count + 1 → P k
 each_more P count each here k l = pick (cases_lt k count)
   where
@@ -27,15 +27,15 @@ each_more P count each here k l = pick (cases_lt k count)
     pick (inl h) = each k h
     pick (inr h) = let e : count ≡ k = omega (arith, h, l) in subst P e here
 
--- at one place more
+-- the same at one more index
 pub more_placed : (P : ℕ → Type 0) (xs : List ℕ) (index : ℕ) → ((k : ℕ) → k < index → P (get_or xs k 0)) → P (get_or xs index 0) → (k : ℕ) → k < index + 1 → P (get_or xs k 0)
 more_placed P xs index = each_more (λ k. P (get_or xs k 0)) index
 
--- a number that is not in the list stands at no place
+-- a number that is not in the list is at no index
 pub not_placed : (xs : List ℕ) (x : ℕ) → ¬ (IsIn x xs) → (k : ℕ) → k < length xs → get_or xs k 0 ≢ x
 not_placed xs x n k l e = n (subst (λ (z : ℕ). IsIn z xs) e (in_at xs k l))
 
--- a number below the one at a place of a increasing list stands before it
+-- a number below the number at an index of an increasing list is at an earlier index
 pub placed_before : (P : ℕ → Type 0) (xs : List ℕ) (index : ℕ) → IsStrictlyIncreasing xs → ((k : ℕ) → k < index → P (get_or xs k 0)) → (x : ℕ) → IsIn x xs → x < get_or xs index 0 → P x
 placed_before P xs index increasing so x h low = pick (found_at xs x h)
   where
@@ -54,7 +54,7 @@ members_below bound xs below x h = let q = found_at xs x h in subst (λ (y : ℕ
 pub contained_below : (bound : ℕ) (xs : List ℕ) (x : ℕ) → AllBelow bound xs → Contains xs x → x < bound
 contained_below bound xs x below (k, l, e) = let same : get_or xs k x ≡ x = e in subst (λ (y : ℕ). y < bound) (get_or_default xs k 0 x l ∙ same) (below k l)
 
--- numbers that differ from place to place are distinct
+-- numbers that differ at any two indices are distinct
 pub distinct_from_apart : (xs : List ℕ) → ((i k : ℕ) → i < k → k < length xs → get_or xs i 0 ≢ get_or xs k 0) → IsDistinct xs
 distinct_from_apart [] apart = tt
 distinct_from_apart (x ∷ xs) apart = (
@@ -62,7 +62,7 @@ distinct_from_apart (x ∷ xs) apart = (
   distinct_from_apart xs (λ i k l h. apart (suc i) (suc k) (omega (arith, l)) (omega (arith, h))),
 )
 
--- distinct numbers of another list
+-- distinct numbers from another list are at most as many
 pub fewer_distinct : (xs ys : List ℕ) → IsDistinct xs → ((x : ℕ) → IsIn x xs → IsIn x ys) → length xs ≤ length ys
 fewer_distinct [] ys d sub = omega arith
 fewer_distinct (x ∷ xs) ys d sub =
@@ -70,7 +70,7 @@ fewer_distinct (x ∷ xs) ys d sub =
     let less = without_shorter x ys (sub x (inl refl)) in
     omega (arith, rest, less)
 
--- increasing lists with the same numbers are the same
+-- increasing lists with the same numbers are equal
 pub increasing_same : (xs ys : List ℕ) → IsStrictlyIncreasing xs → IsStrictlyIncreasing ys → ((x : ℕ) → IsIn x xs → IsIn x ys) → ((x : ℕ) → IsIn x ys → IsIn x xs) → xs ≡ ys
 increasing_same [] [] rx ry f g = refl
 increasing_same [] (y ∷ ys) rx ry f g = absurd (g y (inl refl))

@@ -1,4 +1,4 @@
--- The planes of a matrix of zeros and of one with an entry changed.
+-- The planes of a matrix of zeros, and of a matrix after a change of one entry.
 use Rattle.std.proofs.Common.{◌≡◌, ◌≢◌, ◌<◌, ◌≤◌, ◌+◌, ◌*◌, ◌/◌, ◌%◌, ◌^◌, ◌∙◌, ◌⊎◌, inl, inr, ℕ, zero, suc, Bool, true, false, cond, ℤ, pos, [], ◌∷◌, List, length, take, drop, get_or, set, replicate, refl, ap, ap₂, sym, subst, arith, zero-add}
 use Rattle.std.specs.Int.{bit_at}
 use Rattle.std.specs.Prelude.{count_by, count_ones}
@@ -44,7 +44,7 @@ plane-zero test rows columns words none =
     ap (λ word. bit_at word place) (get_or-replicated {A = ℕ} (rows * words) (row * words + chunk) 0) ∙ bit_at-zero place
     ∙ sym (ap (λ z. cond (test z) 1 0) (zero_entry rows columns row (64 * chunk + place) (omega (arith, in_height, length-replicate rows (replicate columns (pos 0))))) ∙ ap (λ (b : Bool). cond b 1 0) none))
 
--- the bits of words, counted
+-- counts of the bits of words
 sum_by-cons : {X : Type 0} (f : X → ℕ) (x : X) (xs : List X) → sum_by f (x ∷ xs) ≡ f x + sum_by f xs
 sum_by-cons f x xs = sum_by-append f (x ∷ []) xs ∙ ap (λ n. n + sum_by f xs) (zero-add (f x))
 
@@ -136,7 +136,7 @@ module _ (m : Matrix) (test : ℤ → Bool) (plane : List ℕ) (row column : ℕ
   all_words k (inl e) = subst (λ n. get_or after n 0 < 2 ^ 64) (sym e) (subst (λ n. n < 2 ^ 64) (sym (get_or-set_same plane place word 0 inside)) fits)
   all_words k (inr other) = subst (λ n. n < 2 ^ 64) (sym (get_or-set_other plane place k word 0 other)) (are_words k)
 
-  -- a plane with one word changed
+  -- a plane after a change of one word
   pub plane-with_entry : set plane (row * words_for m.width + column / 64) word ≡ flat_map (words_of (words_for m.width) test) (with_entry m row column value).rows
   plane-with_entry =
       words_from_bits words test (with_entry m row column value).rows after none

@@ -49,7 +49,7 @@ bits_more test zs place h =
 bits_lt : (test : ℤ → Bool) (zs : List ℤ) (place : ℕ) → place < length zs → bits_of test (take place zs) < 2 ^ place
 bits_lt test zs place h = subst (λ n. bits_of test (take place zs) < 2 ^ n) (length-take-le place zs (omega arith)) (bits_of-lt test (take place zs))
 
--- one entry more
+-- one more entry
 pub bit_added : (test : ℤ → Bool) (zs : List ℤ) (place word bit : ℕ) → place < length zs → place < 64 → word ≡ bits_of test (take place zs) → bit ≡ cond (test (get_or zs place (pos 0))) 1 0
     → bit_or word (bit * 2 ^ place % 2 ^ 64) ≡ bits_of test (take (place + 1) zs)
 bit_added test zs place word bit h small so_far is =
@@ -62,7 +62,7 @@ bit_added test zs place word bit h small so_far is =
     whole true = one_shl place 64 small ∙ omega arith
     whole false = ap (λ n. n % 2 ^ 64) (zero-mul (2 ^ place)) ∙ sym (zero-mul (2 ^ place))
 
--- a row in words
+-- the words of a row
 pub length-words_of : (count : ℕ) (test : ℤ → Bool) (zs : List ℤ) → length (words_of count test zs) ≡ count
 length-words_of zero test zs = refl
 length-words_of (suc count) test zs = ap suc (length-words_of count test (drop 64 zs))
@@ -74,7 +74,7 @@ words_of_more count word test zs h =
     ap (λ n. words_of n test (drop (64 * word) zs)) next
     ∙ ap (λ (rest : List ℤ). bits_of test (take 64 (drop (64 * word) zs)) ∷ words_of (count - (word + 1)) test rest) (drop-drop 64 (64 * word) zs ∙ ap (λ n. drop n zs) further)
 
--- rows that lie one after another
+-- rows that follow one another
 pub length-rows : (f : List ℤ → List ℕ) (words : ℕ) (rows : List (List ℤ)) → ((row : List ℤ) → length (f row) ≡ words) → length (flat_map f rows) ≡ length rows * words
 length-rows f words [] each = sym (zero-mul words)
 length-rows f words (row ∷ rows) each = omega (arith, length-append (f row) (flat_map f rows), each row, length-rows f words rows each, suc-mul (length rows) words)
@@ -93,7 +93,7 @@ pub more_rows : (f : List ℤ → List ℕ) (rows : List (List ℤ)) (row : ℕ)
 more_rows f rows row h =
     ap (flat_map f) (take_more rows row [] h) ∙ flat_map-append f (take row rows) (get_or rows row [] ∷ []) ∙ ap (λ last. flat_map f (take row rows) ++ last) (append-nil (f (get_or rows row [])))
 
--- a part that ends at the row's end at the latest
+-- a piece of a row that ends at the row's end at the latest
 pub take_capped : (zs : List ℤ) (from to : ℕ) → to ≡ min (length zs) (from + 64) → from ≤ length zs → take (to - from) (drop from zs) ≡ take 64 (drop from zs)
 take_capped zs from to e h = elim (cases_lt (length zs) (from + 64)) [
   | inl short ↦
@@ -157,7 +157,7 @@ in_rows words test rows row column none in_height in_words =
     ∙ one_bit (test (get_or (get_or rows row []) (64 * (column / 64) + column % 64) (pos 0)))
     ∙ ap (λ c. test (get_or (get_or rows row []) c (pos 0))) same
 
--- words that have the bits of some rows are their words
+-- words that have the bits of a list of rows are the words of these rows
 pub words_from_each : (words : ℕ) (test : ℤ → Bool) (rows : List (List ℤ)) (flat : List ℕ) → length flat ≡ length rows * words
     → ((row chunk : ℕ) → row < length rows → chunk < words → get_or flat (row * words + chunk) 0 ≡ word_of test (get_or rows row []) chunk)
     → flat ≡ flat_map (words_of words test) rows
@@ -181,13 +181,13 @@ words_from_bits words test rows flat none long are_words each =
     same_from_bits_below 64 (get_or flat (row * words + chunk) 0) (word_of test (get_or rows row []) chunk) (are_words (row * words + chunk)) (word_of-lt test (get_or rows row []) chunk)
     (λ place small. each row chunk place in_height in_words small ∙ sym (bit-word_of test (get_or rows row []) chunk place none small)))
 
--- an entry by its bits
+-- an entry from its bits
 value_is : (z : ℤ) → IsEntry z → value_of (is_nonzero z) (is_minus z) ≡ z
 value_is (pos zero) is = refl
 value_is (pos (suc n)) is = let one : n ≡ 0 = omega (arith, ints, is.high) in ap (λ k. pos (suc k)) (sym one)
 value_is (negsuc n) is = let one : n ≡ 0 = omega (arith, ints, is.low) in ap negsuc (sym one)
 
--- the planes of a matrix have its rows
+-- the planes of a matrix determine its rows
 pub rows-in_planes : (m : Matrix) (rows columns : ℕ) (support minus : List ℕ) → IsMatrix m → height m ≡ rows → m.width ≡ columns
     → support ≡ flat_map (words_of (words_for columns) is_nonzero) m.rows → minus ≡ flat_map (words_of (words_for columns) is_minus) m.rows
     → rows_in rows columns support minus ≡ m.rows

@@ -1,4 +1,4 @@
--- When a line is reducible.
+-- Conditions under which a line is reducible.
 use Rattle.std.proofs.Common.{◌≡◌, ◌≢◌, ◌&&◌, ◌∙◌, ◌⊎◌, inl, inr, ℕ, Bool, true, false, cond, not, eqb, ℤ, pos, negsuc, neg_ℤ, ◌*ℤ◌, List, find, Option, Some, None, is_some, IsSome, option_map, eqb-true, ne_eqb, refl, ap, sym, arith}
 use Rattle.std.specs.Option.{option_or}
 use Rattle.std.specs.List.Sorted.{IsStrictlyIncreasing}
@@ -13,7 +13,7 @@ use Rattle.cmr_base.specs.Members.{IsIn}
 use Rattle.cmr_base.proofs.ListsWithout.{true_is_false, increasing_distinct}
 use Rattle.cmr_base.proofs.ThinLines.{and_is, is_and, not_is, found_is, is_found, equal_is, is_equal, IsThin, thin_from_count, count_from_thin, nonzero_found}
 
--- what a line may be multiplied by
+-- the factors by which a line may be multiplied
 abbrev pub IsFactor : Bool → ℤ → Type 0
 IsFactor binary u = (u ≡ pos 1) ⊎ ((binary ≡ false) × (u ≡ negsuc 0))
 
@@ -45,7 +45,7 @@ or_some (Some x) p e = refl
 times_minus_one : (z : ℤ) → neg_ℤ z ≡ negsuc 0 *ℤ z
 times_minus_one z = simp products
 
--- what equals f among the other lines
+-- another line that equals f
 record IsEqualLine (M : ℕ → ℕ → ℤ) (R C : List ℕ) (i : ℕ) (f : ℕ → ℤ) : Type 0 where
   line : ℕ
   stays : IsIn line R
@@ -93,7 +93,7 @@ module _ (binary : Bool) (M : ℕ → ℕ → ℤ) (kind cross : ℕ → Line) (
   one_crossing : Option Reason
   one_crossing = option_map (λ j. One (cross j)) (find (λ j. is_nonzero (M i j)) C)
 
-  -- a line has a reason exactly where it is thin or has a twin
+  -- a line has a reason if and only if it is thin or has a twin
   pub reducible_from_reason : IsSome (first_reason binary M kind cross R C i) → IsReducible binary M R C i
   unfolding copies negatives one_crossing
   reducible_from_reason e = go (eqb (nonzeros_at C (M i)) 0) (eqb (nonzeros_at C (M i)) 1) binary refl refl refl e

@@ -41,7 +41,7 @@ pub has_line-within : (line : Line) (R C A B : List ℕ) → IsWithin A R → Is
 has_line-within (Row i) R C A B a b h = contains_from_in R i (a i (in_from_contains A i h))
 has_line-within (Column j) R C A B a b h = contains_from_in C j (b j (in_from_contains B j h))
 
--- a line that was left out is not there
+-- a removed line is not in the remaining lists
 pub line_gone : (line : Line) (A B R C : List ℕ) → IsWithin A (rows_without R line) → IsWithin B (columns_without C line) → HasLine A B line → ⊥
 line_gone (Row i) A B R C a b h = (without_in i i R (a i (in_from_contains A i h))).1 refl
 line_gone (Column j) A B R C a b h = (without_in j j C (b j (in_from_contains B j h))).1 refl

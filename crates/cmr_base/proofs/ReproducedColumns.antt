@@ -1,4 +1,4 @@
--- Columns that are compared with the paths of a tree.
+-- Comparisons of columns with the paths of a tree.
 use Rattle.std.proofs.Common.{◌≡◌, ◌<◌, ◌↔◌, ◌∙◌, ℕ, ℤ, pos, Bool, true, false, List, ◌++◌, length, take, get_or, refl, ap, sym, subst, arith}
 use Rattle.std.proofs.Math.Seq.{take-append_seam}
 use Rattle.cmr_base.specs.declared.network.Network.{Network}
@@ -16,7 +16,7 @@ use Rattle.cmr_base.proofs.ReproducedCuts.{nonzero_direction}
 abbrev pub ColumnAgrees : Comparison → Matrix → ℕ → List ℤ → Type 0
 ColumnAgrees comparison m column directions = (row : ℕ) → row < height m → Agrees comparison (entry m row column) (get_or directions row (pos 0))
 
--- the directions of some path between the nodes of a column's walk decide
+-- the directions of any path between the ends of a column's walk decide the comparison
 pub column_by_directions : (comparison : Comparison) (arcs walks : List Pair) (m : Matrix) (column : ℕ) (directions : List ℤ) → IsTree arcs (height m)
     → IsDirectedPathOf arcs (length arcs) (λ row. get_or directions row (pos 0)) (tail walks column) (head walks column)
     → IsColumnPath comparison arcs walks m column ↔ ColumnAgrees comparison m column directions
@@ -41,7 +41,7 @@ column_by_directions Support arcs walks m column directions T D =
     both_ways : (a : Bool) (row : ℕ) → (a ≡ true) ↔ IsIn row (arcs_of D.steps) → (a ≡ true) ↔ (is_nonzero (direction D.steps row) ≡ true)
     both_ways a row h = ((λ t. (nonzero_direction D.steps row).1 (h.0 t)), (λ t. h.1 ((nonzero_direction D.steps row).0 t)))
 
--- a tree and walks in range reproduce a matrix exactly where each column is the path of its walk
+-- a tree and walks in range reproduce a matrix if and only if each column is the path of its walk
 reproduced_by_columns : (comparison : Comparison) (net : Network) (m : Matrix) → IsTree net.arcs (height m) → length net.walks ≡ m.width → AreEndsInRange net.walks (height m)
     → IsReproduced comparison net m ↔ ((column : ℕ) → column < m.width → IsColumnPath comparison net.arcs net.walks m column)
 reproduced_by_columns Support net m T count ends = (
@@ -60,6 +60,6 @@ reproduced_by_slices comparison net m arcs walks e f T count ends =
     (subst (λ (w : List Pair). IsReproduced comparison net m ↔ ((column : ℕ) → column < m.width → IsColumnPath comparison net.arcs w m column)) (sym f)
     (reproduced_by_columns comparison net m (subst (λ (a : List Pair). IsTree a (height m)) e T) (sym (ap length f) ∙ count) (subst (λ (w : List Pair). AreEndsInRange w (height m)) f ends)))
 
--- a whole slice written back
+-- a whole slice is written back
 pub written_back : {A : Type 0} (n : ℕ) (items old : List A) → n ≡ length items → take n (items ++ old) ≡ items
 written_back n items old e = ap (λ (k : ℕ). take k (items ++ old)) e ∙ take-append_seam items old

@@ -1,4 +1,4 @@
--- What a tree reproduces has cuts.
+-- The matrices that a tree reproduces have cuts.
 use Rattle.std.proofs.Common.{ℕ, ℤ, pos, negsuc, ◌-ℤ◌, Bool, true, false, not, cond, List, [], ◌∷◌, ◌≡◌, ◌<◌, ◌≤◌, ◌∙◌, sym, ap, refl, arith, ◌⊎◌, inl, inr, nat_eq, ◌↔◌}
 use Rattle.std.proofs.lemmas.Bool.{cases_lt}
 use Rattle.cmr_base.specs.declared.network.Network.{Network}
@@ -10,7 +10,7 @@ use Rattle.cmr_base.proofs.Booleans.{zero_is}
 use Rattle.cmr_base.proofs.RowLists.{same_bit, not_both, two_cases, eq_of, ne_of}
 use Rattle.cmr_base.proofs.TreeCuts.{tail_side, tail_side-walk, tail_side-path, near, direction-path}
 
--- an arc is used exactly where its direction is not 0
+-- a path uses an arc if and only if the direction of the arc is not 0
 pub nonzero_direction : (steps : List WalkStep) (r : ℕ) → (is_nonzero (direction steps r) ≡ true) ↔ IsIn r (arcs_of steps)
 nonzero_direction steps r = ((λ e. here steps e), (λ h. there steps h))
   where
@@ -37,7 +37,7 @@ nonzero_direction steps r = ((λ e. here steps e), (λ h. there steps h))
         go false f (inl e) k = absurd (ne_of r step.arc f e)
         go false f (inr h) k = k h
 
--- what is reproduced with directions is reproduced without them
+-- a network that reproduces a matrix with directions reproduces its support
 abbrev pub support_realised : (net : Network) (M : ℕ → ℕ → ℤ) (m n : ℕ) → Realises net M m n → RealisesSupport net (λ r c. is_nonzero (M r c)) m n
 support_realised net M m n N = record {
   network = N.network;
@@ -53,13 +53,13 @@ support_realised net M m n N = record {
 }
 
 module _ (net : Network) (n : ℕ) where
-  -- the node of an end of column c, and node 0 where there is no such column
+  -- the node at an end of column c, and node 0 if there is no column c
   abbrev pub end_node : (c : ℕ) → (c < n) ⊎ (n ≤ c) → Bool → ℕ
   end_node c (inl l) true = tail net.walks c
   end_node c (inl l) false = head net.walks c
   end_node c (inr k) end = 0
 
-  -- the side of arc r where an end of column c is
+  -- the side of arc r that contains an end of column c
   abbrev pub end_side : Bool → ℕ → ℕ → Bool
   end_side end r c = tail_side net.arcs r (end_node c (cases_lt c n) end)
 

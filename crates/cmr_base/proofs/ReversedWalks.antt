@@ -1,4 +1,4 @@
--- Walks when arcs are reversed, walks back, and what a reversed network reproduces.
+-- Walks after arcs are reversed, reversed walks, and the matrices that a reversed network reproduces.
 use Rattle.std.proofs.Common.{ℕ, zero, suc, ℤ, pos, negsuc, neg_ℤ, ◌*ℤ◌, Bool, true, false, not, cond, List, [], ◌∷◌, ◌++◌, map, length, get_or, ◌≡◌, ◌≢◌, ◌<◌, ◌≤◌, ◌∙◌, sym, ap, refl, subst, ◌⊎◌, inl, inr}
 use Rattle.std.specs.List.{AllByRecursion}
 use Rattle.cmr_base.specs.declared.network.Network.{Network}
@@ -12,7 +12,7 @@ use Rattle.cmr_base.proofs.Integers.{products}
 use Rattle.cmr_base.proofs.RowLists.{same_or_not, is_eq, is_ne}
 use Rattle.cmr_base.proofs.GrownPaths.{in_prefix_or_last, distinct-append, direction-append-other, direction-append-last, walk-append}
 
--- negated where b holds
+-- negated if b is true
 abbrev pub negated : Bool → ℤ → ℤ
 negated b z = cond b (neg_ℤ z) z
 
@@ -134,7 +134,7 @@ module _ (arcs : List Pair) (signs : List ℤ) where
     exact = λ r l. ap (negated (minus_at signs r)) (p.exact r l) ∙ sym (direction-reversed p.steps r);
   }
 
--- ---- the way back
+-- ---- reversed walks
 
 abbrev back_step : WalkStep → WalkStep
 back_step s = record { arc = s.arc; forwards = not s.forwards }
@@ -202,7 +202,7 @@ sign_at [] k h = inl refl
 sign_at (s ∷ signs) zero h = h.0
 sign_at (s ∷ signs) (suc k) h = sign_at signs k h.1
 
--- where rows and columns are multiplied by signs, the network is reversed by them
+-- if rows and columns are multiplied by signs, the network is reversed by these signs
 pub reversed_realises : (net : Network) (M N : ℕ → ℕ → ℤ) (m n : ℕ) (row_signs column_signs : List ℤ) → IsMultiplied M N m n row_signs column_signs → Realises net M m n
     → Realises (reversed_network net row_signs column_signs) N m n
 reversed_realises net M N m n row_signs column_signs k R = record {
@@ -218,7 +218,7 @@ reversed_realises net M N m n row_signs column_signs k R = record {
     one_of true i k = i
     one_of false i k = k
 
-    -- the path of a column, reversed where its sign is -1
+    -- the path of a column, reversed if the column's sign is -1
     along : (c : ℕ) (b : Bool) → c < n → IsDirectedPathOf (reversed_pairs net.arcs row_signs) m (λ r. negated b (negated (minus_at row_signs r) (M r c))) (cond b (head net.walks c) (tail net.walks c)) (cond b (tail net.walks c) (head net.walks c))
     along c true l = path-way_back (reversed_pairs net.arcs row_signs) m (λ r. negated (minus_at row_signs r) (M r c)) (tail net.walks c) (head net.walks c) (path-reversed net.arcs row_signs m (λ r. M r c) (tail net.walks c) (head net.walks c) (R.paths c l))
     along c false l = path-reversed net.arcs row_signs m (λ r. M r c) (tail net.walks c) (head net.walks c) (R.paths c l)

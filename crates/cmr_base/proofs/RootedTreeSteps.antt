@@ -1,4 +1,4 @@
--- Trees that grow from node 0: their places, and when all nodes have one.
+-- Trees that grow from node 0: the places of their nodes, and when all nodes have a place.
 use Rattle.std.proofs.Common.{◌≡◌, ◌≢◌, ◌<◌, ◌≤◌, ◌+◌, ◌++◌, ◌⊎◌, inl, inr, ◌∙◌, ℕ, zero, suc, Bool, true, false, cond, List, [], ◌∷◌, Option, Some, None, Result, Ok, Err, OnOk, length, map, get_or, set, refl, ap, sym, subst, arith, length-append}
 use Rattle.std.proofs.lemmas.Bool.{cases_lt}
 use Rattle.std.proofs.lemmas.List.{get_or-set_same, get_or-set_other, length-set, get_or_append_left, get_or-append-add, get_or-map, get_or_read, length-map}
@@ -56,7 +56,7 @@ module _ (arcs : List Pair) (links : List Link) (places : List ℕ) (R : IsRoote
   pub few_links : length links ≤ suc (length arcs)
   few_links = let l = distinct_few (suc (length arcs)) (nodes_of links) nodes_distinct all_nodes_in_range in omega (arith, l, length-map links (λ link. link.node))
 
-  -- where a node has no place there are fewer
+  -- if a node has no place, there are fewer links than nodes
   pub fewer_links : (node : ℕ) → node ≤ length arcs → node_at links (get_or places node 0) ≢ node → length links ≤ length arcs
   fewer_links node l n =
       let f = distinct_few (suc (length arcs)) (node ∷ nodes_of links) (none, nodes_distinct) within in
@@ -109,7 +109,7 @@ longer_has a b f node (place, l, e) = (place, omega (arith, l, f.more), ap (λ (
 pub longer_node : (a b : List Link) → IsLonger a b → (place : ℕ) → place < length a → node_at b place ≡ node_at a place
 longer_node a b f place l = ap (λ (link : Link). link.node) (f.same place l)
 
--- a node is hung below the one at a place
+-- a node is attached below the node at a place
 pub hung : (arcs : List Pair) (links : List Link) (places : List ℕ) (link : Link) (links' : List Link) (places' : List ℕ) → IsRooted arcs links places
     → link.node ≤ length arcs → node_at links (get_or places link.node 0) ≢ link.node → link.above < length links → link.arc < length arcs → Joins arcs link.arc link.node (node_at links link.above)
     → links' ≡ links ++ link ∷ [] → places' ≡ set places link.node (length links) → IsRooted arcs links' places'
@@ -196,7 +196,7 @@ last_node links link links' e = subst (λ (l : List Link). HasNode l link.node) 
 
 -- ---- the neighbours of a node
 
--- From the start on, the arcs at a node that are not below the next one were gone through.
+-- The tree has grown from `start`, and the arcs at a node with numbers above the arc `next` have been processed.
 pub record IsReaching (arcs : List Pair) (end : End) (place : ℕ) (start links : List Link) (places : List ℕ) (next : Option ℕ) : Type 0 where
   pub rooted : IsRooted arcs links places
   pub longer : IsLonger start links
@@ -284,7 +284,7 @@ walked_on arcs place links links' links'' places places'' w l f g first second R
     go k (inl m) h end = kept k end (omega (arith, m, l)) (w.reached k m end)
     go k (inr m) h end = let e : place ≡ k = omega (arith, m, h) in subst (λ (n : ℕ). AreReached arcs links'' end (node_at links'' n)) e (here end)
 
--- where no neighbour is left, each walk from a node that has a place ends in one
+-- if no neighbour is missing, each walk from a node that has a place ends in a node that has a place
 walk_stays : (arcs : List Pair) (links : List Link) (places : List ℕ) → IsWalked arcs (length links) links places → (x : ℕ) (steps : List WalkStep) (y : ℕ) → IsWalk arcs x steps y → HasNode links x → HasNode links y
 walk_stays arcs links places w x [] y walk h = subst (HasNode links) walk h
 walk_stays arcs links places w x (step ∷ steps) y walk (place, l, e) =

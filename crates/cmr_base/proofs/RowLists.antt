@@ -1,4 +1,4 @@
--- Searches in lists of rows, and what differs.
+-- Searches in lists of rows, and values that differ.
 use Rattle.std.proofs.Common.{ℕ, suc, pos, ◌-ℤ◌, Bool, true, false, not, cond, List, [], ◌∷◌, ◌≡◌, ◌≢◌, ◌<◌, ◌≤◌, ◌∙◌, sym, ap, refl, arith, subst, ◌⊎◌, inl, inr, length}
 use Rattle.std.specs.List.{filter}
 use Rattle.cmr_base.specs.Members.{IsIn}
@@ -56,7 +56,7 @@ fewer_or_same p (y ∷ ys) = go (p y) (fewer_or_same p ys)
     go true l = omega arith
     go false l = omega arith
 
--- where one is left out there are fewer
+-- without one of its rows the list is shorter
 pub fewer : (p : ℕ → Bool) (x : ℕ) (xs : List ℕ) → IsIn x xs → p x ≡ false → length (filter p xs) < length xs
 fewer p x [] h e = absurd h
 fewer p x (y ∷ ys) h e = go (p y) refl h (fewer_or_same p ys) (λ i. fewer p x ys i e)
@@ -66,7 +66,7 @@ fewer p x (y ∷ ys) h e = go (p y) refl h (fewer_or_same p ys) (λ i. fewer p x
     go true f (inr i) l r = let m = r i in omega arith
     go false f i l r = omega arith
 
--- one for which P holds, or Q holds for all
+-- a row that satisfies P, or all rows satisfy Q
 pub search_rows : (P Q : ℕ → Type 0) → (d : (x : ℕ) → P x ⊎ Q x) → (xs : List ℕ) → ((x : ℕ) × IsIn x xs × P x) ⊎ ((x : ℕ) → IsIn x xs → Q x)
 search_rows P Q d [] = inr (λ x h. absurd h)
 search_rows P Q d (y ∷ ys) = go (d y) (search_rows P Q d ys)

@@ -1,4 +1,4 @@
--- Cells that are laid out row by row, and the rows that they make.
+-- Cells that are listed row by row, and the rows that they form.
 use Rattle.std.proofs.Common.{◌≡◌, ◌<◌, ◌≤◌, ◌*◌, ◌+◌, ◌-◌, ◌∙◌, ℕ, zero, suc, ℤ, pos, List, [], ◌∷◌, length, take, drop, get_or, set, refl, ap, sym, subst, inl, inr, zero-add, arith}
 use Rattle.std.specs.Prelude.{replicate}
 use Rattle.std.proofs.lemmas.List.{get_or-take, get_or-drop, length-take-le, length-drop, take-replicate, drop-replicate, take-set-le, drop-set-lt, drop-set-add, drop-drop, get_or_past, length-take}
@@ -32,7 +32,7 @@ in_prefix P w cells c z h = elim (cases_lt c w) [
   | inr past ↦ subst P (sym (get_or_past (take w cells) c (pos 0) (omega (arith, length-take w cells)))) z
 ]
 
--- what holds of each cell and of 0 holds of each entry
+-- a property of each cell and of 0 is a property of each entry
 pub each-rows_of : (P : ℤ → Type 0) (n w : ℕ) (cells : List ℤ) → P (pos 0) → ((k : ℕ) → P (get_or cells k (pos 0))) → (r c : ℕ) → P (get_or (get_or (rows_of n w cells) r []) c (pos 0))
 each-rows_of P zero w cells z h r c = z
 each-rows_of P (suc n) w cells z h zero c = in_prefix P w cells c z (h c)

@@ -1,4 +1,4 @@
--- Runs one after another, and rows and planes that are made of them.
+-- Consecutive runs, and the rows and planes that they form.
 use Rattle.std.proofs.Common.{◌≡◌, ◌≢◌, ◌<◌, ◌≤◌, ◌+◌, ◌-◌, ◌*◌, ◌/◌, ◌%◌, ◌||◌, ◌∙◌, ◌⊎◌, ℕ, zero, suc, Bool, false, cond, eqb, ℤ, pos, List, [], length, map, take, drop, get_or, ap, ap₂, sym, subst, inl, inr, arith}
 use Rattle.std.specs.Int.{bit_at}
 use Rattle.std.specs.List.{flat_map}
@@ -68,7 +68,7 @@ module _ (width : ℕ) (plane rows columns : List ℕ) where
   abbrev to : ℕ
   to = words_for (length columns)
 
-  -- the words of a chosen row stand before those of the next
+  -- the words of a chosen row precede the words of the next chosen row
   rows_before : (i n : ℕ) → i < n → i * to + to ≤ n * to
   rows_before i n l = let all : (i + 1) * to ≤ n * to = mul-le-mul_right to (omega arith) in omega (arith, all)
 

@@ -13,7 +13,7 @@ two_more n = ap (λ k. 2 ^ k) (add-one n) ∙ pow-suc 2 n
 twice_more : (n k : ℕ) → k * 2 ^ (n + 1) ≡ 2 * k * 2 ^ n
 twice_more n k = let e = ap (λ m. k * m) (two_more n) in omega (arith, e)
 
--- from a place on, a set's number is a multiple of that place's
+-- the number of a set whose lines are at least `low` is a multiple of 2^low
 multiple : (low high : ℕ) (lines : List ℕ) → RisesIn low high lines → (k : ℕ) × (set_number lines ≡ k * 2 ^ low)
 multiple low high [] rises = (0, sym (zero-mul (2 ^ low)))
 multiple low high (line ∷ lines) rises =
@@ -44,7 +44,7 @@ none_numbered (suc count) first = none_numbered count (first + 1)
 cancel : (first m n : ℕ) → m * 2 ^ first ≡ n * 2 ^ first → m ≡ n
 cancel first m n e = eq_of_mul-eq-mul_right (2 ^ first) (pow_pos first) m n e
 
--- each set has a number of its own
+-- each set has a unique number
 pub set_numbered-unique : (count first high : ℕ) (lines : List ℕ) (number : ℕ) → high ≡ first + count → RisesIn first high lines → set_number lines ≡ number * 2 ^ first → set_numbered count first number ≡ lines
 set_numbered-unique zero first high [] number end rises e = refl
 set_numbered-unique zero first high (line ∷ lines) number end rises e = absurd (omega (arith, rises.0, rises.1))
@@ -75,7 +75,7 @@ set_numbered-unique (suc count) first high (line ∷ lines) number end rises e =
       rw (odd, half) (ap (λ r. r ∷ set_numbered count (first + 1) k) (sym same) ∙ ap (λ rs. line ∷ rs) (set_numbered-unique count (first + 1) high lines k (omega arith) past m.1))
 ]
 
--- one more line of the set, or one that is left out
+-- one more line, which is in the set or not
 pub numbered_more : (prefix : List ℕ) (count line number : ℕ) → line < count → number % 2 ≡ 1 → (prefix ++ line ∷ []) ++ set_numbered (count - (line + 1)) (line + 1) (number / 2) ≡ prefix ++ set_numbered (count - line) line number
 numbered_more prefix count line number h odd =
     let e : count - line ≡ suc (count - (line + 1)) = omega arith in

@@ -17,12 +17,12 @@ product_is_entry (pos (suc (suc n))) y a b = absurd (let h = a.high in omega (ar
 product_is_entry (negsuc zero) y a b = record { low = omega (arith, ints, b.low, b.high); high = omega (arith, ints, b.low, b.high) }
 product_is_entry (negsuc (suc n)) y a b = absurd (let l = a.low in omega (arith, ints))
 
--- each cell is an entry, and so is what stands past the end
+-- each cell is an entry, as is the default past the end
 pub entry_at : (cells : List ℤ) → AllByRecursion IsEntry cells → (k : ℕ) → IsEntry (get_or cells k (pos 0))
 entry_at [] all k = zero_is_entry
 entry_at (x ∷ xs) all zero = all.0
 entry_at (x ∷ xs) all (suc k) = entry_at xs all.1 k
 
--- an `i8` keeps it
+-- an `i8` represents each entry
 pub entry_as_byte : (x : ℤ) → IsEntry x → to_z w8 (of_z w8 x) ≡ x
 entry_as_byte x small = let l = small.low in let h = small.high in omega (arith, ints)

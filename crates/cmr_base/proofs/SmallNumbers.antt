@@ -26,7 +26,7 @@ bounded_sum bound x y a b = let l = a.low in let h = a.high in let l' = b.low in
 pub bounded_difference : (x y : ℤ) → IsEntry x → IsEntry y → IsBounded 2 (x -ℤ y)
 bounded_difference x y a b = let l = a.low in let h = a.high in let l' = b.low in let h' = b.high in record { low = omega (arith, ints); high = omega (arith, ints) }
 
--- a number from -2 to 2 times another
+-- the product of a number from -2 to 2 with another number
 pub bounded_double : (bound : ℕ) (x y : ℤ) → IsBounded 2 x → IsBounded bound y → IsBounded (bound + bound) (x *ℤ y)
 bounded_double bound (pos zero) y a b = record { low = omega (arith, ints); high = omega (arith, ints) }
 bounded_double bound (pos (suc zero)) y a b = record { low = omega (arith, ints, b.low, b.high); high = omega (arith, ints, b.low, b.high) }
@@ -36,7 +36,7 @@ bounded_double bound (negsuc zero) y a b = record { low = omega (arith, ints, b.
 bounded_double bound (negsuc (suc zero)) y a b = record { low = omega (arith, ints, b.low, b.high); high = omega (arith, ints, b.low, b.high) }
 bounded_double bound (negsuc (suc (suc n))) y a b = absurd (let l = a.low in omega (arith, ints))
 
--- a number times an entry
+-- the product of a number with an entry
 pub bounded_by_entry : (bound : ℕ) (x y : ℤ) → IsBounded bound x → IsEntry y → IsBounded bound (x *ℤ y)
 bounded_by_entry bound x (pos zero) a b = record { low = omega (arith, ints); high = omega (arith, ints) }
 bounded_by_entry bound x (pos (suc zero)) a b = record { low = omega (arith, ints, a.low, a.high); high = omega (arith, ints, a.low, a.high) }
@@ -44,7 +44,7 @@ bounded_by_entry bound x (pos (suc (suc n))) a b = absurd (let h = b.high in ome
 bounded_by_entry bound x (negsuc zero) a b = record { low = omega (arith, ints, a.low, a.high); high = omega (arith, ints, a.low, a.high) }
 bounded_by_entry bound x (negsuc (suc n)) a b = absurd (let l = b.low in omega (arith, ints))
 
--- ---- what is left of them as bytes
+-- ---- small numbers as bytes
 
 difference_same : (x y : ℤ) → IsEntry x → IsEntry y → to_z w8 (of_z w8 x) -ℤ to_z w8 (of_z w8 y) ≡ x -ℤ y
 difference_same x y a b = ap₂ (λ (p q : ℤ). p -ℤ q) (entry_as_byte x a) (entry_as_byte y b)
@@ -58,7 +58,7 @@ difference_kept x y a b = ap (λ (z : ℤ). to_z w8 (of_z w8 z)) (difference_sam
 product_same : (bound more : ℕ) (x y : ℤ) → bound ≤ 100 → more ≤ 100 → IsBounded bound x → IsBounded more y → to_z w8 (of_z w8 x) *ℤ to_z w8 (of_z w8 y) ≡ x *ℤ y
 product_same bound more x y few few' a b = ap₂ (λ (p q : ℤ). p *ℤ q) (small_as_byte bound x few a) (small_as_byte more y few' b)
 
--- a product of two numbers of which one is at most 2
+-- the product of two numbers from -2 to 2
 pub double_fits : (x y : ℤ) → IsBounded 2 x → IsBounded 2 y → FitsSigned w8 (to_z w8 (of_z w8 x) *ℤ to_z w8 (of_z w8 y))
 double_fits x y a b = small_fits 4 (to_z w8 (of_z w8 x) *ℤ to_z w8 (of_z w8 y)) (omega arith) (subst (IsBounded 4) (sym (product_same 2 2 x y (omega arith) (omega arith) a b)) (bounded_double 2 x y a b))
 
@@ -74,7 +74,7 @@ sum_fits x y p q a b e f = small_fits 8 (p +ℤ q) (omega arith) (subst (IsBound
 pub sum_kept : (x y p q : ℤ) → IsBounded 4 x → IsBounded 4 y → p ≡ x → q ≡ y → to_z w8 (of_z w8 (p +ℤ q)) ≡ x +ℤ y
 sum_kept x y p q a b e f = ap₂ (λ (s t : ℤ). to_z w8 (of_z w8 (s +ℤ t))) e f ∙ small_as_byte 8 (x +ℤ y) (omega arith) (bounded_sum 4 x y a b)
 
--- whether two of them are the same
+-- whether two small numbers are equal
 pub same_small : (x y p q : ℤ) → IsBounded 8 x → IsBounded 8 y → x ≡ p → y ≡ q → IsTrue (nat_eq (of_z w8 x) (of_z w8 y)) ↔ (p ≡ q)
 same_small x y p q a b e f = (
   (λ same. sym e ∙ sym (small_as_byte 8 x (omega arith) a) ∙ ap (to_z w8) (eq_of (of_z w8 x) (of_z w8 y) same) ∙ small_as_byte 8 y (omega arith) b ∙ f),

@@ -1,4 +1,4 @@
--- A submatrix on fewer lines is a submatrix of the one on more lines, so that what is hereditary is inherited by smaller sets.
+-- A submatrix of a submatrix is a submatrix on fewer lines, so that subsets inherit hereditary properties.
 use Rattle.std.proofs.Common.{◌≡◌, ◌<◌, ◌≤◌, ◌+◌, ◌⊎◌, inl, inr, ◌∙◌, ℕ, zero, suc, ℤ, List, [], ◌∷◌, map, length, get_or, refl, ap, ap₂, subst, arith}
 use Rattle.std.specs.List.Sorted.{IsStrictlyIncreasing}
 use Rattle.std.proofs.lemmas.Bool.{cases_lt}
@@ -23,7 +23,7 @@ pub map_members : {A : Type 0} (f g : ℕ → A) (xs : List ℕ) → ((x : ℕ) 
 map_members f g [] h = refl
 map_members f g (x ∷ xs) h = ap₂ (λ y ys. y ∷ ys) (h x (inl refl)) (map_members f g xs (λ y i. h y (inr i)))
 
--- the places of some numbers in a list
+-- the indices of numbers in a list
 abbrev pub places_of : List ℕ → List ℕ → List ℕ
 places_of xs ys = map (λ x. place_of x ys) xs
 

@@ -32,12 +32,12 @@ pub sum_over-map : {A B : Type 0} (g : B → A) (xs : List B) (f : A → ℤ) �
 sum_over-map g [] f = refl
 sum_over-map g (x ∷ xs) f = ap (λ (z : ℤ). f (g x) +ℤ z) (sum_over-map g xs f)
 
--- the order of two sums
+-- two sums commute
 pub sum_over-exchange : {A B : Type 0} (xs : List A) (ys : List B) (f : A → B → ℤ) → sum_over xs (λ x. sum_over ys (f x)) ≡ sum_over ys (λ y. sum_over xs (λ x. f x y))
 sum_over-exchange [] ys f = sym (sum_over-zero ys)
 sum_over-exchange (x ∷ xs) ys f = rw (sum_over-exchange xs ys f) (sym (sum_over-add ys (f x) (λ y. sum_over xs (λ x'. f x' y))))
 
--- of functions that are equal at each item
+-- functions that are equal at each item have equal sums
 pub sum_over_same : {A : Type 0} (xs : List A) (f g : A → ℤ) → AllByRecursion (λ x. f x ≡ g x) xs → sum_over xs f ≡ sum_over xs g
 sum_over_same [] f g same = refl
 sum_over_same (x ∷ xs) f g same = rw (same.0, sum_over_same xs f g same.1) refl

@@ -24,11 +24,11 @@ sum_over-take_more xs f k h =
     let plain : f (get_or xs k 0) +ℤ pos 0 ≡ f (get_or xs k 0) = omega (arith, sums) in
     ap (λ (ys : List ℕ). sum_over ys f) (take_more xs k 0 h) ∙ sum_over-append (take k xs) (get_or xs k 0 ∷ []) f ∙ ap (λ (z : ℤ). sum_over (take k xs) f +ℤ z) plain
 
--- an i32 keeps a sum of at most a thousand entries
+-- an i32 represents a sum of at most a thousand entries
 pub kept_entry : (old x : ℤ) (i : ℕ) → i ≤ MAX_COLUMNS → neg_ℤ (pos i) ≤ℤ old → old ≤ℤ pos i → IsEntry x → to_z w32 (of_z w32 (old +ℤ to_z w32 (of_z w32 (to_z w8 (of_z w8 x))))) ≡ old +ℤ x
 kept_entry old x i few low high small = let l = small.low in let h = small.high in omega (arith, ints)
 
--- and of at most a thousand rows of that many entries
+-- it also represents a sum of at most a thousand rows with a thousand entries each
 pub kept_row : (old x : ℤ) (i : ℕ) → i < MAX_ROWS → neg_ℤ (pos (MAX_COLUMNS * i)) ≤ℤ old → old ≤ℤ pos (MAX_COLUMNS * i) → neg_ℤ (pos MAX_COLUMNS) ≤ℤ x → x ≤ℤ pos MAX_COLUMNS → to_z w32 (of_z w32 (old +ℤ to_z w32 (of_z w32 x))) ≡ old +ℤ x
 kept_row old x i few low high from to = omega (arith, ints)
 

@@ -1,4 +1,4 @@
--- Searches in lists of lines, and places with at most one nonzero.
+-- Searches in lists of lines, and lists of positions with at most one nonzero.
 use Rattle.std.proofs.Common.{◌≡◌, ◌≢◌, ◌≤◌, ◌+◌, ◌∙◌, ◌⊎◌, inl, inr, ℕ, Bool, true, false, cond, ℤ, pos, List, [], ◌∷◌, find, Some, is_some, int_eq, refl, ap, sym, subst, arith}
 use Rattle.std.proofs.lemmas.List.Sums.{sum_by-cons}
 use Rattle.std.proofs.lemmas.Bool.Decides.{Decides-int_eq}
@@ -8,7 +8,7 @@ use Rattle.cmr_base.specs.Members.{IsIn, IsDistinct}
 pub use Rattle.cmr_base.proofs.Booleans.{nonzero_is, zero_is, and_is, is_and, false_is, not_is}
 use Rattle.cmr_base.proofs.Booleans.{true_is_false}
 
--- what is found stands in the list and passes the test
+-- the found item is in the list and passes the test
 pub found_is : (test : ℕ → Bool) (xs : List ℕ) → is_some (find test xs) ≡ true → (x : ℕ) × IsIn x xs × (test x ≡ true)
 found_is test [] e = true_is_false (sym e)
 found_is test (x ∷ xs) e = go (test x) refl e (λ h. found_is test xs h)
@@ -37,7 +37,7 @@ pub is_equal : (xs : List ℕ) (f g : ℕ → ℤ) → ((x : ℕ) → IsIn x xs 
 is_equal [] f g h = refl
 is_equal (y ∷ ys) f g h = is_and (int_eq (f y) (g y)) (equal_at ys f g) ((Decides-int_eq (f y) (g y)).1 (h y (inl refl))) (is_equal ys f g (λ x i. h x (inr i)))
 
--- ---- at most one of these places has a nonzero
+-- ---- at most one of the positions has a nonzero
 
 abbrev pub IsThin : List ℕ → (ℕ → ℤ) → Type 0
 IsThin xs f = (x y : ℕ) → IsIn x xs → IsIn y xs → f x ≢ pos 0 → f y ≢ pos 0 → x ≡ y
@@ -88,7 +88,7 @@ count_from_thin (z ∷ zs) f d thin =
     go true t k = let e = rest_counted z zs f d.0 thin t in omega (arith, e)
     go false t k = omega (arith, k)
 
--- where there is a nonzero, one is found
+-- if there is a nonzero, the search finds one
 pub nonzero_found : (xs : List ℕ) (f : ℕ → ℤ) → nonzeros_at xs f ≡ 1 → is_some (find (λ x. is_nonzero (f x)) xs) ≡ true
 nonzero_found [] f e = absurd (omega arith)
 nonzero_found (x ∷ xs) f e = go (is_nonzero (f x)) (sym (nonzeros_cons x xs f) ∙ e) (λ h. nonzero_found xs f h)

@@ -30,7 +30,7 @@ module _ (m : Matrix) (rows columns : List ℕ) (is : IsTernary m) where
       long : length (submatrix (transposed m) columns rows).rows ≡ length columns
       long = length-map columns (λ column. map (entry (transposed m) column) rows)
 
--- transposed twice, a matrix is what it was
+-- the transposed matrix of the transposed matrix is the matrix
 pub transposed-twice : (m : Matrix) → IsMatrix m → transposed (transposed m) ≡ m
 transposed-twice m is =
     let of_transposed = is_matrix-transposed m is in

@@ -58,7 +58,7 @@ less_of_two : (a b : ℕ) → (b ≡ 0) ⊎ (b ≡ a) → min a b ≡ b
 less_of_two a b (inl e) = omega arith
 less_of_two a b (inr e) = omega arith
 
--- a word that has lost a bit is less
+-- a word without one of its bits is less
 pub less_without : (word next place : ℕ) → word < 2 ^ 64 → next < 2 ^ 64 → has_bit word place ≡ true → has_bit next place ≡ false → ((k : ℕ) → k < 64 → k ≢ place → bit_at next k ≡ bit_at word k) → next < word
 less_without word next place fits less there gone same = elim (cases_eq next word) [
   | inl e ↦ absurd (true≢false (sym there ∙ ap (λ w. has_bit w place) (sym e) ∙ gone))
@@ -76,7 +76,7 @@ less_without word next place fits less there gone same = elim (cases_eq next wor
 
 -- ---- a word
 
--- the bits of a word that are not among the rest stand in a row's column
+-- the bits of a word that are not in the rest are in a row's column
 pub record AreBitsTransposed (to row first word rest : ℕ) (before after : List ℕ) : Type 0 where
   pub fits : rest < 2 ^ 64
   pub long : length after ≡ length before
@@ -103,7 +103,7 @@ module _ (to row first word : ℕ) (before : List ℕ) where
   }
 
   module _ (rest place : ℕ) (now : List ℕ) (so : AreBitsTransposed to row first word rest before now) (small : place < 64) (there : has_bit rest place ≡ true) where
-    -- a bit of the rest is one of the word
+    -- a bit of the rest is a bit of the word
     pub in_word : has_bit word place ≡ true
     in_word = sym (so.bits place small) ∙ or_right (is_in to now (first + place) row) (has_bit rest place) there
 
@@ -197,7 +197,7 @@ module _ (width : ℕ) (plane : List ℕ) where
       empty = λ column row h l. here.others column row l (inl (λ e. omega arith)) ∙ so.empty column row (omega arith) l;
     }
 
-    -- where a row has a bit there is room for it
+    -- if a row has a bit, the plane has room for it
     pub room : (rows row column : ℕ) (made words : List ℕ) → row < rows → HasNoBitPast plane rows width → words ≡ take (words_for width) (drop (row * words_for width) plane) → length words ≡ words_for width
         → length made ≡ width * to → has_column words column ≡ true → column * to + to ≤ length made
     room rows row column made words l ends is long whole e =

@@ -1,4 +1,4 @@
--- The path between two nodes of a rooted tree: from both ends up to the node where they meet.
+-- The path between two nodes of a rooted tree: from both ends up to the node in which they meet.
 use Rattle.std.proofs.Common.{◌≡◌, ◌≢◌, ◌<◌, ◌≤◌, ◌++◌, ◌⊎◌, inl, inr, ◌∙◌, ℕ, ℤ, pos, negsuc, Bool, true, false, not, cond, nat_eq, List, [], ◌∷◌, length, get_or, set, replicate, to_z, of_z, w8, refl, ap, sym, subst, arith}
 use Rattle.std.proofs.lemmas.List.{get_or-set_same, get_or-set_other, length-set, get_or_read, get_or-replicate, length-replicate}
 use Rattle.cmr_base.specs.declared.network.Pair.{Pair}
@@ -48,7 +48,7 @@ module _ (arcs : List Pair) where
   walk-both x [] back y z w v = subst (λ (a : ℕ). IsWalk arcs a back z) (sym w) v
   walk-both x (a ∷ prefix) back y z w v = (w.0, w.1, walk-both (to arcs a) prefix back y z w.2 v)
 
-  -- over the arc of a node to the one above it, and from there
+  -- a step over the arc from a node to the node above it, and the step back
   step_up : (arc x y : ℕ) → Joins arcs arc x y → x ≢ y
       → (from arcs (record { arc = arc; forwards = nat_eq x (tail arcs arc) }) ≡ x) × (to arcs (record { arc = arc; forwards = nat_eq x (tail arcs arc) }) ≡ y)
   step_up arc x y (inl (t, h)) n = rw (is_eq x (tail arcs arc) (sym t)) (t, h)
@@ -68,7 +68,7 @@ module _ (arcs : List Pair) (links : List Link) (places : List ℕ) (R : IsRoote
       let q = one_place arcs links places R place (link_at links place).above l (omega (arith, j.0, l)) e in
       omega (arith, j.0, q)
 
-  -- an arc to a later place joins it to no earlier ones
+  -- the arc to a later place is not the arc to an earlier place
   other_arc : (i k : ℕ) → 0 < i → i < k → k < length links → (link_at links i).arc ≢ (link_at links k).arc
   other_arc i k low l h e =
       go (R.joined i low (omega (arith, l, h))).2
@@ -91,8 +91,8 @@ pub direction_byte : (b : Bool) (z : ℤ) → z ≡ cond b (pos 1) (negsuc 0) �
 direction_byte true z e = ap (λ (v : ℤ). to_z w8 (of_z w8 v)) e
 direction_byte false z e = ap (λ (v : ℤ). to_z w8 (of_z w8 v)) e
 
--- Of the path from node x to node y both ends are told, up to the node at a first and the node at a last place. Their arcs
--- lead to later places.
+-- Both ends of the path from node x to node y are known: from x to the node at the place `first`, and from the node at the place
+-- `last` to y. Their arcs lead to later places.
 pub record IsClimbing (arcs : List Pair) (links : List Link) (x y first last : ℕ) (directions : List ℤ) : Type 0 where
   pub prefix : List WalkStep
   pub back : List WalkStep
@@ -131,7 +131,7 @@ climbing_starts arcs links places x y first last directions H lx ly e f zeros = 
         ∙ place_of_node arcs links places H.rooted node (all_have_places arcs links places H.rooted H.whole node l)
 
 module _ (arcs : List Pair) (links : List Link) (places : List ℕ) (R : IsRooted arcs links places) (x y first last : ℕ) (directions : List ℤ) (C : IsClimbing arcs links x y first last directions) where
-  -- an arc to a place that is not before the first and the last is not used yet
+  -- the arc to a place that is not before the first and the last is unused
   not_used : (place : ℕ) → 0 < place → first ≤ place → last ≤ place → (first ≡ place) ⊎ (last ≡ place) → ¬ (IsIn (link_at links place).arc (arcs_of (C.prefix ++ C.back)))
   not_used place low lf ll either h =
       let k = C.later (link_at links place).arc h in
@@ -151,7 +151,7 @@ module _ (arcs : List Pair) (links : List Link) (places : List ℕ) (R : IsRoote
           ∙ get_or-set_same directions step.arc (cond step.forwards (pos 1) (negsuc 0)) (pos 0) (omega (arith, inside, C.count)))
       go (inr m) = rw (is_ne r step.arc m) (get_or-set_other directions step.arc r (cond step.forwards (pos 1) (negsuc 0)) (pos 0) m ∙ C.exact r l)
 
-  -- the first end goes up
+  -- the first end climbs
   pub first_climbs : (link : Link) (value : ℤ) (directions' : List ℤ) → last < first → link ≡ get_or links first link
       → value ≡ cond (nat_eq link.node (tail arcs link.arc)) (pos 1) (negsuc 0) → directions' ≡ set directions link.arc value → IsClimbing arcs links x y link.above last directions'
   first_climbs link value directions' l at value_is written_is =
@@ -201,7 +201,7 @@ module _ (arcs : List Pair) (links : List Link) (places : List ℕ) (R : IsRoote
       later r (inl e) = (first, C.first_in, j.0, l, sym e)
       later r (inr h) = let k = C.later r h in (k.0, k.1, omega (arith, k.2, j.0), k.3, k.4)
 
-  -- the last end goes up
+  -- the last end climbs
   pub last_climbs : (link : Link) (value : ℤ) (directions' : List ℤ) → first < last → link ≡ get_or links last link
       → value ≡ cond (not (nat_eq link.node (tail arcs link.arc))) (pos 1) (negsuc 0) → directions' ≡ set directions link.arc value → IsClimbing arcs links x y first link.above directions'
   last_climbs link value directions' l at value_is written_is =

@@ -1,5 +1,5 @@
--- Each arc of a tree cuts it in two: what lies on the side of its tail, how walks change it, and that there is one path
--- between two nodes.
+-- Each arc of a tree cuts it in two: the side of its tail, how walks change the side, and that the path between two nodes is
+-- unique.
 use Rattle.std.proofs.Common.{ℕ, zero, suc, pos, negsuc, ◌-ℤ◌, Bool, true, false, not, cond, List, [], ◌∷◌, ◌≡◌, ◌≢◌, ◌<◌, ◌≤◌, ◌∙◌, sym, ap, ap₂, refl, arith, subst, ◌⊎◌, inl, inr, nat_eq, length}
 use Rattle.cmr_base.specs.declared.network.Pair.{Pair}
 use Rattle.cmr_base.specs.Members.{IsIn, IsDistinct}
@@ -9,7 +9,7 @@ use Rattle.cmr_base.proofs.RowLists.{same_bit, same_or_not, is_eq, is_ne, self_e
 use Rattle.cmr_base.proofs.ComponentLabels.{labels, labels_join, HasPair}
 use Rattle.cmr_base.proofs.ComponentCounts.{fewer_representatives, representatives-own, one_representative, count_at_most_one}
 
--- the list without the entry at a place
+-- the list without the entry at an index
 abbrev pub all_but : ℕ → List Pair → List Pair
 all_but r [] = []
 all_but zero (a ∷ ps) = ps
@@ -61,7 +61,7 @@ module _ (arcs : List Pair) where
   unfolding tail_side
   tail_side-tail r = self_eq (label r (tail arcs r))
 
-  -- were the ends of arc r linked without it, all nodes would be
+  -- if the ends of arc r were linked without it, all nodes would be linked without it
   linked_without : (r : ℕ) → label r (tail arcs r) ≡ label r (head arcs r) → (x : ℕ) (steps : List WalkStep) (y : ℕ) → IsWalk arcs x steps y → label r x ≡ label r y
   linked_without r e x [] y w = ap (label r) w
   linked_without r e x (step ∷ steps) y w = ap (label r) (sym w.1) ∙ ends step.forwards ∙ linked_without r e (to arcs step) steps y w.2
@@ -74,7 +74,7 @@ module _ (arcs : List Pair) where
       ends true = pick (same_or_not step.arc r)
       ends false = sym (pick (same_or_not step.arc r))
 
-  -- a walk that does not use arc r stays on its side
+  -- a walk that does not use arc r keeps its side
   pub tail_side-walk : (r x : ℕ) (steps : List WalkStep) (y : ℕ) → IsWalk arcs x steps y → ¬ (IsIn r (arcs_of steps)) → tail_side r x ≡ tail_side r y
   tail_side-walk r x [] y w n = ap (tail_side r) w
   tail_side-walk r x (step ∷ steps) y w n =
@@ -116,7 +116,7 @@ module _ (arcs : List Pair) (m : ℕ) (T : IsTree arcs m) where
       go (inr n) (inl e) more = absurd (n (sym e))
       go (inr n) (inr h) more = more h ∙ ap not (step_kept arcs r step w.0 n) ∙ ap (λ (z : ℕ). not (tail_side arcs r z)) w.1
 
-  -- a node is on the side of arc s where arc r is, or on the side of arc r where arc s is
+  -- a node is on the side of arc s that contains arc r, or on the side of arc r that contains arc s
   abbrev pub IsNear : ℕ → ℕ → ℕ → Type 0
   IsNear r s z = (tail_side arcs r z ≡ tail_side arcs r (tail arcs s)) ⊎ (tail_side arcs s z ≡ tail_side arcs s (tail arcs r))
 
@@ -137,7 +137,7 @@ module _ (arcs : List Pair) (m : ℕ) (T : IsTree arcs m) where
   pub near : (r s z : ℕ) → r < m → r ≢ s → z ≤ m → IsNear r s z
   near r s z l n lz = let w = T.linked (tail arcs r) z (T.nodes r l).0 lz in near_walk r s n (tail arcs r) w.0 z w.1 (inr refl)
 
-  -- the directions of a path are told by the sides of its ends
+  -- the sides of the ends of a path determine its directions
   pub direction-path : (r x : ℕ) (steps : List WalkStep) (y : ℕ) → r < m → IsWalk arcs x steps y → IsDistinct (arcs_of steps)
       → direction steps r ≡ bit (tail_side arcs r x) -ℤ bit (tail_side arcs r y)
   direction-path r x [] y l w o = same_bit (tail_side arcs r y) ∙ ap (λ (z : ℕ). bit (tail_side arcs r z) -ℤ bit (tail_side arcs r y)) (sym w)

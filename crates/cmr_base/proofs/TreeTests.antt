@@ -1,4 +1,4 @@
--- What decides whether arcs are a tree, and whether a column is a path in it.
+-- Tests that decide whether arcs are a tree, and whether a column is a path in it.
 use Rattle.std.proofs.Common.{ℕ, ℤ, Bool, true, false, not, cond, List, [], ◌∷◌, ◌≡◌, ◌<◌, ◌∙◌, sym, ap, refl, subst, ◌↔◌}
 use Rattle.cmr_base.specs.declared.network.Pair.{Pair}
 use Rattle.cmr_base.specs.Members.{IsIn, IsDistinct}
@@ -7,7 +7,7 @@ use Rattle.cmr_base.specs.Trees.{WalkStep, tail, head, to, IsWalk, IsTree, arcs_
 use Rattle.cmr_base.proofs.TreeCuts.{one_path}
 use Rattle.cmr_base.proofs.ReproducedCuts.{nonzero_direction}
 
--- a column is the path between two nodes of a tree exactly where any path between them uses its arcs
+-- a column is the path between two nodes of a tree if and only if any path between them uses its arcs
 pub path_by_walk : (arcs : List Pair) (m : ℕ) → IsTree arcs m → (x y : ℕ) (steps : List WalkStep) → IsWalk arcs x steps y → IsDistinct (arcs_of steps) → (column : ℕ → Bool)
     → IsPathOf arcs m column x y ↔ ((r : ℕ) → r < m → (column r ≡ true) ↔ IsIn r (arcs_of steps))
 path_by_walk arcs m T x y steps w o column = (

@@ -1,4 +1,4 @@
--- What the fields of a matrix say about the matrix.
+-- Facts about a matrix from the fields of its value.
 use Rattle.std.proofs.Common.{◌≡◌, ◌<◌, ◌*◌, ◌≤◌, ◌+◌, ◌/◌, ◌∙◌, ℕ, zero, suc, ◌∷◌, Bool, true, false, ℤ, pos, [], List, map, length, get_or, take, drop, refl, ap, ap₂, sym, subst, arith}
 use Rattle.std.specs.List.{flat_map}
 use Rattle.std.proofs.lemmas.List.FromFn.{get_or-map-range_with_len, length-map-range_with_len}
@@ -15,7 +15,7 @@ use Rattle.cmr_base.proofs.Parts.{each-map}
 use Rattle.cmr_base.proofs.PlaneWords.{length-rows, length-words_of, row_at, rows-in_planes}
 use Rattle.cmr_base.proofs.Rows.{length-rows_of, length-row, each-rows_of}
 
--- the rows that the planes have, one by one
+-- the rows of the planes, one by one
 abbrev pub made_row : Inside → ℕ → List ℤ
 made_row a row = map (plane_entry (words_for a.columns) a.support.items a.minus.items row) (first_lines a.columns)
 
@@ -52,7 +52,7 @@ is_matrix a m e laid = subst IsMatrix e (record {
   width_in = laid.columns_few;
 })
 
--- the planes are those of the matrix
+-- the planes are the planes of the matrix
 pub record ArePlanes (m : Matrix) (support minus : List ℕ) : Type 0 where
   pub support_is : support ≡ flat_map (words_of (words_for m.width) is_nonzero) m.rows
   pub minus_is : minus ≡ flat_map (words_of (words_for m.width) is_minus) m.rows
@@ -82,7 +82,7 @@ pub row_is : (m : Matrix) (test : ℤ → Bool) (plane : List ℕ) (row words : 
 row_is m test plane row words is e h =
     ap₂ (λ (n : ℕ) (ws : List ℕ). take n (drop (row * n) ws)) e is ∙ row_at (words_of (words_for m.width) test) (words_for m.width) m.rows row (length-words_of (words_for m.width) test) h
 
--- what is made of the planes of a matrix
+-- values that are made of the planes of a matrix
 pub record IsOf (m : Matrix) (rows columns : ℕ) (support minus : List ℕ) : Type 0 where
   pub same : record { rows = rows_in rows columns support minus; width = columns } ≡ m
   pub support_is : support ≡ flat_map (words_of (words_for columns) is_nonzero) (rows_in rows columns support minus)
@@ -99,7 +99,7 @@ of_planes m rows columns support minus is high wide s_is m_is =
       minus_is = m_is ∙ ap (flat_map (words_of (words_for columns) is_minus)) (sym e);
     }
 
--- cells make a matrix
+-- cells form a matrix
 pub is_matrix-cells : (rows columns : ℕ) (cells : List ℤ) → rows ≤ MAX_ROWS → columns ≤ MAX_COLUMNS → length cells ≡ rows * columns → ((k : ℕ) → IsEntry (get_or cells k (pos 0))) → IsMatrix (record { rows = rows_of rows columns cells; width = columns })
 is_matrix-cells rows columns cells few_rows few_columns whole small = record {
   rectangular = λ row h. length-row rows columns cells row whole (omega (arith, length-rows_of rows columns cells));

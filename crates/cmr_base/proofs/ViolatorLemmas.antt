@@ -1,4 +1,4 @@
--- Violators over lists in which lines may stand more than once.
+-- Violators over lists in which lines may occur more than once.
 use Rattle.std.proofs.Common.{◌≡◌, ◌∙◌, ℕ, ℤ, List, [], ◌∷◌, map, sym, subst}
 use Rattle.std.specs.List.{AllByRecursion}
 use Rattle.cmr_base.specs.Sums.{sum_over, IsEven, IsTwoModFour}
@@ -8,7 +8,7 @@ use Rattle.cmr_base.proofs.Parity.{even_by_difference, two_mod_four_by_differenc
 use Rattle.cmr_base.proofs.IncreasingLists.{odd_times, all-odd_times, even_change-odd_times, four_change-odd_times}
 use Rattle.cmr_base.proofs.Lists.{HasOneMore, all-map, all_weaker, all_both, all-one_more, all_without, item_of_one_more, sum_over-one_more}
 
--- rows and columns change places
+-- rows and columns are exchanged
 pub violator-transposed : (M : ℕ → ℕ → ℤ) (rows columns : List ℕ) → IsViolator M rows columns → IsViolator (λ column row. M row column) columns rows
 violator-transposed M rows columns v = record {
   even_rows = v.even_columns;
@@ -26,13 +26,13 @@ rows_once M rows columns v = record {
       (four_change-odd_times rows (λ row. sum_over columns (M row)) v.even_rows) v.two_mod_four;
 }
 
--- over increasing lists, with the lines that stand an odd number of times
+-- over increasing lists, with the lines that occur an odd number of times
 pub violator-odd_times : (M : ℕ → ℕ → ℤ) (rows columns : List ℕ) → IsViolator M rows columns → IsViolator M (odd_times rows) (odd_times columns)
 violator-odd_times M rows columns v =
     violator-transposed (λ column row. M row column) (odd_times columns) (odd_times rows)
     (rows_once (λ column row. M row column) columns (odd_times rows) (violator-transposed M (odd_times rows) columns (rows_once M rows columns v)))
 
--- of matrices that are equal on these lines
+-- violators of matrices that are equal on these lines
 pub violator_same : (M N : ℕ → ℕ → ℤ) (rows columns : List ℕ) → AllByRecursion (λ row. AllByRecursion (λ column. M row column ≡ N row column) columns) rows → IsViolator M rows columns → IsViolator N rows columns
 violator_same M N rows columns same v =
     let row_sums : AllByRecursion (λ row. sum_over columns (M row) ≡ sum_over columns (N row)) rows =
@@ -69,7 +69,7 @@ pub violator_columns_reordered : (M : ℕ → ℕ → ℤ) (item : ℕ) (fewer r
 violator_columns_reordered M item fewer rows columns others h k v =
     violator-transposed (λ column row. M row column) others rows (violator_rows_reordered (λ column row. M row column) item fewer columns others rows h k (violator-transposed M rows columns v))
 
--- rows by other numbers
+-- rows are renumbered
 pub violator-map : (f : ℕ → ℕ) (M : ℕ → ℕ → ℤ) (rows columns : List ℕ) → IsViolator (λ row. M (f row)) rows columns → IsViolator M (map f rows) columns
 violator-map f M rows columns v = record {
   even_rows = all-map (λ row. IsEven (sum_over columns (M row))) f rows v.even_rows;

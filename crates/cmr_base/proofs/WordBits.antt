@@ -1,4 +1,4 @@
--- Bits of words that are joined bit by bit.
+-- Bits of words under bitwise operations.
 use Rattle.std.proofs.Common.{◌≡◌, ◌<◌, ◌+◌, ◌-◌, ◌*◌, ◌^◌, ◌&&◌, ◌||◌, ◌∙◌, ℕ, zero, suc, true, false, not, eqb, min, max, refl, ap, arith, w64, ◌⊎◌, inl, inr}
 use Rattle.std.specs.Int.{bit_at, bit_not}
 use Rattle.std.specs.Int.Bits.{bit_and, bit_or}

@@ -1,4 +1,4 @@
--- Bits of words, and columns of sets, counted.
+-- Counts of the bits of words, and of the columns of sets.
 use Rattle.std.proofs.Common.{◌≡◌, ◌<◌, ◌≤◌, ◌+◌, ◌-◌, ◌*◌, ◌/◌, ◌%◌, ◌^◌, ◌∙◌, ℕ, zero, suc, Bool, true, false, cond, eqb, List, get_or, ap, refl, arith}
 use Rattle.std.specs.Prelude.{count_ones}
 use Rattle.std.specs.Int.Count.{ones_step}
@@ -11,7 +11,7 @@ use Rattle.cmr_base.specs.Seeds.{count}
 use Rattle.cmr_base.proofs.ColumnWords.{column_at}
 use Rattle.cmr_base.proofs.LineCounts.{count_same}
 
--- those below a number, and those from it on
+-- the numbers below a number, and the numbers from it on
 pub count_parts : (p : ℕ → Bool) (a k : ℕ) → count p (a + k) ≡ count p a + count (λ i. p (a + i)) k
 count_parts p a zero = let e : a + 0 ≡ a = omega arith in ap (count p) e ∙ (let z : count p a ≡ count p a + 0 = omega arith in z)
 count_parts p a (suc k) = let e : a + suc k ≡ suc (a + k) = omega arith in ap (count p) e ∙ go (p (a + k)) (count_parts p a k)
@@ -46,7 +46,7 @@ ones_first (suc k) n =
     go (suc zero) l h = let step = ones_step 1 in let none = ones_le_self 0 in omega (arith, h, step, none)
     go (suc (suc b)) l h = absurd (omega arith)
 
--- a word that has the first bits of another and no more
+-- a word that has the first bits of another word and no other bits
 pub ones_of_first : (first word places : ℕ) → first < 2 ^ 64 → places ≤ 64 → ((k : ℕ) → k < places → has_bit first k ≡ has_bit word k) → ((k : ℕ) → places ≤ k → has_bit first k ≡ false) → count_ones first ≡ count (has_bit word) places
 ones_of_first first word places fits few inside past =
     let whole : first ≡ first % 2 ^ 64 = omega (arith, fits) in
@@ -55,7 +55,7 @@ ones_of_first first word places fits few inside past =
     let sooner = count_same (has_bit first) (has_bit word) places inside in
     ap count_ones whole ∙ ones_first 64 first ∙ ap (count (has_bit first)) e ∙ count_parts (has_bit first) places (64 - places) ∙ omega (arith, later, sooner)
 
--- the columns of one word more
+-- the columns of one more word
 pub count_chunk : (words : List ℕ) (chunk places before first : ℕ) → before ≡ count (has_column words) (64 * chunk) → places ≤ 64 → first ≡ count (has_bit (get_or words chunk 0)) places → before + first ≡ count (has_column words) (64 * chunk + places)
 count_chunk words chunk places before first so few here =
     let same = count_same (λ i. has_column words (64 * chunk + i)) (has_bit (get_or words chunk 0)) places (λ i l. column_at words chunk i (omega (arith, l, few))) in

@@ -7,7 +7,7 @@ use Rattle.std.proofs.lemmas.Grind.{same_number_lists}
 use Rattle.std.proofs.lemmas.Simd.{get_or-chunk, get_or-put_chunk_above, get_or-put_chunk_at, get_or-put_chunk_below, get_or-zip2, length-chunk, length-put_chunk, length-zip2}
 use Rattle.cmr_base.specs.Planes.{IsXorBefore}
 
--- so many words more
+-- `count` more words
 pub xor_lanes_more : (count : ℕ) (before other now after : List ℕ) (place : ℕ) → IsXorBefore place before other now → length before ≡ length other → place + count ≤ length before
     → after ≡ put_chunk place now (zip2 bit_xor (chunk place count now) (chunk place count other)) → IsXorBefore (place + count) before other after
 xor_lanes_more count before other now after place so_far alike room is = record {
@@ -40,7 +40,7 @@ xor_lanes_more count before other now after place so_far alike room is = record 
         ∙ ap₂ bit_xor (get_or-chunk place count now j 0 h ∙ so_far.same (place + j) (omega arith) ∙ ap (λ (n : ℕ). get_or before n 0) (sym e))
         (get_or-chunk place count other j 0 h ∙ ap (λ (n : ℕ). get_or other n 0) (sym e))
 
--- all of them
+-- all words
 pub xor_whole : (before other after : List ℕ) (place : ℕ) → IsXorBefore place before other after → length before ≡ length other → length after ≤ place → after ≡ zip2 bit_xor before other
 xor_whole before other after place all alike end =
     same_number_lists after (zip2 bit_xor before other) (all.long ∙ sym (length-zip2 bit_xor before other alike)) (λ k h.

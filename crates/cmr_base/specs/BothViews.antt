@@ -1,4 +1,4 @@
--- A matrix beside its transposed matrix.
+-- A matrix with its transposed matrix.
 use Rattle.std.specs.Prelude.{◌≡◌}
 use Rattle.cmr_base.specs.Matrix.{Matrix, IsMatrix, transposed}
 use Rattle.cmr_base.specs.declared.rows_and_columns.RowsAndColumns.TheInside.{Inside}

@@ -1,4 +1,4 @@
--- What of a matrix is compared with the paths of a tree.
+-- The features of a matrix that are compared with the paths of a tree.
 use Rattle.std.specs.Prelude.{◌≡◌, ℕ, ℤ, List}
 use Rattle.cmr_base.specs.declared.network.Network.{Network}
 use Rattle.cmr_base.specs.declared.network.Pair.{Pair}
@@ -7,7 +7,7 @@ use Rattle.cmr_base.specs.declared.reproduce.Comparison.TheVariants.{Support, Si
 use Rattle.cmr_base.specs.Matrix.{Matrix, height, entry, is_nonzero}
 use Rattle.cmr_base.specs.Trees.{tail, head, IsPathOf, IsDirectedPathOf, support, Reproduces, ReproducesSupport}
 
--- an entry and the direction in which a path uses the arc of its row
+-- an entry agrees with the direction in which a path uses the arc of its row
 abbrev pub Agrees : Comparison → ℤ → ℤ → Type 0
 Agrees Support entry direction = is_nonzero entry ≡ is_nonzero direction
 Agrees Signs entry direction = entry ≡ direction

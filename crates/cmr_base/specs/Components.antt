@@ -19,7 +19,7 @@ IsApart m n M lines = IsClosed m n M zeros zeros lines
 abbrev pub HasSome : ℕ → ℕ → Lines → Type 0
 HasSome m n lines = (line : Line) × IsLine m n line × (lines line ≡ true)
 
--- a least set that is apart from the other lines and has a line
+-- a minimal nonempty set that is apart from the other lines
 pub record IsComponent (m n : ℕ) (M : ℕ → ℕ → ℤ) (lines : Lines) : Type 0 where
   pub apart : IsApart m n M lines
   pub some : HasSome m n lines
@@ -32,7 +32,7 @@ no_lines = record { rows = []; columns = [] }
 abbrev pub part_at : List LineSet → ℕ → LineSet
 part_at parts a = slice_index_or parts a no_lines
 
--- the first row of the lines, or, where they have no row, the first column, behind the rows
+-- the number of the first row of a set of lines, or, if the set has no row, m plus the number of its first column
 abbrev pub first_number : ℕ → LineSet → ℕ
 first_number m lines = first_of lines.rows lines.columns
   where
@@ -41,7 +41,7 @@ first_number m lines = first_of lines.rows lines.columns
     first_of [] (column ∷ columns) = m + column
     first_of [] [] = m
 
--- the connected parts by their first lines, each with its rows and columns, and each line in one of them
+-- the connected parts in the order of their first lines; each line is in exactly one part
 pub record AreComponents (m : Matrix) (parts : List LineSet) : Type 0 where
   pub row_sets : (a : ℕ) → a < length parts → IsRowSet m (part_at parts a).rows
   pub column_sets : (a : ℕ) → a < length parts → IsColumnSet m (part_at parts a).columns
@@ -50,7 +50,7 @@ pub record AreComponents (m : Matrix) (parts : List LineSet) : Type 0 where
   pub once : (a b : ℕ) (line : Line) → a < length parts → b < length parts → HasLine (part_at parts a).rows (part_at parts a).columns line → HasLine (part_at parts b).rows (part_at parts b).columns line → a ≡ b
   pub ordered : (a b : ℕ) → a < b → b < length parts → first_number (height m) (part_at parts a) < first_number (height m) (part_at parts b)
 
--- sets of lines that have all of some rows and columns, and no nonzero in lines of two of them
+-- sets of lines that cover the given rows and columns; the lines of two different sets cross in zeros
 pub record ArePartsOf (M : ℕ → ℕ → ℤ) (rows columns : List ℕ) (parts : List LineSet) : Type 0 where
   pub rows_within : (a : ℕ) → a < length parts → (r : ℕ) → Contains (part_at parts a).rows r → Contains rows r
   pub columns_within : (a : ℕ) → a < length parts → (c : ℕ) → Contains (part_at parts a).columns c → Contains columns c

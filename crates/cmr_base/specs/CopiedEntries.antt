@@ -2,7 +2,7 @@
 use Rattle.std.specs.Prelude.{◌≡◌, ◌≢◌, ◌<◌, ℕ, pos, List, length, slice_index}
 use Rattle.cmr_base.specs.Matrix.{Matrix, height, entry, IsMatrix}
 
--- the place of each chosen column, and for each other column a number that is no place
+-- the index of each chosen column among the chosen columns, and for each other column a number that is no index
 pub record ArePlaces (width : ℕ) (columns places : List ℕ) : Type 0 where
   pub long : length places ≡ width
   pub there : (k : ℕ) → k < length columns → slice_index places (slice_index columns k) ≡ k
@@ -11,7 +11,7 @@ pub record ArePlaces (width : ℕ) (columns places : List ℕ) : Type 0 where
 abbrev pub IsEmptyRow : Matrix → ℕ → Type 0
 IsEmptyRow m row = (column : ℕ) → entry m row column ≡ pos 0
 
--- a row has the chosen entries of another matrix's row, and nothing else is changed
+-- a row has the chosen entries of another matrix's row, and all other rows are unchanged
 pub record IsRowCopied (m : Matrix) (row : ℕ) (columns : List ℕ) (to : ℕ) (old new : Matrix) : Type 0 where
   pub is_matrix : IsMatrix new
   pub height_same : height new ≡ height old

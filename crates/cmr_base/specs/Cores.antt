@@ -1,4 +1,4 @@
--- The four entries where two rows cross two columns.
+-- The four entries at which two rows cross two columns.
 use Rattle.std.specs.Prelude.{◌≡◌, ◌≤ℤ◌, ℕ, ℤ, pos, neg_ℤ}
 use Rattle.cmr_base.specs.declared.cores.Core.{Core}
 use Rattle.cmr_base.specs.Matrix.{IsEntry}

@@ -1,14 +1,14 @@
--- Determinants of square submatrices, and total unimodularity by them.
+-- Determinants of square submatrices, and total unimodularity in terms of them.
 use Rattle.std.specs.Prelude.{◌≡◌, ℕ, zero, suc, ℤ, pos, ◌-ℤ◌, ◌*ℤ◌, List, [], ◌∷◌, length, slice_index}
 use Rattle.cmr_base.specs.Matrix.{Matrix, entry, IsEntry}
 use Rattle.cmr_base.specs.LineSets.{IsRowSet, IsColumnSet}
 
--- f 0 - f 1 + f 2 - .., so many terms
+-- f 0 - f 1 + f 2 - .., with the given number of terms
 abbrev pub alternating_sum : ℕ → (ℕ → ℤ) → ℤ
 alternating_sum zero f = pos 0
 alternating_sum (suc count) f = f 0 -ℤ alternating_sum count (λ k. f (suc k))
 
--- the lines without the one at a place, counted from 0
+-- the lines without the line at an index, counted from 0
 abbrev pub without_place : List ℕ → ℕ → List ℕ
 without_place [] place = []
 without_place (line ∷ lines) zero = lines

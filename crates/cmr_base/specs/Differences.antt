@@ -1,4 +1,4 @@
--- Where a row of a matrix differs from a multiple of another row.
+-- The columns in which a row of a matrix differs from a multiple of another row.
 use Rattle.std.specs.Prelude.{◌*ℤ◌, not, ℕ, ℤ, Bool}
 use Rattle.std.specs.Ordering.{int_eq}
 use Rattle.cmr_base.specs.Matrix.{Matrix, entry}

@@ -13,11 +13,11 @@ opposite_of Tail = Head
 opposite_of Head = Tail
 
 module _ (arcs : List Pair) where
-  -- the node of an end of an arc
+  -- the node at an end of an arc
   abbrev pub end_at : End → ℕ → ℕ
   end_at end arc = end_of end (slice_index_or arcs arc (record { tail = 0; head = 0 }))
 
-  -- of the arcs below a number, the last with this end at a node
+  -- the last arc below a number that has this end at a node
   abbrev pub last_at : End → ℕ → ℕ → Option ℕ
   last_at end node zero = None
   last_at end node (suc arc) = cond (nat_eq (end_at end arc) node) (Some arc) (last_at end node arc)

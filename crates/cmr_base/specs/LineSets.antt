@@ -5,22 +5,22 @@ use Rattle.std.specs.List.Sorted.{IsStrictlyIncreasing}
 use Rattle.cmr_base.specs.Matrix.{Matrix, height, entry}
 use Rattle.cmr_base.specs.Sums.{sum_over}
 
--- a set of rows: their numbers, increasing
+-- a set of rows: their increasing numbers
 pub record IsRowSet (m : Matrix) (rows : List ℕ) : Type 0 where
   pub increasing : IsStrictlyIncreasing rows
   pub in_range : (k : ℕ) → k < length rows → slice_index rows k < height m
 
--- a set of columns: their numbers, increasing
+-- a set of columns: their increasing numbers
 pub record IsColumnSet (m : Matrix) (columns : List ℕ) : Type 0 where
   pub increasing : IsStrictlyIncreasing columns
   pub in_range : (k : ℕ) → k < length columns → slice_index columns k < m.width
 
--- the number by which sets are ordered: line k, counted from 0, adds 2^k
+-- the number of a set, which orders sets: line k, counted from 0, adds 2^k
 abbrev pub set_number : List ℕ → ℕ
 set_number [] = 0
 set_number (line ∷ lines) = 2 ^ line + set_number lines
 
--- the submatrix on some rows and columns, in their order
+-- the submatrix on rows and columns, in their order
 abbrev pub submatrix : Matrix → List ℕ → List ℕ → Matrix
 submatrix m rows columns = record { rows = map (λ row. map (entry m row) columns) rows; width = length columns }
 
@@ -28,7 +28,7 @@ submatrix m rows columns = record { rows = map (λ row. map (entry m row) column
 abbrev pub AllBelow : ℕ → List ℕ → Type 0
 AllBelow bound lines = (k : ℕ) → k < length lines → slice_index lines k < bound
 
--- the lines from 0 on, so many
+-- the lines 0 to `count` - 1
 abbrev pub first_lines : ℕ → List ℕ
 first_lines count = range_with_len 0 count
 
@@ -36,7 +36,7 @@ first_lines count = range_with_len 0 count
 abbrev pub without : List ℕ → ℕ → List ℕ
 without lines gone = filter (λ line. not (line == gone)) lines
 
--- the set with this number, of so many lines from a first one on, which counts 1 here
+-- the set with this number, of `count` lines from `first` on; here line `first` adds 1 to the number
 abbrev pub set_numbered : ℕ → ℕ → ℕ → List ℕ
 set_numbered zero first number = []
 set_numbered (suc count) first number =

@@ -3,7 +3,7 @@ use Rattle.std.specs.Prelude.{◌≡◌, ◌<◌, ◌≤◌, ◌+◌, ◌≤ℤ�
 use Rattle.std.specs.List.{range_with_len}
 use Rattle.cmr_base.specs.declared.limits.TheConstants.{MAX_COLUMNS, MAX_ROWS}
 
--- the rows, and how long each is: a matrix without rows has a width too
+-- the rows, and their length: a matrix without rows also has a width
 pub record Matrix : Type 0 where
   pub rows : List (List ℤ)
   pub width : ℕ
@@ -27,7 +27,7 @@ column_of m column = map (λ row. slice_index_or row column (pos 0)) m.rows
 abbrev pub transposed : Matrix → Matrix
 transposed m = record { rows = map (column_of m) (range_with_len 0 m.width); width = height m }
 
--- the same with one entry changed
+-- the matrix after a change of one entry
 abbrev pub with_entry : Matrix → ℕ → ℕ → ℤ → Matrix
 with_entry m row column value = record { rows = slice_set m.rows row (slice_set (row_of m row) column value); width = m.width }
 
@@ -36,7 +36,7 @@ pub record IsEntry (z : ℤ) : Type 0 where
   pub low : negsuc 0 ≤ℤ z
   pub high : z ≤ℤ pos 1
 
--- each row is as long as the matrix is wide
+-- the length of each row is the width of the matrix
 abbrev pub IsRectangular : Matrix → Type 0
 IsRectangular m = (row : ℕ) → row < height m → length (row_of m row) ≡ m.width
 
@@ -49,7 +49,7 @@ pub record IsTernary (m : Matrix) : Type 0 where
   pub rectangular : IsRectangular m
   pub small : HasTernaryEntries m
 
--- one within the limits: what every value of the type `Matrix` is
+-- a matrix within the limits: the invariant of the type `Matrix`
 pub record IsMatrix (m : Matrix) : Type 0 where
   pub rectangular : IsRectangular m
   pub small : HasTernaryEntries m
@@ -61,12 +61,12 @@ is_nonzero (pos zero) = false
 is_nonzero (pos (suc n)) = true
 is_nonzero (negsuc n) = true
 
--- how many entries are not 0
+-- the number of nonzeros
 abbrev pub nonzeros_of : List (List ℤ) → ℕ
 nonzeros_of [] = 0
 nonzeros_of (row ∷ rows) = count_by is_nonzero row + nonzeros_of rows
 
--- cells laid out row by row, cut into n rows
+-- the n rows of cells that are listed row by row
 abbrev pub rows_of : ℕ → ℕ → List ℤ → List (List ℤ)
 rows_of zero width cells = []
 rows_of (suc n) width cells = take width cells ∷ rows_of n width (drop width cells)

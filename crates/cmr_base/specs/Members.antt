@@ -1,11 +1,11 @@
--- Numbers that are in a list, and lists in which no number stands twice.
+-- Members of a list, and lists of distinct numbers.
 use Rattle.std.specs.Prelude.{◌≡◌, ◌⊎◌, ℕ, List, [], ◌∷◌}
 
 abbrev pub IsIn : ℕ → List ℕ → Type 0
 IsIn x [] = ⊥
 IsIn x (y ∷ ys) = (x ≡ y) ⊎ IsIn x ys
 
--- no number stands twice
+-- no number occurs twice
 abbrev pub IsDistinct : List ℕ → Type 0
 IsDistinct [] = Unit {0}
 IsDistinct (x ∷ xs) = (¬ (IsIn x xs)) × IsDistinct xs

@@ -11,7 +11,7 @@ use Rattle.cmr_base.specs.declared.line.Step.{Step}
 use Rattle.cmr_base.specs.Matrix.{Matrix, height, entry, is_nonzero}
 use Rattle.cmr_base.specs.LineSets.{first_lines, without}
 
--- how many of these places are not 0
+-- the number of nonzeros at these places
 abbrev pub nonzeros_at : List ℕ → (ℕ → ℤ) → ℕ
 nonzeros_at places f = count_by (λ k. is_nonzero (f k)) places
 
@@ -19,12 +19,12 @@ nonzeros_at places f = count_by (λ k. is_nonzero (f k)) places
 abbrev pub equal_at : List ℕ → (ℕ → ℤ) → (ℕ → ℤ) → Bool
 equal_at places f g = list_all (λ k. int_eq (f k) (g k)) places
 
--- the first of some lines, other than this one, that equals f where it crosses the others
+-- the first line other than `line` that equals f on the crossing lines
 abbrev pub first_equal : (ℕ → ℕ → ℤ) → List ℕ → List ℕ → ℕ → (ℕ → ℤ) → Option ℕ
 first_equal M lines crossing line f = find (λ other. not (other == line) && equal_at crossing (M other) f) lines
 
--- The first reason for which a line is reducible, or none, among the lines of its kind that stay and the lines that
--- they cross. `M` gives the entry of a line of its kind and a crossing line, `kind` and `cross` name them.
+-- The first reason for which a line is reducible among the remaining lines of its kind and the lines that cross them, or `None`.
+-- `M` returns the entry of a line of its kind and a crossing line; `kind` and `cross` name these lines.
 abbrev pub first_reason : Bool → (ℕ → ℕ → ℤ) → (ℕ → Line) → (ℕ → Line) → List ℕ → List ℕ → ℕ → Option Reason
 first_reason binary M kind cross lines crossing line =
     if nonzeros_at crossing (M line) == 0 then Some Zero
@@ -32,12 +32,12 @@ first_reason binary M kind cross lines crossing line =
     else option_or (option_map (λ other. Copy (kind other)) (first_equal M lines crossing line (M line)))
     (if binary then None else option_map (λ other. Negative (kind other)) (first_equal M lines crossing line (λ k. neg_ℤ (M line k)))))
 
--- why a row or a column is reducible among the rows and columns that stay
+-- why a row or a column is reducible among the remaining rows and columns
 abbrev pub line_reason : Bool → (ℕ → ℕ → ℤ) → List ℕ → List ℕ → Line → Option Reason
 line_reason binary M rows columns (Row row) = first_reason binary M Row Column rows columns row
 line_reason binary M rows columns (Column column) = first_reason binary (λ j i. M i j) Column Row columns rows column
 
--- the line is one of these rows and columns
+-- the rows or the columns contain the line
 abbrev pub HasLine : List ℕ → List ℕ → Line → Type 0
 HasLine rows columns (Row row) = Contains rows row
 HasLine rows columns (Column column) = Contains columns column
@@ -50,14 +50,14 @@ abbrev pub columns_without : List ℕ → Line → List ℕ
 columns_without columns (Row row) = columns
 columns_without columns (Column column) = without columns column
 
--- removed in this order, each line is reducible in its turn, and none stays
+-- in this order each line is reducible when it is removed, and no line remains
 abbrev pub IsFullRemoval : Bool → (ℕ → ℕ → ℤ) → List ℕ → List ℕ → List Line → Type 0
 IsFullRemoval binary M rows columns [] = (rows ≡ []) × (columns ≡ [])
 IsFullRemoval binary M rows columns (line ∷ lines) =
     HasLine rows columns line × IsSome (line_reason binary M rows columns line)
     × IsFullRemoval binary M (rows_without rows line) (columns_without columns line) lines
 
--- these lines can all be removed, in some order
+-- all these lines can be removed, in some order
 abbrev pub IsSeriesParallelOn : Bool → (ℕ → ℕ → ℤ) → List ℕ → List ℕ → Type 0
 IsSeriesParallelOn binary M rows columns = (lines : List Line) × IsFullRemoval binary M rows columns lines
 
@@ -65,24 +65,24 @@ IsSeriesParallelOn binary M rows columns = (lines : List Line) × IsFullRemoval 
 abbrev pub IsSeriesParallel : Bool → Matrix → Type 0
 IsSeriesParallel binary m = IsSeriesParallelOn binary (entry m) (first_lines (height m)) (first_lines m.width)
 
--- the rows, and behind them the columns
+-- the rows, and then the columns
 abbrev pub lines_of : List ℕ → List ℕ → List Line
 lines_of rows columns = map Row rows ++ map Column columns
 
--- the first of some lines that is reducible, with its reason
+-- the first reducible line of a list, with its reason
 abbrev pub first_step : Bool → (ℕ → ℕ → ℤ) → List ℕ → List ℕ → List Line → Option Step
 first_step binary M rows columns [] = None
 first_step binary M rows columns (line ∷ lines) =
     option_or (option_map (λ reason. record { line = line; reason = reason }) (line_reason binary M rows columns line)) (first_step binary M rows columns lines)
 
--- steps, and what they leave
+-- steps, and the lines that remain after them
 pub record Removal : Type 0 where
   pub steps : List Step
   pub rows : List ℕ
   pub columns : List ℕ
 
--- At most so many steps in the stated order: the first reducible row goes, and where no row is reducible the first
--- reducible column.
+-- The given number of steps at most, in the stated order: the first reducible row is removed, or the first reducible column if no
+-- row is reducible.
 abbrev pub removal_on : Bool → (ℕ → ℕ → ℤ) → ℕ → List ℕ → List ℕ → Removal
 removal_on binary M zero rows columns = record { steps = []; rows = rows; columns = columns }
 removal_on binary M (suc n) rows columns = elim (first_step binary M rows columns (lines_of rows columns)) as (λ _. Removal) [
@@ -92,6 +92,6 @@ removal_on binary M (suc n) rows columns = elim (first_step binary M rows column
       record { steps = step ∷ rest.steps; rows = rest.rows; columns = rest.columns }
 ]
 
--- the stated order from all lines of the matrix to its end: no more steps than lines are made
+-- the stated order from all lines of the matrix to its end; there are no more steps than lines
 abbrev pub removal : Bool → Matrix → Removal
 removal binary m = removal_on binary (entry m) (height m + m.width) (first_lines (height m)) (first_lines m.width)

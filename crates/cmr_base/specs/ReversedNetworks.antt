@@ -1,4 +1,4 @@
--- Networks some of whose arcs and walks are reversed.
+-- Networks in which arcs and walks are reversed.
 use Rattle.std.specs.Prelude.{◌≡◌, ◌<◌, ◌*ℤ◌, ℕ, ℤ, pos, negsuc, Bool, true, false, List, [], ◌∷◌, cond, slice_index_or}
 use Rattle.std.specs.List.{AllByRecursion}
 use Rattle.cmr_base.specs.declared.network.Network.{Network}
@@ -9,17 +9,17 @@ abbrev pub is_minus : ℤ → Bool
 is_minus (pos n) = false
 is_minus (negsuc n) = true
 
--- a pair of nodes, reversed where the sign is -1
+-- a pair of nodes, reversed if the sign is -1
 abbrev pub reversed_pair : Pair → ℤ → Pair
 reversed_pair pair sign = cond (is_minus sign) (record { tail = pair.head; head = pair.tail }) pair
 
--- each pair with its sign; pairs without a sign stay
+-- each pair with its sign; pairs without a sign are unchanged
 abbrev pub reversed_pairs : List Pair → List ℤ → List Pair
 reversed_pairs [] signs = []
 reversed_pairs (pair ∷ pairs) [] = pair ∷ reversed_pairs pairs []
 reversed_pairs (pair ∷ pairs) (sign ∷ signs) = reversed_pair pair sign ∷ reversed_pairs pairs signs
 
--- the arcs by the signs of rows, the walks by those of columns
+-- the arcs with the signs of the rows, the walks with the signs of the columns
 abbrev pub reversed_network : Network → List ℤ → List ℤ → Network
 reversed_network net row_signs column_signs = record { arcs = reversed_pairs net.arcs row_signs; walks = reversed_pairs net.walks column_signs }
 

@@ -17,7 +17,7 @@ module _ (links : List Link) where
   abbrev pub node_at : ℕ → ℕ
   node_at place = (link_at place).node
 
-  -- the node stands at some place
+  -- a place contains the node
   abbrev pub HasNode : ℕ → Type 0
   HasNode node = (place : ℕ) × (place < length links) × (node_at place ≡ node)
 
@@ -25,7 +25,7 @@ module _ (links : List Link) where
 abbrev pub Joins : List Pair → ℕ → ℕ → ℕ → Type 0
 Joins arcs arc x y = ((tail arcs arc ≡ x) × (head arcs arc ≡ y)) ⊎ ((tail arcs arc ≡ y) × (head arcs arc ≡ x))
 
--- a part of a rooted tree that has node 0, and the place of each node in it
+-- a part of a rooted tree that contains node 0, and the place of each of its nodes
 pub record IsRooted (arcs : List Pair) (links : List Link) (places : List ℕ) : Type 0 where
   pub started : 0 < length links
   pub root : node_at links 0 ≡ 0
@@ -35,16 +35,16 @@ pub record IsRooted (arcs : List Pair) (links : List Link) (places : List ℕ) :
   pub joined : (place : ℕ) → 0 < place → place < length links
       → ((link_at links place).above < place) × ((link_at links place).arc < length arcs) × Joins arcs (link_at links place).arc (node_at links place) (node_at links (link_at links place).above)
 
--- nodes were added at the end
+-- nodes were appended
 pub record IsLonger (old new : List Link) : Type 0 where
   pub more : length old ≤ length new
   pub same : (place : ℕ) → place < length old → link_at new place ≡ link_at old place
 
--- arcs with an end at a node lead to nodes that have a place
+-- the arcs with this end at a node lead to nodes that have a place
 abbrev pub AreReached : List Pair → List Link → End → ℕ → Type 0
 AreReached arcs links end node = (arc : ℕ) → arc < length arcs → end_at arcs end arc ≡ node → HasNode links (end_at arcs (opposite_of end) arc)
 
--- all nodes are in it
+-- all nodes have a place
 pub record IsSpanning (arcs : List Pair) (links : List Link) (places : List ℕ) : Type 0 where
   pub rooted : IsRooted arcs links places
   pub whole : length links ≡ suc (length arcs)

@@ -1,4 +1,4 @@
--- Signings of a set of rows, and total unimodularity by them (Ghouila-Houri).
+-- Signings of a set of rows, and total unimodularity in terms of them (Ghouila-Houri).
 use Rattle.std.specs.Prelude.{◌≡◌, ◌<◌, ◌≤◌, ◌⊎◌, ◌+◌, ◌*◌, ℕ, ℤ, pos, negsuc, ◌+ℤ◌, ◌*ℤ◌, List, [], ◌∷◌, length}
 use Rattle.std.specs.List.{AllByRecursion}
 use Rattle.cmr_base.specs.Matrix.{Matrix, entry, IsEntry}
@@ -8,7 +8,7 @@ use Rattle.cmr_base.specs.LineSets.{IsRowSet}
 abbrev pub IsSign : ℤ → Type 0
 IsSign z = (z ≡ pos 1) ⊎ (z ≡ negsuc 0)
 
--- the sum of some rows in a column, each row times its sign
+-- the sum of the rows in a column, each row times its sign
 abbrev pub signed_sum : Matrix → List ℕ → List ℤ → ℕ → ℤ
 signed_sum m [] signs column = pos 0
 signed_sum m (row ∷ rows) [] column = pos 0
@@ -24,7 +24,7 @@ pub record IsSigning (m : Matrix) (rows : List ℕ) (signs : List ℤ) : Type 0 
 abbrev pub IsTotallyUnimodular : Matrix → Type 0
 IsTotallyUnimodular m = (rows : List ℕ) → IsRowSet m rows → (signs : List ℤ) × IsSigning m rows signs
 
--- the number of a list of signs: a -1 at place k counts 2^k
+-- the number of a list of signs: a -1 at index k adds 2^k
 abbrev pub sign_bit : ℤ → ℕ
 sign_bit (pos n) = 0
 sign_bit (negsuc n) = 1

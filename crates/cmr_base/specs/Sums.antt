@@ -1,4 +1,4 @@
--- Sums over lists, and whole numbers by their parity and modulo four.
+-- Sums over lists, and integers by their parity and modulo four.
 use Rattle.std.specs.Prelude.{◌≡◌, ℤ, pos, ◌+ℤ◌, List, [], ◌∷◌}
 
 -- the sum of f over the items
@@ -6,7 +6,7 @@ abbrev pub sum_over : {A : Type 0} → List A → (A → ℤ) → ℤ
 sum_over [] f = pos 0
 sum_over (x ∷ xs) f = f x +ℤ sum_over xs f
 
--- twice a whole number
+-- twice an integer
 abbrev pub IsEven : ℤ → Type 0
 IsEven z = (k : ℤ) × (z ≡ k +ℤ k)
 

@@ -1,15 +1,15 @@
--- The places of the nonzeros, and lines multiplied by -1.
+-- The positions of the nonzeros, and lines multiplied by -1.
 use Rattle.std.specs.Prelude.{◌≡◌, ◌↔◌, ◌*ℤ◌, ℕ, ℤ, pos}
 use Rattle.cmr_base.specs.Matrix.{Matrix, height, entry}
 use Rattle.cmr_base.specs.Signing.{IsSign}
 
--- of the same size, and 0 at the same places
+-- the same size, and zeros at the same positions
 pub record HaveOneSupport (m n : Matrix) : Type 0 where
   pub height_same : height m ≡ height n
   pub width_same : m.width ≡ n.width
   pub zeros_same : (row column : ℕ) → (entry m row column ≡ pos 0) ↔ (entry n row column ≡ pos 0)
 
--- the second is the first with some rows and columns multiplied by -1
+-- the second matrix is the first with rows and columns multiplied by signs
 pub record AgreeUpToSigns (M N : ℕ → ℕ → ℤ) : Type 0 where
   pub row_sign : ℕ → ℤ
   pub column_sign : ℕ → ℤ

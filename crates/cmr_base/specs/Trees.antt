@@ -5,7 +5,7 @@ use Rattle.cmr_base.specs.declared.network.Pair.{Pair}
 use Rattle.cmr_base.specs.Matrix.{Matrix, height, entry, is_nonzero, transposed}
 use Rattle.cmr_base.specs.Members.{IsIn, IsDistinct}
 
--- an arc is taken forwards, from its tail to its head, or backwards
+-- a step over an arc, forwards, from its tail to its head, or backwards
 pub record WalkStep : Type 0 where
   pub arc : ℕ
   pub forwards : Bool
@@ -45,12 +45,12 @@ pub record IsPathOf (arcs : List Pair) (m : ℕ) (support : ℕ → Bool) (first
   pub once : IsDistinct (arcs_of steps)
   pub exact : (row : ℕ) → row < m → (support row ≡ true) ↔ IsIn row (arcs_of steps)
 
--- 1 or -1 as the steps use the arc of a row forwards or backwards, and 0 where they do not use it
+-- 1 if the steps use the arc of a row forwards, -1 if they use it backwards, and 0 if they do not use it
 abbrev pub direction : List WalkStep → ℕ → ℤ
 direction [] row = pos 0
 direction (step ∷ steps) row = cond (nat_eq row step.arc) (cond step.forwards (pos 1) (negsuc 0)) (direction steps row)
 
--- the path from the first node to the last uses each arc as the column says
+-- the path from the first node to the last uses each arc as the column's entry says
 pub record IsDirectedPathOf (arcs : List Pair) (m : ℕ) (column : ℕ → ℤ) (first last : ℕ) : Type 0 where
   pub steps : List WalkStep
   pub walk : IsWalk arcs first steps last
@@ -63,7 +63,7 @@ pub record IsNetworkOf (net : Network) (m n : ℕ) : Type 0 where
   pub count : length net.walks ≡ n
   pub nodes : (column : ℕ) → column < n → (tail net.walks column ≤ m) × (head net.walks column ≤ m)
 
--- m rows and n columns, where the second argument says which entries are not 0: the path of each walk uses the arcs of its column's support
+-- a network for m rows and n columns: the path of each walk uses the arcs of its column's support, which is given by M
 pub record RealisesSupport (net : Network) (M : ℕ → ℕ → Bool) (m n : ℕ) : Type 0 where
   pub network : IsNetworkOf net m n
   pub paths : (column : ℕ) → column < n → IsPathOf net.arcs m (λ row. M row column) (tail net.walks column) (head net.walks column)
@@ -73,11 +73,11 @@ pub record Realises (net : Network) (M : ℕ → ℕ → ℤ) (m n : ℕ) : Type
   pub network : IsNetworkOf net m n
   pub paths : (column : ℕ) → column < n → IsDirectedPathOf net.arcs m (λ row. M row column) (tail net.walks column) (head net.walks column)
 
--- which entries are not 0
+-- the positions of the nonzeros
 abbrev pub support : Matrix → ℕ → ℕ → Bool
 support m row column = is_nonzero (entry m row column)
 
--- 0 or 1 at each place
+-- each entry is 0 or 1
 abbrev pub IsBinary : Matrix → Type 0
 IsBinary m = (row column : ℕ) → (entry m row column ≡ pos 0) ⊎ (entry m row column ≡ pos 1)
 
@@ -87,7 +87,7 @@ ReproducesSupport net m = RealisesSupport net (support m) (height m) m.width
 abbrev pub Reproduces : Network → Matrix → Type 0
 Reproduces net m = Realises net (entry m) (height m) m.width
 
--- the supports of the columns are the paths of some tree
+-- the supports of the columns are the paths of a tree
 abbrev pub HasGraphicSupport : Matrix → Type 0
 HasGraphicSupport m = (net : Network) × ReproducesSupport net m
 

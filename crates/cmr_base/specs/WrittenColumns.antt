@@ -1,8 +1,8 @@
--- Matrices in which one column was written.
+-- Matrices after one column was written.
 use Rattle.std.specs.Prelude.{◌≡◌, ◌≢◌, ◌<◌, ◌≤◌, ◌⊎◌, ℕ, ℤ, pos, List, slice_index_or}
 use Rattle.cmr_base.specs.Matrix.{Matrix, height, entry, IsMatrix}
 
--- the column has these entries in the rows below a number, and nothing else is changed
+-- the column has these entries in the first `count` rows, and no other entry is changed
 pub record IsColumnWritten (old new : Matrix) (column : ℕ) (entries : List ℤ) (count : ℕ) : Type 0 where
   pub is_matrix : IsMatrix new
   pub height_same : height new ≡ height old

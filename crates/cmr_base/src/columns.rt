@@ -1,4 +1,4 @@
-//! Sets of columns as words: column c is in a set where the bit 2^(c mod 64) of word c / 64 is 1.
+//! Sets of columns as words: column c is in a set if and only if the bit 2^(c mod 64) of word c / 64 is 1.
 
 ghost use Rattle.std.specs.Prelude.{◌≡◌, ◌<◌, ◌≤◌, ◌*◌, ◌/◌, ◌↔◌, ◌⊎◌, ◌&&◌, ◌||◌, not, ℕ, true, false, length, count_by, IfOk, IsTrue, MatchOption};
 ghost use Rattle.cmr_base.specs.LineSets.{first_lines};
@@ -10,7 +10,7 @@ use crate::runs::first_bits;
 use crate::{MAX_COLUMNS, Memory, has_bit, with_bit, words_for};
 use std::alloc::Global;
 
-/// The empty set for a matrix with so many columns.
+/// The empty set of columns, with the words for a matrix of `columns` columns.
 pub fn empty_set(alloc: Global, columns: u32) -> Result<Vec<u64>, Memory>
     requires { columns ≤ MAX_COLUMNS }
     ensures size { IfOk result (λ set. length set.items ≡ words_for columns) }
@@ -19,7 +19,7 @@ pub fn empty_set(alloc: Global, columns: u32) -> Result<Vec<u64>, Memory>
     Ok(vec![in alloc; 0u64; words_for(columns)]?)
 }
 
-/// Takes all columns out of a set.
+/// Removes all columns from a set.
 pub fn clear_set(set: &mut Vec<u64>)
     ensures size { length set.new.items ≡ length set.old.items }
     ensures none { (column : ℕ) → has_column set.new.items column ≡ false }
@@ -49,7 +49,7 @@ pub fn add_column(set: &mut Vec<u64>, column: u32)
     set[place] = with_bit(set[place], column % 64, true);
 }
 
-/// Takes a column out of a set.
+/// Removes a column from a set.
 pub fn remove_column(set: &mut Vec<u64>, column: u32)
     requires { column / 64 < length set.old.items }
     ensures size { length set.new.items ≡ length set.old.items }
@@ -76,7 +76,7 @@ pub fn add_set(set: &mut Vec<u64>, other: &[u64])
     }
 }
 
-/// Adds the columns that are in both of two others.
+/// Adds the columns that are in both `one` and `two`.
 pub fn add_common(set: &mut Vec<u64>, one: &[u64], two: &[u64])
     requires one { length one.now ≡ length set.old.items }
     requires two { length two.now ≡ length set.old.items }
@@ -91,7 +91,7 @@ pub fn add_common(set: &mut Vec<u64>, one: &[u64], two: &[u64])
     }
 }
 
-/// Adds the columns that are in one set and not in another.
+/// Adds the columns that are in `one` and not in `other`.
 pub fn add_outside(set: &mut Vec<u64>, one: &[u64], other: &[u64])
     requires one { length one.now ≡ length set.old.items }
     requires other { length other.now ≡ length set.old.items }
@@ -106,7 +106,7 @@ pub fn add_outside(set: &mut Vec<u64>, one: &[u64], other: &[u64])
     }
 }
 
-/// The bits of a word that another does not have.
+/// The bits of `word` that `other` does not have.
 pub fn outside(word: u64, other: u64) -> u64
     ensures { (k : ℕ) → k < 64 → has_bit result k ≡ (has_bit word k && not (has_bit other k)) }
 {
@@ -151,7 +151,7 @@ pub fn is_within(one: &[u64], two: &[u64]) -> bool
     true
 }
 
-// Whether each bit of a word is one of another.
+// Whether `other` has each bit of `word`.
 fn is_part(word: u64, other: u64) -> bool
     ensures { IsTrue result ↔ ((k : ℕ) → k < 64 → has_bit word k ≡ true → has_bit other k ≡ true) }
 {
@@ -166,7 +166,7 @@ fn share_bit(one: u64, two: u64) -> bool
     one & two != 0
 }
 
-/// The first column of a set from one on.
+/// The first column of a set that is at least `from`.
 pub fn next_column(set: &[u64], from: u32) -> Option<u32>
     requires size { length set.now ≤ 16 }
     requires from { from ≤ 1024 }
@@ -188,7 +188,7 @@ pub fn next_column(set: &[u64], from: u32) -> Option<u32>
     None
 }
 
-/// Whether some column of the first set is in the second and some other one is not.
+/// Whether the second set has some columns of the first set, but not all.
 pub fn is_cut(one: &[u64], two: &[u64]) -> bool
     requires { length one.now ≡ length two.now }
     ensures { Denies result (IsWithin one.now two.now ⊎ IsApart one.now two.now) }
@@ -196,7 +196,7 @@ pub fn is_cut(one: &[u64], two: &[u64]) -> bool
     meets(one, two) && !is_within(one, two)
 }
 
-/// How many columns are in a set.
+/// The number of columns in a set.
 pub fn count_columns(set: &[u64]) -> u32
     requires { length set.now ≤ 16 }
     ensures count { (width : ℕ) → ((column : ℕ) → has_column set.now column ≡ true → column < width)
@@ -212,7 +212,7 @@ pub fn count_columns(set: &[u64]) -> u32
     count
 }
 
-/// How many of the first so many columns are in a set.
+/// The number of columns below `columns` in a set.
 pub fn count_below(set: &[u64], columns: u32) -> u32
     requires { length set.now ≡ words_for columns }
     ensures count { result ≡ count (has_column set.now) columns }

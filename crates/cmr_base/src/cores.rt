@@ -1,4 +1,4 @@
-// The four entries where two rows cross two columns, and the rows that those two rows make.
+// The four entries at which two rows cross two columns, and the linear combinations of those two rows.
 ghost use Rattle.std.specs.Prelude.{◌≡◌, ◌<◌, ◌+ℤ◌, ◌-ℤ◌, ◌*ℤ◌, ℤ};
 ghost use Rattle.cmr_base.specs.Cores.{HasEntries, IsBounded, IsCoreAt};
 ghost use Rattle.cmr_base.specs.Matrix.{entry, height, IsEntry};
@@ -7,7 +7,7 @@ ghost use Rattle.cmr_base.specs.Separations.{spread};
 use crate::matrix::Matrix;
 use crate::products::product;
 
-/// The entries `[x y; z w]` where two rows cross two columns.
+/// The entries `[x y; z w]` at which two rows cross two columns.
 #[derive(Clone, Copy, Debug)]
 pub struct Core {
     pub x: i8,
@@ -16,7 +16,7 @@ pub struct Core {
     pub w: i8,
 }
 
-/// How many times each of two rows goes into another row.
+/// The coefficients of two rows in a linear combination of them.
 #[derive(Clone, Copy, Debug)]
 pub struct Factors {
     pub first: i8,
@@ -50,8 +50,8 @@ impl Core {
         product(self.x, self.w) - product(self.y, self.z)
     }
 
-    /// How many times the two rows go into the row that they make, which has given entries in the two columns, by Cramer's
-    /// rule: they make it where the determinant is the core's, and 1 or -1.
+    /// The coefficients by which the two rows combine to a row with given entries in the two columns, by Cramer's rule.
+    /// The determinant is the core's, and 1 or -1.
     pub fn factors(self, determinant: i8, first: i8, other: i8) -> Factors
         requires core { HasEntries self }
         requires determinant { IsBounded 2 determinant }
@@ -83,7 +83,7 @@ impl Core {
 }
 
 impl Factors {
-    /// The entry of the row that two rows make, from their entries in its column.
+    /// The entry of a linear combination of two rows in a column, from the entries of both rows in that column.
     pub fn entry(self, first: i8, other: i8) -> i8
         requires first_factor { IsBounded 4 self.first }
         requires other_factor { IsBounded 4 self.other }

@@ -7,8 +7,8 @@ use crate::Matrix;
 
 impl Matrix {
     /// The bits of the 64 columns of a chunk in which a row is not `factor` times the row `model`.
-    // Two entries differ where one of them is 0 alone, or -1 alone, and the negative of a row is -1 where it is not 0 and the
-    // row is not -1.
+    // Two entries differ if and only if exactly one of them is 0, or exactly one of them is -1. The negative of a row
+    // is -1 in the columns in which the row is neither 0 nor -1.
     pub fn difference_word(&self, row: u32, factor: i8, model: u32, chunk: u32) -> u64
         requires row { row < height self.now }
         requires model { model < height self.now }

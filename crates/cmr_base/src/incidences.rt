@@ -33,8 +33,7 @@ impl End {
     }
 }
 
-/// For each node the last arc that has one end there, and for each arc the one before it that has this end at the same
-/// node.
+/// For each node the last arc that has one end there. For each arc the previous arc that has this end at the same node.
 #[derive(Debug, Drop)]
 pub struct Incidences {
     pub last: Vec<Option<u32>>,
@@ -42,7 +41,7 @@ pub struct Incidences {
 }
 
 impl Incidences {
-    /// The arcs at each of so many nodes, by one end.
+    /// The arcs at each of `nodes` nodes, by the end `end`.
     pub fn new(alloc: Global, arcs: &[Pair], end: End, nodes: usize) -> Result<Incidences, Memory>
         requires few { length arcs.now ≤ 2 ^ 32 }
         requires nodes { (arc : ℕ) → arc < length arcs.now → end_at arcs.now end arc < nodes }

@@ -43,7 +43,7 @@ impl Indices {
         })
     }
 
-    /// Adds a number that is above all others of the set.
+    /// Appends a number that is above all numbers of the set.
     pub fn push(&mut self, item: u32) -> Result<(), Memory>
         requires { IsAbove item self.old }
         ensures ok { OnOk result (self.new ≡ self.old ++ item ∷ []) }
@@ -53,7 +53,7 @@ impl Indices {
         Ok(())
     }
 
-    /// How many numbers there are.
+    /// The number of items.
     pub fn len(&self) -> usize
         ensures len { result ≡ length self.now }
         ensures increasing { IsStrictlyIncreasing self.now }
@@ -61,7 +61,7 @@ impl Indices {
         self.items.len()
     }
 
-    /// The number at a place, counted from 0.
+    /// The number at an index, counted from 0.
     pub fn get(&self, index: usize) -> &u32
         requires { index < length self.now }
         ensures { result.now ≡ slice_index self.now index }

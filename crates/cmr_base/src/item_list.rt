@@ -13,13 +13,13 @@ pub struct ItemList<T> {
 /// Signs, +1 or -1, one for each row of a set of rows.
 pub type SignList = ItemList<i8>;
 
-/// Sets of rows into which the rows of a matrix fall, in an order.
+/// Sets of rows that partition rows of a matrix, in an order.
 pub type PartList = ItemList<Indices>;
 
-/// Sides, 0 or 1, one for each of some parts.
+/// Sides, 0 or 1, one for each part of a list of parts.
 pub type SideList = ItemList<u8>;
 
-/// The words of a command line.
+/// The arguments of a command line.
 pub type WordList = ItemList<Word>;
 
 impl<T> Model for ItemList<T> {
@@ -49,14 +49,14 @@ impl<T: Drop> ItemList<T> {
         Ok(())
     }
 
-    /// How many items there are.
+    /// The number of items.
     pub fn len(&self) -> usize
         ensures { result ≡ length self.now }
     {
         self.items.len()
     }
 
-    /// The item at a place, counted from 0.
+    /// The item at an index, counted from 0.
     pub fn get(&self, index: usize) -> &T
         requires { index < length self.now }
         ensures { slice_get self.now index ≡ Some result.now }

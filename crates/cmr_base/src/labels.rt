@@ -5,7 +5,7 @@ ghost use Rattle.std.specs.List.{range_with_len};
 use crate::Memory;
 use std::alloc::Global;
 
-/// A label of its own for each line.
+/// A separate label for each line.
 pub fn own_labels(alloc: Global, size: u32) -> Result<Vec<u32>, Memory>
     ensures { IfOk result (λ labels. labels.items ≡ range_with_len 0 size) }
 {
@@ -16,7 +16,7 @@ pub fn own_labels(alloc: Global, size: u32) -> Result<Vec<u32>, Memory>
     Ok(labels)
 }
 
-/// Gives the label `kept` to all lines of the label `gone`.
+/// Gives the label `kept` to all lines with the label `gone`.
 pub fn join_labels(labels: &mut Vec<u32>, gone: u32, kept: u32)
     ensures { labels.new.items
         ≡ map (λ label. cond (nat_eq label gone) kept label) labels.old.items }

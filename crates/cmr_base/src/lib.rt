@@ -1,5 +1,5 @@
-//! Matrices with entries -1, 0 and 1, sets of their lines, and the small types that every crate above
-//! shares. Line numbers are counted from 0.
+//! Matrices with entries -1, 0 and 1, sets of their lines, and the small types that all crates above share. Line
+//! numbers are counted from 0.
 #![tactic(auto)]
 
 pub mod columns;

@@ -7,9 +7,9 @@ pub enum Line {
     Column(u32),
 }
 
-/// Why a line may be removed in a series-parallel reduction (those of the CMR library): it has no
-/// nonzero, it has one nonzero, where it crosses the named line, it equals the named line of its kind, or
-/// it is the negative of it.
+/// Why a series-parallel reduction may remove a line, as in the CMR library: the line has no nonzero; it has one
+/// nonzero, at which it crosses the named line; it equals the named line of its kind; or it is the negative of that
+/// line.
 #[derive(Clone, Copy, Debug, PartialEq, Eq)]
 pub enum Reason {
     Zero,
@@ -18,14 +18,14 @@ pub enum Reason {
     Negative(Line),
 }
 
-/// One removal: the line that goes, and why.
+/// One removal: the removed line, and the reason.
 #[derive(Clone, Copy, Debug, PartialEq, Eq)]
 pub struct Step {
     pub line: Line,
     pub reason: Reason,
 }
 
-/// Some lines, in an order.
+/// Lines, in an order.
 pub type LineList = ItemList<Line>;
 
 /// Removals, one after another.

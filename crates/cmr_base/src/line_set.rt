@@ -4,7 +4,7 @@ ghost use Rattle.cmr_base.specs.LineSets.{first_lines, without};
 use crate::{Indices, MAX_COLUMNS, MAX_ROWS, Memory};
 use std::alloc::Global;
 
-/// A set of lines: some rows and some columns of a matrix. A submatrix is named by the lines that it has.
+/// A set of lines: rows and columns of a matrix. It names the submatrix on these lines.
 #[derive(Debug, Drop)]
 pub struct LineSet {
     pub rows: Indices,
@@ -12,7 +12,7 @@ pub struct LineSet {
 }
 
 impl LineSet {
-    /// All lines of a matrix of these sizes.
+    /// All lines of a matrix with `rows` rows and `columns` columns.
     pub fn all(alloc: Global, rows: u32, columns: u32) -> Result<LineSet, Memory>
         ensures rows { IfOk result (λ lines. lines.rows ≡ first_lines rows) }
         ensures columns { IfOk result (λ lines. lines.columns ≡ first_lines columns) }
@@ -23,7 +23,7 @@ impl LineSet {
         })
     }
 
-    /// The set without a row. Nothing else goes where the row is not in the set.
+    /// The set without a row. It is a copy of the set if the row is not in it.
     pub fn without_row(&self, alloc: Global, row: u32) -> Result<LineSet, Memory>
         ensures rows { IfOk result (λ lines. lines.rows ≡ without self.now.rows row) }
         ensures columns { IfOk result (λ lines. lines.columns ≡ self.now.columns) }
@@ -34,7 +34,7 @@ impl LineSet {
         })
     }
 
-    /// The set without a column. Nothing else goes where the column is not in the set.
+    /// The set without a column. It is a copy of the set if the column is not in it.
     pub fn without_column(&self, alloc: Global, column: u32) -> Result<LineSet, Memory>
         ensures rows { IfOk result (λ lines. lines.rows ≡ self.now.rows) }
         ensures columns { IfOk result (λ lines. lines.columns ≡ without self.now.columns column) }
@@ -45,7 +45,7 @@ impl LineSet {
         })
     }
 
-    /// How many lines there are, rows and columns.
+    /// The number of lines, rows and columns together.
     pub fn size(&self) -> u32
         requires rows { length self.now.rows ≤ MAX_ROWS }
         requires columns { length self.now.columns ≤ MAX_COLUMNS }

@@ -16,14 +16,14 @@ use crate::{Indices, LineSet, MAX_COLUMNS, MAX_ROWS, Memory};
 use std::alloc::Global;
 use std::marker::Model;
 
-// A part is made by words where its columns have at most so many runs for each word of a row.
+// The largest number of runs for each word of a row with which `part_on` copies rows bitwise.
 const RUNS_FOR_A_WORD: usize = 4;
 
-/// A matrix with entries -1, 0 and 1. Contracts see it as the list of its rows and its width, so that a
-/// matrix without rows has a width too. It may be shared between threads.
+/// A matrix with entries -1, 0 and 1. Contracts see the list of its rows and its width, so that a matrix without rows
+/// also has a width. Threads may share it.
 ///
-/// It has two planes of words, so many for each row: where the row is not 0, and where it is -1. Column c is the bit
-/// 2^(c mod 64) of the row's word c / 64.
+/// It has two planes with the same number of words for each row: the bits of the nonzeros, and the bits of the entries
+/// -1. Column c is the bit 2^(c mod 64) of the row's word c / 64.
 #[derive(Debug, Drop)]
 pub struct Matrix {
     rows: u32,
@@ -63,7 +63,7 @@ impl Matrix {
         })
     }
 
-    /// The matrix of these cells, which stand row by row.
+    /// The matrix of these cells, which are listed row by row.
     pub fn from_cells(
         alloc: Global,
         rows: u32,
@@ -106,7 +106,7 @@ impl Matrix {
         })
     }
 
-    /// How many rows there are.
+    /// The number of rows.
     pub fn rows(&self) -> u32
         ensures rows { result ≡ height self.now }
         ensures shape { IsMatrix self.now }
@@ -114,7 +114,7 @@ impl Matrix {
         self.rows
     }
 
-    /// How many columns there are.
+    /// The number of columns.
     pub fn columns(&self) -> u32
         ensures columns { result ≡ self.now.width }
         ensures shape { IsMatrix self.now }
@@ -135,8 +135,8 @@ impl Matrix {
         value_of(is_nonzero, is_minus)
     }
 
-    /// Where a row is not 0, in the 64 columns of a chunk: column c is the bit 2^(c mod 64) of chunk c / 64. Places past
-    /// the last column have no bit.
+    /// The bits of the nonzeros of a row in the 64 columns of a chunk: column c is the bit 2^(c mod 64) of chunk c /
+    /// 64. The bits past the last column are 0.
     pub fn support_word(&self, row: u32, chunk: u32) -> u64
         requires row { row < height self.now }
         requires chunk { 64 * chunk < self.now.width }
@@ -145,7 +145,7 @@ impl Matrix {
         self.support[place_of(self.columns, row, 64 * chunk)]
     }
 
-    /// Where a row is -1, in the same columns. Each of its bits is one of the support too.
+    /// The bits of the entries -1 of a row in the same columns. They are a subset of the support's bits.
     pub fn minus_word(&self, row: u32, chunk: u32) -> u64
         requires row { row < height self.now }
         requires chunk { 64 * chunk < self.now.width }
@@ -171,7 +171,7 @@ impl Matrix {
         row_words(&self.minus, row, words_for(self.columns))
     }
 
-    /// Changes that entry and no other.
+    /// Changes one entry.
     pub fn set(&mut self, row: u32, column: u32, value: i8)
         requires row { row < height self.old }
         requires column { column < self.old.width }
@@ -185,14 +185,14 @@ impl Matrix {
         self.minus[place] = with_bit(self.minus[place], column % 64, is_minus);
     }
 
-    /// How many entries are not 0.
+    /// The number of nonzeros.
     pub fn nonzeros(&self) -> u32
         ensures { result ≡ nonzeros_of self.now.rows }
     {
         count_bits(&self.support)
     }
 
-    /// The submatrix on some lines, with its rows and columns in the matrix's order.
+    /// The submatrix on these lines. Its rows and columns keep the matrix's order.
     pub fn part(&self, alloc: Global, lines: &LineSet) -> Result<Matrix, Memory>
         requires rows { AllBelow (height self.now) lines.now.rows }
         requires columns { AllBelow self.now.width lines.now.columns }
@@ -201,7 +201,7 @@ impl Matrix {
         self.part_on(alloc, &lines.rows, &lines.columns)
     }
 
-    /// The submatrix on some rows and columns, in the matrix's order.
+    /// The submatrix on these rows and columns, in the matrix's order.
     pub(crate) fn part_on(
         &self,
         alloc: Global,
@@ -223,7 +223,7 @@ impl Matrix {
         self.part_by_nonzeros(alloc, rows, columns)
     }
 
-    // The same by words, where the columns fall into few runs.
+    // The same submatrix, bitwise. This is fast if the columns form few runs.
     fn part_by_runs(
         &self,
         alloc: Global,
@@ -246,7 +246,7 @@ impl Matrix {
         })
     }
 
-    // The same nonzero by nonzero.
+    // The same submatrix, nonzero by nonzero.
     fn part_by_nonzeros(
         &self,
         alloc: Global,
@@ -301,7 +301,7 @@ impl Matrix {
     }
 }
 
-// For each of so many columns its place among the chosen ones, and a number that is no place for the others.
+// For each of `columns` columns its index in `chosen`, and a number that is no index if the column is not chosen.
 fn places_of(alloc: Global, chosen: &[u32], columns: u32) -> Result<Vec<u32>, Memory>
     requires increasing { IsStrictlyIncreasing chosen.now }
     requires below { AllBelow columns chosen.now }
@@ -330,7 +330,7 @@ fn value_of(is_nonzero: bool, is_minus: bool) -> i8
 
 fn is_shared<T: Send + Sync>(_value: &T) {}
 
-// That a matrix may be read by several threads is proved here.
+// This function proves that threads may share a matrix.
 fn matrix_is_shared(matrix: &Matrix) {
     is_shared(matrix);
 }

@@ -34,7 +34,7 @@ impl Matrix {
         sum
     }
 
-    /// The sum of a row over some columns.
+    /// The sum of a row over the listed columns.
     pub fn row_sum(&self, row: u32, columns: &[u32]) -> i32
         requires row { row < height self.now }
         requires columns { AllBelow self.now.width columns.now }
@@ -50,7 +50,7 @@ impl Matrix {
         sum
     }
 
-    /// The sum of a column over some rows.
+    /// The sum of a column over the listed rows.
     pub fn column_sum(&self, rows: &[u32], column: u32) -> i32
         requires rows { AllBelow (height self.now) rows.now }
         requires column { column < self.now.width }

@@ -1,6 +1,6 @@
 use std::alloc::{AllocError, AllocFailed};
 
-/// Memory was refused. It is the one answer that may come at any allocation.
+/// An allocation failed. Every function that allocates may return this error.
 #[derive(Clone, Copy, Debug, PartialEq, Eq, Drop)]
 pub struct Memory;
 

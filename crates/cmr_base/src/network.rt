@@ -10,8 +10,8 @@ pub struct Pair {
 /// Arcs or walks, in an order.
 pub type PairList = ItemList<Pair>;
 
-/// A directed tree and walks in it. The arcs stand for the rows of a matrix, in their order, and each column has a
-/// walk. A matrix of m rows has the nodes 0 to m.
+/// A directed tree and walks in it. The arcs represent the rows of a matrix, in their order, and each column has a
+/// walk. If the matrix has m rows, the nodes are 0 to m.
 #[derive(Debug, Drop)]
 pub struct Network {
     pub arcs: PairList,

@@ -9,8 +9,8 @@ use crate::{MAX_COLUMNS, MAX_ROWS, Matrix, Memory, Network, Pair};
 use std::alloc::Global;
 
 impl Network {
-    /// The matrix that the tree and its walks give: an entry is 1 where the path of its column uses the arc of its row
-    /// forwards, -1 where it uses it backwards, and 0 where it does not use it.
+    /// The matrix of the tree and its walks: an entry is 1 if the path of its column uses the arc of its row forwards,
+    /// -1 if the path uses the arc backwards, and 0 if the path does not use it.
     pub fn matrix(&self, alloc: Global, rows: u32, columns: u32) -> Result<Matrix, Memory>
         requires rows { rows ≤ MAX_ROWS }
         requires columns { columns ≤ MAX_COLUMNS }

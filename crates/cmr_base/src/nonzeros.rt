@@ -15,7 +15,7 @@ impl Matrix {
         has_bit(self.support_word(row, column / 64), column % 64)
     }
 
-    /// The first column from one on in which the row is not 0. It reads a word of 64 columns at a time.
+    /// The first column that is at least `from` and in which the row is not 0. It reads 64 columns at a time.
     pub fn next_nonzero(&self, row: u32, from: u32) -> Option<u32>
         requires row { row < height self.now }
         requires from { from ≤ MAX_COLUMNS }

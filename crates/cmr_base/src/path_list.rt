@@ -5,9 +5,9 @@ use smallvec::SmallVec;
 use std::alloc::Global;
 use std::marker::Model;
 
-/// The nodes along a path in a tree, by their numbers: the child numbers, counted from 0, that lead from the root of a
-/// decomposition tree to one of its nodes, or the nodes between two of one tree. Most paths are short: up to 8 numbers stand
-/// in the list itself, more in an allocation. Contracts see the list of the numbers.
+/// The numbers of a path in a tree: the child numbers, counted from 0, from the root of a decomposition tree to one of
+/// its nodes, or the nodes on a path in a tree. The list contains up to 8 numbers without an allocation, because most
+/// paths are short. Contracts see the list of the numbers.
 #[derive(Debug, Drop)]
 pub struct PathList {
     numbers: SmallVec<u32, 8>,
@@ -22,7 +22,7 @@ impl Model for PathList {
 }
 
 impl PathList {
-    /// The empty path, which is that of the root.
+    /// The empty path. It is the path of the root.
     pub fn new(alloc: Global) -> Self
         ensures { result ≡ [] }
     {
@@ -40,7 +40,7 @@ impl PathList {
         Ok(())
     }
 
-    /// The path of a child, which has this number at the node of this path.
+    /// The path of child `number` of this path's node.
     pub fn child(&self, number: u32) -> Result<PathList, Memory>
         ensures { IfOk result (λ longer. longer ≡ self.now ++ number ∷ []) }
     {
@@ -51,14 +51,14 @@ impl PathList {
         Ok(PathList { numbers })
     }
 
-    /// How many numbers there are.
+    /// The number of items.
     pub fn len(&self) -> usize
         ensures { result ≡ length self.now }
     {
         self.numbers.len()
     }
 
-    /// The number at a place, counted from 0.
+    /// The number at an index, counted from 0.
     pub fn get(&self, index: usize) -> &u32
         requires { index < length self.now }
         ensures { slice_get self.now index ≡ Some result.now }

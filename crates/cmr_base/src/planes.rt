@@ -20,14 +20,14 @@ pub enum Plane {
     Minus,
 }
 
-/// How many words hold the bits of so many columns.
+/// The number of words that hold the bits of `columns` columns.
 pub fn words_for(columns: u32) -> usize
     ensures { result ≡ words_for columns }
 {
     (columns as usize + 63) / 64
 }
 
-/// The place of the word with the bit for a column, where each row has the words for so many columns.
+/// The index of the word with the bit for a column of a row. Each row has the words for `columns` columns.
 pub fn place_of(columns: u32, row: u32, column: u32) -> usize
     requires row { row ≤ MAX_ROWS }
     requires columns { columns ≤ MAX_COLUMNS }
@@ -36,7 +36,7 @@ pub fn place_of(columns: u32, row: u32, column: u32) -> usize
     row as usize * words_for(columns) + column as usize / 64
 }
 
-/// The words of a row in a plane in which each row has so many.
+/// The words of a row of a plane in which each row has `words` words.
 pub fn row_words(plane: &[u64], row: u32, words: usize) -> &[u64]
     requires row { row * words + words ≤ length plane.now }
     requires words { words ≤ 16 }
@@ -46,14 +46,14 @@ pub fn row_words(plane: &[u64], row: u32, words: usize) -> &[u64]
     &plane[from..from + words]
 }
 
-/// Where cells are not 0, and where they are -1.
+/// The plane of the nonzeros of cells, and the plane of their entries -1.
 #[derive(Drop)]
 pub struct Planes {
     pub support: Vec<u64>,
     pub minus: Vec<u64>,
 }
 
-/// The planes of cells that stand row by row.
+/// The planes of cells that are listed row by row.
 pub fn planes_of(alloc: Global, cells: &[i8], rows: u32, columns: u32) -> Result<Planes, Memory>
     requires rows { rows ≤ MAX_ROWS }
     requires columns { columns ≤ MAX_COLUMNS }
@@ -127,7 +127,7 @@ pub fn passes(entry: i8, plane: Plane) -> bool
     }
 }
 
-/// Whether the word has a bit at a place.
+/// Whether the word has a bit at a position.
 pub fn has_bit(word: u64, place: u32) -> bool
     requires { place < 64 }
     ensures { result ≡ has_bit word place }
@@ -135,7 +135,7 @@ pub fn has_bit(word: u64, place: u32) -> bool
     (word >> place) & 1 == 1
 }
 
-/// The word with a bit at a place, or without.
+/// The word with the bit at a position set to `has`.
 pub fn with_bit(word: u64, place: u32, has: bool) -> u64
     requires { place < 64 }
     ensures here { has_bit result place ≡ has }
@@ -148,7 +148,7 @@ pub fn with_bit(word: u64, place: u32, has: bool) -> u64
     }
 }
 
-/// How many bits the words have.
+/// The number of bits in the words.
 pub fn count_bits(words: &[u64]) -> u32
     requires { length words.now ≤ 16 * MAX_ROWS }
     ensures { result ≡ sum_by count_ones words.now }
@@ -160,11 +160,11 @@ pub fn count_bits(words: &[u64]) -> u32
     count
 }
 
-// How many words are taken at once.
+// The number of words that are taken at a time.
 const LANES: usize = 8;
 
-/// Exchanges each word for its exclusive or with the word in its place. It takes eight words at once while there are as
-/// many, and then one by one.
+/// Replaces each word of `into` by its exclusive or with the word of `from` at the same index. It takes eight words at
+/// a time, and then the remaining words one by one.
 pub fn xor_words(into: &mut [u64], from: &[u64])
     requires { length into.old ≡ length from.now }
     ensures { into.new ≡ zip2 bit_xor into.old from.now }
@@ -175,7 +175,7 @@ pub fn xor_words(into: &mut [u64], from: &[u64])
     }
 }
 
-// Does so with the words before the last multiple of eight, and answers where they end.
+// Does this for the words before the last multiple of eight, and returns that multiple.
 fn xor_lanes(into: &mut [u64], from: &[u64]) -> usize
     requires { length into.old ≡ length from.now }
     ensures { IsXorBefore result into.old from.now into.new }
@@ -187,7 +187,7 @@ fn xor_lanes(into: &mut [u64], from: &[u64]) -> usize
     LANES * count
 }
 
-// Does so with eight words from a place on.
+// Does this for the eight words from an index on.
 fn xor_at(into: &mut [u64], from: &[u64], place: usize)
     requires room { place + LANES ≤ length into.old }
     requires other { place + LANES ≤ length from.now }

@@ -8,23 +8,23 @@ use crate::rooted_tree::{RootedTree, are_in_range, rooted};
 use crate::{Matrix, Memory, Network, Pair};
 use std::alloc::Global;
 
-/// Whether the arcs are a tree whose arcs stand for the rows, and the supports of the columns are the paths between the
-/// nodes of the walks, in their order. The directions of the arcs and the signs of the entries do not matter.
+/// Whether the arcs are a tree whose arcs represent the rows, and the supports of the columns are the paths between the
+/// ends of the walks, in their order. The directions of the arcs and the signs of the entries do not matter.
 pub fn reproduces_support(alloc: Global, net: &Network, matrix: &Matrix) -> Result<bool, Memory>
     ensures { IfOk result (λ yes. IsTrue yes ↔ ReproducesSupport net.now matrix.now) }
 {
     is_reproduced(alloc, net, matrix, Comparison::Support)
 }
 
-/// The same with directions: an entry is 1 where the path of its column uses the arc of its row forwards, and -1 where it
-/// uses it backwards.
+/// The same with directions: an entry is 1 if the path of its column uses the arc of its row forwards, and -1 if the
+/// path uses the arc backwards.
 pub fn reproduces(alloc: Global, net: &Network, matrix: &Matrix) -> Result<bool, Memory>
     ensures { IfOk result (λ yes. IsTrue yes ↔ Reproduces net.now matrix.now) }
 {
     is_reproduced(alloc, net, matrix, Comparison::Signs)
 }
 
-/// What of an entry is compared with the direction in which a path uses its row's arc.
+/// The feature of an entry that is compared with the direction in which a path uses its row's arc.
 #[derive(Clone, Copy, Debug)]
 pub enum Comparison {
     Support,

@@ -9,7 +9,7 @@ use crate::incidences::{End, Incidences};
 use crate::{Memory, Network, Pair};
 use std::alloc::Global;
 
-/// A node of a rooted tree, and its arc to the node at a place above it.
+/// A node of a rooted tree, and its arc to the node at the earlier place `above`.
 #[derive(Clone, Copy, Debug)]
 pub struct Link {
     pub node: u32,
@@ -17,22 +17,22 @@ pub struct Link {
     pub arc: u32,
 }
 
-/// The nodes of a tree in the order in which a breadth-first walk from node 0 comes to them, and the place of each.
+/// The nodes of a tree in the order of a breadth-first search from node 0, and the place of each node in this order.
 #[derive(Debug, Drop)]
 pub struct RootedTree {
     pub links: Vec<Link>,
     pub places: Vec<u32>,
 }
 
-/// Whether the arcs are a tree on the nodes 0 to `rows`: as many as rows, with ends among these nodes, and all nodes
-/// linked. The walks are not looked at.
+/// Whether the arcs are a tree on the nodes 0 to `rows`: there are `rows` arcs, their ends are among these nodes, and
+/// all nodes are linked. The walks are ignored.
 pub fn is_tree(alloc: Global, net: &Network, rows: u32) -> Result<bool, Memory>
     ensures { IfOk result (λ yes. IsTrue yes ↔ IsTree net.now.arcs rows) }
 {
     Ok(rooted(alloc, net.arcs.as_slice(), rows)?.is_some())
 }
 
-/// The tree of some arcs on the nodes 0 to `rows`, or `None` where they are no tree.
+/// The tree of these arcs on the nodes 0 to `rows`, or `None` if the arcs are no tree.
 pub fn rooted(alloc: Global, arcs: &[Pair], rows: u32) -> Result<Option<RootedTree>, Memory>
     ensures { IfOk result (λ found. MatchOption found
         (¬ (IsTree arcs.now rows))
@@ -65,7 +65,7 @@ pub fn are_in_range(pairs: &[Pair], rows: u32) -> bool
 }
 
 impl RootedTree {
-    // The root alone, of so many nodes.
+    // The root only, of a tree with `nodes` nodes.
     fn new(alloc: Global, nodes: usize) -> Result<RootedTree, Memory>
         ensures links { IfOk result (λ tree. tree.links.items
             ≡ record { node = 0; above = 0; arc = 0 } ∷ []) }
@@ -84,7 +84,7 @@ impl RootedTree {
         })
     }
 
-    // Takes in the nodes to which arcs lead that have an end at the node of a place.
+    // Adds the nodes that share an arc with the node at a place, if this node is the end `end` of the arc.
     fn reach_neighbours(
         &mut self,
         arcs: &[Pair],
@@ -112,7 +112,7 @@ impl RootedTree {
         Ok(())
     }
 
-    // Takes in the node at an end of an arc, where it has no place yet. The other end is at the node of the place above.
+    // Adds the node at an end of an arc, if it has no place yet. The other end is the node at the place `above`.
     fn reach(&mut self, arcs: &[Pair], arc: u32, end: End, above: u32) -> Result<(), Memory>
         requires few { length arcs.now < 2 ^ 32 }
         requires range { AreEndsInRange arcs.now (length arcs.now) }
@@ -155,8 +155,8 @@ impl RootedTree {
         Ok(())
     }
 
-    /// Writes for each arc of the path between the nodes of a walk how it is used: 1 forwards, -1 backwards. The others
-    /// stay 0.
+    /// Writes for each arc of the path between the ends of a walk how the path uses it: 1 forwards, -1 backwards. The
+    /// other directions stay 0.
     pub fn write_path(&self, arcs: &[Pair], walk: Pair, directions: &mut [i8])
         requires tree { IsSpanning arcs.now self.now.links.items self.now.places.items }
         requires tail { walk.tail ≤ length arcs.now }

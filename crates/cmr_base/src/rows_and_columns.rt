@@ -6,8 +6,8 @@ use crate::{LineSet, Matrix, Memory};
 use std::alloc::Global;
 use std::marker::Model;
 
-/// A matrix beside its transposed matrix, so that its columns can be read by words as its rows are. Contracts see the
-/// matrix. It may be shared between threads.
+/// A matrix with its transposed matrix, so that columns can be read a word at a time, as rows can. Contracts see the
+/// matrix. Threads may share it.
 #[derive(Drop)]
 pub struct RowsAndColumns<'a> {
     rows: &'a Matrix,
@@ -47,7 +47,7 @@ impl<'a> RowsAndColumns<'a> {
         }
     }
 
-    /// The submatrix on some lines, transposed. It is taken from the columns, so that nothing is transposed.
+    /// The transposed submatrix on these lines. It is a submatrix of the columns, so that no matrix is transposed.
     pub fn columns_of(&self, alloc: Global, lines: &LineSet) -> Result<Matrix, Memory>
         requires rows { AllBelow (height self.now) lines.now.rows }
         requires columns { AllBelow self.now.width lines.now.columns }
@@ -57,7 +57,7 @@ impl<'a> RowsAndColumns<'a> {
         self.columns.part_on(alloc, &lines.columns, &lines.rows)
     }
 
-    /// How many rows there are.
+    /// The number of rows.
     pub fn rows(&self) -> u32
         ensures rows { result ≡ height self.now }
         ensures shape { IsMatrix self.now }
@@ -65,7 +65,7 @@ impl<'a> RowsAndColumns<'a> {
         self.rows.rows()
     }
 
-    /// How many columns there are.
+    /// The number of columns.
     pub fn columns(&self) -> u32
         ensures columns { result ≡ self.now.width }
         ensures shape { IsMatrix self.now }
@@ -114,7 +114,7 @@ impl<'a> RowsAndColumns<'a> {
 
 fn is_shared<T: Send + Sync>(_value: &T) {}
 
-// That it may be read by several threads is proved here.
+// This function proves that threads may share both.
 fn both_are_shared(both: &RowsAndColumns<'_>) {
     is_shared(both);
 }

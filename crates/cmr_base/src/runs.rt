@@ -1,4 +1,4 @@
-//! Parts of rows by words, where the chosen columns fall into runs.
+//! Bitwise copies of parts of rows, for chosen columns that form runs.
 
 ghost use Rattle.std.specs.Prelude.{◌≡◌, ◌<◌, ◌≤◌, ◌+◌, ◌*◌, ◌/◌, ◌%◌, ℕ, false, length, slice_index, IfOk};
 ghost use Rattle.cmr_base.specs.ColumnSets.{has_column};
@@ -10,18 +10,18 @@ use crate::planes::{row_words, words_for};
 use crate::{MAX_COLUMNS, MAX_ROWS, Memory};
 use std::alloc::Global;
 
-/// Chosen columns that follow one another, and whose bits stand in one word of a part.
+/// Consecutive columns among the chosen ones whose bits are in one word of a part.
 #[derive(Clone, Copy)]
 pub struct Run {
     /// Its first column.
     pub column: u32,
-    /// The place of that column among the chosen ones.
+    /// The index of that column in the list of chosen columns.
     pub place: u32,
-    /// How many columns it has.
+    /// The number of its columns.
     pub size: u32,
 }
 
-/// The runs into which the chosen columns fall.
+/// The runs of the chosen columns.
 pub fn runs_of(alloc: Global, columns: &[u32]) -> Result<Vec<Run>, Memory>
     requires { length columns.now ≤ MAX_COLUMNS }
     ensures { IfOk result (λ runs. AreRuns columns.now runs.items (length columns.now)) }
@@ -40,7 +40,7 @@ pub fn runs_of(alloc: Global, columns: &[u32]) -> Result<Vec<Run>, Memory>
     Ok(runs)
 }
 
-// How many of the chosen columns follow one another from a place on, up to the end of the part's word.
+// The number of consecutive columns from an index of the chosen columns on, up to the end of the part's word.
 fn run_size(columns: &[u32], place: usize) -> u32
     requires inside { place < length columns.now }
     requires few { length columns.now ≤ MAX_COLUMNS }
@@ -55,7 +55,7 @@ fn run_size(columns: &[u32], place: usize) -> u32
     size as u32
 }
 
-/// The words of chosen rows of a plane, with the bits of the chosen columns alone.
+/// The words of the chosen rows of a plane, with the bits of the chosen columns only.
 pub fn chosen_plane(
     alloc: Global,
     plane: &[u64],
@@ -84,7 +84,7 @@ pub fn chosen_plane(
     Ok(made)
 }
 
-// Adds the bits of the chosen columns to empty words from a place on.
+// Adds the bits of the chosen columns to empty words from word `at` on.
 fn add_row(words: &[u64], _columns: &[u32], runs: &[Run], made: &mut Vec<u64>, at: usize)
     requires few { length words.now ≤ 16 }
     requires columns { AllBelow (64 * length words.now) _columns.now }
@@ -115,7 +115,7 @@ fn add_run(words: &[u64], run: Run, made: &mut Vec<u64>, at: usize)
     made[at + run.place as usize / 64] |= bits << (run.place % 64);
 }
 
-// The bits of words from a column on, at least so many.
+// A word whose first `count` bits are the bits of the words from `column` on.
 fn bits_from(words: &[u64], column: u32, count: u32) -> u64
     requires few { length words.now ≤ 16 }
     requires some { (1 ≤ count) × (count ≤ 64) }
@@ -131,7 +131,7 @@ fn bits_from(words: &[u64], column: u32, count: u32) -> u64
     low | (words[chunk + 1] << (64 - shift))
 }
 
-/// The first so many bits of a word.
+/// The first `count` bits of a word.
 pub fn first_bits(word: u64, count: u32) -> u64
     requires { (1 ≤ count) × (count ≤ 64) }
     ensures inside { (k : ℕ) → k < count → has_bit result k ≡ has_bit word k }

@@ -3,8 +3,8 @@ ghost use Rattle.cmr_base.specs.Separations.{connector_lines, first_is_flat, sec
 
 use crate::{ItemList, Line, LineSet};
 
-/// A two-separation: the lines of side one, with a row of side two and a column of side one that cross in a
-/// nonzero. The row and the column make all entries between the sides.
+/// A two-separation: the lines of side one, with a row of side two and a column of side one that cross in a nonzero.
+/// The entries of this row and this column determine all entries between the sides.
 #[derive(Debug, Drop)]
 pub struct Two {
     pub side: LineSet,
@@ -12,8 +12,8 @@ pub struct Two {
     pub column: u32,
 }
 
-/// The lines by which one side of a three-separation is tied to the other: a row and a column that cross in a
-/// nonzero, and one more line. A flat connector has one more column, a tall one has one more row.
+/// The lines that connect one side of a three-separation with the other: a row and a column that cross in a nonzero,
+/// and one more line. It is a column if the connector is flat, and a row if the connector is tall.
 #[derive(Clone, Copy, Debug, PartialEq, Eq)]
 pub struct Connector {
     pub row: u32,
@@ -22,7 +22,7 @@ pub struct Connector {
 }
 
 impl Connector {
-    /// Its lines: the row, the column and one line more, a column where it is flat.
+    /// The three lines: the row, the column, and one more column if the connector is flat, one more row if not.
     pub fn lines(self, flat: bool) -> [Line; 3]
         ensures { result ≡ connector_lines flat self }
     {
@@ -35,9 +35,12 @@ impl Connector {
     }
 }
 
-/// The form of a three-separation. Of delta both connectors are flat, of Y both are tall, of mixed the first is flat and
-/// the second tall, and each makes both entries between the sides a block of rank one. Of the concentrated form one block is
-/// zero and the other of rank two: the first connector is flat and the second tall.
+/// The form of a three-separation.
+///
+/// * Delta: both connectors are flat, and both blocks between the sides have rank one.
+/// * Y: both connectors are tall, and both blocks have rank one.
+/// * Mixed: the first connector is flat, the second is tall, and both blocks have rank one.
+/// * Concentrated: the first connector is flat, the second is tall, one block is zero, and the other has rank two.
 #[derive(Clone, Copy, Debug, PartialEq, Eq)]
 pub enum Form {
     Delta,
@@ -47,7 +50,7 @@ pub enum Form {
 }
 
 impl Form {
-    /// Whether the first connector is flat. Else it is tall.
+    /// Whether the first connector is flat. Otherwise it is tall.
     pub fn first_is_flat(self) -> bool
         ensures { result ≡ first_is_flat self }
     {
@@ -57,7 +60,7 @@ impl Form {
         }
     }
 
-    /// Whether the second connector is flat. Else it is tall.
+    /// Whether the second connector is flat. Otherwise it is tall.
     pub fn second_is_flat(self) -> bool
         ensures { result ≡ second_is_flat self }
     {

@@ -4,7 +4,8 @@ ghost use Rattle.cmr_base.specs.LineSets.{set_numbered};
 use crate::{Indices, MAX_LINES, Memory};
 use std::alloc::Global;
 
-/// How many sets so many lines have. Line k, counted from 0, adds 2^k to a set's number, so these are the numbers below.
+/// The number of sets of `lines` lines. The numbers of the sets are below it: line k, counted from 0, adds 2^k to a set's
+/// number.
 pub fn set_count(lines: u32) -> u64
     requires { lines ≤ MAX_LINES }
     ensures { result ≡ 2 ^ lines }
@@ -12,8 +13,8 @@ pub fn set_count(lines: u32) -> u64
     2u64.pow(lines)
 }
 
-/// Writes the set with this number of so many lines in place of what is there. It takes memory only where the list has no
-/// room for the set.
+/// Replaces the list by the set of `lines` lines with this number. It allocates only if the list has no room for the
+/// set.
 pub fn write_set(set: &mut Vec<u32>, lines: u32, number: u64) -> Result<(), Memory>
     ensures { OnOk result (set.new.items ≡ set_numbered lines 0 number) }
 {
@@ -29,7 +30,7 @@ pub fn write_set(set: &mut Vec<u32>, lines: u32, number: u64) -> Result<(), Memo
 }
 
 impl Indices {
-    /// The set with this number of so many lines.
+    /// The set of `lines` lines with this number.
     pub fn numbered(alloc: Global, lines: u32, number: u64) -> Result<Indices, Memory>
         ensures { IfOk result (λ set. set ≡ set_numbered lines 0 number) }
     {

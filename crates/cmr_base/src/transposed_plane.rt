@@ -33,7 +33,7 @@ pub fn transposed_plane(
     Ok(made)
 }
 
-// Sets the bits of a row in its empty column, where each row of the new plane has so many words.
+// Sets the bits of a row in its empty column. Each row of the new plane has `to` words.
 fn transpose_row(words: &[u64], row: u32, to: usize, made: &mut [u64])
     requires few { length words.now ≤ 16 }
     requires to { to ≤ 16 }
@@ -48,7 +48,7 @@ fn transpose_row(words: &[u64], row: u32, to: usize, made: &mut [u64])
     }
 }
 
-// Sets the bits of a word, the lowest first, whose first column is given.
+// Sets the bits of a word, the lowest first. The first column of the word is `first`.
 fn transpose_word(word: u64, first: usize, row: u32, to: usize, made: &mut [u64])
     requires first { first ≤ 1024 }
     requires to { to ≤ 16 }

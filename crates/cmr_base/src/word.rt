@@ -5,7 +5,7 @@ use std::alloc::Global;
 use std::convert::AsStr;
 use std::marker::Model;
 
-/// A word of the command line. Contracts see it as the bytes of its text.
+/// An argument of the command line. Contracts see the bytes of its text.
 #[derive(Debug, Drop)]
 pub struct Word {
     text: String,
@@ -21,7 +21,7 @@ impl Model for Word {
 }
 
 impl Word {
-    /// The word of a text.
+    /// The argument with a text.
     pub fn new(alloc: Global, text: &str) -> Result<Word, Memory>
         ensures { IfOk result (λ word. word ≡ text.now) }
     {
@@ -30,7 +30,7 @@ impl Word {
         })
     }
 
-    /// Its text.
+    /// The text of the argument.
     pub fn text(&self) -> &str
         ensures { result.now ≡ self.now }
     {

@@ -11,14 +11,14 @@ passed_later n k m h e = grind (arith, nat_tests)
 is_other : (n k : ℕ) → (leb n k && not (eqb n last_count)) ≡ true → eqb n (next_number k) ≡ false
 is_other n k e = grind (arith, nat_tests)
 
--- a device that is quiet is quiet after further calls
+-- a quiet device is quiet after further calls
 pub quiet_later : (listed : List ℕ) (k m : ℕ) → k ≤ m → list_all (λ n. leb n k && not (eqb n last_count)) listed ≡ true → list_all (λ n. leb n m && not (eqb n last_count)) listed ≡ true
 quiet_later [] k m h e = refl
 quiet_later (n ∷ listed) k m h e =
     let p = and_is (leb n k && not (eqb n last_count)) (list_all (λ n. leb n k && not (eqb n last_count)) listed) e in
     rw (passed_later n k m h p.0) (quiet_later listed k m h p.1)
 
--- the next call of a device that is quiet is not listed
+-- the next call of a quiet device is not listed
 pub quiet_next : (listed : List ℕ) (k : ℕ) → list_all (λ n. leb n k && not (eqb n last_count)) listed ≡ true → list_any (λ n. eqb n (next_number k)) listed ≡ false
 quiet_next [] k e = refl
 quiet_next (n ∷ listed) k e =

@@ -19,7 +19,7 @@ is_other : (bytes name other : List ℕ) → bytes_eq bytes name ≡ true → ot
 is_other bytes name other h ne =
     false_from_ne_true (bytes_eq bytes other) (λ same. ne (sym ((bytes_eq-Decides bytes other).0 same) ∙ (bytes_eq-Decides bytes name).0 h))
 
--- a file with another's name has the names that the other has
+-- files with one name agree on each test of a name
 is_named-same : (name : List ℕ) (file old : File) (b : Bool) → file_name file ≡ file_name old → is_named name old ≡ b → is_named name file ≡ b
 is_named-same name file old b same h = ap (λ (bytes : List ℕ). bytes_eq bytes name) same ∙ h
 
@@ -36,7 +36,7 @@ IsFirst-none_before name (x ∷ files) zero file other lt named = named
 IsFirst-none_before name (x ∷ files) (suc i) file other lt named =
     (other 0 x (omega arith), IsFirst-none_before name files i file (λ k y below. other (suc k) y (omega arith)) (omega arith) named)
 
--- a file in the place of the first with a name
+-- a file that replaces the first file with its name
 pub IsFirst-set : (name : List ℕ) (files : List File) (i : ℕ) (file old : File) → IsFirstFile name files i → old ≡ get_or files i old → file_name file ≡ file_name old → IsFirstFile name (set files i file) i
 IsFirst-set name [] i file old h is same = absurd h
 IsFirst-set name (x ∷ files) zero file old h is same = is_named-same name file x true (same ∙ ap file_name is) h
@@ -48,18 +48,18 @@ of_first-none view name (file ∷ files) h =
     let p = not_either (is_named name file) (has_name name files) h in
     rw p.0 (of_first-none view name files p.1)
 
--- what the first file with a name shows
+-- the view of the first file with a name
 pub of_first-first : {A : Type 0} → (view : File → Option A) (name : List ℕ) (files : List File) (i : ℕ) (file : File) → IsFirstFile name files i → file ≡ get_or files i file → of_first view files name ≡ view file
 of_first-first view name [] i file h is = absurd h
 of_first-first view name (x ∷ files) zero file h is = rw (h, is) refl
 of_first-first view name (x ∷ files) (suc i) file h is = rw h.0 (of_first-first view name files i file h.1 is)
 
--- the first file with a name, in whose place another is put
+-- the view of a file that replaces the first file with a name
 pub of_first-set : {A : Type 0} → (view : File → Option A) (name : List ℕ) (files : List File) (i : ℕ) (file old : File) → i < length files → IsFirstFile name files i → old ≡ get_or files i old → file_name file ≡ file_name old → of_first view (set files i file) name ≡ view file
 of_first-set view name files i file old lt h is same =
     of_first-first view name (set files i file) i file (IsFirst-set name files i file old h is same) (sym (get_or-set_same files i file file lt))
 
--- other names than that of a file that is replaced
+-- the other names, after a file is replaced
 pub of_first-set_other : {A : Type 0} → (view : File → Option A) (name other : List ℕ) (files : List File) (i : ℕ) (file old : File) → other ≢ name → IsFirstFile name files i → old ≡ get_or files i old → file_name file ≡ file_name old → of_first view (set files i file) other ≡ of_first view files other
 of_first-set_other view name other [] i file old ne h is same = absurd h
 of_first-set_other view name other (x ∷ files) zero file old ne h is same =
@@ -67,7 +67,7 @@ of_first-set_other view name other (x ∷ files) zero file old ne h is same =
     rw (before, is_named-same other file x false (same ∙ ap file_name is) before) refl
 of_first-set_other view name other (x ∷ files) (suc i) file old ne h is same = rw (of_first-set_other view name other files i file old ne h.1 is same) refl
 
--- a file that is replaced by one that shows the same
+-- a file that is replaced by a file with the same view
 pub of_first-set_same : {A : Type 0} → (view : File → Option A) (name : List ℕ) (files : List File) (i : ℕ) (file old : File) → i < length files → old ≡ get_or files i old → file_name file ≡ file_name old → view file ≡ view old → of_first view (set files i file) name ≡ of_first view files name
 of_first-set_same view name [] i file old lt is same shown = absurd (omega arith)
 of_first-set_same view name (x ∷ files) zero file old lt is same shown =
@@ -90,7 +90,7 @@ if_none : {A : Type 0} → (b : Bool) (x : Option A) → x ≡ None → (if b th
 if_none true x none = none
 if_none false x none = refl
 
--- a file that is added and shows nothing
+-- a file that is added and has no view
 pub of_first-push_none : {A : Type 0} → (view : File → Option A) (name : List ℕ) (files : List File) (file : File) → view file ≡ None → of_first view (files ++ file ∷ []) name ≡ of_first view files name
 of_first-push_none view name [] file none = if_none (is_named name file) (view file) none
 of_first-push_none view name (x ∷ files) file none = rw (of_first-push_none view name files file none) refl
@@ -105,7 +105,7 @@ name_at-first name [] i h = absurd h
 name_at-first name (x ∷ files) zero h = (bytes_eq-Decides (file_name x) name).0 h
 name_at-first name (x ∷ files) (suc i) h = name_at-first name files i h.1
 
--- the file that is written is the first with its name
+-- a file that is written is the first file with its name
 pub IsFirst-writable : (files : List File) (i : ℕ) → is_writable_at files i ≡ true → IsFirstFile (name_at files i) files i
 IsFirst-writable [] i h = absurd (cc)
 IsFirst-writable (x ∷ files) zero h = (bytes_eq-Decides (file_name x) (file_name x)).1 refl
@@ -149,7 +149,7 @@ is_first_of false b c h = absurd (cc)
 is_there-writable : (file : File) → is_writable file ≡ true → file.is_there ≡ true
 is_there-writable file h = is_first_of file.is_there (is_some file.room) (nat_le (length file.bytes.items) (unwrap_or file.room 0)) h
 
--- a file that is written
+-- the content of a file that is written
 pub content_in-writable : (files : List File) (i : ℕ) → is_writable_at files i ≡ true → content_in files (name_at files i) ≡ Some (bytes_at files i)
 content_in-writable files i h =
     let first = IsFirst-writable files i h in
@@ -158,7 +158,7 @@ content_in-writable files i h =
     let there = is_there-writable at.0 (is_writable-read files i at.0 h at.1) in
     of_first-first held_by (name_at files i) files i at.0 first at.1 ∙ rw there (ap Some (sym (bytes_at-read files i at.0 within at.1)))
 
--- a file that is written has got as much as its room
+-- a file that is written and has no room left is as long as its room
 pub room_in-full : (files : List File) (i : ℕ) → is_writable_at files i ≡ true → unwrap_or (room_in files (name_at files i)) 0 - length (bytes_at files i) ≡ 0 → room_in files (name_at files i) ≡ Some (length (bytes_at files i))
 room_in-full files i h full =
     let first = IsFirst-writable files i h in
@@ -169,17 +169,17 @@ room_in-full files i h full =
     let left = rw (room, bytes) at full in
     rw (room, bytes) (room_is_full (at.0).is_there (at.0).room (length (at.0).bytes.items) (is_writable-read files i at.0 h at.1) left)
 
--- what is written, where a write is begun
+-- the content of a name that is written
 pub content_in-got : (files : List File) (begun : Begun) → is_writing begun ≡ true → ((file : ℕ) → file_written begun ≡ Some file → is_writable_at files file ≡ true) → content_in files (target_by files begun) ≡ Some (got_by files begun)
 content_in-got files Nothing writing writable = absurd (cc)
 content_in-got files (Read file at) writing writable = absurd (cc)
 content_in-got files (Write file) writing writable = content_in-writable files file (writable file refl)
 
--- a prefix that was copied, and what is left
+-- a prefix that was copied, and the rest
 pub copied_and_left : (bytes copy : List ℕ) (at n : ℕ) → copy ≡ take n (drop at bytes) → drop at bytes ≡ copy ++ drop (at + n) bytes
 copied_and_left bytes copy at n same = rw (same, ← drop-drop n at bytes) (sym (take-append-drop n (drop at bytes)))
 
--- a writable file in the place of one
+-- a writable file replaces a file
 pub Writes-set : (name : List ℕ) (files : List File) (i : ℕ) (file old : File) (bytes : List ℕ) → i < length files → IsFirstFile name files i → old ≡ get_or files i old → file_name file ≡ file_name old → room_for file ≡ room_for old → held_by file ≡ Some bytes → file.bytes.items ≡ bytes → is_writable file ≡ true → Writes files (set files i file) i bytes
 Writes-set name files i file old bytes lt h is same room held items writable =
     let first : IsFirstFile name (set files i file) i = IsFirst-set name files i file old h is same in

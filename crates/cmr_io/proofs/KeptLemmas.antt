@@ -1,4 +1,4 @@
--- What one call after another keeps.
+-- Consecutive calls keep what each call keeps.
 use Rattle.std.proofs.Common.{◌∙◌, ℕ, Bool, List, Option}
 use Rattle.cmr_io.specs.Kept.{KeepsBegun, KeepsNames, KeepsStanding}
 

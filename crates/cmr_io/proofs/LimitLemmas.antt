@@ -3,7 +3,7 @@ use Rattle.std.proofs.Common.{◌≡◌, ◌<◌, ◌↔◌, ◌∙◌, ℕ, Lis
 use Rattle.std.specs.Option.{ForSome}
 use Rattle.cmr_io.specs.Limit.{given_by_next, up_to}
 
--- only of no byte does a limit leave none
+-- if a limit allows 0 of `count` bytes, `count` is 0
 pub up_to-zero : (limit : Option ℕ) (count : ℕ) → ForSome limit (λ bytes. 0 < bytes) → up_to limit count ≡ 0 → count ≡ 0
 up_to-zero None count positive none = none
 up_to-zero (Some most) count positive none = let some = positive most refl in omega arith
@@ -12,7 +12,7 @@ up_to-none : (limit : Option ℕ) → up_to limit 0 ≡ 0
 up_to-none None = refl
 up_to-none (Some most) = omega arith
 
--- where there is room, nothing is given only of nothing
+-- if there is room, the call gives no byte if and only if none is left
 pub gives_end : (limit : Option ℕ) (left into : List ℕ) → ForSome limit (λ bytes. 0 < bytes) → 0 < length into → (given_by_next limit left into ≡ 0) ↔ (left ≡ [])
 gives_end limit [] into positive some =
     let none : min 0 (length into) ≡ 0 = omega arith in

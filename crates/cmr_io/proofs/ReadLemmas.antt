@@ -1,4 +1,4 @@
--- What a read has given and counted.
+-- The bytes that a read has given and counted.
 use Rattle.std.proofs.Common.{◌≡◌, ◌≤◌, ◌<◌, ◌+◌, ◌++◌, ◌∙◌, ◌&&◌, ◌==◌, ℕ, nat_lt, Bool, true, false, if◌then◌else◌, List, [], ◌∷◌, length, take, length-append, append_assoc, Some, Vec, Result, Ok, Err, IsErrAnd, refl, sym, ap, subst, arith, ne_eqb}
 use Rattle.std.proofs.lemmas.List.{append-nil, length-take-le, take-append-le}
 use Rattle.cmr_io.specs.Calls.{up_to_last, next_number}
@@ -11,14 +11,14 @@ is_err_of : {A : Type 0} (result : Result A ReadError) (error : ReadError) → I
 is_err_of (Ok x) error is = absurd is
 is_err_of (Err e) error is = ap (λ (x : ReadError). Err x) is
 
--- ---- what was given
+-- ---- given bytes
 
--- one piece more
+-- one more piece
 pub told_on : (content bytes left piece rest new : List ℕ) → content ≡ bytes ++ left → left ≡ piece ++ rest → new ≡ bytes ++ piece → content ≡ new ++ rest
 told_on content bytes left piece rest new told given is =
     told ∙ ap (λ (xs : List ℕ). bytes ++ xs) given ∙ sym (append_assoc bytes piece rest) ∙ ap (λ (xs : List ℕ). xs ++ rest) (sym is)
 
--- of a piece and what stands behind it, its prefix is taken
+-- a prefix of a piece is also a prefix of the piece with later bytes
 pub items_on : (bytes into behind new : List ℕ) (count : ℕ) → count ≤ length into → new ≡ bytes ++ take count (into ++ behind) → new ≡ bytes ++ take count into
 items_on bytes into behind new count within is = is ∙ ap (λ (xs : List ℕ). bytes ++ xs) (take-append-le count into behind within)
 
@@ -26,7 +26,7 @@ pub length_on : (many new : ℕ) (into behind : List ℕ) (count : ℕ) → coun
 length_on many new into behind count within is =
     is ∙ ap (λ (n : ℕ). many + n) (ap length (take-append-le count into behind within) ∙ length-take-le count into within)
 
--- memory was refused
+-- an allocation failed
 pub gives-refused : {A : Type 0} (most : ℕ) (content left : List ℕ) (begun : Bool) (bytes : List ℕ) (result : Result (Vec ℕ A) ReadError) → content ≡ bytes ++ left → length bytes ≤ most + 1
     → IsErrAnd result (λ e. e ≡ Memory) → GivesContent {A = A} most (Some content) begun left result
 gives-refused {A} most content left begun bytes result told within is =
@@ -50,26 +50,26 @@ gives-too_long most content left begun bytes told more within = record {
   taken = λ b. (bytes, ap Some told, within);
 }
 
--- ---- what was counted
+-- ---- counted bytes
 
 not_ended : (room none : Bool) (next now : ℕ) → none ≡ false → (if room && none then next else now) ≡ now
 not_ended true none next now e = rw e refl
 not_ended false none next now e = refl
 
--- a piece that is not empty is no end
+-- a piece that is not empty is not the end
 pub ends_on : (reads after : Reads) (into : List ℕ) (count : ℕ) → after ≡ after_piece reads into count → (count ≡ 0 → ⊥) → after.ends ≡ reads.ends
 ends_on reads after into count is some = ap (λ (r : Reads). r.ends) is ∙ not_ended (nat_lt 0 (length into)) (count == 0) (next_number reads.ends) reads.ends (ne_eqb count 0 some)
 
--- a piece more
+-- one more piece
 pub read_on : (before many : ℕ) (reads after : Reads) (into : List ℕ) (count : ℕ) → after ≡ after_piece reads into count → reads.bytes ≤ before + many → after.bytes ≤ before + (many + count)
 read_on before many reads after into count is read = let bytes : after.bytes ≡ up_to_last (reads.bytes + count) = ap (λ (r : Reads). r.bytes) is in omega (arith, bytes, read)
 
--- where it is counted up to the last value of a counter, the same
+-- the same if the count stays at the last value of a counter
 pub read_all_on : (before many : ℕ) (reads after : Reads) (into : List ℕ) (count : ℕ) → after ≡ after_piece reads into count → up_to_last reads.bytes ≡ up_to_last (before + many)
     → up_to_last after.bytes ≡ up_to_last (before + (many + count))
 read_all_on before many reads after into count is all = let bytes : after.bytes ≡ up_to_last (reads.bytes + count) = ap (λ (r : Reads). r.bytes) is in omega (arith, bytes, all)
 
--- ---- the last of the texts
+-- ---- the last text
 
 pub more_of_none : (texts : List (List ℕ)) → with_more texts [] ≡ texts
 more_of_none [] = refl
@@ -87,7 +87,7 @@ more_of_new [] bytes = refl
 more_of_new (text ∷ []) bytes = refl
 more_of_new (text ∷ other ∷ texts) bytes = ap (λ (rest : List (List ℕ)). text ∷ rest) (more_of_new (other ∷ texts) bytes)
 
--- a piece more of the last text
+-- one more piece of the last text
 pub texts_on : (before : List (List ℕ)) (bytes new : List ℕ) (reads after : Reads) (into : List ℕ) (count : ℕ) → after ≡ after_piece reads into count → reads.texts ≡ with_more before bytes
     → new ≡ bytes ++ take count into → after.texts ≡ with_more before new
 texts_on before bytes new reads after into count is texts items =
@@ -96,7 +96,7 @@ texts_on before bytes new reads after into count is texts items =
     ∙ more_and_more before bytes (take count into)
     ∙ ap (with_more before) (sym items)
 
--- memory was refused
+-- an allocation failed
 pub text-refused : {A : Type 0} (most : ℕ) (with_text : List ℕ → List (List ℕ)) (after : List (List ℕ)) (text : List ℕ) (result : Result (Vec ℕ A) ReadError) → after ≡ with_text text → length text ≤ most + 1
     → IsErrAnd result (λ e. e ≡ Memory) → GivesText {A = A} most with_text after result
 text-refused {A} most with_text after text result texts within is =

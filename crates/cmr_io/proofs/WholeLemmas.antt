@@ -5,7 +5,7 @@ use Rattle.std.proofs.lemmas.List.{take_rest}
 use Rattle.cmr_io.specs.Log.{Log, log_more, log_with}
 use Rattle.cmr_io.specs.Reads.{with_more}
 
--- the bytes from a place on
+-- the bytes from an offset on
 abbrev pub rest : List ℕ → ℕ → List ℕ
 rest bytes done = take (length bytes - done) (drop done bytes)
 
@@ -22,7 +22,7 @@ more_of_last (first ∷ second ∷ texts) text bytes = ap (λ (others : List (Li
 abbrev log_of : List (List ℕ) → List (List ℕ) → Log
 log_of names texts = record { names = names; texts = texts }
 
--- a prefix was taken, and more after it
+-- a prefix was taken, and then more bytes
 pub log_on : (start mid after : Log) (name bytes : List ℕ) (done count : ℕ) → mid ≡ log_with start name (take done bytes) → after ≡ log_more mid (take count (rest bytes done))
     → after ≡ log_with start name (take (done + count) bytes)
 log_on start mid after name bytes done count before more =

@@ -1,10 +1,10 @@
--- What a shelf of files shows.
+-- The state of a shelf of files in contracts.
 use Rattle.std.specs.Prelude.{ℕ, Bool, false, List, Option, None}
 use Rattle.cmr_io.specs.Log.{Log, no_log}
 use Rattle.cmr_io.specs.Reads.{Reads, no_reads}
 
--- whether a read and whether a write is begun; what is left of what is read, and what the file that is written has got, where
--- the system lets that be known; the reads and the writes; whether the last call failed, and how many have
+-- whether a read and whether a write is begun; the rest of the read, and the bytes of the written file, if the system makes them
+-- known; the reads and the writes; whether the last call failed, and the number of failed calls
 pub record FileShelf : Type 0 where
   pub reading : Bool
   pub writing : Bool

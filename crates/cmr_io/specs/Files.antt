@@ -8,7 +8,7 @@ use Rattle.cmr_io.specs.declared.memory_file.File.{File}
 abbrev pub file_name : File → List ℕ
 file_name file = string_bytes file.name
 
--- what a file holds, where it is there
+-- the bytes of a file, and `None` if it does not exist
 abbrev pub held_by : File → Option (List ℕ)
 held_by file = if file.is_there then Some file.bytes.items else None
 
@@ -16,27 +16,27 @@ held_by file = if file.is_there then Some file.bytes.items else None
 abbrev pub room_for : File → Option ℕ
 room_for file = file.room
 
--- how many more bytes its room allows
+-- the number of bytes that its room still allows
 abbrev pub room_left : File → ℕ
 room_left file = unwrap_or file.room 0 - length file.bytes.items
 
--- it is there, and holds no more than its room
+-- the file exists, and is at most as long as its room
 abbrev pub is_writable : File → Bool
 is_writable file = file.is_there && is_some file.room && nat_le (length file.bytes.items) (unwrap_or file.room 0)
 
 abbrev pub is_named : List ℕ → File → Bool
 is_named name file = bytes_eq (file_name file) name
 
--- some file has the name
+-- a file has the name
 abbrev pub has_name : List ℕ → List File → Bool
 has_name name files = list_any (is_named name) files
 
--- what the first file with a name shows
+-- the view of the first file with a name
 abbrev pub of_first : {A : Type 0} → (File → Option A) → List File → List ℕ → Option A
 of_first view [] name = None
 of_first view (file ∷ files) name = if is_named name file then view file else of_first view files name
 
--- what a name holds
+-- the bytes of a name
 abbrev pub content_in : List File → List ℕ → Option (List ℕ)
 content_in files name = of_first held_by files name
 

@@ -1,4 +1,4 @@
--- What a shelf of files has open.
+-- The open file or input of a shelf of files.
 use Rattle.std.specs.Prelude.{Bool, true, false, ℕ, List, Option, None}
 use Rattle.cmr_io.specs.declared.real_shelf.Open.{Open}
 use Rattle.cmr_io.specs.declared.real_shelf.Open.TheVariants.{Nothing, Read, Input, Write}
@@ -17,14 +17,14 @@ is_writing (Read file) = false
 is_writing (Input input) = false
 is_writing (Write file) = true
 
--- what is left of what is read, where that is known
+-- the rest of the current read, if it is known
 abbrev pub left_of_open : {F I : Type 0} → (F → Option (List ℕ)) → (I → Option (List ℕ)) → Open F I → Option (List ℕ)
 left_of_open of_file of_input Nothing = None
 left_of_open of_file of_input (Read file) = of_file file
 left_of_open of_file of_input (Input input) = of_input input
 left_of_open of_file of_input (Write file) = None
 
--- what the file that is written has got, where that is known
+-- the bytes of the file that is written, if they are known
 abbrev pub got_in : {F I : Type 0} → (F → Option (List ℕ)) → Open F I → Option (List ℕ)
 got_in of_file Nothing = None
 got_in of_file (Read file) = None

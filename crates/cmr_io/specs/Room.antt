@@ -1,4 +1,4 @@
--- Room for what is put.
+-- Room for the bytes of a `put`.
 use Rattle.std.specs.Prelude.{◌&&◌, ◌==◌, ℕ, Bool, nat_lt, List, length}
 
 -- no room is left, and the piece is not empty

@@ -1,7 +1,7 @@
--- What a sink over a writer shows.
+-- The state of a sink over a writer in contracts.
 use Rattle.std.specs.Prelude.{ℕ, List, Option}
 
--- what the writer has got, where that is known; the bytes that the sink has handed it; and how many calls have failed
+-- the bytes of the writer, if they are known; the bytes that the sink has handed to the writer; and the number of failed calls
 pub record WriterSink : Type 0 where
   pub contents : Option (List ℕ)
   pub taken : List ℕ

@@ -3,7 +3,7 @@ use Rattle.std.specs.Prelude.{◌≡◌, ◌≢◌, ◌<◌, ℕ, true, List, So
 use Rattle.cmr_io.specs.declared.memory_file.File.{File}
 use Rattle.cmr_io.specs.Files.{content_in, room_in, name_at, bytes_at, is_writable_at}
 
--- the file at an index, which is written, holds these bytes, and all else is as it was
+-- the file at an index, which is written, has these bytes, and all other files are unchanged
 pub record Writes (old new : List File) (file : ℕ) (bytes : List ℕ) : Type 0 where
   pub bytes_are : bytes_at new file ≡ bytes
   pub held : content_in new (name_at new file) ≡ Some bytes

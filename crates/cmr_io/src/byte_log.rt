@@ -1,4 +1,4 @@
-//! What was read or written. Only clauses see it: at run time there is nothing.
+//! A log of the bytes that were read or written. Only clauses see it: at run time it is empty.
 ghost use Rattle.std.specs.Prelude.{◌≡◌, ◌++◌, [], ◌∷◌, ℕ, List};
 ghost use Rattle.std.specs.Borrow.{ftrue};
 ghost use Rattle.cmr_io.specs.Reads.{with_more};
@@ -6,8 +6,8 @@ ghost use Rattle.cmr_io.specs.Reads.{with_more};
 use std::fmt;
 use std::marker::{Model, PhantomData};
 
-/// The names of reads or of writes in the order in which they were begun; the bytes of each; and all bytes, whether one was begun
-/// or not. It takes no memory.
+/// The names of reads or of writes in the order in which they were begun; the bytes of each; and all bytes, whether one
+/// was begun or not. It takes no memory.
 #[derive(Drop)]
 pub struct ByteLog {
     marker: PhantomData<u8>,
@@ -27,7 +27,7 @@ impl fmt::Debug for ByteLog {
 }
 
 impl ByteLog {
-    /// Nothing was begun, and no byte was read or written.
+    /// The empty log.
     pub fn new() -> Self
         ensures { (result.names ≡ []) × (result.texts ≡ []) × (result.all ≡ []) }
     {
@@ -36,14 +36,14 @@ impl ByteLog {
         }
     }
 
-    /// One more is begun, of this name. It has no bytes yet.
+    /// Logs that a read or a write of this name was begun. It has no bytes yet.
     pub fn begin(&mut self, _name: &[u8])
         ensures { (self.new.names ≡ self.old.names ++ _name.now ∷ [])
             × (self.new.texts ≡ self.old.texts ++ [] ∷ [])
             × (self.new.all ≡ self.old.all) }
     {}
 
-    /// Some bytes more, of what was begun last.
+    /// Logs more bytes of the read or the write that was begun last.
     pub fn add(&mut self, _bytes: &[u8])
         ensures { (self.new.names ≡ self.old.names)
             × (self.new.texts ≡ with_more self.old.texts _bytes.now)

@@ -27,7 +27,7 @@ impl FaultCount {
         FaultCount { count: 0 }
     }
 
-    /// A failure, which is counted.
+    /// Counts a failure.
     pub fn fault(&mut self) -> Failed
         ensures count { self.new ≡ next_number self.old }
         ensures rose { Rose self.old self.new }

@@ -2,7 +2,7 @@ ghost use Rattle.std.specs.Prelude.{◌≡◌, ◌<◌, None, Some};
 ghost use Rattle.std.specs.Option.{ForSome};
 ghost use Rattle.cmr_io.specs.Limit.{up_to};
 
-/// How many bytes one call takes or gives at most, where there is such a limit.
+/// The largest number of bytes that one call takes or gives, if there is such a limit.
 #[derive(Clone, Copy, Debug)]
 pub struct Limit {
     most: Option<usize>,
@@ -10,14 +10,14 @@ pub struct Limit {
 }
 
 impl Limit {
-    /// There is no limit.
+    /// No limit.
     pub fn none() -> Self
         ensures { result.most ≡ None }
     {
         Limit { most: None }
     }
 
-    /// At most so many bytes.
+    /// A limit of `bytes` bytes.
     pub fn at_most(bytes: usize) -> Self
         requires { 0 < bytes }
         ensures { result.most ≡ Some bytes }
@@ -25,7 +25,7 @@ impl Limit {
         Limit { most: Some(bytes) }
     }
 
-    /// So many bytes, up to the limit.
+    /// The lesser of `bytes` and the limit.
     pub fn of(&self, bytes: usize) -> usize
         ensures { result ≡ up_to self.now.most bytes }
     {

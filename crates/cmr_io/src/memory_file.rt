@@ -5,7 +5,7 @@ ghost use Rattle.cmr_io.specs.Limit.{taken_by_put};
 use crate::limit::Limit;
 use std::alloc::{AllocError, Global};
 
-/// A name of a shelf in memory. It may not be there yet, and may have no room. Its room is reserved.
+/// A name of a shelf in memory. The name may not exist yet, and may have no room. Its room is reserved.
 #[derive(Debug, Drop)]
 pub struct File {
     name: String,
@@ -18,7 +18,7 @@ pub struct File {
 impl File {
     ghost use Rattle.cmr_io.specs.Files.{held_by, is_named, file_name, room_for, room_left, is_writable};
 
-    /// A file that holds the bytes, and has no room.
+    /// A file with these bytes and without room.
     pub fn holding(alloc: Global, name: &str, bytes: &[u8]) -> Result<File, AllocError>
         ensures name { IfOk result (λ file. file_name file ≡ name.now) }
         ensures held { IfOk result (λ file. held_by file ≡ Some bytes.now) }
@@ -32,7 +32,7 @@ impl File {
         })
     }
 
-    /// A file that is not there, and has the room.
+    /// A file that does not exist yet, and has the room.
     pub fn prepared(alloc: Global, name: &str, room: usize) -> Result<File, AllocError>
         ensures name { IfOk result (λ file. file_name file ≡ name.now) }
         ensures held { IfOk result (λ file. held_by file ≡ None) }
@@ -46,7 +46,7 @@ impl File {
         })
     }
 
-    /// Makes it hold the bytes of a vector that has its room.
+    /// Replaces the file's bytes by a vector that has its room. The file then exists.
     pub fn hold(&mut self, bytes: Vec<u8>)
         requires { ForSome (room_for self.old) (λ room. room ≤ vec_capacity bytes) }
         ensures held { held_by self.new ≡ Some bytes.items }
@@ -57,7 +57,7 @@ impl File {
         self.is_there = true;
     }
 
-    /// Gives it the room, with its bytes in a vector that has this room.
+    /// Gives the file the room, with its bytes in a vector that has this room.
     pub fn prepare(&mut self, bytes: Vec<u8>, room: usize)
         requires bytes { bytes.items ≡ self.old.bytes.items }
         requires reserved { room ≤ vec_capacity bytes }
@@ -69,7 +69,7 @@ impl File {
         self.room = Some(room);
     }
 
-    /// Makes it hold nothing.
+    /// Empties the file.
     pub fn empty(&mut self)
         ensures bytes { self.new.bytes.items ≡ [] }
         ensures held { held_by self.new ≡ Some [] }
@@ -81,7 +81,7 @@ impl File {
         self.is_there = true;
     }
 
-    /// Appends as much of the piece as its room and the limit allow, and says how much.
+    /// Appends as much of the piece as the room and the limit allow, and returns the number of bytes.
     pub fn put(&mut self, piece: &[u8], limit: &Limit) -> usize
         requires { IsTrue (is_writable self.old) }
         ensures count { result ≡ taken_by_put limit.now.most piece.now (room_left self.old) }
@@ -97,28 +97,28 @@ impl File {
         count
     }
 
-    /// Its bytes.
+    /// The bytes of the file.
     pub fn bytes(&self) -> &[u8]
         ensures { result.now ≡ self.now.bytes.items }
     {
         &self.bytes
     }
 
-    /// The room that was prepared for it.
+    /// The room that was prepared for the file.
     pub fn room(&self) -> Option<usize>
         ensures { result ≡ room_for self.now }
     {
         self.room
     }
 
-    /// Whether it has the name.
+    /// Whether the file has the name.
     pub fn is_named(&self, name: &str) -> bool
         ensures { result ≡ is_named name.now self.now }
     {
         self.name.as_str() == name
     }
 
-    /// Whether it is there.
+    /// Whether the file exists.
     pub fn is_there(&self) -> bool
         ensures { result ≡ self.now.is_there }
     {

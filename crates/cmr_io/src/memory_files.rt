@@ -21,7 +21,7 @@ fn find(files: &[File], name: &str) -> Option<usize>
     None
 }
 
-/// The index of the first file with the name, where that file is there.
+/// The index of the first file with the name, if that file exists.
 pub fn find_there(files: &[File], name: &str) -> Option<usize>
     ensures none { IfNone result (content_in files.now name.now ≡ None) }
     ensures some { IfSome result (λ file. content_in files.now name.now
@@ -36,7 +36,7 @@ pub fn find_there(files: &[File], name: &str) -> Option<usize>
     }
 }
 
-/// Makes a name hold the bytes.
+/// Gives a name the bytes.
 pub fn hold(
     alloc: Global,
     files: &mut Vec<File>,
@@ -95,7 +95,7 @@ pub fn bytes_of(files: &[File], file: usize) -> &[u8]
     files[file].bytes()
 }
 
-/// Copies what a file holds from a place on, as far as there is room and the limit allows, and says how much.
+/// Copies the bytes of a file from an offset on, as far as `into` and the limit allow, and returns their number.
 pub fn read_at(files: &[File], file: usize, at: usize, into: &mut [u8], limit: &Limit) -> usize
     requires file { file < length files.now }
     requires at { at ≤ length (bytes_at files.now file) }
@@ -111,7 +111,7 @@ pub fn read_at(files: &[File], file: usize, at: usize, into: &mut [u8], limit: &
     count
 }
 
-/// Makes a name hold nothing, where it has room, and gives its file's index.
+/// Empties a name that has room, and returns the index of its file.
 pub fn empty(files: &mut Vec<File>, name: &str) -> Option<usize>
     ensures none { IfNone result (room_in files.old.items name.now ≡ None) }
     ensures stays { IfNone result (files.new.items ≡ files.old.items) }
@@ -127,7 +127,7 @@ pub fn empty(files: &mut Vec<File>, name: &str) -> Option<usize>
     Some(file)
 }
 
-/// Appends as much of the piece to a file as its room and the limit allow, and says how much.
+/// Appends as much of the piece to a file as its room and the limit allow, and returns the number of bytes.
 pub fn put(files: &mut Vec<File>, file: usize, piece: &[u8], limit: &Limit) -> usize
     requires within { file < vec_len files.old }
     requires writable { IsTrue (is_writable_at files.old.items file) }

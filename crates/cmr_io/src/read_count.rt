@@ -4,8 +4,8 @@ ghost use Rattle.cmr_io.specs.Reads.{no_reads, after_begun, after_piece};
 use crate::byte_log::ByteLog;
 use std::marker::Model;
 
-/// Which reads were begun, what each of them has given, how many bytes all have, and how many have come to their ends. Each count
-/// starts at 0, and stays at the last value of a `u64`.
+/// The reads that were begun, the bytes that each of them has given, the number of bytes that all have given, and the
+/// number of reads that have reached their ends. Each count starts at 0, and stays at the last value of a `u64`.
 #[derive(Debug, Drop)]
 pub struct ReadCount {
     log: ByteLog,
@@ -33,14 +33,14 @@ impl ReadCount {
         }
     }
 
-    /// A read of a name is begun.
+    /// Counts that a read of a name was begun.
     pub fn begin(&mut self, name: &str)
         ensures { self.new ≡ after_begun self.old name.now }
     {
         self.log.begin(name.as_bytes());
     }
 
-    /// So many bytes were given at the prefix of `into`.
+    /// Counts `count` bytes that were given as a prefix of `into`.
     pub fn add(&mut self, into: &[u8], count: usize)
         requires { count ≤ length into.now }
         ensures { self.new ≡ after_piece self.old into.now count }

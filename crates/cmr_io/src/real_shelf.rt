@@ -1,4 +1,4 @@
-//! The files of the system and standard input. Which file a name opens, and what the system's calls do, is not claimed.
+//! The files of the system and standard input. No clause says which file a name opens or what the system's calls do.
 
 ghost use Rattle.std.specs.Prelude.{◌≡◌, ◌≤◌, ◌<◌, [], false, true, None, IsTrue, IfOk, OnErr, is_err, is_ok, length, take};
 ghost use Rattle.std.specs.Io.KnownBytes.{Appends, Consumes, IsAtEnd, Keeps};
@@ -18,7 +18,7 @@ use std::fs;
 use std::marker::Model;
 use std::rt::Files;
 
-/// What a shelf of files has open.
+/// The open file or input of a shelf of files.
 #[derive(Drop)]
 pub enum Open<F, I> {
     Nothing,
@@ -27,10 +27,12 @@ pub enum Open<F, I> {
     Write(F),
 }
 
-/// The files of the system. The name `-`, where it is read, is standard input. Contracts see whether a
-/// read or a write is begun; what is left of what is read, and what the file that is written has got, if the runtime lets that
-/// be known; which reads and writes were begun, and what they gave and took; whether the last call failed; and the count of
-/// faults.
+/// The files of the system. A read of the name `-` reads standard input. Contracts see
+///
+/// * whether a read or a write is begun;
+/// * the rest of the read, and the bytes of the written file, if the runtime makes them known;
+/// * the reads and the writes that were begun, and the bytes that they gave and took;
+/// * whether the last call failed, and the count of faults.
 #[derive(Drop)]
 pub struct RealShelf<'a, R: Files + Input> {
     rt: &'a R,
@@ -51,7 +53,7 @@ impl<'a, R: Files + Input> Model for RealShelf<'a, R> {
 }
 
 impl<'a, R: Files + Input> RealShelf<'a, R> {
-    /// A shelf of the files that the runtime reaches, of which none is open.
+    /// A shelf of the files that the runtime reaches. No file is open.
     pub fn new(rt: &'a R) -> Self
         ensures { result ≡ new_shelf }
     {
@@ -65,7 +67,7 @@ impl<'a, R: Files + Input> RealShelf<'a, R> {
         }
     }
 
-    // A failure, which is counted.
+    // Counts a failure.
     fn fault(&mut self) -> Failed
         ensures after { self.new
             ≡ record self.old { failed = true; faults = next_number self.old.faults } }

@@ -8,7 +8,7 @@ use crate::device::Failed;
 use crate::fault_count::FaultCount;
 use std::io::{ErrorKind, Read, Write};
 
-/// One read. A fault of the system is counted.
+/// Reads once, and counts a fault of the system.
 pub fn read_counted<R: Read>(
     reader: &mut R,
     into: &mut [u8],
@@ -33,7 +33,7 @@ pub fn read_counted<R: Read>(
     Err(faults.fault())
 }
 
-/// One write. A fault of the system is counted, and so is a write of some bytes that takes none.
+/// Writes once, and counts a fault of the system. A write of some bytes that takes none also counts as a fault.
 pub fn write_counted<W: Write>(
     writer: &mut W,
     piece: &[u8],

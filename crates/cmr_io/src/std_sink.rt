@@ -11,8 +11,8 @@ use crate::retry::write_counted;
 use std::io::Write;
 use std::marker::Model;
 
-/// The writer of standard output or of standard error. Contracts see what the writer has got,
-/// where that is known, the bytes that it took from the sink, and the count of faults.
+/// The writer of standard output or of standard error. Contracts see the bytes of the writer, if they are known, the
+/// bytes that the writer took from the sink, and the count of faults.
 #[derive(Drop)]
 pub struct StdSink<W: Write + Drop> {
     writer: W,

@@ -4,7 +4,7 @@ ghost use Rattle.cmr_io.specs.Log.{no_log, log_more, log_with};
 use crate::byte_log::ByteLog;
 use std::marker::Model;
 
-/// Which writes were begun, and what each of them has taken. Only clauses see it: at run time there is nothing.
+/// The writes that were begun, and the bytes that each of them has taken. Only clauses see it: at run time it is empty.
 #[derive(Debug, Drop)]
 pub struct WriteLog {
     log: ByteLog,
@@ -19,7 +19,7 @@ impl Model for WriteLog {
 }
 
 impl WriteLog {
-    /// Nothing was written.
+    /// The empty log.
     pub fn new() -> Self
         ensures { result ≡ no_log }
     {
@@ -28,14 +28,14 @@ impl WriteLog {
         }
     }
 
-    /// A write of a name is begun.
+    /// Logs that a write of a name was begun.
     pub fn begin(&mut self, name: &str)
         ensures { self.new ≡ log_with self.old name.now [] }
     {
         self.log.begin(name.as_bytes());
     }
 
-    /// So many bytes at the prefix of the piece were taken.
+    /// Logs that `count` bytes at the start of the piece were taken.
     pub fn add(&mut self, piece: &[u8], count: usize)
         requires { count ≤ length piece.now }
         ensures { self.new ≡ log_more self.old (take count piece.now) }

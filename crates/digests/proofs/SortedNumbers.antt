@@ -1,4 +1,4 @@
--- Numbers are different exactly if they rise when they are sorted.
+-- Numbers are different if and only if they are increasing after they are sorted.
 use Rattle.std.proofs.Common.{ℕ, List, eqb, eq-eqb, ne_eqb, ◌≡◌, ◌∙◌, sym, inl, inr, arith, get_or}
 use Rattle.std.specs.Prelude.{◌↔◌, IsPermutation}
 use Rattle.std.specs.List.{IsDistinct}

@@ -5,14 +5,14 @@ ghost use Rattle.digests.specs.Digests.{mixed, AreDifferent};
 // An odd number whose bits look random.
 const MULTIPLIER: u64 = 11_400_714_819_323_198_485;
 
-/// A digest with one more word. Equal lists of words have equal digests; of others most have different ones.
+/// A digest after one more word. Equal lists of words have equal digests, and most different lists have different ones.
 pub fn mixed(digest: u64, word: u64) -> u64
     ensures { result ≡ mixed digest word }
 {
     (digest.rotate_left(32) ^ word).wrapping_mul(MULTIPLIER)
 }
 
-/// Whether no number stands twice. The call sorts the numbers.
+/// Whether all numbers are different. The call sorts them.
 pub fn are_different(numbers: &mut [u64]) -> bool
     ensures answer { IsTrue result ↔ AreDifferent numbers.old }
     ensures same { IsPermutation numbers.old numbers.new }

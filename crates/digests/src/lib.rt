@@ -1,4 +1,4 @@
-//! Digests: numbers made of lists of words, by which many lists are told apart at once.
+//! Digests: numbers that distinguish many lists of words at once.
 #![tactic(auto)]
 
 mod digest;

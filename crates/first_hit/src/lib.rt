@@ -1,4 +1,4 @@
-//! The least number at which a question holds, looked for by several workers.
+//! Parallel search for the least number that satisfies a predicate.
 #![tactic(auto)]
 
 mod probe;

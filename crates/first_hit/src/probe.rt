@@ -1,21 +1,21 @@
-// Questions about numbers.
+// Predicates on numbers.
 ghost use Rattle.std.specs.Prelude.{◌≤◌, ◌^◌, ◌↔◌, ℕ, IsTrue, IfOk};
 ghost use Rattle.first_hit.specs.First.{IsFirst};
 
 use cmr_base::Memory;
 use std::alloc::Global;
 
-/// A question about each number, which several workers ask.
+/// A predicate on numbers, which several workers evaluate.
 pub trait Probe: Sync {
-    /// That a number holds.
+    /// That a number satisfies the predicate.
     ghost holds: { Self → ℕ → Type 0 };
 
-    /// Whether a number holds.
+    /// Whether a number satisfies the predicate.
     fn hit(&self, alloc: Global, index: u64) -> Result<bool, Memory>
         ensures { IfOk result (λ yes. IsTrue yes ↔ holds self.now index) };
 
-    /// The least number of a range that holds. A probe that asks many numbers in a row at less cost has a body of its
-    /// own.
+    /// The least number of a range that satisfies the predicate. A probe overrides this body if it can test consecutive
+    /// numbers at a lower cost.
     fn first(&self, alloc: Global, from: u64, to: u64) -> Result<Option<u64>, Memory>
         requires { from ≤ to }
         ensures { IfOk result (IsFirst (holds self.now) from to) }
@@ -28,7 +28,7 @@ pub trait Probe: Sync {
         Ok(None)
     }
 
-    /// How many numbers in a row one worker asks at a time.
+    /// The number of consecutive numbers that one worker tests at a time.
     fn run(&self) -> u64
         ensures { (1 ≤ result) × (result ≤ 2 ^ 32) }
     {

@@ -1,4 +1,4 @@
-// A round of the search: a range of numbers that the workers share out.
+// A round of the search: a range of numbers that the workers share.
 ghost use Rattle.std.specs.Prelude.{◌≡◌, ◌<◌, ◌≤◌, ◌+◌, ◌*◌, ◌^◌, IfOk};
 
 use crate::probe::Probe;
@@ -6,8 +6,8 @@ use crate::workers::Workers;
 use cmr_base::Memory;
 use std::alloc::Global;
 
-/// The numbers from one to another, in rows of runs: a row has one run for each worker, in their order. The range is not
-/// longer than its rows.
+/// The numbers from `from` to below `to`, in rows of runs. A row has one run for each worker, in the workers' order.
+/// The rows cover the range.
 #[derive(Clone, Copy)]
 pub struct Round {
     pub from: u64,
@@ -25,8 +25,8 @@ pub struct Round {
 impl Round {
     ghost use Rattle.first_hit.specs.WorkerRuns.{IsFirstInRuns};
 
-    /// The round from a number on with at most so many rows. Where few numbers are left, the runs are shorter, so that
-    /// each worker has one.
+    /// The round from a number on with at most `rows` rows. If few numbers remain, the runs are shorter, so that each
+    /// worker has a run.
     pub fn new(from: u64, total: u64, workers: Workers, run: u64, rows: u64) -> Round
         requires left { from < total }
         requires run { (1 ≤ run) × (run ≤ 2 ^ 32) }
@@ -49,7 +49,7 @@ impl Round {
         }
     }
 
-    /// The least number in the runs of one worker that holds.
+    /// The least number in the runs of one worker that satisfies the predicate.
     pub fn first_of_worker<P: Probe>(
         &self,
         alloc: Global,

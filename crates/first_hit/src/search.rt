@@ -11,12 +11,13 @@ use cmr_base::Memory;
 use std::alloc::Global;
 use std::thread::{Threads, join};
 
-/// The most rows of a round, so that a find in its prefix is not long waited for.
+/// The largest number of rows of a round. It bounds the time from a hit at the start of a round to the end of the
+/// round.
 const MOST_ROWS: u64 = 256;
 
-/// The least number below `total` that holds, and `None` exactly where none holds. The number of workers changes
-/// nothing of it. They go through rounds of numbers that grow, so that a find comes early where it stands early, and
-/// each has runs from all over a round, so that they need about the same time.
+/// The least number below `total` that satisfies the predicate, and `None` if and only if there is none. The answer
+/// does not depend on the number of workers. The workers search rounds of increasing length, so that they find a small
+/// number early. Each worker has runs from all parts of a round, so that all workers need about the same time.
 pub fn first_hit<R: Threads + Sync, P: Probe>(
     rt: &R,
     alloc: Global,
@@ -54,7 +55,7 @@ fn more_rows(rows: u64) -> u64
     }
 }
 
-// The least number in the runs of some workers that holds.
+// The least number in the runs of the workers from `low` to below `high` that satisfies the predicate.
 fn first_of_workers<R: Threads + Sync, P: Probe>(
     rt: &R,
     alloc: Global,

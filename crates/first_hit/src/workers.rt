@@ -1,7 +1,7 @@
-// How many workers.
+// The number of workers.
 ghost use Rattle.std.specs.Prelude.{◌≡◌, ◌≤◌};
 
-/// How many workers share a search: 1 to 64. The answer is the same for each number.
+/// The number of workers that share a search: 1 to 64. The answer does not depend on it.
 #[derive(Clone, Copy, Debug)]
 pub struct Workers {
     number: u32,
@@ -9,7 +9,7 @@ pub struct Workers {
 }
 
 impl Workers {
-    /// So many workers.
+    /// The given number of workers.
     pub fn new(number: u32) -> Workers
         requires { (1 ≤ number) × (number ≤ 64) }
         ensures { result.number ≡ number }
@@ -17,7 +17,7 @@ impl Workers {
         Workers { number }
     }
 
-    /// How many they are.
+    /// The number of workers.
     pub fn number(self) -> u32
         ensures { result ≡ self.number }
     {

@@ -1,4 +1,4 @@
--- A text that is read as 0/1 stands for a matrix of zeros and ones.
+-- A text that is read as 0/1 represents a matrix of zeros and ones.
 use Rattle.std.proofs.Common.{◌≡◌, ◌⊎◌, ℕ, ℤ, pos, negsuc, zero, suc, Bool, true, List, [], ◌∷◌, map, Result, Ok, Err, sym, subst, inl, inr, refl}
 use Rattle.std.specs.Prelude.{IfOk}
 use Rattle.std.specs.List.{AllByRecursion, range_with_len, slice_index_or}
@@ -47,7 +47,7 @@ rows_binary [] all row column = inl refl
 rows_binary (r ∷ rows) all zero column = list_binary r all.0 column
 rows_binary (r ∷ rows) all (suc row) column = rows_binary rows all.1 row column
 
--- what holds of each value of a function holds of what it maps to
+-- a property of all values of a function is a property of all items of a mapped list
 pub all-map : {A B : Type 0} (P : B → Type 0) (f : A → B) (xs : List A) → ((x : A) → P (f x)) → AllByRecursion P (map f xs)
 all-map P f [] each = tt
 all-map P f (x ∷ xs) each = (each x, all-map P f xs each)

@@ -1,4 +1,4 @@
--- A dense text that was written is read again as the same matrix.
+-- A dense text that was written is read back as the same matrix.
 use Rattle.std.proofs.Common.{◌≡◌, ◌≢◌, ◌*◌, ◌∙◌, ℕ, ℤ, negsuc, Bool, true, false, List, [], ◌∷◌, length, map, Ok, refl, ap, sym, subst, inl, inr, arith}
 use Rattle.std.specs.Prelude.{IsTrue}
 use Rattle.std.specs.Fmt.{decimal, signed_decimal}
@@ -17,7 +17,7 @@ use Rattle.matrix_text.specs.CanonicalMatrices.{dense_lines, dense_text}
 use Rattle.matrix_text.proofs.Entries.{all_entries, all_widths}
 use Rattle.matrix_text.proofs.DenseTexts.{dense_only}
 
--- rows, one after another, are cut into the same rows
+-- the concatenated rows are cut into the same rows
 rows_again : (width : ℕ) (rows : List (List ℤ)) → AllByRecursion (λ row. length row ≡ width) rows → rows_of (length rows) width (flat_map (λ row. row) rows) ≡ rows
 rows_again width [] all = refl
 rows_again width (row ∷ rows) all =
@@ -27,7 +27,7 @@ cells_count : (width : ℕ) (rows : List (List ℤ)) → AllByRecursion (λ row.
 cells_count width [] all = sym (zero-mul width)
 cells_count width (row ∷ rows) all = length-append row (flat_map (λ row. row) rows) ∙ omega (arith, all.0, cells_count width rows all.1, suc-mul (length rows) width)
 
--- an entry that may stand in the matrix is read as it was written
+-- an entry that the matrix may contain is read as it was written
 pub entry_in_again : (binary : Bool) (z : ℤ) → IsEntry z → (IsTrue binary → z ≢ negsuc 0) → entry_in binary (signed_decimal z) ≡ Ok z
 entry_in_again binary z small may = rw (entry_again z small) (elim (entry_cases z small) [
   | inl e ↦ subst (λ y. allowed binary y ≡ Ok y) (sym e) (minus binary (λ is. may is e))

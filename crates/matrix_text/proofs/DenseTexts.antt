@@ -1,4 +1,4 @@
--- Reading gives exactly the matrix whose dense text the words are.
+-- Reading gives a matrix if and only if the words are its dense text.
 use Rattle.std.proofs.Common.{◌≡◌, ◌*◌, ◌∙◌, ℕ, ℤ, Bool, List, [], ◌∷◌, ◌++◌, length, Result, Ok, Err, refl, ap, sym, subst}
 use Rattle.std.specs.Prelude.{IfOk}
 use Rattle.std.proofs.lemmas.List.{append-nil}
@@ -32,7 +32,7 @@ entries_found binary height width text m h =
 two_words : (first second : ℕ × List ℕ) (words later rest : List (ℕ × List ℕ)) → words ≡ first ∷ later → later ≡ second ∷ rest → texts_of words ≡ first.1 ∷ second.1 ∷ texts_of rest
 two_words first second words later rest e h = rw (e, h) refl
 
--- what is read is a dense text
+-- a text that is read is a dense text
 pub dense_found : (binary : Bool) (text : Text) (m : Matrix) → dense binary text ≡ Ok m → IsDense binary (texts_of text.words) m
 dense_found binary text m h =
     let b = bind_ok (field Short (limited MAX_ROWS TooManyRows) text) (λ (height : ℕ × Text). field Short (limited MAX_COLUMNS TooManyColumns) height.1 >>= λ width. fields Short (entry_in binary) (height.0 * width.0) width.1 >>= λ cells. ended Extra (record { rows = rows_of height.0 width.0 cells.0; width = width.0 }) cells.1) m h in
@@ -57,7 +57,7 @@ dense_found binary text m h =
       matrix = all.3;
     }
 
--- what is a dense text is read
+-- a dense text is read
 pub dense_only : (binary : Bool) (size : ℕ) (words : List (ℕ × List ℕ)) (m : Matrix) → IsDense binary (texts_of words) m → dense binary (record { size = size; words = words }) ≡ Ok m
 dense_only binary size [] m is = absurd (let e = is.words_are in cc)
 dense_only binary size (h ∷ []) m is = absurd (let e = is.words_are in cc)
@@ -75,7 +75,7 @@ dense_only binary size (h ∷ w ∷ words) m is =
     ∙ fields_again Short (entry_in binary) size words [] [] is.cells spell in
     rw (height, width, all) (ap Ok (sym is.matrix))
 
--- the same for what a function returned
+-- the same for the result of a function
 pub found : (binary : Bool) (text : Text) (r : Result Matrix (FieldError TextKind)) → Gives (λ m. m) r (dense binary text) → IfOk r (IsDense binary (texts_of text.words))
 found binary text (Ok m) gives = dense_found binary text m gives
 found binary text (Err e) gives = tt

@@ -10,7 +10,7 @@ all_small_push [] z all small (suc k) = all 0
 all_small_push (x ∷ zs) z all small zero = all 0
 all_small_push (x ∷ zs) z all small (suc k) = all_small_push zs z (λ j. all (suc j)) small k
 
--- what holds of each entry, and of 0, holds of all of them
+-- a property of 0 and of each entry is a property of all items of the row
 row_entries : (P : ℤ → Type 0) (row : List ℤ) → ((k : ℕ) → P (get_or row k (pos 0))) → AllByRecursion P row
 row_entries P [] each = tt
 row_entries P (z ∷ row) each = (each 0, row_entries P row (λ k. each (suc k)))

@@ -1,4 +1,4 @@
--- Places that are not taken.
+-- Positions that are not taken.
 use Rattle.std.proofs.Common.{◌≡◌, ◌<◌, ◌≤◌, ◌∙◌, ℕ, Bool, false, cond, List, ◌∷◌, Result, Ok, Err, refl, ap, subst, arith}
 use Rattle.text_fields.specs.TextWords.{Text}
 use Rattle.text_fields.specs.Result.{◌>>=◌}
@@ -20,7 +20,7 @@ row_range height text row h =
     let ok = line_in_ok (limit_kind RowOutOfRange) height f.word.1 row.0 f.parsed in
     (ok.1, ok.2)
 
--- only the places that there are matter
+-- only the positions of the matrix matter
 pub free_place-same : (height width : ℕ) (f g : ℕ → ℕ → Bool) → ((row column : ℕ) → 0 < row → row ≤ height → 0 < column → column ≤ width → f row column ≡ g row column) → (text : Text) → free_place height width f text ≡ free_place height width g text
 free_place-same height width f g same text = bind-same (field Short (line_in height RowOutOfRange) text) (λ (row : ℕ × Text). field Short (free_column_in width (f row.0)) row.1 >>= λ column. Ok ((row.0, column.0), column.1)) (λ (row : ℕ × Text). field Short (free_column_in width (g row.0)) row.1 >>= λ column. Ok ((row.0, column.0), column.1)) (λ row is. let range = row_range height text row is in ap (λ (r : Result (ℕ × Text) (Fault TextKind)). r >>= λ column. Ok ((row.0, column.0), column.1)) (field-same Short (free_column_in width (f row.0)) (free_column_in width (g row.0)) row.1 (free_column_in-same width (f row.0) (g row.0) (λ n. same row.0 n range.0 range.1))))
 
@@ -34,7 +34,7 @@ free_column_in_ok most f word n h =
 free_column_in_again : (most : ℕ) (f : ℕ → Bool) (word : List ℕ) (n : ℕ) → count_in word ≡ Ok n → 0 < n → n ≤ most → f n ≡ false → free_column_in most f word ≡ Ok n
 free_column_in_again most f word n h above within free = rw (line_in_again (limit_kind ColumnOutOfRange) most word n h above within, free) refl
 
--- a place that is not taken was read
+-- a position that is not taken was read
 pub record IsFreePlace (height width : ℕ) (f : ℕ → ℕ → Bool) (text : Text) (row column : ℕ) (rest : Text) : Type 0 where
   pub row_word : ℕ × List ℕ
   pub column_word : ℕ × List ℕ
@@ -73,7 +73,7 @@ free_place_ok height width f text place h =
           free = k.3;
         }
 
--- words that stand for a place that is not taken are read as this place
+-- words that represent a position that is not taken are read as this position
 pub free_place_again : (height width : ℕ) (f : ℕ → ℕ → Bool) (size : ℕ) (row_word column_word : ℕ × List ℕ) (words : List (ℕ × List ℕ)) (row column : ℕ) → count_in row_word.1 ≡ Ok row → count_in column_word.1 ≡ Ok column → 0 < row → row ≤ height → 0 < column → column ≤ width → f row column ≡ false
     → free_place height width f (record { size = size; words = row_word ∷ column_word ∷ words }) ≡ Ok ((row, column), record { size = size; words = words })
 free_place_again height width f size row_word column_word words row column row_is column_is row_above row_in column_above column_in free =

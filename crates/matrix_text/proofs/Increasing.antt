@@ -1,4 +1,4 @@
--- Increasing lists of lines, read one after another.
+-- Increasing lists of lines that are read one after another.
 use Rattle.std.proofs.Common.{◌≡◌, ◌+◌, ◌-◌, ◌∙◌, ℕ, zero, suc, List, [], ◌∷◌, ◌++◌, length, Ok, refl, ap, sym, subst, append_assoc, arith}
 use Rattle.std.proofs.lemmas.List.{append-nil}
 use Rattle.std.proofs.lemmas.List.Sums.{fold_push}
@@ -16,7 +16,7 @@ use Rattle.matrix_text.specs.TextKinds.{limit_kind}
 use Rattle.matrix_text.specs.Values.{increasing_line_in}
 use Rattle.matrix_text.specs.Submatrix.{numbers_of, last_number, another_line}
 
--- so many lines were read, behind those before them
+-- n lines were read after earlier lines
 pub record AreLines (most n : ℕ) (text : Text) (before lines : List ℕ) (rest : Text) : Type 0 where
   pub prefix : List (ℕ × List ℕ)
   pub read : List ℕ

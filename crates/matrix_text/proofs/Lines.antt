@@ -13,18 +13,18 @@ use Rattle.matrix_text.specs.declared.error.TextKind.TheVariants.{Short, ColumnO
 use Rattle.matrix_text.specs.TextKinds.{limit_kind}
 use Rattle.matrix_text.specs.Values.{limited, line_in, free_column_in}
 
--- a count of at most so much that was read
+-- a count of at most `most` was read
 pub size_found : (most : ℕ) (beyond : TextKind) (text : Text) (n : ℕ × Text) → field Short (limited most beyond) text ≡ Ok n → (word : ℕ × List ℕ) × (text.words ≡ word ∷ (n.1).words) × (count_in word.1 ≡ Ok n.0) × (n.0 ≤ most)
 size_found most beyond text n h =
     let f = field_ok Short (limited most beyond) text n.0 n.1 h in
     let l = limited_ok (limit_kind beyond) most f.word.1 n.0 f.parsed in
     (f.word, f.words_are, l.0, l.1)
 
--- only the columns that there are matter
+-- only the columns of the matrix matter
 pub free_column_in-same : (most : ℕ) (f g : ℕ → Bool) → ((n : ℕ) → 0 < n → n ≤ most → f n ≡ g n) → (word : List ℕ) → free_column_in most f word ≡ free_column_in most g word
 free_column_in-same most f g same word = bind-same (line_in most ColumnOutOfRange word) (λ n. cond (f n) (Err TwiceNamed) (Ok n)) (λ n. cond (g n) (Err TwiceNamed) (Ok n)) (λ n is. let ok = line_in_ok (limit_kind ColumnOutOfRange) most word n is in ap (λ (t : Bool). cond t (Err TwiceNamed) (Ok n)) (same n ok.1 ok.2))
 
--- the columns of a row that are taken, read from the row's part of all places
+-- the taken columns of a row, from the row's part of the flags of all positions
 pub row_part : (width start : ℕ) (taken : List Bool) → start + width ≤ length taken → (text : Text)
     → field Short (free_column_in width (λ n. get_or taken (start + (n - 1)) false)) text ≡ field Short (free_column_in (length (take (start + width - start) (drop start taken))) (λ n. get_or (take (start + width - start) (drop start taken)) (n - 1) false)) text
 row_part width start taken fits text =

@@ -1,4 +1,4 @@
--- Places of a matrix, row by row, and what triples put there.
+-- Positions of a matrix, row by row, and the values that triples give them.
 use Rattle.std.proofs.Common.{◌≡◌, ◌<◌, ◌≤◌, ◌≢◌, ◌+◌, ◌-◌, ◌*◌, ◌/◌, ◌%◌, ◌∙◌, inl, inr, ℕ, zero, suc, ℤ, pos, Bool, true, false, cond, ◌||◌, ◌&&◌, eqb, List, [], ◌∷◌, ◌++◌, length, get_or, set, refl, ap, sym, arith, length-set}
 use Rattle.std.specs.Prelude.{map, replicate}
 use Rattle.std.specs.List.{range_with_len}
@@ -14,14 +14,14 @@ use Rattle.cmr_base.proofs.Booleans.{or_false, or_true}
 use Rattle.cmr_base.specs.Matrix.{Matrix, IsEntry, rows_of}
 use Rattle.matrix_text.specs.Sparse.{Triple, names, is_place_named, value_at, matrix_of_triples}
 
--- a row and a column by their place
+-- the index of a position determines its row and its column
 pub same_place : (width row column r c : ℕ) → column < width → c < width → row * width + column ≡ r * width + c → (row ≡ r) × (column ≡ c)
 same_place width row column r c hc hd e = (
   sym (div-mul-add row width column hc) ∙ ap (λ k. k / width) e ∙ div-mul-add r width c hd,
   sym (mod-mul-add row width column hc) ∙ ap (λ k. k % width) e ∙ mod-mul-add r width c hd,
 )
 
--- the flags and the cells hold what the triples name and give
+-- the flags are true at the positions that the triples name, and the cells are the values of the triples
 pub record AreHeld (height width : ℕ) (taken : List Bool) (cells : List ℤ) (triples : List Triple) : Type 0 where
   pub taken_whole : length taken ≡ height * width
   pub cells_whole : length cells ≡ height * width
@@ -74,7 +74,7 @@ small_set (x ∷ cells) zero z h small (suc k) = small (suc k)
 small_set (x ∷ cells) (suc place) z h small zero = small 0
 small_set (x ∷ cells) (suc place) z h small (suc k) = small_set cells place z h (λ j. small (suc j)) k
 
--- one more triple at a place that was not named
+-- one more triple at a position that was not named
 module _ (height width : ℕ) (taken : List Bool) (cells : List ℤ) (triples : List Triple) (t : Triple) (row_above : 0 < t.row) (row_in : t.row ≤ height) (column_above : 0 < t.column) (column_in : t.column ≤ width) (held : AreHeld height width taken cells triples) where
   inside : (t.row - 1) * width + (t.column - 1) < height * width
   inside = omega (arith, mul-add-lt (t.row - 1) width (t.column - 1) height (omega arith) (omega arith))
@@ -144,7 +144,7 @@ table_of height width rows f high wide at = ext_get_or [] rows (map (λ row. map
         let len = wide row hr in
         ext_get_or (pos 0) (get_or rows row []) (map (f (row + 1)) (range_with_len 1 width)) (len ∙ sym (length-map (range_with_len 1 width) (f (row + 1)) ∙ length-range_with_len 1 width)) (λ column h. let hc : column < width = omega (arith, len) in at row column hr hc ∙ sym (get_or-map-range_with_len (f (row + 1)) 1 width column (column + 1) (pos 0) hc (omega arith)))
 
--- the cells' rows are the matrix of the triples
+-- the rows of the cells are the matrix of the triples
 pub held_matrix : (height width : ℕ) (taken : List Bool) (cells : List ℤ) (triples : List Triple) → AreHeld height width taken cells triples
     → ◌≡◌ {A = Matrix} (record { rows = rows_of height width cells; width = width }) (matrix_of_triples height width triples)
 held_matrix height width taken cells triples held = ap (λ (rows : List (List ℤ)). record { rows = rows; width = width }) (table_of height width (rows_of height width cells) (value_at triples) (length-rows_of height width cells) (λ row hr. length-row height width cells row held.cells_whole hr) (λ row column hr hc. entry-rows_of height width cells row column (pos 0) hr hc ∙ held.values row column hr hc))

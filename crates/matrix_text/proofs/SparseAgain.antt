@@ -1,4 +1,4 @@
--- A sparse text that was written is read again as the same matrix.
+-- A sparse text that was written is read back as the same matrix.
 use Rattle.std.proofs.Common.{◌≡◌, ◌≢◌, ◌<◌, ◌≤◌, ◌*◌, ◌+◌, ◌^◌, ◌∙◌, ◌&&◌, cond, eqb, ℕ, zero, suc, ℤ, pos, negsuc, Bool, true, false, List, [], ◌∷◌, ◌++◌, length, get_or, map, Ok, refl, ap, sym, arith}
 use Rattle.std.specs.Prelude.{IsTrue, count_by}
 use Rattle.std.specs.Fmt.{decimal, signed_decimal}
@@ -22,7 +22,7 @@ use Rattle.matrix_text.proofs.Entries.{all_entries, all_widths}
 use Rattle.matrix_text.proofs.DenseAgain.{entry_in_again}
 use Rattle.matrix_text.proofs.SparseTexts.{sparse_only}
 
--- what holds of a nonzero's triple and of those behind it
+-- a property of a nonzero's triple and of the later triples
 kept_all : (b : Bool) (P : Triple → Type 0) (t : Triple) (triples : List Triple) → P t → AllByRecursion P triples → AllByRecursion P (cond b (t ∷ triples) triples)
 kept_all true P t triples here later = (here, later)
 kept_all false P t triples here later = later
@@ -49,7 +49,7 @@ all_values : (Q : ℤ → Type 0) (row : ℕ) (rows : List (List ℤ)) → AllBy
 all_values Q row [] all = tt
 all_values Q row (entries ∷ rows) all = all_append (λ t. Q t.value) (row_triples row 1 entries) (triples_from (row + 1) rows) (row_values Q row 1 entries all.0) (all_values Q (row + 1) rows all.1)
 
--- no triple of a row names a place before it or in another row
+-- no triple of a row names an earlier position or a position in another row
 differ_left : (a b c d : ℕ) → a ≢ b → (eqb a b && eqb c d) ≡ false
 differ_left a b c d ne = let e : eqb a b ≡ false = grind (arith, nat_tests) in rw e refl
 
@@ -99,7 +99,7 @@ all_once : (row : ℕ) (rows : List (List ℤ)) → NameOnce (triples_from row r
 all_once row [] = tt
 all_once row (entries ∷ rows) = once_append (row_triples row 1 entries) (triples_from (row + 1) rows) (row_once row 1 entries) (row_apart row 1 entries (triples_from (row + 1) rows) (λ c. rows_unnamed_before (row + 1) rows row c (omega arith))) (all_once (row + 1) rows)
 
--- how many triples there are
+-- the number of triples
 length_kept : (b : Bool) (t : Triple) (triples : List Triple) → length (cond b (t ∷ triples) triples) ≡ cond b 1 0 + length triples
 length_kept true t triples = omega arith
 length_kept false t triples = omega arith
@@ -161,7 +161,7 @@ all_value row (entries ∷ rows) (suc r) c =
     ∙ ap (λ r. value_at (triples_from (row + 1) rows) r (1 + c)) behind
     ∙ all_value (row + 1) rows r c
 
--- the text of an entry is a word that stands for it
+-- the text of an entry is a word that represents it
 record IsSpelled (binary : Bool) (z : ℤ) : Type 0 where
   word : IsWord (signed_decimal z)
   value : entry_in binary (signed_decimal z) ≡ Ok z

@@ -1,4 +1,4 @@
--- Reading gives exactly the matrix whose sparse text the words are.
+-- Reading gives a matrix if and only if the words are its sparse text.
 use Rattle.std.proofs.Common.{◌≡◌, ◌∙◌, ℕ, zero, suc, ℤ, Bool, false, eqb, List, [], ◌∷◌, ◌++◌, length, Result, Ok, Err, refl, ap, sym, subst, append_assoc, arith}
 use Rattle.std.specs.Prelude.{IfOk}
 use Rattle.std.specs.List.{AllByRecursion}
@@ -27,7 +27,7 @@ use Rattle.matrix_text.proofs.FreePlaces.{free_place_ok, free_place_again}
 names_back : (s t : Triple) → names s.row s.column t ≡ false → names t.row t.column s ≡ false
 names_back s t h = let rows : eqb s.row t.row ≡ eqb t.row s.row = eq_swapped s.row t.row in let columns : eqb s.column t.column ≡ eqb t.column s.column = eq_swapped s.column t.column in rw (rows, columns) h
 
--- one more triple at a new place
+-- one more triple at a new position
 once_more : (triples : List Triple) (t : Triple) → NameOnce triples → is_place_named triples t.row t.column ≡ false → NameOnce (triples ++ t ∷ [])
 once_more [] t once new = (refl, tt)
 once_more (x ∷ triples) t once new =
@@ -36,7 +36,7 @@ once_more (x ∷ triples) t once new =
     let unnamed : is_place_named (triples ++ t ∷ []) x.row x.column ≡ false = list_any-append (names x.row x.column) triples (t ∷ []) ∙ rw (once.0, names_back t x first) refl in
     (unnamed, once_more triples t once.1 others)
 
--- a place among those that are named once is new to the triples before it
+-- a position that is named once is new to the earlier triples
 once_new : (triples : List Triple) (t : Triple) (later : List Triple) → NameOnce (triples ++ t ∷ later) → is_place_named triples t.row t.column ≡ false
 once_new [] t later once = refl
 once_new (x ∷ triples) t later once =
@@ -44,7 +44,7 @@ once_new (x ∷ triples) t later once =
     let mine : names x.row x.column t ≡ false = grind (arith, split) in
     rw (names_back x t mine) (once_new triples t later once.1)
 
--- a triple was read behind those before it
+-- a triple was read after earlier triples
 record IsTriple (binary : Bool) (height width : ℕ) (before : List Triple) (text : Text) (next : List Triple × Text) : Type 0 where
   row_word : ℕ × List ℕ
   column_word : ℕ × List ℕ
@@ -84,7 +84,7 @@ another_triple_ok binary height width before text next h =
           new = p.free;
         }
 
--- so many triples were read, behind those before them
+-- n triples were read after earlier triples
 record AreTriples (binary : Bool) (height width n : ℕ) (text : Text) (before triples : List Triple) (rest : Text) : Type 0 where
   prefix : List (ℕ × List ℕ)
   read : List Triple
@@ -177,7 +177,7 @@ list_found binary height width n text m h =
 three_words : (a b c : ℕ × List ℕ) (words x y rest : List (ℕ × List ℕ)) → words ≡ a ∷ x → x ≡ b ∷ y → y ≡ c ∷ rest → texts_of words ≡ a.1 ∷ b.1 ∷ c.1 ∷ texts_of rest
 three_words a b c words x y rest e f g = rw (e, f, g) refl
 
--- what is read is a sparse text
+-- a text that is read is a sparse text
 pub sparse_found : (binary : Bool) (text : Text) (m : Matrix) → sparse binary text ≡ Ok m → IsSparse binary (texts_of text.words) m
 sparse_found binary text m h =
     let a = bind_ok (field Short (limited MAX_ROWS TooManyRows) text) (λ (height : ℕ × Text). field Short (limited MAX_COLUMNS TooManyColumns) height.1 >>= λ width. field Short count width.1 >>= λ n. matrix_by_triples binary height.0 width.0 n.0 n.1 >>= λ matrix. ended Extra matrix.0 matrix.1) m h in
@@ -211,7 +211,7 @@ sparse_found binary text m h =
           matrix = all.matrix;
         }
 
--- what is a sparse text is read
+-- a sparse text is read
 pub sparse_only : (binary : Bool) (size : ℕ) (words : List (ℕ × List ℕ)) (m : Matrix) → IsSparse binary (texts_of words) m → sparse binary (record { size = size; words = words }) ≡ Ok m
 sparse_only binary size [] m is = absurd (let e = is.words_are in cc)
 sparse_only binary size (h ∷ []) m is = absurd (let e = is.words_are in cc)
@@ -230,7 +230,7 @@ sparse_only binary size (h ∷ w ∷ n ∷ words) m is =
     ∙ triples_again binary is.height is.width size words [] [] is.triples (subst (λ ws. SpellTriples binary ws is.triples) (sym tw) is.triples_are) is.placed is.once in
     rw (height, width, number, all) (ap Ok (sym is.matrix))
 
--- the same for what a function returned
+-- the same for the result of a function
 pub found : (binary : Bool) (text : Text) (r : Result Matrix (FieldError TextKind)) → Gives (λ m. m) r (sparse binary text) → IfOk r (IsSparse binary (texts_of text.words))
 found binary text (Ok m) gives = sparse_found binary text m gives
 found binary text (Err e) gives = tt

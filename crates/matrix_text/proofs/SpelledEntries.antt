@@ -1,4 +1,4 @@
--- What holds of 0 and of each entry that a word stands for holds of each entry that the words of a text stand for.
+-- A property of 0, and of each entry that a word represents, is a property of each entry that the words of a text represent.
 use Rattle.std.proofs.Common.{◌≡◌, ℕ, zero, suc, ℤ, pos, Bool, true, false, cond, List, [], ◌∷◌, get_or, Ok}
 use Rattle.text_fields.specs.Spelling.{Spell}
 use Rattle.matrix_text.specs.Values.{entry_in}

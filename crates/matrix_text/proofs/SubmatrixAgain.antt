@@ -1,4 +1,4 @@
--- A submatrix text that was written is read again as the same lines.
+-- A submatrix text that was written is read back as the same lines.
 use Rattle.std.proofs.Common.{◌≡◌, ◌≤◌, ◌+◌, ◌∙◌, ℕ, suc, List, [], ◌∷◌, ◌++◌, length, map, Ok, ap, arith}
 use Rattle.std.specs.Fmt.{decimal}
 use Rattle.std.specs.List.{AllByRecursion}

@@ -1,4 +1,4 @@
--- Reading gives exactly the lines whose submatrix text the words are.
+-- Reading gives lines if and only if the words are their submatrix text.
 use Rattle.std.proofs.Common.{◌≡◌, ◌∙◌, ℕ, List, [], ◌∷◌, ◌++◌, length, cond, eqb, true, Result, Ok, Err, refl, ap, sym, subst, arith, zero-le}
 use Rattle.std.specs.Prelude.{IfOk}
 use Rattle.std.proofs.lemmas.List.{append-nil, map-append}
@@ -80,7 +80,7 @@ lists_found height width p q text lines h =
 four_words : (a b c d : ℕ × List ℕ) (words x y z rest : List (ℕ × List ℕ)) → words ≡ a ∷ x → x ≡ b ∷ y → y ≡ c ∷ z → z ≡ d ∷ rest → texts_of words ≡ a.1 ∷ b.1 ∷ c.1 ∷ d.1 ∷ texts_of rest
 four_words a b c d words x y z rest e f g h = rw (e, f, g, h) refl
 
--- what is read is a submatrix text
+-- a text that is read is a submatrix text
 submatrix_found : (height width : ℕ) (text : Text) (lines : LineSet) → named_lines height width text ≡ Ok lines → IsSubmatrix height width (texts_of text.words) lines
 submatrix_found height width text lines h =
     let a = bind_ok (field Short (own_size height) text) (λ (same : ℕ × Text). field Short (own_size width) same.1 >>= λ same. counts_behind height width same.1) lines h in
@@ -131,7 +131,7 @@ lists_again height width size words lines are =
     ∙ lines_again width ColumnOutOfRange size s.second [] [] lines.columns (subst (λ ws. Spell count_in ws (numbers_of lines.columns)) (sym s.back_is) are.columns_are) are.columns_rise in
     rw (rows, columns) refl
 
--- what is a submatrix text is read
+-- a submatrix text is read
 pub submatrix_only : (height width size : ℕ) (words : List (ℕ × List ℕ)) (lines : LineSet) → IsSubmatrix height width (texts_of words) lines → named_lines height width (record { size = size; words = words }) ≡ Ok lines
 submatrix_only height width size [] lines is = absurd (let e = is.words_are in cc)
 submatrix_only height width size (h ∷ []) lines is = absurd (let e = is.words_are in cc)
@@ -160,7 +160,7 @@ submatrix_only height width size (h ∷ w ∷ p ∷ q ∷ words) lines is =
       columns_rise = rises_in 0 width lines.columns is.columns_rise is.columns_in (λ h. zero-le);
     }))
 
--- the same for what a function returned
+-- the same for the result of a function
 pub found : (height width : ℕ) (text : Text) (r : Result LineSet (FieldError TextKind)) → Gives (λ lines. lines) r (named_lines height width text) → IfOk r (IsSubmatrix height width (texts_of text.words))
 found height width text (Ok lines) gives = submatrix_found height width text lines gives
 found height width text (Err e) gives = tt

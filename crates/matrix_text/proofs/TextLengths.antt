@@ -1,4 +1,4 @@
--- How long the dense text of a matrix is at most.
+-- A bound on the length of the dense text of a matrix.
 use Rattle.std.proofs.Common.{◌≡◌, ◌≤◌, ◌*◌, ◌∙◌, ◌++◌, inl, inr, ℕ, ℤ, List, [], ◌∷◌, map, length, ap, arith, length-append}
 use Rattle.std.specs.Fmt.{decimal, signed_decimal}
 use Rattle.std.specs.List.{AllByRecursion, join_with_byte}
@@ -43,7 +43,7 @@ narrow_rows : (width : ℕ) (rows : List (List ℤ)) → width ≤ 1000 → AllB
 narrow_rows width [] w h = tt
 narrow_rows width (row ∷ rows) w h = ((let e = h.0 in omega arith), narrow_rows width rows w h.1)
 
--- no more than a file of a matrix may have
+-- a dense text is at most as long as a file of a matrix may be
 pub dense_text_within : (m : Matrix) → IsMatrix m → length (dense_text m) ≤ 16777216
 dense_text_within m is =
     let tall = is.height_in in

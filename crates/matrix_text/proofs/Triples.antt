@@ -13,7 +13,7 @@ use Rattle.matrix_text.proofs.FreePlaces.{free_place-same, free_place_ok}
 use Rattle.matrix_text.proofs.Places.{AreHeld}
 
 module _ (binary : Bool) (height width : ℕ) (taken : List Bool) (cells : List ℤ) (triples : List Triple) (held : AreHeld height width taken cells triples) (text : Text) where
-  -- the flags tell which places are named
+  -- the flags are true at the named positions
   as_named : free_place height width (λ row column. get_or taken ((row - 1) * width + (column - 1)) false) text ≡ free_place height width (is_place_named triples) text
   as_named = free_place-same height width (λ row column. get_or taken ((row - 1) * width + (column - 1)) false) (is_place_named triples) (λ row column row_above row_in column_above column_in. let r : row - 1 + 1 ≡ row = omega arith in let k : column - 1 + 1 ≡ column = omega arith in held.marks (row - 1) (column - 1) (omega arith) (omega arith) ∙ ap (λ n. is_place_named triples n (column - 1 + 1)) r ∙ ap (is_place_named triples row) k) text
 

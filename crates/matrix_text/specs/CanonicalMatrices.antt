@@ -22,7 +22,7 @@ row_triples row column (z ∷ entries) =
     then (record { row = row; column = column; value = z }) ∷ row_triples row (column + 1) entries
     else row_triples row (column + 1) entries
 
--- the nonzeros by rows, from a row on
+-- the nonzeros in row order, from a row on
 abbrev pub triples_from : ℕ → List (List ℤ) → List Triple
 triples_from row [] = []
 triples_from row (entries ∷ rows) = row_triples row 1 entries ++ triples_from (row + 1) rows

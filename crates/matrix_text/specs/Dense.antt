@@ -28,7 +28,7 @@ pub record IsDense (binary : Bool) (words : List (List ℕ)) (m : Matrix) : Type
   pub count : length cells ≡ height * width
   pub matrix : m ≡ record { rows = rows_of height width cells; width = width }
 
--- reading: the matrix that a dense text stands for, or its first fault
+-- reading: the matrix that a dense text represents, or its first fault
 abbrev pub dense : Bool → Text → Result Matrix (Fault TextKind)
 dense binary text = do
   height ← field Short (limited MAX_ROWS TooManyRows) text

@@ -1,4 +1,4 @@
--- Sparse texts: the sizes and a count, and then so many triples.
+-- Sparse texts: the sizes and a count, and then as many triples as the count says.
 use Rattle.std.specs.Prelude.{◌≡◌, ◌<◌, ◌≤◌, false, length, ◌==◌, ◌&&◌, ◌++◌, if◌then◌else◌, ℕ, ℤ, pos, Bool, List, [], ◌∷◌, map, Result, Ok}
 use Rattle.std.specs.List.{AllByRecursion, list_any, range_with_len}
 use Rattle.cmr_base.specs.declared.limits.TheConstants.{MAX_COLUMNS, MAX_ROWS}
@@ -20,37 +20,37 @@ pub record Triple : Type 0 where
 abbrev pub names : ℕ → ℕ → Triple → Bool
 names row column triple = (triple.row == row) && (triple.column == column)
 
--- some triple names this place
+-- a triple names this position
 abbrev pub is_place_named : List Triple → ℕ → ℕ → Bool
 is_place_named triples row column = list_any (names row column) triples
 
--- the value of the triple that names a place, else 0
+-- the value of the triple that names a position, or 0 if there is none
 abbrev pub value_at : List Triple → ℕ → ℕ → ℤ
 value_at [] row column = pos 0
 value_at (triple ∷ triples) row column = if names row column triple then triple.value else value_at triples row column
 
--- the matrix of these sizes with the triples' values in their places
+-- the matrix of these sizes with the triples' values at their positions
 abbrev pub matrix_of_triples : ℕ → ℕ → List Triple → Matrix
 matrix_of_triples height width triples = record {
   rows = map (λ row. map (value_at triples row) (range_with_len 1 width)) (range_with_len 1 height);
   width = width;
 }
 
--- each three words stand for a triple
+-- each three words represent a triple
 abbrev pub SpellTriples : Bool → List (List ℕ) → List Triple → Type 0
 SpellTriples binary [] [] = Unit {0}
 SpellTriples binary (row ∷ column ∷ value ∷ words) (triple ∷ triples) =
     (count_in row ≡ Ok triple.row) × (count_in column ≡ Ok triple.column) × (entry_in binary value ≡ Ok triple.value) × SpellTriples binary words triples
 SpellTriples binary _ _ = ⊥
 
--- in the matrix of these sizes
+-- the position is in a matrix of these sizes
 pub record IsPlaced (height width : ℕ) (triple : Triple) : Type 0 where
   pub row_above : 0 < triple.row
   pub row_in : triple.row ≤ height
   pub column_above : 0 < triple.column
   pub column_in : triple.column ≤ width
 
--- no place is named twice
+-- no position is named twice
 abbrev pub NameOnce : List Triple → Type 0
 NameOnce [] = Unit {0}
 NameOnce (triple ∷ triples) = (is_place_named triples triple.row triple.column ≡ false) × NameOnce triples
@@ -75,27 +75,27 @@ pub record IsSparse (binary : Bool) (words : List (List ℕ)) (m : Matrix) : Typ
   pub once : NameOnce triples
   pub matrix : m ≡ matrix_of_triples height width triples
 
--- a row and a column of a place that is not taken
+-- the row and the column of a position that is not taken
 abbrev pub free_place : ℕ → ℕ → (ℕ → ℕ → Bool) → Text → Result ((ℕ × ℕ) × Text) (Fault TextKind)
 free_place height width is_taken text = do
   row ← field Short (line_in height RowOutOfRange) text
   column ← field Short (free_column_in width (is_taken row.0)) row.1
   Ok ((row.0, column.0), column.1)
 
--- one more triple, whose place those before it do not name
+-- one more triple, whose position the earlier triples do not name
 abbrev pub another_triple : Bool → ℕ → ℕ → List Triple → Text → Result (List Triple × Text) (Fault TextKind)
 another_triple binary height width triples text = do
   place ← free_place height width (is_place_named triples) text
   value ← field Short (entry_in binary) place.1
   Ok (triples ++ (record { row = (place.0).0; column = (place.0).1; value = value.0 }) ∷ [], value.1)
 
--- the matrix that so many triples stand for
+-- the matrix that n triples represent
 abbrev pub matrix_by_triples : Bool → ℕ → ℕ → ℕ → Text → Result (Matrix × Text) (Fault TextKind)
 matrix_by_triples binary height width n text = do
   triples ← times (another_triple binary height width) n [] text
   Ok (matrix_of_triples height width triples.0, triples.1)
 
--- reading: the matrix that a sparse text stands for, or its first fault
+-- reading: the matrix that a sparse text represents, or its first fault
 abbrev pub sparse : Bool → Text → Result Matrix (Fault TextKind)
 sparse binary text = do
   height ← field Short (limited MAX_ROWS TooManyRows) text

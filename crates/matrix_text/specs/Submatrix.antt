@@ -1,4 +1,4 @@
--- Submatrix texts: the matrix's sizes, two counts, and then so many rows and so many columns.
+-- Submatrix texts: the matrix's sizes, a count of rows and a count of columns, and then the rows and the columns.
 use Rattle.std.specs.Prelude.{◌≡◌, ◌-◌, ◌+◌, ◌++◌, ℕ, List, [], ◌∷◌, length, map, Result, Ok}
 use Rattle.std.specs.List.Sorted.{IsStrictlyIncreasing}
 use Rattle.cmr_base.specs.LineSets.{AllBelow}
@@ -37,13 +37,13 @@ pub record IsSubmatrix (height width : ℕ) (words : List (List ℕ)) (lines : L
   pub rows_in : AllBelow height lines.rows
   pub columns_in : AllBelow width lines.columns
 
--- one more line, above the one before it
+-- one more line, above the previous line
 abbrev pub another_line : ℕ → TextKind → List ℕ → Text → Result (List ℕ × Text) (Fault TextKind)
 another_line most outside lines text = do
   number ← field Short (increasing_line_in most outside (last_number lines)) text
   Ok (lines ++ (number.0 - 1) ∷ [], number.1)
 
--- so many increasing lines
+-- n increasing lines
 abbrev pub increasing_lines : ℕ → TextKind → ℕ → Text → Result (List ℕ × Text) (Fault TextKind)
 increasing_lines most outside n text = times (another_line most outside) n [] text
 

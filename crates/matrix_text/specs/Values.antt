@@ -1,4 +1,4 @@
--- What the words of matrix texts stand for.
+-- The values of the words of matrix texts.
 use Rattle.std.specs.Prelude.{◌==◌, if◌then◌else◌, ℕ, zero, suc, ℤ, pos, negsuc, Bool, List, Result, Ok, Err}
 use Rattle.text_fields.specs.Limits as limits
 use Rattle.text_fields.specs.Result.{◌>>=◌, renamed}
@@ -11,25 +11,25 @@ use Rattle.matrix_text.specs.TextKinds.{text_kind, limit_kind}
 abbrev pub count : List ℕ → Result ℕ TextKind
 count word = renamed text_kind (count_in word)
 
--- a count of at most so much
+-- a count of at most `most`
 abbrev pub limited : ℕ → TextKind → List ℕ → Result ℕ TextKind
 limited most beyond word = renamed (limit_kind beyond) (limits.limited most word)
 
--- a count that is the matrix's own
+-- a count that is the matrix's size
 abbrev pub own_size : ℕ → List ℕ → Result ℕ TextKind
 own_size size word = do
   n ← count word
   if n == size then Ok n else Err OtherSize
 
--- the number of a line, from 1 to so many
+-- the number of a line, from 1 to `most`
 abbrev pub line_in : ℕ → TextKind → List ℕ → Result ℕ TextKind
 line_in most outside word = renamed (limit_kind outside) (limits.line_in most word)
 
--- a line's number above the one before it
+-- a line's number above the previous number
 abbrev pub increasing_line_in : ℕ → TextKind → ℕ → List ℕ → Result ℕ TextKind
 increasing_line_in most outside before word = renamed (limit_kind outside) (limits.increasing_line_in most before word)
 
--- a column's number that is not taken
+-- the number of a column that is not taken
 abbrev pub free_column_in : ℕ → (ℕ → Bool) → List ℕ → Result ℕ TextKind
 free_column_in most is_taken word = do
   n ← line_in most ColumnOutOfRange word

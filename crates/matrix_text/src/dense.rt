@@ -17,16 +17,16 @@ use cmr_base::{MAX_COLUMNS, MAX_ROWS, Matrix, Memory};
 use std::alloc::Global;
 use text_fields::{Words, Writer};
 
-/// The matrix that a dense text stands for, or the text's first fault.
+/// The matrix that a dense text represents, or the text's first fault.
 pub fn read_dense(alloc: Global, bytes: &[u8], binary: bool) -> Result<Matrix, TextError>
-    // What is read is a dense text of the matrix.
+    // The text is a dense text of the matrix.
     ensures found { IfOk result (IsDense binary (words_in bytes.now)) }
-    // A dense text of a matrix is read as this matrix, unless memory runs out.
+    // Each dense text of a matrix is read as this matrix, except if an allocation fails.
     ensures only { (m : Matrix) → IsDense binary (words_in bytes.now) m
         → Gives (λ m. m) result (Ok m) }
-    // Read as 0/1, it is a matrix of zeros and ones.
+    // With `binary`, the matrix has entries 0 and 1 only.
     ensures zeros_and_ones { IsTrue binary → IfOk result IsBinary }
-    // Which fault is the first.
+    // This clause determines the first fault.
     ensures exact { Gives (λ m. m) result (dense binary (text_of bytes.now)) }
 {
     dense_matrix(alloc, bytes, binary)
@@ -64,7 +64,7 @@ fn entries(
 /// The canonical dense text of a matrix.
 pub fn write_dense(alloc: Global, matrix: &Matrix) -> Result<Vec<u8>, Memory>
     ensures text { IfOk result (λ v. v.items ≡ dense_text matrix.now) }
-    // It is read again as the same matrix, as a 0/1 matrix too where it is one.
+    // The text is read back as the same matrix, and also as a 0/1 matrix if the matrix is one.
     ensures again { IfOk result (λ v. dense false (text_of v.items) ≡ Ok matrix.now) }
     ensures binary_again { IsBinary matrix.now
         → IfOk result (λ v. dense true (text_of v.items) ≡ Ok matrix.now) }

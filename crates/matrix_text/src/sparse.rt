@@ -14,17 +14,17 @@ use cmr_base::{MAX_COLUMNS, MAX_ROWS, Matrix, Memory};
 use std::alloc::Global;
 use text_fields::{Words, Writer};
 
-/// The matrix that a sparse text stands for, or the text's first fault. Memory is taken by the matrix's sizes, and
-/// not by the count of triples.
+/// The matrix that a sparse text represents, or the text's first fault. The allocated memory depends on the matrix's
+/// sizes, and not on the count of triples.
 pub fn read_sparse(alloc: Global, bytes: &[u8], binary: bool) -> Result<Matrix, TextError>
-    // What is read is a sparse text of the matrix.
+    // The text is a sparse text of the matrix.
     ensures found { IfOk result (IsSparse binary (words_in bytes.now)) }
-    // A sparse text of a matrix is read as this matrix, unless memory runs out.
+    // Each sparse text of a matrix is read as this matrix, except if an allocation fails.
     ensures only { (m : Matrix) → IsSparse binary (words_in bytes.now) m
         → Gives (λ m. m) result (Ok m) }
-    // Read as 0/1, it is a matrix of zeros and ones.
+    // With `binary`, the matrix has entries 0 and 1 only.
     ensures zeros_and_ones { IsTrue binary → IfOk result IsBinary }
-    // Which fault is the first.
+    // This clause determines the first fault.
     ensures exact { Gives (λ m. m) result (sparse binary (text_of bytes.now)) }
 {
     sparse_matrix(alloc, bytes, binary)
@@ -67,7 +67,7 @@ fn matrix_by_triples(
     Ok(matrix)
 }
 
-// The row and the column of a place that is not taken.
+// The row and the column of a position that is not taken.
 fn free_place(
     words: &mut Words<'_>,
     rows: u32,
@@ -94,7 +94,7 @@ fn free_place(
 /// The canonical sparse text of a matrix.
 pub fn write_sparse(alloc: Global, matrix: &Matrix) -> Result<Vec<u8>, Memory>
     ensures text { IfOk result (λ v. v.items ≡ sparse_text matrix.now) }
-    // It is read again as the same matrix, as a 0/1 matrix too where it is one.
+    // The text is read back as the same matrix, and also as a 0/1 matrix if the matrix is one.
     ensures again { IfOk result (λ v. sparse false (text_of v.items) ≡ Ok matrix.now) }
     ensures binary_again { IsBinary matrix.now
         → IfOk result (λ v. sparse true (text_of v.items) ≡ Ok matrix.now) }

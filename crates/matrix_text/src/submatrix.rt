@@ -22,12 +22,12 @@ pub fn read_submatrix(
     rows: u32,
     columns: u32,
 ) -> Result<LineSet, TextError>
-    // What is read is a submatrix text of the lines.
+    // The text is a submatrix text of the lines.
     ensures found { IfOk result (IsSubmatrix rows columns (words_in bytes.now)) }
-    // A submatrix text of some lines is read as these lines, unless memory runs out.
+    // Each submatrix text of a set of lines is read as these lines, except if an allocation fails.
     ensures only { (lines : LineSet) → IsSubmatrix rows columns (words_in bytes.now) lines
         → Gives (λ lines. lines) result (Ok lines) }
-    // Which fault is the first.
+    // This clause determines the first fault.
     ensures exact { Gives (λ lines. lines) result (named_lines rows columns (text_of bytes.now)) }
 {
     lines_of_text(alloc, bytes, rows, columns)
@@ -74,7 +74,7 @@ fn increasing_lines(
     Ok(lines)
 }
 
-/// The canonical submatrix text of some lines in a matrix of these sizes.
+/// The canonical submatrix text of a set of lines in a matrix of these sizes.
 pub fn write_submatrix(
     alloc: Global,
     lines: &LineSet,
@@ -86,7 +86,7 @@ pub fn write_submatrix(
     requires rows_in { AllBelow rows lines.now.rows }
     requires columns_in { AllBelow columns lines.now.columns }
     ensures text { IfOk result (λ v. v.items ≡ submatrix_text rows columns lines.now) }
-    // It is read again as the same lines.
+    // The text is read back as the same lines.
     ensures again { IfOk result (λ v. named_lines rows columns (text_of v.items) ≡ Ok lines.now) }
 {
     let mut text = Writer::new(alloc);
@@ -98,7 +98,7 @@ pub fn write_submatrix(
     Ok(text.into_bytes())
 }
 
-// A line of the numbers of some rows or columns.
+// Writes a line with the numbers of rows or columns.
 fn write_lines(text: &mut Writer, lines: &Indices) -> Result<(), Memory>
     requires within { AllBelow MAX_ROWS lines.now }
     requires at_start { text.old.is_begun ≡ false }

@@ -15,7 +15,7 @@ pub fn count(word: &[u8]) -> Result<u32, TextKind>
     Ok(count_in(word)?)
 }
 
-/// A number within limits, with its fault as matrix texts name it; `outside` is the kind of one that is out of range.
+/// A number within limits, with its fault as a fault of matrix texts; `outside` is the kind for a number out of range.
 pub fn named(parsed: Result<u32, LimitFault>, outside: TextKind) -> Result<u32, TextKind>
     ensures { result ≡ renamed (limit_kind outside) parsed }
 {
@@ -27,7 +27,7 @@ pub fn named(parsed: Result<u32, LimitFault>, outside: TextKind) -> Result<u32, 
     }
 }
 
-/// The size that a matrix has.
+/// A count that is equal to the size of the matrix.
 pub fn own_size(word: &[u8], size: u32) -> Result<u32, TextKind>
     ensures { result ≡ own_size size word.now }
 {
@@ -56,7 +56,7 @@ pub fn free_column_in(word: &[u8], taken: &[bool]) -> Result<u32, TextKind>
     }
 }
 
-/// An entry that may stand in the matrix.
+/// An entry that the matrix may contain.
 pub fn allowed(entry: i8, binary: bool) -> Result<i8, TextKind>
     requires { IsEntry entry }
     ensures value { result ≡ allowed binary entry }

@@ -1,4 +1,4 @@
--- Decimals are words that stand for their numbers.
+-- Decimals are words that represent their numbers.
 use Rattle.std.proofs.Common.{◌≡◌, ◌<◌, ◌+◌, ◌*◌, ◌-◌, ◌^◌, ◌∙◌, eqb, ltb, ℕ, true, false, List, [], ◌∷◌, length, Ok, refl, ap, sym, subst, arith, rules}
 use Rattle.std.specs.Prelude.{fold}
 use Rattle.std.specs.List.{list_all}

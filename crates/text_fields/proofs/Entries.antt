@@ -32,7 +32,7 @@ entry_word z small = elim (entry_cases z small) [
   | inr (inr e) ↦ subst (λ y. IsWord (signed_decimal y)) (sym e) (subst IsWord (sym one_text) (record { first = 49; others = []; word_is = refl; solid = (refl, tt) }))
 ]
 
--- and it is read as the entry
+-- the word is read as the entry
 pub entry_again : (z : ℤ) → IsEntry z → signed_in (signed_decimal z) ≡ Ok z
 entry_again z small = elim (entry_cases z small) [
   | inl e ↦ subst (λ y. signed_in (signed_decimal y) ≡ Ok y) (sym e) (ap signed_in minus_one_text)

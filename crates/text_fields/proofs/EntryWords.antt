@@ -1,4 +1,4 @@
--- Entries that stand right between white bytes.
+-- Entries directly between white bytes.
 use Rattle.std.proofs.Common.{◌≡◌, ◌≢◌, ◌<◌, ◌≤◌, ◌+◌, ◌-◌, ◌∙◌, ℕ, zero, suc, ℤ, pos, negsuc, neg_ℤ, true, false, List, [], ◌∷◌, length, drop, get_or, refl, ap, subst, inl, inr, arith}
 use Rattle.std.specs.Fmt.{signed_decimal}
 use Rattle.std.proofs.lemmas.Bool.{cases_eq}
@@ -36,7 +36,7 @@ minus_word : (bytes : List ℕ) (at : ℕ) (entry : ℤ) → at + 3 < length byt
     → words_from at (drop at bytes) ≡ (at + 1, signed_decimal entry) ∷ words_from (at + 1 + 1 + 1) (drop (at + 1 + 1 + 1) bytes)
 minus_word bytes at entry inside before sign digit is space = rw (is, minus_one_text) (two_bytes bytes at 45 49 inside before sign refl digit refl space)
 
--- the digit's place is one later behind a minus
+-- the digit is one byte later if it follows a minus
 pub entry_words : (bytes : List ℕ) (at minus : ℕ) (entry : ℤ) → at + 3 < length bytes → is_space (get_or bytes at 0) ≡ true → minus ≤ 1 → (get_or bytes (at + 1) 0 ≢ 45 → minus ≡ 0)
     → 48 + minus ≤ get_or bytes (at + 1 + minus) 0 → get_or bytes (at + 1 + minus) 0 ≤ 49
     → (minus ≡ 0 → entry ≡ pos (get_or bytes (at + 1 + minus) 0 - 48)) → (minus ≡ 1 → entry ≡ neg_ℤ (pos (get_or bytes (at + 1 + minus) 0 - 48)))

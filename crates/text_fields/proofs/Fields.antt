@@ -9,7 +9,7 @@ use Rattle.text_fields.specs.declared.error.FieldError.{FieldError}
 use Rattle.text_fields.specs.declared.error.FieldError.TheVariants as errors
 use Rattle.text_fields.proofs.Results.{bind_ok, ok_same}
 
--- a field was read: the next word gave it
+-- a field was read from the next word
 pub record Fielded {A K : Type 0} (parse : List ℕ → Result A K) (text : Text) (x : A) (rest : Text) : Type 0 where
   pub word : ℕ × List ℕ
   pub words_are : text.words ≡ word ∷ rest.words
@@ -41,16 +41,16 @@ field_ok {A} short parse text x rest h =
       parsed = placed_ok (b.0.0).0 (parse (b.0.0).1) p.0 p.1 ∙ ap Ok value_is;
     }
 
--- words that stand for the same give the same field
+-- two parsers that agree on all words read the same field
 pub field-same : {A K : Type 0} (short : K) (f g : List ℕ → Result A K) (text : Text) → ((word : List ℕ) → f word ≡ g word) → field short f text ≡ field short g text
 field-same short f g text same = λ j. field short (λ word. same word j) text
 
--- what fails at its start fails
+-- a reading fails if its first step fails
 pub bind_fails : {A B K : Type 0} (e : FieldError K) (r : Result A (Fault K)) (f : A → Result B (Fault K)) → Fails e r → Fails e (r >>= f)
 bind_fails errors.Memory r f h = tt
 bind_fails (errors.Fault kind place) r f h = rw h refl
 
--- so many fields were read, behind those before them: these words spelled them
+-- n fields were read after earlier fields, and these words spell them
 pub record AreFields {A K : Type 0} (parse : List ℕ → Result A K) (n : ℕ) (text : Text) (before values : List A) (rest : Text) : Type 0 where
   pub prefix : List (ℕ × List ℕ)
   pub read : List A
@@ -109,7 +109,7 @@ ended_ok extra made text x h = go text.words h
     go [] h = (refl, ok_same made x h)
     go (word ∷ words) h = absurd (cc)
 
--- what a word gave, with the text behind it
+-- the value of a word, with the text after it
 pub placed_reads : {A K : Type 0} (place : ℕ) (parsed : Result A K) (rest : Text) (r : Result A (FieldError K)) → Gives (λ x. x) r (placed place parsed) → Reads (λ x. x) rest r (placed place parsed >>= λ value. Ok (value, rest))
 placed_reads place parsed rest (Ok x) gives = rw gives refl
 placed_reads {A} place parsed rest (Err e) fails = bind_fails e (placed place parsed) (λ (value : A). Ok (value, rest)) fails

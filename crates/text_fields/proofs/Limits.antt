@@ -1,4 +1,4 @@
--- Words that stand for numbers within limits, whatever the names of their faults.
+-- Words that represent numbers within limits; the names of their faults do not matter.
 use Rattle.std.proofs.Common.{◌≡◌, ◌<◌, ◌≤◌, ◌∙◌, ℕ, true, false, cond, leb, ltb, eqb, List, Ok, Err, refl, ap, subst, arith}
 use Rattle.std.proofs.lemmas.Bool.{leb-true, le-leb}
 use Rattle.std.proofs.lemmas.Bool.Decides.{nat_tests}

@@ -22,7 +22,7 @@ run_of_word at (b ∷ word) space rest solid is =
     let behind : at + suc (length word) + 1 ≡ at + 1 + length word + 1 = omega arith in
     rw (solid.0, run_of_word (at + 1) word space rest solid.1 is, behind) refl
 
--- places do not matter
+-- offsets do not matter
 with_word_at : (a b : ℕ) (run : List ℕ) (words others : List (ℕ × List ℕ)) → texts_of words ≡ texts_of others → texts_of (with_word a run words) ≡ texts_of (with_word b run others)
 with_word_at a b [] words others same = same
 with_word_at a b (x ∷ run) words others same = ap (λ ws. (x ∷ run) ∷ ws) same
@@ -67,12 +67,12 @@ words_in_line (word ∷ next ∷ words) rest all =
 abbrev pub words_of_lines : List (List (List ℕ)) → List (List ℕ)
 words_of_lines lines = flat_map (λ line. line) lines
 
--- they are those of the text
+-- the words of the lines are the words of the text
 pub words_in_lines : (lines : List (List (List ℕ))) → AllByRecursion (AllByRecursion IsWord) lines → words_in (text_of_lines lines) ≡ words_of_lines lines
 words_in_lines [] all = refl
 words_in_lines (line ∷ lines) all = words_in_line line (text_of_lines lines) all.0 ∙ ap (λ ws. line ++ ws) (words_in_lines lines all.1)
 
--- words whose texts are those of two lists, one after the other
+-- words whose texts are two lists, one after the other
 pub record AreSplit (words : List (ℕ × List ℕ)) (prefix back : List (List ℕ)) : Type 0 where
   pub first : List (ℕ × List ℕ)
   pub second : List (ℕ × List ℕ)

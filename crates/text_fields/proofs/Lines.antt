@@ -5,7 +5,7 @@ use Rattle.std.specs.List.{join_with_byte}
 use Rattle.std.proofs.lemmas.List.{append-nil, take_all}
 use Rattle.text_fields.specs.Written.{text_line, text_of_lines, Draft, with_word, with_end, with_line}
 
--- words in a line that has one already
+-- words in a line that already has a word
 words_behind : (bytes word : List ℕ) (words : List (List ℕ)) → fold with_word (record { bytes = bytes ++ word; is_begun = true }) words ≡ record { bytes = bytes ++ join_with_byte 32 (word ∷ words); is_begun = true }
 words_behind bytes word [] = refl
 words_behind bytes word (next ∷ words) =
@@ -36,7 +36,7 @@ pub lines_written : (draft : Draft) (lines : List (List (List ℕ))) → (fold w
 lines_written draft [] = sym (append-nil draft.bytes)
 lines_written draft (line ∷ lines) = lines_written (with_line draft line) lines ∙ append_assoc draft.bytes (text_line line) (text_of_lines lines)
 
--- behind lines no word is begun
+-- after lines no word is begun
 pub lines_end : (draft : Draft) (lines : List (List (List ℕ))) → draft.is_begun ≡ false → (fold with_line draft lines).is_begun ≡ false
 lines_end draft [] none = none
 lines_end draft (line ∷ lines) none = lines_end (with_line draft line) lines refl

@@ -1,4 +1,4 @@
--- Words that were written for a value, read again.
+-- Words that were written for a value are read back as this value.
 use Rattle.std.proofs.Common.{◌≡◌, ◌∙◌, ℕ, List, [], ◌∷◌, ◌++◌, length, Result, Ok, refl, ap, sym, subst, append_assoc}
 use Rattle.std.specs.List.{AllByRecursion, flat_map}
 use Rattle.std.proofs.lemmas.List.{append-nil}
@@ -8,11 +8,11 @@ use Rattle.text_fields.specs.Reading.{Fault, field, times}
 use Rattle.text_fields.specs.Spelling.{texts_of}
 use Rattle.text_fields.proofs.LineWords.{split_texts}
 
--- reading a value off the prefix of a text
+-- reads a value from the start of a text
 abbrev pub Reader : Type 0 → Type 0 → Type 0
 Reader K A = Text → Result (A × Text) (Fault K)
 
--- a reader gives a value back from the words that were written for it, whatever stands behind them
+-- the reader gives the value from the words that were written for it, for each text that follows them
 abbrev pub Again : {K A : Type 0} → Reader K A → List (List ℕ) → A → Type 0
 Again read words x = (size : ℕ) (prefix later : List (ℕ × List ℕ)) → texts_of prefix ≡ words → read (record { size = size; words = prefix ++ later }) ≡ Ok (x, record { size = size; words = later })
 
@@ -25,7 +25,7 @@ again_field short parse word x h size [] later e = absurd (cc)
 again_field short parse word x h size (first ∷ []) later e = let same : first.1 ≡ word = cc in rw (same, h) refl
 again_field short parse word x h size (first ∷ second ∷ prefix) later e = absurd (cc)
 
--- one reading after another
+-- one reader after another
 pub again_bind : {K A B : Type 0} (read : Reader K A) (next : A × Text → Result (B × Text) (Fault K)) (words more : List (List ℕ)) (x : A) (y : B) → Again read words x → Again (λ text. next (x, text)) more y → Again (λ text. read text >>= next) (words ++ more) y
 again_bind read next words more x y first second size prefix later e =
     let s = split_texts prefix words more e in
@@ -33,7 +33,7 @@ again_bind read next words more x y first second size prefix later e =
     ap (λ ws. read (record { size = size; words = ws })) (ap (λ ws. ws ++ later) s.words_are ∙ append_assoc s.first s.second later) ∙ first size s.first (s.second ++ later) s.prefix_is in
     rw here (second size s.second later s.back_is)
 
--- what was read, put into another value
+-- the value that was read, as a part of another value
 pub again_wrap : {K A B : Type 0} (read : Reader K A) (make : A → B) (words : List (List ℕ)) (x : A) → Again read words x → Again (λ text. read text >>= λ p. Ok (make p.0, p.1)) words (make x)
 again_wrap read make words x first size prefix later e = rw (first size prefix later e) refl
 

@@ -3,7 +3,7 @@ use Rattle.std.proofs.Common.{◌≡◌, ℕ, List, [], ◌∷◌, ◌++◌, map
 use Rattle.std.specs.List.{AllByRecursion, flat_map}
 use Rattle.text_fields.specs.Spelling.{Spell}
 
--- each value's word stands for it
+-- each value's word represents the value
 pub Spell-map : {A K : Type 0} (parse : List ℕ → Result A K) (write : A → List ℕ) (values : List A) → AllByRecursion (λ x. parse (write x) ≡ Ok x) values → Spell parse (map write values) values
 Spell-map parse write [] all = tt
 Spell-map parse write (x ∷ values) all = (all.0, Spell-map parse write values all.1)

@@ -1,4 +1,4 @@
--- A step so many times, seen from the middle of its loop.
+-- A repeated step, as its loop sees it after i steps.
 use Rattle.std.proofs.Common.{◌≡◌, ◌<◌, ◌≤◌, ◌+◌, ◌-◌, ◌∙◌, ℕ, suc, Result, Ok, Err, refl, sym, arith}
 use Rattle.text_fields.specs.TextWords.{Text}
 use Rattle.text_fields.specs.Reading.{Fault, times, Fails}
@@ -6,7 +6,7 @@ use Rattle.text_fields.specs.declared.error.FieldError.{FieldError}
 use Rattle.text_fields.specs.declared.error.FieldError.TheVariants as errors
 
 module _ {S K : Type 0} (step : S → Text → Result (S × Text) (Fault K)) (count i : ℕ) (state : S) (text : Text) (total : Result (S × Text) (Fault K)) where
-  -- all steps are still to come
+  -- no step is done
   pub all_to_come : total ≡ times step count state text → times step (count - 0) state text ≡ total
   all_to_come e = let all : count - 0 ≡ count = omega arith in rw all (sym e)
 
@@ -20,12 +20,12 @@ module _ {S K : Type 0} (step : S → Text → Result (S × Text) (Fault K)) (co
   fault_ends : i < count → (f : Fault K) → step state text ≡ Err f → times step (count - i) state text ≡ Err f
   fault_ends lt f made = let k : count - i ≡ suc (count - (i + 1)) = omega arith in rw (k, made) refl
 
-  -- a step's fault is the fault of all
+  -- the fault of a step is the fault of the repetition
   pub ends : i < count → (e : FieldError K) → Fails e (step state text) → times step (count - i) state text ≡ total → Fails e total
   ends lt errors.Memory made before = tt
   ends lt (errors.Fault kind place) made before = sym before ∙ fault_ends lt (kind, place) made
 
-  -- no step is left
+  -- all steps are done
   pub is_done : count ≤ i → times step (count - i) state text ≡ total → total ≡ Ok (state, text)
   is_done le before =
       let k : count - i ≡ 0 = omega arith in

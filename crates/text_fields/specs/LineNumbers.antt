@@ -14,10 +14,10 @@ abbrev pub line_name : Line → List ℕ
 line_name (Row row) = codes "r" ++ number_of_line row
 line_name (Column column) = codes "c" ++ number_of_line column
 
--- the number of the last line, counted from 1; 0 where there is none
+-- the number of the last line, counted from 1, or 0 if there is none
 abbrev pub last_number : List ℕ → ℕ
 last_number lines = fold (λ before line. line + 1) 0 lines
 
--- how many rows and columns there are, the rows, the columns
+-- the number of rows, the number of columns, the rows, the columns
 abbrev pub set_words : LineSet → List (List ℕ)
 set_words lines = decimal (length lines.rows) ∷ decimal (length lines.columns) ∷ (map number_of_line lines.rows ++ map number_of_line lines.columns)

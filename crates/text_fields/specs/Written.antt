@@ -6,7 +6,7 @@ use Rattle.std.specs.List.{join_with_byte, flat_map}
 abbrev pub text_line : List (List ℕ) → List ℕ
 text_line words = join_with_byte 32 words ++ 10 ∷ []
 
--- a text as far as it is written, and whether its last line has a word yet
+-- a text during its construction, and whether its last line has a word yet
 pub record Draft : Type 0 where
   pub bytes : List ℕ
   pub is_begun : Bool

@@ -4,34 +4,34 @@ ghost use Rattle.text_fields.specs.declared.error.FieldError.TheVariants.{Memory
 use std::alloc::{AllocError, AllocFailed};
 use thiserror::Error;
 
-/// Why a word is no number of those that texts have.
+/// Why a word is no number.
 #[derive(Clone, Copy, Debug, PartialEq, Eq)]
 pub enum NumberFault {
-    /// It has not the form of a number.
+    /// The word does not have the form of a number.
     NotNumber,
-    /// Its value is above 2^31 - 1 in size.
+    /// The absolute value is above 2^31 - 1.
     TooBig,
 }
 
 /// Why a word is no number within its limits.
 #[derive(Clone, Copy, Debug, PartialEq, Eq)]
 pub enum LimitFault {
-    /// It is no number.
+    /// The word is no number.
     Number(NumberFault),
-    /// It is above all that are allowed, or a line's number 0.
+    /// The number is above the largest allowed number, or it is 0 as the number of a line.
     OutOfRange,
-    /// It is not above the number before it.
+    /// The number is not above the previous number.
     NotRising,
 }
 
-/// Why a text was not read. `K` names the kinds of fault that a form of texts has.
+/// Why a text was not read. `K` is the type of the kinds of fault of a form of text.
 #[derive(Clone, Copy, Debug, PartialEq, Eq, Error)]
 pub enum FieldError<K> {
-    /// The text's first fault. The place is the byte offset of the word at fault, or the length of the text where
-    /// a word is missing.
+    /// The text's first fault. The place is the byte offset of the faulty word, or the length of the text if a word is
+    /// missing.
     #[error("fault at byte {place}")]
     Fault { kind: K, place: usize },
-    /// Memory was refused.
+    /// An allocation failed.
     #[error("out of memory")]
     Memory,
 }

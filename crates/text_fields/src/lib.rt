@@ -1,4 +1,5 @@
-//! What every form of text shares: words with their places, numbers, reading to the first fault, and writing.
+//! The common parts of all forms of text: words with their offsets, numbers, reading up to the first fault, and
+//! writing.
 #![tactic(auto)]
 
 mod error;

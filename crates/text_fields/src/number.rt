@@ -74,7 +74,7 @@ pub fn line_in(word: &[u8], most: u32) -> Result<u32, LimitFault>
     }
 }
 
-/// The number of a line, from 1 to `most`, above the number before it.
+/// The number of a line, from 1 to `most`, above the previous number.
 pub fn increasing_line_in(word: &[u8], most: u32, before: u32) -> Result<u32, LimitFault>
     ensures value { result ≡ increasing_line_in most before word.now }
     ensures above { IfOk result (λ n. before < n) }

@@ -9,8 +9,8 @@ use itoa::Buffer;
 use std::alloc::Global;
 use std::marker::Model;
 
-/// A canonical text as far as it is written: lines of words with one space between them. Where memory is refused,
-/// what was written is of no use.
+/// A canonical text during its construction: lines of words with one space between them. After an allocation failure
+/// the text is useless.
 #[derive(Drop)]
 pub struct Writer {
     bytes: Vec<u8>,
@@ -103,7 +103,7 @@ impl Writer {
     }
 }
 
-// A space and the text of an entry, and how many bytes they are. No branch rests on which entry it is.
+// A space and the text of an entry, and the number of these bytes. No branch depends on the value of the entry.
 fn spaced_entry(entry: i8) -> ([u8; 3], usize)
     requires { IsEntry entry }
     ensures above { 2 ≤ result.1 }

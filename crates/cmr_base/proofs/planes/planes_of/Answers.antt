@@ -7,7 +7,7 @@ use Rattle.cmr_base.proofs.PlaneWords.{more_rows}
 use Rattle.cmr_base.proofs.Rows.{length-rows_of, row-rows_of}
 use Rattle.cmr_base.proofs.planes.planes_of.Goals as goal
 
--- a row more in one plane
+-- one more row in one plane
 one_more : (test : ℤ → Bool) (cells : List ℤ) (rows columns words row : ℕ) (prefix later : List ℕ) → row < rows
     → later ≡ prefix ++ words_of words test (take (row * columns + columns - row * columns) (drop (row * columns) cells))
     → prefix ≡ flat_map (words_of words test) (take row (rows_of rows columns cells))

@@ -4,7 +4,7 @@ use Rattle.cmr_base.specs.Planes.{bits_of, is_minus, words_of}
 use Rattle.cmr_base.proofs.PlaneWords.{take_capped, words_of_more}
 use Rattle.cmr_base.proofs.planes.push_row.Goals as goal
 
--- a word more in one plane
+-- one more word in one plane
 one_more : (test : ℤ → Bool) (prefix later whole : List ℕ) (row : List ℤ) (words word value : ℕ) → word < words
     → later ≡ prefix ++ value ∷ [] → value ≡ bits_of test (take 64 (drop (64 * word) row))
     → prefix ++ words_of (words - word) test (drop (64 * word) row) ≡ whole

@@ -1,7 +1,7 @@
 use Rattle.std.proofs.Common.{◌≡◌, ◌<◌, ◌≤◌, ◌+◌, ◌-◌, ℕ, slice_index}
 use Rattle.cmr_base.proofs.runs.run_size.Given as goal
 
--- so many follow one another
+-- `size` columns are consecutive
 abbrev pub invariant-loop-size : goal.invariant-loop-size
 invariant-loop-size l = record {
   some : 1 ≤ l.size;

@@ -5,7 +5,7 @@ use Rattle.cmr_base.specs.Planes.{has_bit}
 use Rattle.cmr_base.proofs.TransposedRows.{AreBitsTransposed, all_bits_transposed, in_word, less_without, no_bit_transposed, one_bit_transposed}
 use Rattle.cmr_base.proofs.transposed_plane.transpose_word.Goals as goal
 
--- the place of the lowest bit
+-- the position of the lowest bit
 lowest : (rest : ℕ) → 0 < rest → rest < 2 ^ 64 → (trailing_zeros w64 rest < 64) × (has_bit rest (trailing_zeros w64 rest) ≡ true)
 lowest rest some fits = let zeros = bit_at-trailing_zeros w64 rest some fits in (zeros.0, ap (λ bit. eqb bit 1) zeros.1)
 

@@ -1,6 +1,6 @@
 use Rattle.std.proofs.Common.{◌<◌, ◌+◌, ℕ, get_or}
 use Rattle.digests.proofs.digest.are_increasing.Given as goal
 
--- the numbers so far rise
+-- the numbers so far are increasing
 abbrev pub invariant-loop-place : goal.invariant-loop-place
 invariant-loop-place l = (k : ℕ) → k + 1 < l.place → get_or l.numbers k 0 < get_or l.numbers (k + 1) 0

@@ -2,7 +2,7 @@ use Rattle.std.proofs.Common.{◌-◌, ◌≤◌}
 use Rattle.first_hit.specs.First.{NoneBetween}
 use Rattle.first_hit.proofs.search.first_hit.Given as goal
 
--- the rounds so far held none, and the next has some rows
+-- no number of the rounds so far satisfies the predicate, and the next round has a row
 abbrev pub invariant-loop-from : goal.invariant-loop-from
 invariant-loop-from g l = record {
   below : l.from ≤ l.total;

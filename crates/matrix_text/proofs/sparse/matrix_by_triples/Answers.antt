@@ -13,7 +13,7 @@ use Rattle.matrix_text.proofs.Places.{none_held, one_more, held_matrix, AreHeld}
 use Rattle.matrix_text.proofs.Triples.{place_new, triple_made, place_fails, value_fails}
 use Rattle.matrix_text.proofs.sparse.matrix_by_triples.Goals as goal
 
--- the matrix of some cells, one of which is changed
+-- the matrix of a list of cells after a change of one cell
 written : (height width : ℕ) (cells : List ℤ) (m new : Matrix) (row column : ℕ) (z : ℤ) → m ≡ record { rows = rows_of height width cells; width = width } → row < height → column < width → new ≡ with_entry m row column z
     → new ≡ record { rows = rows_of height width (set cells (row * width + column) z); width = width }
 written height width cells m new row column z is low near e =

@@ -3,7 +3,7 @@ use Rattle.cmr_base.specs.Matrix.{entry}
 use Rattle.cmr_base.specs.Sums.{sum_over}
 use Rattle.cmr_base.proofs.matrix.Matrix.row_sum.Given as goal
 
--- the sum so far and that of the rest are all
+-- the sum so far and the sum of the rest add up to the whole sum
 abbrev pub invariant-loop-column : goal.invariant-loop-column
 invariant-loop-column l = record {
   rest : l.sum +ℤ sum_over (drop l.column-index l.columns) (λ column. entry l.self l.row column) ≡ sum_over l.columns (λ column. entry l.self l.row column);

@@ -4,7 +4,7 @@ use Rattle.cmr_base.specs.Matrix.{entry}
 use Rattle.cmr_base.specs.Sums.{sum_over}
 use Rattle.cmr_base.proofs.matrix.Matrix.sum_on.Given as goal
 
--- the sum so far and that of the rest are all
+-- the sum so far and the sum of the rest add up to the whole sum
 abbrev pub invariant-loop-row : goal.invariant-loop-row
 invariant-loop-row l = record {
   rest : l.sum +ℤ sum_over (drop l.row-index l.rows) (λ row. sum_over l.columns (λ column. entry l.self row column)) ≡ sum_over l.rows (λ row. sum_over l.columns (λ column. entry l.self row column));

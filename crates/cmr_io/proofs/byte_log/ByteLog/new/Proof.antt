@@ -1,4 +1,4 @@
--- `new` makes a value of no bytes, with no read.
+-- `new` makes a value without bytes, with no read.
 use mathlib.Core.Path.{refl}
 use mathlib.Core.List.{[], ◌∷◌}
 use seplogic.Ra.Ura.{Ura}

@@ -1,4 +1,4 @@
--- What a shelf that tells nothing and is never calm ensures beyond its own clauses.
+-- The clauses of the trait for a shelf that tells nothing and is never calm.
 use Rattle.std.proofs.Common.{◌∙◌, sym, refl, arith}
 use Rattle.cmr_io.proofs.real_shelf.RealShelfShelf.TheImpl.Goals as goal
 
