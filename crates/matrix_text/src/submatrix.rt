@@ -62,7 +62,8 @@ fn increasing_lines(
     outside: TextKind,
     count: u32,
 ) -> Result<Indices, TextError>
-    ensures { Reads (λ lines. lines) words.new result (increasing_lines most outside count words.old) }
+    ensures { Reads (λ lines. lines) words.new result
+        (increasing_lines most outside count words.old) }
 {
     let mut lines = Indices::new(alloc);
     let mut before = 0;
