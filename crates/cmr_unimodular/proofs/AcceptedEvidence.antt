@@ -18,8 +18,8 @@ use Rattle.camion_sign.specs.SignOrder.{IsNextSign}
 use Rattle.camion_sign.specs.SignSteps.{LeadTo, signed_by}
 use Rattle.camion_sign.proofs.ChainAgain.{chain_again}
 use Rattle.camion_sign.proofs.StepCounts.{few_signed, steps_in}
-use Rattle.cert_check.specs.Laws.{IsRefuted, Tells}
-use Rattle.cert_check.proofs.SoundTrees.{tells}
+use Rattle.tree_laws.specs.Laws.{IsRefuted, Tells}
+use Rattle.tree_laws.proofs.SoundTrees.{tells}
 use Rattle.tree_type.specs.DecompositionTrees.{SizedTree, tree_of}
 use Rattle.tree_type.specs.Verdicts as verdicts
 use Rattle.tree_text.specs.TreeReading.{tree}

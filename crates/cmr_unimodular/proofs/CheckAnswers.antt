@@ -18,7 +18,7 @@ use Rattle.camion_sign.specs.SignSteps as signing
 use Rattle.camion_sign.specs.SignSteps.{AreSigns, LeadTo, signed_by}
 use Rattle.camion_sign.proofs.ChainChecks.{lead_from, rule_signs}
 use Rattle.camion_sign.proofs.ChainViolators.{chains_mean_violators, chains_refute_regularity, unsigned_signs}
-use Rattle.cert_check.specs.Laws.{IsRefuted, Tells}
+use Rattle.tree_laws.specs.Laws.{IsRefuted, Tells}
 use Rattle.cert_check.proofs.Answering.{lines_is}
 use Rattle.tree_text.specs.TreeReading.{PlainTree, tree}
 use Rattle.tree_type.specs.Places.{places}

@@ -9,7 +9,7 @@ use Rattle.camion_sign.proofs.ChainViolators.{chains_mean_violators, chains_refu
 use Rattle.camion_sign.specs.declared.step.SignStep.{SignStep}
 use Rattle.camion_sign.specs.ChainTexts.{AreLinesIn, chain_text}
 use Rattle.camion_sign.specs.Chains.{IsSoundChain}
-use Rattle.cert_check.specs.Laws.{IsRefuted, Tells}
+use Rattle.tree_laws.specs.Laws.{IsRefuted, Tells}
 use Rattle.tree_type.specs.DecompositionTrees.{SizedTree}
 use Rattle.tree_type.specs.Verdicts as verdicts
 use Rattle.tree_type.specs.Verdicts.{Verdict}

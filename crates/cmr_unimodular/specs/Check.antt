@@ -16,7 +16,7 @@ use Rattle.tree_type.specs.Verdicts.{Verdict, verdict_of}
 use Rattle.tree_type.specs.declared.refusal.Rule.{Rule}
 use Rattle.tree_type.specs.declared.refusal.Rule.TheVariants.{NotViolator}
 use Rattle.tree_text.specs.TreeReading.{PlainTree}
-use Rattle.cert_check.specs.Laws.{IsRefuted, Tells}
+use Rattle.tree_laws.specs.Laws.{IsRefuted, Tells}
 use Rattle.cmr_front.specs.declared.outcome.FaultKind.TheVariants as faults
 use Rattle.cmr_front.specs.declared.status.Answer.{Answer}
 use Rattle.cmr_front.specs.declared.status.Answer.TheVariants.{Yes, No, Undecided, Refused}

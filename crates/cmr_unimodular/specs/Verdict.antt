@@ -18,7 +18,7 @@ use Rattle.tree_type.specs.Verdicts as verdicts
 use Rattle.tree_type.specs.Verdicts.{Verdict, verdict_of}
 use Rattle.tree_text.specs.CanonicalTrees.{tree_text}
 use Rattle.decomp_tree.specs.PivotedShapes.{IsShapeWith}
-use Rattle.cert_check.specs.Laws.{Tells}
+use Rattle.tree_laws.specs.Laws.{Tells}
 use Rattle.cmr_front.specs.declared.status.Answer.{Answer}
 use Rattle.cmr_front.specs.declared.status.Answer.TheVariants.{Yes, No, Undecided}
 use Rattle.cmr_unimodular.specs.declared.verdict.VerdictOptions.{VerdictOptions}

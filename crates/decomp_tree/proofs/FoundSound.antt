@@ -14,8 +14,8 @@ use Rattle.tree_type.specs.Places.{These, MadePivot, matrix_after}
 use Rattle.tree_type.specs.Soundness.{HasItsLines}
 use Rattle.tree_type.specs.Verdicts.{Verdict, Yes, No, Open, verdict_of}
 use Rattle.tree_type.proofs.PlacedLines.{lines_within}
-use Rattle.cert_check.proofs.PivotedMatrices.{lines_pivoted, pivoted_is_matrix}
-use Rattle.cert_check.proofs.SoundTrees.{fault_tree}
+use Rattle.tree_laws.proofs.PivotedMatrices.{lines_pivoted, pivoted_is_matrix}
+use Rattle.tree_laws.proofs.SoundTrees.{fault_tree}
 use Rattle.decomp_tree.specs.Shapes.{IsShapeOn}
 use Rattle.decomp_tree.specs.Refined.{Refines}
 use Rattle.decomp_tree.specs.PivotedShapes.{AreBefore, IsToldBeforePivot, IsFoundAt, IsFound, IsDrawnWith}

@@ -6,7 +6,7 @@ use Rattle.cmr_base.specs.declared.line_set.LineSet.{LineSet}
 use Rattle.cmr_base.specs.Matrix.{Matrix, height}
 use Rattle.cmr_base.proofs.Booleans.{true_is_false}
 use Rattle.cmr_base.proofs.Options.{some_or}
-use Rattle.cert_check.proofs.SoundTrees.{none_or}
+use Rattle.tree_laws.proofs.SoundTrees.{none_or}
 use Rattle.pivots.specs.declared.drawn.DrawnPlace.{DrawnPlace}
 use Rattle.pivots.specs.declared.place.PlacedPivot.{PlacedPivot}
 use Rattle.pivots.specs.DrawnPlaces.{drawn_place}

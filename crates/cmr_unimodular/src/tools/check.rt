@@ -1,6 +1,6 @@
 //! Checking evidence on a matrix: a decomposition tree, a chain of signs, or a violator.
 ghost use Rattle.camion_sign.specs.Chains.{IsSoundChain};
-ghost use Rattle.cert_check.specs.Laws.{Tells};
+ghost use Rattle.tree_laws.specs.Laws.{Tells};
 ghost use Rattle.clap.specs.Words.{app_of, found_of, rows_of};
 ghost use Rattle.std.specs.Prelude.{◌≡◌, IfOk, IsTrue};
 ghost use Rattle.tree_text.specs.TreeReading.{plain_of};

@@ -1,6 +1,6 @@
 //! Testing whether a 0/1 matrix has a totally unimodular signing.
 ghost use Rattle.camion_sign.specs.ChainTexts.{AreLinesIn, IsStepIn, chain_text};
-ghost use Rattle.cert_check.specs.Laws.{Tells};
+ghost use Rattle.tree_laws.specs.Laws.{Tells};
 ghost use Rattle.clap.specs.Words.{app_of, found_of, rows_of};
 ghost use Rattle.std.specs.List.{AllByRecursion};
 ghost use Rattle.std.specs.Prelude.{◌*◌, ◌++◌, ◌≡◌, ◌≤◌, IfOk, IsTrue, OnOk, length, map, option_map};

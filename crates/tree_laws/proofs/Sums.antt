@@ -13,7 +13,7 @@ use Rattle.ghouila.proofs.ViolatedLines.{free_from_submatrix, submatrix_from_fre
 use Rattle.tree_type.specs.Sides.{sides, HaveLines, IsReference, AreTwoBlocks, two_one, two_two, AreConnectorsOfSides, HasCornerSign, AreThreeBlocks, three_one, three_two}
 use Rattle.tree_type.specs.SideLaws.{side_one, lines_kept}
 use Rattle.tree_type.proofs.SideLemmas.{two_sums_separate, three_sums_separate, two_sums_have_children, three_sums_have_children}
-use Rattle.cert_check.proofs.FreeSets.{IsFreeOn}
+use Rattle.tree_laws.proofs.FreeSets.{IsFreeOn}
 
 -- the lines of a child, as those of the separation's child
 none_on : (m : Matrix) (lines child : LineSet) (set : Lines) → child ≡ lines_kept set lines → IsFreeOn m child → HasNoViolator (on_lines m lines.rows lines.columns set)

@@ -6,11 +6,9 @@ use Rattle.cmr_base.proofs.FilledMatrices.{height-filled}
 use Rattle.pivots.specs.declared.place.PlacedPivot.{PlacedPivot}
 use Rattle.pivots.specs.PivotedParts.{replaced_entry, pivoted_part, IsPlaceIn, IsTernaryPivot}
 use Rattle.pivots.proofs.PartLaws.{free_before_pivot, part_pivots_stay_matrices}
-use Rattle.tree_type.specs.DecompositionTrees.{Tree}
 use Rattle.tree_type.specs.Invariant.{AreLines}
 use Rattle.tree_type.specs.Places.{MadePivot, matrix_after}
-use Rattle.cert_check.specs.Answers.{Stands}
-use Rattle.cert_check.proofs.FreeSets.{IsFreeOn}
+use Rattle.tree_laws.proofs.FreeSets.{IsFreeOn}
 
 pub height-pivoted : (m : Matrix) (lines : LineSet) (place : PlacedPivot) → height (pivoted_part m lines place) ≡ height m
 height-pivoted m lines place = height-filled (height m) m.width (replaced_entry m lines place)
@@ -25,9 +23,6 @@ lines_pivoted m lines place set are = record {
 pub lines_after : (m : Matrix) (pivots : List MadePivot) (set : LineSet) → AreLines m set → AreLines (matrix_after m pivots) set
 lines_after m [] set are = are
 lines_after m (last ∷ pivots) set are = lines_pivoted (matrix_after m pivots) last.lines last.place set (lines_after m pivots set are)
-
-pub stands_pivoted : (m : Matrix) (lines : LineSet) (place : PlacedPivot) (tree : Tree) → Stands m tree → Stands (pivoted_part m lines place) tree
-stands_pivoted m lines place tree (parent, levels, are, within) = (parent, levels, lines_pivoted m lines place parent are, within)
 
 -- where no violator stands among the lines after the pivot, none stood there before
 pub free_pivoted : (m : Matrix) (lines : LineSet) (place : PlacedPivot) → IsMatrix m → AreLines m lines → IsPlaceIn m lines place → IsFreeOn (pivoted_part m lines place) lines → IsFreeOn m lines

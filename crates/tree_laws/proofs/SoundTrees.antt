@@ -20,14 +20,14 @@ use Rattle.tree_type.specs.Verdicts.{first_in, first_among, fault_at, open_at, v
 use Rattle.tree_type.specs.Invariant.{AreLines, FitsLines, HasChildren, IsTreeWithin, AreTreesWithin, IsTreeFor}
 use Rattle.tree_type.specs.Places.{Due, AllLines, MadePivot, matrix_after, pivots_below, places_from, places_below, due_child, lines_left, lines_of_each}
 use Rattle.tree_type.specs.Soundness.{part, HasItsLines, Demands, MayStand, KeepsAll, IsSoundTree}
-use Rattle.cert_check.specs.Laws.{IsProved, IsRefuted, Tells}
-use Rattle.cert_check.proofs.FreeSets.{IsFreeOn, free_from_part, none_from_free}
+use Rattle.tree_laws.specs.Laws.{IsProved, IsRefuted, Tells}
+use Rattle.tree_laws.proofs.FreeSets.{IsFreeOn, free_from_part, none_from_free}
 use Rattle.tree_type.proofs.PlacedLines.{lines_within, part_is}
-use Rattle.cert_check.proofs.Leaves.{free_empty, free_network, free_conetwork}
-use Rattle.cert_check.proofs.Sums.{free_two, free_three}
-use Rattle.cert_check.proofs.OneSums.{free_apart}
-use Rattle.cert_check.proofs.Reductions.{free_reduced}
-use Rattle.cert_check.proofs.PivotedMatrices.{lines_after, free_pivoted, pivoted_is_matrix}
+use Rattle.tree_laws.proofs.Leaves.{free_empty, free_network, free_conetwork}
+use Rattle.tree_laws.proofs.Sums.{free_two, free_three}
+use Rattle.tree_laws.proofs.OneSums.{free_apart}
+use Rattle.tree_laws.proofs.Reductions.{free_reduced}
+use Rattle.tree_laws.proofs.PivotedMatrices.{lines_after, free_pivoted, pivoted_is_matrix}
 
 some_is_none : {A B : Type 0} (x : A) → Some x ≡ None → B
 some_is_none x e = true_is_false (ap is_some e)

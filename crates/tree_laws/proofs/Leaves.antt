@@ -15,7 +15,7 @@ use Rattle.cmr_base.proofs.Integers.{sums}
 use Rattle.tree_type.specs.Invariant.{AreLines, size_of}
 use Rattle.tree_type.proofs.PlacedLines.{part_is}
 use Rattle.tree_type.specs.Soundness.{part}
-use Rattle.cert_check.proofs.FreeSets.{IsFreeOn, free_from_part}
+use Rattle.tree_laws.proofs.FreeSets.{IsFreeOn, free_from_part}
 
 none_left : (xs : List ℕ) → length xs ≡ 0 → (x : ℕ) → Contains xs x → ⊥
 none_left xs e x (k, l, h) = omega (arith, e, l)

@@ -8,7 +8,7 @@ use Rattle.ghouila.proofs.ViolatedLines.{free_from_submatrix, submatrix_from_fre
 use Rattle.ghouila.proofs.RemovedLines.{reductions_keep_violators}
 use Rattle.tree_type.specs.Places.{lines_left}
 use Rattle.tree_type.specs.Soundness.{AreReductions}
-use Rattle.cert_check.proofs.FreeSets.{IsFreeOn}
+use Rattle.tree_laws.proofs.FreeSets.{IsFreeOn}
 
 pub free_reduced : (m : Matrix) → IsMatrix m → (lines : LineSet) (steps : List Line) → AreReductions (entry m) lines.rows lines.columns steps → IsFreeOn m (lines_left lines steps) → IsFreeOn m lines
 free_reduced m is lines [] h free = free

@@ -13,8 +13,8 @@ use Rattle.cmr_base.proofs.Booleans.{or_is}
 use Rattle.ghouila.proofs.ViolatedLines.{FreeIn, narrower}
 use Rattle.tree_type.specs.Soundness.{AreApart}
 use Rattle.tree_type.proofs.Among.{among_contains}
-use Rattle.cert_check.proofs.FreeSets.{IsFreeOn}
-use Rattle.cert_check.proofs.NumberedParts.{free_from_parts}
+use Rattle.tree_laws.proofs.FreeSets.{IsFreeOn}
+use Rattle.tree_laws.proofs.NumberedParts.{free_from_parts}
 
 -- the first child that passes
 abbrev index_of : (LineSet → Bool) → List LineSet → ℕ
