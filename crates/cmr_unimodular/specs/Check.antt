@@ -8,9 +8,9 @@ use Rattle.cmr_base.specs.Violator.{HasNoViolator, IsViolator}
 use Rattle.cmr_base.specs.declared.line_set.LineSet.{LineSet}
 use Rattle.text_fields.specs.TextWords.{text_of}
 use Rattle.matrix_text.specs.Submatrix.{named_lines}
-use Rattle.camion_sign.specs.Chains.{IsFirstBrokenPart, IsRegular, IsSoundChain}
-use Rattle.camion_sign.specs.ChainTexts.{chain}
-use Rattle.camion_sign.specs.declared.step.SizedChain.{SizedChain}
+use Rattle.chains.specs.Chains.{IsFirstBrokenPart, IsRegular, IsSoundChain}
+use Rattle.chains.specs.ChainTexts.{chain}
+use Rattle.chains.specs.declared.step.SizedChain.{SizedChain}
 use Rattle.tree_type.specs.Verdicts as verdicts
 use Rattle.tree_type.specs.Verdicts.{Verdict, verdict_of}
 use Rattle.tree_type.specs.declared.refusal.Rule.{Rule}
