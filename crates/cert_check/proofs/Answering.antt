@@ -23,8 +23,8 @@ use Rattle.tree_type.specs.Invariant.{AreLines, AreTreesWithin, IsTreeFor}
 use Rattle.tree_type.specs.Places.{due_child, Due, AllLines, MadePivot, matrix_after, pivots_below, Place, places, places_from, lines_of_each}
 use Rattle.tree_type.specs.Soundness.{HasItsSizes, HasItsLines, Demands, MayStand, Keeps, KeepsAll, rule_number, BreaksFirst, IsFirstBroken}
 use Rattle.tree_type.proofs.PlacedLines.{lines_within}
-use Rattle.pivots.specs.declared.place.PlacedPivot.{PlacedPivot}
-use Rattle.pivots.specs.PivotedParts.{pivoted_part}
+use Rattle.cmr_base.specs.declared.placed_pivot.PlacedPivot.{PlacedPivot}
+use Rattle.cmr_base.specs.PlacedPivots.{pivoted_part}
 use Rattle.tree_laws.proofs.PivotedMatrices.{lines_pivoted}
 use Rattle.cert_check.specs.Answers.{Answers, AnswersOn, AnswersOnBoth, AnswersFrom, AnswersBelow, Stands, nodes_below, place_of, IsAfter, has_pivot, IsRuleAt, IsOwnRule, trees_below, due_from, due_child_of, unless, KeepsOwn}
 

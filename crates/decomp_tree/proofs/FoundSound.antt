@@ -4,9 +4,9 @@ use Rattle.cmr_base.specs.declared.line_set.LineSet.{LineSet}
 use Rattle.cmr_base.specs.Matrix.{Matrix, entry, IsMatrix}
 use Rattle.cmr_base.specs.Violator.{IsViolator}
 use Rattle.pivots.specs.declared.drawn.DrawnPlace.{DrawnPlace}
-use Rattle.pivots.specs.declared.place.PlacedPivot.{PlacedPivot}
+use Rattle.cmr_base.specs.declared.placed_pivot.PlacedPivot.{PlacedPivot}
 use Rattle.pivots.specs.DrawnPlaces.{drawn_place}
-use Rattle.pivots.specs.PivotedParts.{IsPlaceIn, IsTernaryPivot, pivoted_part}
+use Rattle.cmr_base.specs.PlacedPivots.{IsPlaceIn, IsTernaryPivot, pivoted_part}
 use Rattle.pivots.proofs.PartLaws.{part_pivots_take_violators_back}
 use Rattle.tree_type.specs.DecompositionTrees.{Tree, lines_at_root}
 use Rattle.tree_type.specs.Invariant.{AreLines, AreLinesOf, size_of}

@@ -2,8 +2,7 @@
 ghost use Rattle.std.specs.Prelude.{◌≡◌, ◌≤◌, ◌<◌, ◌+◌, ◌^◌, length, IfOk};
 ghost use Rattle.generate.specs.Generated.{arcs_to, pairs_of, generated_network};
 
-use crate::draws::draw;
-use cmr_base::{MAX_COLUMNS, MAX_ROWS, Memory, Network, Pair, PairList};
+use cmr_base::{MAX_COLUMNS, MAX_ROWS, Memory, Network, Pair, PairList, draw};
 use std::alloc::Global;
 
 /// A random recursive tree of so many arcs, and as many random walks.

@@ -3,8 +3,8 @@ use Rattle.std.proofs.Common.{◌≡◌, ◌<◌, ℕ, List, [], ◌∷◌, leng
 use Rattle.cmr_base.specs.declared.line_set.LineSet.{LineSet}
 use Rattle.cmr_base.specs.Matrix.{Matrix, height, IsMatrix}
 use Rattle.cmr_base.proofs.FilledMatrices.{height-filled}
-use Rattle.pivots.specs.declared.place.PlacedPivot.{PlacedPivot}
-use Rattle.pivots.specs.PivotedParts.{replaced_entry, pivoted_part, IsPlaceIn, IsTernaryPivot}
+use Rattle.cmr_base.specs.declared.placed_pivot.PlacedPivot.{PlacedPivot}
+use Rattle.cmr_base.specs.PlacedPivots.{replaced_entry, pivoted_part, IsPlaceIn, IsTernaryPivot}
 use Rattle.pivots.proofs.PartLaws.{free_before_pivot, part_pivots_stay_matrices}
 use Rattle.tree_type.specs.Invariant.{AreLines}
 use Rattle.tree_type.specs.Places.{MadePivot, matrix_after}

@@ -3,7 +3,7 @@ use Rattle.std.proofs.Common.{◌≡◌, ◌<◌, ◌≤◌, ◌+◌, ◌-◌, �
 use Rattle.std.proofs.lemmas.List.{append_assoc}
 use Rattle.std.proofs.lemmas.Nat.{mod_below}
 use Rattle.std.proofs.Math.Nat.{suc-mul, zero-mul}
-use Rattle.generate.specs.Draws.{next_state, draw, draws}
+use Rattle.cmr_base.specs.Draws.{next_state, draw, draws}
 
 -- the numbers so far and those that are drawn from here are all
 pub record AreDrawn (n bound step state : ℕ) (k bound' state' : ℕ) (drawn : List ℕ) : Type 0 where

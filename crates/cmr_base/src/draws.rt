@@ -1,8 +1,8 @@
 // Numbers that are drawn one after another from a state.
 ghost use Rattle.std.specs.Prelude.{◌≡◌, ◌≤◌, ◌<◌, ◌+◌, ◌*◌, ◌^◌, IfOk};
-ghost use Rattle.generate.specs.Draws.{next_state, draw, draws};
+ghost use Rattle.cmr_base.specs.Draws.{next_state, draw, draws};
 
-use cmr_base::{MAX_ROWS, Memory};
+use crate::{MAX_ROWS, Memory};
 use std::alloc::Global;
 
 /// Drawn numbers, and the state after them.

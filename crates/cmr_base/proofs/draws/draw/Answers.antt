@@ -1,5 +1,5 @@
-use Rattle.generate.proofs.DrawnNumbers.{drawn_on}
-use Rattle.generate.proofs.draws.draw.Goals as goal
+use Rattle.cmr_base.proofs.DrawnNumbers.{drawn_on}
+use Rattle.cmr_base.proofs.draws.draw.Goals as goal
 
 pub loop-place-preserved : goal.loop-place-preserved
 loop-place-preserved c =
