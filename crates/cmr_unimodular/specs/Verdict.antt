@@ -9,8 +9,7 @@ use Rattle.cmr_base.specs.R10.{IsR10}
 use Rattle.cmr_base.specs.Trees.{IsNetworkMatrix, IsConetworkMatrix}
 use Rattle.matrix_text.specs.CanonicalMatrices.{submatrix_text}
 use Rattle.sp_reduce.specs.RowDigests.{HasNoReducibleLine}
-use Rattle.two_sep.specs.FirstSeeds.{HasNoTwoSeparation}
-use Rattle.three_sep.specs.ThreeSeparations.{HasNoThreeSeparation}
+use Rattle.cmr_base.specs.Separations.{HasNoTwoSeparation, HasNoThreeSeparation}
 use Rattle.tree_type.specs.Invariant.{AreLines, IsDecTree}
 use Rattle.tree_type.specs.Soundness.{IsSound, part}
 use Rattle.tree_type.specs.DecompositionTrees.{SizedTree, tree_of}
