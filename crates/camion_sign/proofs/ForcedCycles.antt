@@ -20,11 +20,11 @@ use Rattle.ghouila.proofs.SignProducts.{sign_nonzero}
 use Rattle.ghouila.proofs.Cycles.{IsCycle, one_term, two_terms, rows_even}
 use Rattle.ghouila.proofs.Routes.{Route, route, place_cycle, sum_by_places, rows_apart, columns_apart}
 use Rattle.cmr_base.specs.Trees.{IsBinary}
-use Rattle.camion_sign.specs.SignSteps.{AreSigns, IsUnsignedOne}
+use Rattle.chains.specs.SignSteps.{AreSigns, IsUnsignedOne}
 use Rattle.camion_sign.specs.SignOrder.{IsPlaceOf, IsCycleLines, IsNextForced, IsRowsTurn}
-use Rattle.camion_sign.specs.Chains.{HasTwoEach, IsForcedStep}
-use Rattle.camion_sign.proofs.GivenSigns.{one_more, signs_more, keeps}
-use Rattle.camion_sign.proofs.ChainViolators.{one_entry}
+use Rattle.chains.specs.Chains.{HasTwoEach, IsForcedStep}
+use Rattle.chains.proofs.GivenSigns.{one_more, signs_more, keeps}
+use Rattle.chains.proofs.ChainViolators.{one_entry}
 use Rattle.camion_sign.proofs.LineLists.{path_rows_low}
 
 -- the columns of the place in increasing order

@@ -11,13 +11,13 @@ use Rattle.ghouila.proofs.SignProducts.{sign_nonzero}
 use Rattle.ghouila.proofs.LeastLists.{least_list}
 use Rattle.ghouila.proofs.Routes.{reversed}
 use Rattle.cmr_base.specs.Trees.{IsBinary}
-use Rattle.camion_sign.specs.declared.step.SignStep.{SignStep}
-use Rattle.camion_sign.specs.declared.step.SignStep.TheVariants.{Free, Forced}
-use Rattle.camion_sign.specs.SignSteps.{AreSigns, IsUnsignedOne, LeadTo, signed_by}
+use Rattle.chains.specs.declared.step.SignStep.{SignStep}
+use Rattle.chains.specs.declared.step.SignStep.TheVariants.{Free, Forced}
+use Rattle.chains.specs.SignSteps.{AreSigns, IsUnsignedOne, LeadTo, signed_by}
 use Rattle.camion_sign.specs.SignOrder.{IsRowsTurn, IsNextSign}
 use Rattle.camion_sign.specs.Signings.{NoneForced}
-use Rattle.camion_sign.specs.Chains.{AreJoined, JoinsTo, AreLinked, KeepsRule}
-use Rattle.camion_sign.proofs.GivenSigns.{signs_more}
+use Rattle.chains.specs.Chains.{AreJoined, JoinsTo, AreLinked, KeepsRule}
+use Rattle.chains.proofs.GivenSigns.{signs_more}
 use Rattle.camion_sign.proofs.ForcedCycles.{forced_step}
 
 module _ (a s : Matrix) (is : IsMatrix a) (signs : AreSigns a s) (t : ℕ) (turn : IsRowsTurn a s t) (none : NoneForced a s t) where

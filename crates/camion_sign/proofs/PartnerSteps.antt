@@ -4,10 +4,10 @@ use Rattle.std.proofs.lemmas.Bool.{cases_eq, cases_lt}
 use Rattle.cmr_base.specs.Matrix.{Matrix, entry, with_entry, IsMatrix}
 use Rattle.cmr_base.specs.Signing.{IsSign}
 use Rattle.camion_sign.specs.Nonzeros.{AreNonzeros}
-use Rattle.camion_sign.specs.SignSteps.{AreSigns, IsUnsignedOne}
+use Rattle.chains.specs.SignSteps.{AreSigns, IsUnsignedOne}
 use Rattle.camion_sign.specs.SignOrder.{IsForcedBy}
 use Rattle.camion_sign.specs.Signings.{IsPartner}
-use Rattle.camion_sign.proofs.GivenSigns.{HasOneMore, one_more}
+use Rattle.chains.proofs.GivenSigns.{HasOneMore, one_more}
 
 module _ (a s : Matrix) (row column : ℕ) (columns : List ℕ) (signs : AreSigns a s) (are : AreNonzeros (entry a row) columns) where
   -- a signed column is in the list of ones

@@ -9,7 +9,7 @@ use Rattle.ghouila.proofs.SignProducts.{sign_nonzero}
 use Rattle.camion_sign.specs.declared.signed_columns.SignedColumns.{SignedColumns}
 use Rattle.camion_sign.specs.SignOrder.{IsForcedBy, IsPlaceOf}
 use Rattle.camion_sign.specs.Signings.{KnowsSigned}
-use Rattle.camion_sign.proofs.GivenSigns.{HasOneMore, keeps}
+use Rattle.chains.proofs.GivenSigns.{HasOneMore, keeps}
 
 -- a row without signs
 pub row_begun : (a s : Matrix) (row : ℕ) (signed : SignedColumns) → ((j : ℕ) → entry s row j ≡ pos 0) → length signed.passed.items ≡ a.width → signed.columns.items ≡ [] → ((d : ℕ) → get_or signed.passed.items d 0 ≡ 0) → KnowsSigned a s row signed

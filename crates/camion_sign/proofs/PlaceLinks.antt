@@ -1,5 +1,5 @@
 -- The pairs of columns that make cycle places, as walks determine them.
-use Rattle.std.proofs.Common.{◌≡◌, ◌≢◌, ◌∙◌, ◌<◌, ◌+◌, ◌++◌, ℕ, ℤ, pos, Bool, true, false, Some, List, [], ◌∷◌, length, replicate, set, get_or, inl, inr, refl, sym, ap, subst, arith}
+use Rattle.std.proofs.Common.{◌≡◌, ◌≢◌, ◌∙◌, ◌<◌, ◌+◌, ◌++◌, ℕ, ℤ, pos, Bool, true, false, Some, List, [], ◌∷◌, length, set, get_or, inl, inr, refl, sym, ap, subst, arith}
 use Rattle.std.proofs.lemmas.Bool.{cases_eq, cases_lt}
 use Rattle.std.proofs.lemmas.List.{get_or-set_other, length-set}
 use Rattle.cmr_base.specs.Matrix.{Matrix, height, entry, with_entry, IsEntry}
@@ -54,12 +54,6 @@ module _ (m links : Matrix) (t c last : ℕ) (square : AreSquare m links) (tells
 
     pub note_others : (a b : ℕ) → a ≢ c → entry (with_entry links c last z) a b ≡ entry links a b
     note_others a b d = entry-with_entry_other_row links c last z a b d
-
-abbrev pub zeros : ℕ → ℕ → Matrix
-zeros n k = record { rows = replicate n (replicate k (pos 0)); width = k }
-
-pub same_zeros : (n k h w : ℕ) → n ≡ h → k ≡ w → zeros n k ≡ zeros h w
-same_zeros n k h w e f = rw (e, f) refl
 
 -- ---- the known places after another walk
 

@@ -7,12 +7,12 @@ use Rattle.cmr_base.specs.Trees.{IsBinary}
 use Rattle.cmr_base.specs.Violator.{HasNoViolator}
 use Rattle.ghouila.proofs.CamionLaw.{camion as equivalence}
 use Rattle.ghouila.proofs.SignsUnique.{fault_free_has_no_violator, no_violator_no_fault}
-use Rattle.camion_sign.specs.declared.step.SignStep.{SignStep}
+use Rattle.chains.specs.declared.step.SignStep.{SignStep}
 use Rattle.camion_sign.specs.SignOrder.{IsSignedBy}
-use Rattle.camion_sign.specs.SignSteps.{unsigned}
-use Rattle.camion_sign.specs.Chains.{IsRegular}
+use Rattle.chains.specs.SignSteps.{unsigned}
+use Rattle.chains.specs.Chains.{IsRegular}
 use Rattle.camion_sign.specs.Laws.{CycleFaultsDecide, SigningsDecideRegularity}
-use Rattle.camion_sign.proofs.ChainViolators.{unsigned_signs, chains_refute_regularity}
+use Rattle.chains.proofs.ChainViolators.{unsigned_signs, chains_refute_regularity}
 use Rattle.camion_sign.proofs.FreeSteps.{chain_steps}
 
 pub own_support : (m : Matrix) → HaveOneSupport m m

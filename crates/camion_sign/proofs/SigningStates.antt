@@ -8,20 +8,16 @@ use Rattle.cmr_base.proofs.Booleans.{is_zero, is_nonzero_is}
 use Rattle.ghouila.proofs.SignedSums.{zero_or_sign}
 use Rattle.ghouila.proofs.SignProducts.{sign_nonzero}
 use Rattle.ghouila.proofs.SignsUnique.{row_in, column_in}
-use Rattle.camion_sign.specs.declared.step.SignStep.{SignStep}
+use Rattle.chains.specs.declared.step.SignStep.{SignStep}
 use Rattle.camion_sign.specs.declared.signing.Signing.{Signing}
-use Rattle.camion_sign.specs.SignSteps.{AreSigns, IsUnsignedOne, unsigned, LeadTo, signed_by}
+use Rattle.chains.specs.SignSteps.{AreSigns, IsUnsignedOne, unsigned, LeadTo, signed_by}
 use Rattle.camion_sign.specs.SignOrder.{IsRowsTurn, IsNextSign, IsSignedBy}
 use Rattle.camion_sign.specs.Signings.{IsAtRow, unsigned_before}
-use Rattle.camion_sign.proofs.GivenSigns.{HasOneMore, one_more, signs_more, keeps}
+use Rattle.chains.proofs.GivenSigns.{HasOneMore, lead_more, one_more, signs_more, keeps}
 use Rattle.camion_sign.specs.declared.signed_columns.SignedColumns.{SignedColumns}
 use Rattle.camion_sign.specs.Signings.{KnowsSigned}
 use Rattle.camion_sign.proofs.PassedColumns.{row_begun, signed_more}
-use Rattle.camion_sign.proofs.ChainViolators.{unsigned_signs, entry-unsigned}
-
-pub lead_more : (Rule : Matrix → SignStep → ℤ → Type 0) (s end : Matrix) (steps : List SignStep) (step : SignStep) (v : ℤ) → LeadTo Rule s steps end → Rule end step v → LeadTo Rule s (steps ++ step ∷ []) (signed_by end step v)
-lead_more Rule s end [] step v e rule = subst (λ x. LeadTo Rule x (step ∷ []) (signed_by end step v)) (sym e) (v, rule, refl)
-lead_more Rule s end (x ∷ steps) step v (w, first, rest) rule = (w, first, lead_more Rule (signed_by s x w) end steps step v rest rule)
+use Rattle.chains.proofs.ChainViolators.{unsigned_signs, entry-unsigned}
 
 -- another sign leaves fewer ones without sign
 pub fewer_unsigned : (a s t : Matrix) (row column : ℕ) (v : ℤ) → IsSign v → HasOneMore s t row column v → IsUnsignedOne a s row column → (n : ℕ) → column < n → unsigned_before a t row n < unsigned_before a s row n

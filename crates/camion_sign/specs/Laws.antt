@@ -1,4 +1,4 @@
--- Laws of matrices without cycle fault, and of chains.
+-- Laws of matrices without cycle fault.
 use Rattle.std.specs.Prelude.{◌≡◌, ◌≢◌, ◌↔◌, ◌*ℤ◌, ℕ, pos, List}
 use Rattle.cmr_base.specs.Matrix.{Matrix, entry, IsMatrix, IsTernary}
 use Rattle.cmr_base.specs.Signing.{IsTotallyUnimodular}
@@ -6,10 +6,9 @@ use Rattle.cmr_base.specs.Supports.{HaveOneSupport}
 use Rattle.cmr_base.specs.Violator.{HasNoViolator}
 use Rattle.cmr_base.specs.CyclePlaces.{HasNoCycleFault}
 use Rattle.cmr_base.specs.Trees.{IsBinary}
-use Rattle.camion_sign.specs.declared.step.SizedChain.{SizedChain}
-use Rattle.camion_sign.specs.declared.step.SignStep.{SignStep}
+use Rattle.chains.specs.declared.step.SignStep.{SignStep}
 use Rattle.camion_sign.specs.SignOrder.{IsSignedBy}
-use Rattle.camion_sign.specs.Chains.{IsSoundChain, IsRegular}
+use Rattle.chains.specs.Chains.{IsRegular}
 
 -- two rows and two columns in which all four entries are nonzeros
 pub record IsFullSquare (m : Matrix) (i k c d : ℕ) : Type 0 where
@@ -21,14 +20,6 @@ pub record IsFullSquare (m : Matrix) (i k c d : ℕ) : Type 0 where
 -- without cycle fault the product of these four is 1
 abbrev pub FullSquaresHaveProductOne : Type 0
 FullSquaresHaveProductOne = (m : Matrix) → IsTernary m → HasNoCycleFault (entry m) → (i k c d : ℕ) → IsFullSquare m i k c d → (entry m i c *ℤ entry m i d) *ℤ (entry m k c *ℤ entry m k d) ≡ pos 1
-
--- if a chain is sound, each signing of the support has a violator
-abbrev pub ChainsMeanViolators : Type 0
-ChainsMeanViolators = (a m signs : Matrix) (chain : SizedChain) → IsBinary a → IsTernary a → IsSoundChain a chain signs → IsTernary m → HaveOneSupport a m → ¬ (HasNoViolator m)
-
--- if a chain is sound, no signing is totally unimodular
-abbrev pub ChainsRefuteRegularity : Type 0
-ChainsRefuteRegularity = (a signs : Matrix) (chain : SizedChain) → IsBinary a → IsTernary a → IsSoundChain a chain signs → ¬ (IsRegular a)
 
 -- if some matrix of its support is totally unimodular, a matrix is totally unimodular if and only if it has no cycle fault
 abbrev pub CycleFaultsDecide : Type 0

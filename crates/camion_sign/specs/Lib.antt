@@ -4,11 +4,6 @@ pub mod ListedMatrixView
 pub mod Trails
 pub mod Walks
 pub mod FaultLines
-pub mod SignSteps
-pub mod Chains
 pub mod SignOrder
 pub mod Signings
-pub mod ChainStates
-pub mod ChainKinds
-pub mod ChainTexts
 pub mod Laws

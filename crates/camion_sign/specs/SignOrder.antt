@@ -6,9 +6,9 @@ use Rattle.cmr_base.specs.LineSets.{IsRowSet, IsColumnSet, submatrix_sum}
 use Rattle.cmr_base.specs.Signing.{IsSign}
 use Rattle.cmr_base.specs.CyclePlaces.{IsCyclePlace, cycle_rows, cycle_columns}
 use Rattle.cmr_base.specs.declared.line_set.LineSet.{LineSet}
-use Rattle.camion_sign.specs.declared.step.SignStep.{SignStep}
-use Rattle.camion_sign.specs.declared.step.SignStep.TheVariants.{Free, Forced}
-use Rattle.camion_sign.specs.SignSteps.{IsZeroModFour, IsUnsignedOne, AllSigned, unsigned, LeadTo}
+use Rattle.chains.specs.declared.step.SignStep.{SignStep}
+use Rattle.chains.specs.declared.step.SignStep.TheVariants.{Free, Forced}
+use Rattle.chains.specs.SignSteps.{IsZeroModFour, IsUnsignedOne, AllSigned, unsigned, LeadTo}
 
 -- two columns make a cycle place with a row; the lesser column is the first of the place
 abbrev pub IsPlaceOf : Matrix → ℕ → ℕ → ℕ → List ℕ → Type 0

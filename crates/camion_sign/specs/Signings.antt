@@ -6,7 +6,7 @@ use Rattle.camion_sign.specs.Walks.{HasPlacesAndMarks, HasWalked}
 use Rattle.camion_sign.specs.declared.row_places.RowPlaces.{RowPlaces}
 use Rattle.camion_sign.specs.declared.signed_columns.SignedColumns.{SignedColumns}
 use Rattle.camion_sign.specs.declared.signing.Signing.{Signing}
-use Rattle.camion_sign.specs.SignSteps.{AreSigns, IsUnsignedOne, unsigned, LeadTo}
+use Rattle.chains.specs.SignSteps.{AreSigns, IsUnsignedOne, unsigned, LeadTo}
 use Rattle.camion_sign.specs.SignOrder.{IsForcedBy, IsPlaceOf, IsRowsTurn, IsNextSign}
 
 -- z is not 0 if and only if two columns make a cycle place with row t

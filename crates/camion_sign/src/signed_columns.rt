@@ -1,7 +1,7 @@
 // The signed columns of a row, and the columns that make no cycle place with them.
 ghost use Rattle.std.specs.Prelude.{◌≡◌, ◌<◌, ℕ, [], false, length, slice_index, IfOk};
 ghost use Rattle.cmr_base.specs.Matrix.{height};
-ghost use Rattle.camion_sign.specs.SignSteps.{AreSigns, IsUnsignedOne};
+ghost use Rattle.chains.specs.SignSteps.{AreSigns, IsUnsignedOne};
 ghost use Rattle.camion_sign.specs.SignOrder.{IsForcedBy};
 ghost use Rattle.camion_sign.specs.Signings.{KnowsPlaces, KnowsSigned};
 

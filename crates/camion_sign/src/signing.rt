@@ -5,17 +5,17 @@ ghost use Rattle.cmr_base.specs.Signing.{IsSign};
 ghost use Rattle.cmr_base.specs.Sums.{IsOdd};
 ghost use Rattle.cmr_base.specs.Supports.{HaveOneSupport};
 ghost use Rattle.cmr_base.specs.Trees.{IsBinary};
-ghost use Rattle.camion_sign.specs.SignSteps.{AreSigns, IsUnsignedOne, IsZeroModFour, unsigned, LeadTo};
+ghost use Rattle.chains.specs.SignSteps.{AreSigns, IsUnsignedOne, IsZeroModFour, unsigned, LeadTo};
 ghost use Rattle.camion_sign.specs.SignOrder.{IsForcedBy, IsSignedBy};
-ghost use Rattle.camion_sign.specs.Chains.{KeepsRule};
+ghost use Rattle.chains.specs.Chains.{KeepsRule};
 ghost use Rattle.std.specs.List.{AllByRecursion};
-ghost use Rattle.camion_sign.specs.ChainTexts.{IsStepIn};
+ghost use Rattle.chains.specs.ChainTexts.{IsStepIn};
 ghost use Rattle.camion_sign.specs.Signings.{HasRoomForPlaces, KnowsPlaces, KnowsSigned, IsAtRow, IsFirstUnsigned, IsPartner, IsForcedColumn, NoneForced, unsigned_before};
 
 use crate::listed_matrix::ListedMatrix;
 use crate::row_places::RowPlaces;
 use crate::signed_columns::SignedColumns;
-use crate::step::{SignStep, SignStepList};
+use chains::{SignStep, SignStepList};
 use cmr_base::{Matrix, Memory, RowsAndColumns};
 use std::alloc::Global;
 

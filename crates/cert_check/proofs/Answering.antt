@@ -23,8 +23,9 @@ use Rattle.tree_type.specs.Invariant.{AreLines, AreTreesWithin, IsTreeFor}
 use Rattle.tree_type.specs.Places.{due_child, Due, AllLines, MadePivot, matrix_after, pivots_below, Place, places, places_from, lines_of_each}
 use Rattle.tree_type.specs.Soundness.{HasItsSizes, HasItsLines, Demands, MayStand, Keeps, KeepsAll, rule_number, BreaksFirst, IsFirstBroken}
 use Rattle.tree_type.proofs.PlacedLines.{lines_within}
-use Rattle.pivots.specs.declared.place.PlacedPivot.{PlacedPivot}
-use Rattle.pivots.specs.PivotedParts.{pivoted_part}
+use Rattle.cmr_base.specs.declared.placed_pivot.PlacedPivot.{PlacedPivot}
+use Rattle.cmr_base.specs.PlacedPivots.{pivoted_part}
+use Rattle.tree_laws.proofs.PivotedMatrices.{lines_pivoted}
 use Rattle.cert_check.specs.Answers.{Answers, AnswersOn, AnswersOnBoth, AnswersFrom, AnswersBelow, Stands, nodes_below, place_of, IsAfter, has_pivot, IsRuleAt, IsOwnRule, trees_below, due_from, due_child_of, unless, KeepsOwn}
 
 pub opened : (path : List ℕ) (pivots : List MadePivot) (due : Due) (tree : Tree) → places_from path pivots due tree ≡ place_of path pivots due tree ∷ nodes_below path pivots tree
@@ -82,6 +83,9 @@ first_stands m lines finding tree trees h = let w = children_stand m lines findi
 
 pub second_stands : (m : Matrix) (lines : LineSet) (finding : Finding) (one two : Tree) (trees : Trees) → Stands m (Branch lines finding (MoreTrees one (MoreTrees two trees))) → Stands m two
 second_stands m lines finding one two trees h = let w = children_stand m lines finding (MoreTrees one (MoreTrees two trees)) h in (lines, w.0, w.1, w.2.1.0)
+
+pub stands_pivoted : (m : Matrix) (lines : LineSet) (place : PlacedPivot) (tree : Tree) → Stands m tree → Stands (pivoted_part m lines place) tree
+stands_pivoted m lines place tree (parent, levels, are, within) = (parent, levels, lines_pivoted m lines place parent are, within)
 
 last_rule : (r : Rule) → rule_number r ≤ 16
 last_rule rule.Size = omega arith

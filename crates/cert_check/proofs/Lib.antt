@@ -1,12 +1,4 @@
-pub mod FreeSets
 pub mod Sieves
-pub mod Leaves
-pub mod Sums
-pub mod NumberedParts
-pub mod OneSums
-pub mod Reductions
-pub mod PivotedMatrices
-pub mod SoundTrees
 pub mod Answering
 pub mod OwnRules
 pub mod SumRules

@@ -23,8 +23,8 @@ use Rattle.tree_type.specs.Soundness.{part, Demands, rule_number}
 use Rattle.tree_type.specs.declared.tree.Kind.TheVariants as kind
 use Rattle.tree_type.proofs.NodeTrees.{said, tree_is, said_cycle, said_two_sum, said_three_sum, said_violator}
 use Rattle.tree_type.proofs.PlacedLines.{lines_within}
-use Rattle.pivots.specs.declared.place.PlacedPivot.{PlacedPivot}
-use Rattle.pivots.specs.PivotedParts.{IsPlaceIn, IsTernaryPivot}
+use Rattle.cmr_base.specs.declared.placed_pivot.PlacedPivot.{PlacedPivot}
+use Rattle.cmr_base.specs.PlacedPivots.{IsPlaceIn, IsTernaryPivot}
 use Rattle.cert_check.specs.Answers.{Stands, IsFirstBrokenRule, Says, IsOwnRule, unless}
 use Rattle.cert_check.proofs.Answering.{kind_is, pivoted_is, children_stand}
 use Rattle.cert_check.proofs.SumRules.{false_not}

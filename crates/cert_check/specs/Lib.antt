@@ -1,4 +1,3 @@
-pub mod Laws
 pub mod Answers
 pub mod SideLines
 pub mod NodeLines

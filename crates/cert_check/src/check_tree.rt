@@ -1,6 +1,6 @@
 // The check of a tree, node by node in preorder.
 ghost use Rattle.std.specs.Prelude.{◌++◌, ◌↔◌, [], ◌∷◌, true, false, None, IfOk, IsTrue};
-ghost use Rattle.pivots.specs.PivotedParts.{pivoted_part, IsPlaceIn, IsTernaryPivot};
+ghost use Rattle.cmr_base.specs.PlacedPivots.{pivoted_part, IsPlaceIn, IsTernaryPivot};
 ghost use Rattle.tree_type.specs.DecompositionTrees.{tree_of};
 ghost use Rattle.tree_type.specs.Invariant.{AreLines};
 ghost use Rattle.tree_type.specs.Places.{AllLines};
@@ -11,8 +11,8 @@ use crate::due_lines::due_lines;
 use crate::leaf_rules::unless;
 use crate::own_rule::{own_rule, same_lines};
 use crate::pivot_rule::may_stand;
-use cmr_base::{LineSet, Matrix, Memory, PathList};
-use pivots::{PivotedPart, PlacedPivot, pivot_part};
+use cmr_base::{LineSet, Matrix, Memory, PathList, PlacedPivot};
+use pivots::{PivotedPart, pivot_part};
 use std::alloc::Global;
 use tree_type::{DecTree, Kind, Node, Refusal, Rule};
 

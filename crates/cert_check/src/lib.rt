@@ -7,7 +7,6 @@ mod check_tree;
 mod clean;
 mod connectors;
 mod due_lines;
-pub mod laws;
 mod leaf_rules;
 mod members;
 mod own_rule;

@@ -1,6 +1,6 @@
 // The rules on pivots.
 ghost use Rattle.std.specs.Prelude.{◌≡◌, ◌↔◌, List, Contains, IfOk, IsTrue};
-ghost use Rattle.pivots.specs.PivotedParts.{IsPlaceIn, IsTernaryPivot};
+ghost use Rattle.cmr_base.specs.PlacedPivots.{IsPlaceIn, IsTernaryPivot};
 ghost use Rattle.tree_type.specs.DecompositionTrees as says;
 ghost use Rattle.tree_type.specs.DecompositionTrees.{tree_of, finding_of};
 ghost use Rattle.tree_type.specs.Invariant.{AreLines};
@@ -9,8 +9,8 @@ ghost use Rattle.tree_type.specs.Soundness.{MayStand};
 ghost use Rattle.cert_check.specs.Answers.{Says, has_pivot, is_settled};
 
 use crate::leaf_rules::unless;
-use cmr_base::{LineSet, Matrix, Memory};
-use pivots::{PivotedPart, PlacedPivot, pivot_part};
+use cmr_base::{LineSet, Matrix, Memory, PlacedPivot};
+use pivots::{PivotedPart, pivot_part};
 use std::alloc::Global;
 use tree_type::{Kind, Node, Rule};
 

@@ -34,3 +34,5 @@ pub mod R10
 pub mod ColumnSets
 pub mod Runs
 pub mod TransposedPlanes
+pub mod Draws
+pub mod PlacedPivots

@@ -8,6 +8,8 @@ use Rattle.cmr_base.specs.declared.line.Line.TheVariants.{Row, Column}
 use Rattle.cmr_base.specs.declared.separation.Connector.{Connector}
 use Rattle.cmr_base.specs.declared.separation.Form.{Form}
 use Rattle.cmr_base.specs.declared.separation.Form.TheVariants.{Delta, YForm, Mixed, Concentrated}
+use Rattle.cmr_base.specs.LineSets.{first_lines}
+use Rattle.cmr_base.specs.Matrix.{Matrix, height, entry}
 use Rattle.cmr_base.specs.Reductions.{HasLine}
 use Rattle.cmr_base.specs.Signing.{IsSign}
 
@@ -191,3 +193,19 @@ child_one side second = with_lines side second
 
 abbrev pub child_two : Lines → List Line → Lines
 child_two side first = with_lines (opposite side) first
+
+-- ---- of whole matrices
+
+-- a two-separation of all lines of the matrix
+abbrev pub TwoSeparates : Matrix → Lines → ℕ → ℕ → Type 0
+TwoSeparates m side i j = IsTwoSeparation (entry m) (first_lines (height m)) (first_lines m.width) side i j
+
+abbrev pub HasNoTwoSeparation : Matrix → Type 0
+HasNoTwoSeparation m = (i j : ℕ) (side : Lines) → ¬ (TwoSeparates m side i j)
+
+-- a three-separation of all lines of the matrix
+abbrev pub ThreeSeparates : Matrix → Lines → Form → Connector → Connector → Type 0
+ThreeSeparates m side form first second = IsThreeSeparation (entry m) (first_lines (height m)) (first_lines m.width) side form first second
+
+abbrev pub HasNoThreeSeparation : Matrix → Type 0
+HasNoThreeSeparation m = (form : Form) (first second : Connector) (side : Lines) → ¬ (ThreeSeparates m side form first second)

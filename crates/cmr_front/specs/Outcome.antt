@@ -5,8 +5,8 @@ use Rattle.matrix_text.specs.declared.error.TextKind.{TextKind}
 use Rattle.matrix_text.specs.declared.error.TextKind.TheVariants as kinds
 use Rattle.tree_text.specs.declared.error.TreeKind.{TreeKind}
 use Rattle.tree_text.specs.declared.error.TreeKind.TheVariants as trees
-use Rattle.camion_sign.specs.declared.chain_error.ChainKind.{ChainKind}
-use Rattle.camion_sign.specs.declared.chain_error.ChainKind.TheVariants as chains
+use Rattle.chains.specs.declared.chain_error.ChainKind.{ChainKind}
+use Rattle.chains.specs.declared.chain_error.ChainKind.TheVariants as chains
 use Rattle.graph_text.specs.declared.error.GraphKind.{GraphKind}
 use Rattle.graph_text.specs.declared.error.GraphKind.TheVariants as graphs
 use Rattle.cmr_front.specs.declared.outcome.FaultKind.{FaultKind}

@@ -6,7 +6,7 @@ ghost use Rattle.cmr_front.specs.Outcome.{cannot_write_line, fault_line, chain_k
 ghost use Rattle.cmr_front.specs.SinkLines.{GetsLine};
 
 use crate::outcome::{FaultKind, Stop};
-use camion_sign::ChainKind;
+use chains::ChainKind;
 use cmr_io::{Sink, WriteFault, write_whole};
 use graph_text::GraphKind;
 use itoa::Buffer;

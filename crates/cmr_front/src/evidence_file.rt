@@ -2,7 +2,7 @@
 ghost use Rattle.std.specs.Prelude.{◌≡◌, ◌∷◌, [], IfOk, IfErr, Ok, map};
 ghost use Rattle.text_fields.specs.TextWords.{text_of};
 ghost use Rattle.matrix_text.specs.Submatrix.{named_lines};
-ghost use Rattle.camion_sign.specs.ChainTexts.{chain};
+ghost use Rattle.chains.specs.ChainTexts.{chain};
 ghost use Rattle.tree_text.specs.TreeReading.{plain_of, tree};
 ghost use Rattle.cmr_base.specs.LineSets.{AllBelow};
 ghost use Rattle.std.specs.List.Sorted.{IsStrictlyIncreasing};
@@ -13,7 +13,7 @@ ghost use Rattle.cmr_front.specs.declared.outcome.FaultKind.TheVariants as fault
 
 use crate::input::{Input, InputKind};
 use crate::outcome::{FaultKind, Stop};
-use camion_sign::{ChainError, SizedChain, read_chain};
+use chains::{ChainError, SizedChain, read_chain};
 use cmr_base::{LineSet, Memory};
 use matrix_text::{TextError, read_submatrix};
 use std::alloc::Global;

@@ -2,7 +2,7 @@
 ghost use Rattle.std.specs.Prelude.{◌≡◌};
 
 use crate::status::{Answer, Failure};
-use camion_sign::ChainKind;
+use chains::ChainKind;
 use graph_text::GraphKind;
 use matrix_text::TextKind;
 use tree_text::TreeKind;

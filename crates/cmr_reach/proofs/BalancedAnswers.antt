@@ -12,8 +12,8 @@ use Rattle.tree_type.specs.Verdicts as verdicts
 use Rattle.tree_type.specs.Verdicts.{verdict_of}
 use Rattle.decomp_tree.specs.PivotedShapes.{IsShapeWith}
 use Rattle.decomp_tree.proofs.OneVerdict.{one_verdict}
-use Rattle.cert_check.specs.Laws.{Tells}
-use Rattle.cert_check.proofs.SoundTrees.{tells}
+use Rattle.tree_laws.specs.Laws.{Tells}
+use Rattle.tree_laws.proofs.SoundTrees.{tells}
 use Rattle.leaf_enumerate.specs.declared.search.LeastSubmatrix.{LeastSubmatrix}
 use Rattle.leaf_enumerate.specs.declared.search.LeastSubmatrix.TheVariants.{Clean, Found, TooMany}
 use Rattle.balance.specs.BalanceFaults.{IsBalanced, IsLeastFault}

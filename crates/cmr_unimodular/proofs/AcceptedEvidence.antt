@@ -11,15 +11,15 @@ use Rattle.matrix_text.specs.Submatrix.{named_lines}
 use Rattle.matrix_text.proofs.DenseAgain.{dense_again}
 use Rattle.matrix_text.proofs.SubmatrixAgain.{submatrix_again}
 use Rattle.matrix_text.proofs.TextLengths.{dense_text_within}
-use Rattle.camion_sign.specs.declared.step.SignStep.{SignStep}
-use Rattle.camion_sign.specs.declared.step.SignStep.TheVariants.{Free, Forced}
-use Rattle.camion_sign.specs.ChainTexts.{IsIncreasingStep, chain, chain_text}
+use Rattle.chains.specs.declared.step.SignStep.{SignStep}
+use Rattle.chains.specs.declared.step.SignStep.TheVariants.{Free, Forced}
+use Rattle.chains.specs.ChainTexts.{IsIncreasingStep, chain, chain_text}
 use Rattle.camion_sign.specs.SignOrder.{IsNextSign}
-use Rattle.camion_sign.specs.SignSteps.{LeadTo, signed_by}
-use Rattle.camion_sign.proofs.ChainAgain.{chain_again}
-use Rattle.camion_sign.proofs.StepCounts.{few_signed, steps_in}
-use Rattle.cert_check.specs.Laws.{IsRefuted, Tells}
-use Rattle.cert_check.proofs.SoundTrees.{tells}
+use Rattle.chains.specs.SignSteps.{LeadTo, signed_by}
+use Rattle.chains.proofs.ChainAgain.{chain_again}
+use Rattle.camion_sign.proofs.SignedSteps.{few_signed, steps_in}
+use Rattle.tree_laws.specs.Laws.{IsRefuted, Tells}
+use Rattle.tree_laws.proofs.SoundTrees.{tells}
 use Rattle.tree_type.specs.DecompositionTrees.{SizedTree, tree_of}
 use Rattle.tree_type.specs.Verdicts as verdicts
 use Rattle.tree_text.specs.TreeReading.{tree}

@@ -5,7 +5,7 @@ use Rattle.cmr_base.specs.Matrix.{Matrix}
 use Rattle.cmr_base.specs.declared.line_set.LineSet.{LineSet}
 use Rattle.cmr_base.specs.declared.network.Network.{Network as Net}
 use Rattle.cmr_base.specs.Reductions.{IsSeriesParallel}
-use Rattle.camion_sign.specs.declared.step.SignStep.{SignStep}
+use Rattle.chains.specs.declared.step.SignStep.{SignStep}
 use Rattle.tree_type.specs.DecompositionTrees.{SizedTree, tree_of}
 use Rattle.tree_type.specs.Verdicts.{Verdict, verdict_of}
 use Rattle.tree_text.specs.CanonicalTrees.{tree_text}

@@ -10,15 +10,15 @@ use Rattle.cmr_base.specs.Violator.{IsViolator}
 use Rattle.cmr_base.specs.declared.line_set.LineSet.{LineSet}
 use Rattle.cmr_base.proofs.WholeMatrices.{is_ternary}
 use Rattle.ghouila.proofs.CamionLaw.{unsigned}
-use Rattle.camion_sign.specs.declared.step.SignStep.{SignStep}
-use Rattle.camion_sign.specs.declared.step.SizedChain.{SizedChain}
-use Rattle.camion_sign.specs.Chains.{Breaks, IsFirstBrokenPart, IsSignedViolator, IsSoundChain, KeepsRule}
-use Rattle.camion_sign.specs.ChainTexts.{chain}
-use Rattle.camion_sign.specs.SignSteps as signing
-use Rattle.camion_sign.specs.SignSteps.{AreSigns, LeadTo, signed_by}
-use Rattle.camion_sign.proofs.ChainChecks.{lead_from, rule_signs}
-use Rattle.camion_sign.proofs.ChainViolators.{chains_mean_violators, chains_refute_regularity, unsigned_signs}
-use Rattle.cert_check.specs.Laws.{IsRefuted, Tells}
+use Rattle.chains.specs.declared.step.SignStep.{SignStep}
+use Rattle.chains.specs.declared.step.SizedChain.{SizedChain}
+use Rattle.chains.specs.Chains.{Breaks, IsFirstBrokenPart, IsSignedViolator, IsSoundChain, KeepsRule}
+use Rattle.chains.specs.ChainTexts.{chain}
+use Rattle.chains.specs.SignSteps as signing
+use Rattle.chains.specs.SignSteps.{AreSigns, LeadTo, signed_by}
+use Rattle.chains.proofs.ChainChecks.{lead_from, rule_signs}
+use Rattle.chains.proofs.ChainViolators.{chains_mean_violators, chains_refute_regularity, unsigned_signs}
+use Rattle.tree_laws.specs.Laws.{IsRefuted, Tells}
 use Rattle.cert_check.proofs.Answering.{lines_is}
 use Rattle.tree_text.specs.TreeReading.{PlainTree, tree}
 use Rattle.tree_type.specs.Places.{places}

@@ -12,9 +12,9 @@ use Rattle.text_fields.proofs.Results.{bind_ok}
 use Rattle.matrix_text.specs.declared.error.TextKind.TheVariants as kinds_of_text
 use Rattle.matrix_text.specs.Submatrix.{named_lines}
 use Rattle.matrix_text.specs.Values.{own_size}
-use Rattle.camion_sign.specs.declared.chain_error.ChainKind.TheVariants as kinds_of_chain
-use Rattle.camion_sign.specs.declared.step.SizedChain.{SizedChain}
-use Rattle.camion_sign.specs.ChainTexts.{chain, word_in}
+use Rattle.chains.specs.declared.chain_error.ChainKind.TheVariants as kinds_of_chain
+use Rattle.chains.specs.declared.step.SizedChain.{SizedChain}
+use Rattle.chains.specs.ChainTexts.{chain, word_in}
 use Rattle.tree_text.specs.declared.error.TreeKind.{TreeKind}
 use Rattle.tree_text.specs.declared.error.TreeKind.TheVariants as kinds_of_tree
 use Rattle.tree_text.specs.declared.header.Title.{Title}

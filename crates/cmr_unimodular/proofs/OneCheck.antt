@@ -4,13 +4,13 @@ use Rattle.text_fields.specs.TextWords.{text_of}
 use Rattle.matrix_text.specs.Submatrix.{named_lines}
 use Rattle.cmr_base.specs.Matrix.{Matrix, IsMatrix, height}
 use Rattle.cmr_base.specs.declared.line_set.LineSet.{LineSet}
-use Rattle.camion_sign.specs.declared.step.SignStep.{SignStep}
-use Rattle.camion_sign.specs.declared.step.SizedChain.{SizedChain}
-use Rattle.camion_sign.specs.Chains.{Breaks, IsFirstBrokenPart, KeepsRule}
-use Rattle.camion_sign.specs.ChainTexts.{chain}
-use Rattle.camion_sign.specs.SignSteps.{AreSigns, LeadTo, signed_by, unsigned}
-use Rattle.camion_sign.proofs.ChainChecks.{lead_once, one_sign, rule_signs}
-use Rattle.camion_sign.proofs.ChainViolators.{unsigned_signs}
+use Rattle.chains.specs.declared.step.SignStep.{SignStep}
+use Rattle.chains.specs.declared.step.SizedChain.{SizedChain}
+use Rattle.chains.specs.Chains.{Breaks, IsFirstBrokenPart, KeepsRule}
+use Rattle.chains.specs.ChainTexts.{chain}
+use Rattle.chains.specs.SignSteps.{AreSigns, LeadTo, signed_by, unsigned}
+use Rattle.chains.proofs.ChainChecks.{lead_once, one_sign, rule_signs}
+use Rattle.chains.proofs.ChainViolators.{unsigned_signs}
 use Rattle.tree_text.specs.TreeReading.{PlainTree, tree}
 use Rattle.tree_type.specs.Places.{places}
 use Rattle.tree_type.proofs.OneRefusal.{one_refusal, sound_unbroken}

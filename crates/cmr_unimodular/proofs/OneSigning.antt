@@ -8,13 +8,13 @@ use Rattle.cmr_base.specs.CyclePlaces.{cycle_rows, cycle_columns}
 use Rattle.cmr_base.specs.declared.line_set.LineSet.{LineSet}
 use Rattle.cmr_base.proofs.Integers.{sums}
 use Rattle.cmr_base.proofs.Booleans.{neither}
-use Rattle.camion_sign.specs.declared.step.SignStep.{SignStep}
-use Rattle.camion_sign.specs.declared.step.SignStep.TheVariants.{Free, Forced}
+use Rattle.chains.specs.declared.step.SignStep.{SignStep}
+use Rattle.chains.specs.declared.step.SignStep.TheVariants.{Free, Forced}
 use Rattle.camion_sign.specs.SignOrder.{IsPlaceOf, IsForcedBy, IsCycleLines, IsNextForced, IsNextFree, IsRowsTurn, IsNextSign, IsSignedBy}
-use Rattle.camion_sign.specs.SignSteps.{AllSigned, AreSigns, IsUnsignedOne, LeadTo, signed_by, step_row, step_column, unsigned}
-use Rattle.camion_sign.proofs.ChainViolators.{sign_four, unsigned_signs}
+use Rattle.chains.specs.SignSteps.{AllSigned, AreSigns, IsUnsignedOne, LeadTo, signed_by, step_row, step_column, unsigned}
+use Rattle.chains.proofs.ChainViolators.{sign_four, unsigned_signs}
 use Rattle.camion_sign.proofs.ForcedCycles.{sum_more}
-use Rattle.camion_sign.proofs.GivenSigns.{signs_more}
+use Rattle.chains.proofs.GivenSigns.{signs_more}
 use Rattle.camion_sign.proofs.FirstFaults.{place_unique}
 use Rattle.decomp_tree.proofs.SameSets.{same_numbers}
 

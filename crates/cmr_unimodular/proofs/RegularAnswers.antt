@@ -5,11 +5,11 @@ use Rattle.cmr_base.specs.declared.memory.Memory.{Memory}
 use Rattle.cmr_base.specs.declared.line_set.LineSet.{LineSet}
 use Rattle.cmr_base.specs.Matrix.{Matrix, height}
 use Rattle.cmr_base.proofs.WholeMatrices.{is_ternary}
-use Rattle.camion_sign.proofs.ChainViolators.{chains_mean_violators, chains_refute_regularity}
-use Rattle.camion_sign.specs.declared.step.SignStep.{SignStep}
-use Rattle.camion_sign.specs.ChainTexts.{AreLinesIn, chain_text}
-use Rattle.camion_sign.specs.Chains.{IsSoundChain}
-use Rattle.cert_check.specs.Laws.{IsRefuted, Tells}
+use Rattle.chains.proofs.ChainViolators.{chains_mean_violators, chains_refute_regularity}
+use Rattle.chains.specs.declared.step.SignStep.{SignStep}
+use Rattle.chains.specs.ChainTexts.{AreLinesIn, chain_text}
+use Rattle.chains.specs.Chains.{IsSoundChain}
+use Rattle.tree_laws.specs.Laws.{IsRefuted, Tells}
 use Rattle.tree_type.specs.DecompositionTrees.{SizedTree}
 use Rattle.tree_type.specs.Verdicts as verdicts
 use Rattle.tree_type.specs.Verdicts.{Verdict}

@@ -10,9 +10,9 @@ use Rattle.tree_type.specs.declared.tree.Node.{Node}
 use Rattle.tree_type.specs.DecompositionTrees.{SizedTree, tree_of}
 use Rattle.tree_type.specs.Verdicts as verdicts
 use Rattle.tree_type.specs.Verdicts.{Verdict, fault_at, first_in, open_at, verdict_from}
-use Rattle.cert_check.specs.Laws.{Tells}
+use Rattle.tree_laws.specs.Laws.{Tells}
 use Rattle.cert_check.proofs.Answering.{lines_is}
-use Rattle.cert_check.proofs.SoundTrees.{tells}
+use Rattle.tree_laws.proofs.SoundTrees.{tells}
 use Rattle.cmr_unimodular.specs.Verdict.{IsDecomposition, IsTold, verdict_in}
 use Rattle.cmr_unimodular.proofs.OpenParts.{open_part}
 

@@ -3,7 +3,7 @@ use Rattle.std.proofs.Common.{◌≡◌, ℕ, subst, refl, arith}
 use Rattle.cmr_base.specs.Matrix.{Matrix}
 use Rattle.cmr_base.specs.Signing.{IsTotallyUnimodular}
 use Rattle.cmr_base.specs.declared.line_set.LineSet.{LineSet}
-use Rattle.cert_check.specs.Laws.{IsRefuted}
+use Rattle.tree_laws.specs.Laws.{IsRefuted}
 use Rattle.ghouila.proofs.DeterminantLaw.{ghouila_houri}
 use Rattle.ghouila.proofs.HoffmanKruskal.{hoffman_kruskal}
 use Rattle.tree_type.specs.DecompositionTrees.{SizedTree}

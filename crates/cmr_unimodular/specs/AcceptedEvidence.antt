@@ -4,8 +4,8 @@ use Rattle.cmr_base.specs.declared.limits.TheConstants.{MAX_EVIDENCE}
 use Rattle.cmr_base.specs.declared.line_set.LineSet.{LineSet}
 use Rattle.cmr_base.specs.Matrix.{Matrix, height}
 use Rattle.matrix_text.specs.CanonicalMatrices.{dense_text, submatrix_text}
-use Rattle.camion_sign.specs.declared.step.SignStep.{SignStep}
-use Rattle.camion_sign.specs.ChainTexts.{chain_text}
+use Rattle.chains.specs.declared.step.SignStep.{SignStep}
+use Rattle.chains.specs.ChainTexts.{chain_text}
 use Rattle.tree_type.specs.DecompositionTrees.{SizedTree, tree_of}
 use Rattle.tree_type.specs.Verdicts as verdicts
 use Rattle.tree_text.specs.CanonicalTrees.{tree_text}

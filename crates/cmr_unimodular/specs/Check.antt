@@ -8,15 +8,15 @@ use Rattle.cmr_base.specs.Violator.{HasNoViolator, IsViolator}
 use Rattle.cmr_base.specs.declared.line_set.LineSet.{LineSet}
 use Rattle.text_fields.specs.TextWords.{text_of}
 use Rattle.matrix_text.specs.Submatrix.{named_lines}
-use Rattle.camion_sign.specs.Chains.{IsFirstBrokenPart, IsRegular, IsSoundChain}
-use Rattle.camion_sign.specs.ChainTexts.{chain}
-use Rattle.camion_sign.specs.declared.step.SizedChain.{SizedChain}
+use Rattle.chains.specs.Chains.{IsFirstBrokenPart, IsRegular, IsSoundChain}
+use Rattle.chains.specs.ChainTexts.{chain}
+use Rattle.chains.specs.declared.step.SizedChain.{SizedChain}
 use Rattle.tree_type.specs.Verdicts as verdicts
 use Rattle.tree_type.specs.Verdicts.{Verdict, verdict_of}
 use Rattle.tree_type.specs.declared.refusal.Rule.{Rule}
 use Rattle.tree_type.specs.declared.refusal.Rule.TheVariants.{NotViolator}
 use Rattle.tree_text.specs.TreeReading.{PlainTree}
-use Rattle.cert_check.specs.Laws.{IsRefuted, Tells}
+use Rattle.tree_laws.specs.Laws.{IsRefuted, Tells}
 use Rattle.cmr_front.specs.declared.outcome.FaultKind.TheVariants as faults
 use Rattle.cmr_front.specs.declared.status.Answer.{Answer}
 use Rattle.cmr_front.specs.declared.status.Answer.TheVariants.{Yes, No, Undecided, Refused}

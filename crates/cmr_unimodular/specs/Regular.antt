@@ -7,12 +7,12 @@ use Rattle.cmr_base.specs.Trees.{IsBinary}
 use Rattle.cmr_base.specs.Violator.{HasNoViolator}
 use Rattle.cmr_base.specs.declared.line_set.LineSet.{LineSet}
 use Rattle.matrix_text.specs.CanonicalMatrices.{dense_text}
-use Rattle.camion_sign.specs.declared.step.SignStep.{SignStep}
-use Rattle.camion_sign.specs.declared.step.SizedChain.{SizedChain}
-use Rattle.camion_sign.specs.ChainTexts.{AreLinesIn, chain_text}
-use Rattle.camion_sign.specs.Chains.{IsRegular, IsSoundChain, KeepsRule}
+use Rattle.chains.specs.declared.step.SignStep.{SignStep}
+use Rattle.chains.specs.declared.step.SizedChain.{SizedChain}
+use Rattle.chains.specs.ChainTexts.{AreLinesIn, chain_text}
+use Rattle.chains.specs.Chains.{IsRegular, IsSoundChain, KeepsRule}
 use Rattle.camion_sign.specs.SignOrder.{IsSignedBy}
-use Rattle.camion_sign.specs.SignSteps.{LeadTo, unsigned}
+use Rattle.chains.specs.SignSteps.{LeadTo, unsigned}
 use Rattle.tree_type.specs.DecompositionTrees.{SizedTree}
 use Rattle.tree_type.specs.Verdicts as verdicts
 use Rattle.tree_type.specs.Verdicts.{Verdict}

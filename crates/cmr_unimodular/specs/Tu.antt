@@ -11,7 +11,7 @@ use Rattle.cmr_front.specs.declared.status.Answer.TheVariants.{Yes, No, Undecide
 use Rattle.cmr_front.specs.MatrixText.{Source, matrix_tool, source}
 use Rattle.cmr_front.specs.Tool.{Tool}
 use Rattle.cmr_unimodular.specs.Verdict.{VerdictOrder, Decides, IsDecomposition, IsOpenPart, verdict_in}
-use Rattle.cert_check.specs.Laws.{IsRefuted}
+use Rattle.tree_laws.specs.Laws.{IsRefuted}
 use Rattle.tree_type.specs.DecompositionTrees.{SizedTree}
 use Rattle.tree_type.specs.Verdicts as verdicts
 use Rattle.cmr_base.specs.declared.line_set.LineSet.{LineSet}

@@ -9,8 +9,7 @@ use Rattle.cmr_base.specs.R10.{IsR10}
 use Rattle.cmr_base.specs.Trees.{IsNetworkMatrix, IsConetworkMatrix}
 use Rattle.matrix_text.specs.CanonicalMatrices.{submatrix_text}
 use Rattle.sp_reduce.specs.RowDigests.{HasNoReducibleLine}
-use Rattle.two_sep.specs.FirstSeeds.{HasNoTwoSeparation}
-use Rattle.three_sep.specs.ThreeSeparations.{HasNoThreeSeparation}
+use Rattle.cmr_base.specs.Separations.{HasNoTwoSeparation, HasNoThreeSeparation}
 use Rattle.tree_type.specs.Invariant.{AreLines, IsDecTree}
 use Rattle.tree_type.specs.Soundness.{IsSound, part}
 use Rattle.tree_type.specs.DecompositionTrees.{SizedTree, tree_of}
@@ -18,7 +17,7 @@ use Rattle.tree_type.specs.Verdicts as verdicts
 use Rattle.tree_type.specs.Verdicts.{Verdict, verdict_of}
 use Rattle.tree_text.specs.CanonicalTrees.{tree_text}
 use Rattle.decomp_tree.specs.PivotedShapes.{IsShapeWith}
-use Rattle.cert_check.specs.Laws.{Tells}
+use Rattle.tree_laws.specs.Laws.{Tells}
 use Rattle.cmr_front.specs.declared.status.Answer.{Answer}
 use Rattle.cmr_front.specs.declared.status.Answer.TheVariants.{Yes, No, Undecided}
 use Rattle.cmr_unimodular.specs.declared.verdict.VerdictOptions.{VerdictOptions}

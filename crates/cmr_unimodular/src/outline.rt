@@ -4,9 +4,8 @@ ghost use Rattle.std.specs.Fmt.{decimal};
 ghost use Rattle.cmr_unimodular.specs.Outline.{IsAtDepth, outline_from, outline_line, pivot_words, place_words, size_and_place};
 ghost use Rattle.tree_type.specs.DecompositionTrees.{tree_of, finding_of};
 
-use cmr_base::Memory;
+use cmr_base::{Memory, PlacedPivot};
 use itoa::Buffer;
-use pivots::PlacedPivot;
 use tree_text::{kind_of, word_of};
 use tree_type::{DecTree, Kind, Node};
 

@@ -1,6 +1,6 @@
 // The verdict on total unimodularity, from a decomposition.
 ghost use Rattle.std.specs.Prelude.{◌≡◌, ◌≤◌, ◌++◌, IfOk, OnOk, map, option_map};
-ghost use Rattle.cert_check.specs.Laws.{Tells};
+ghost use Rattle.tree_laws.specs.Laws.{Tells};
 ghost use Rattle.cmr_front.specs.Outcome.{file_of, outcome_report};
 ghost use Rattle.cmr_unimodular.specs.Verdict.{Decides, IsDecomposition, IsTold, answer_of, answer_word, fault_file, named_line, tree_file, verdict_in, verdict_order_of, verdict_output, verdict_report};
 ghost use Rattle.tree_type.specs.Verdicts.{verdict_shown};

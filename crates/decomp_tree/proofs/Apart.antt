@@ -18,7 +18,7 @@ use Rattle.cmr_base.proofs.ListsWithout.{true_is_false, in_from_contains, contai
 use Rattle.cmr_base.proofs.ListedLines.{has_line_from_listed, listed_from_has_line, contains_first_lines}
 use Rattle.cmr_base.proofs.RowLists.{two_cases}
 use Rattle.cmr_base.proofs.Booleans.{same_test, is_and}
-use Rattle.cert_check.proofs.OneSums.{counted}
+use Rattle.tree_laws.proofs.OneSums.{counted}
 use Rattle.tree_type.specs.Invariant.{AreLines, size_of}
 use Rattle.tree_type.specs.Sides.{is_among}
 use Rattle.tree_type.specs.Soundness.{part, AreApart}

@@ -8,7 +8,7 @@ use Rattle.pivots.specs.PivotedParts.{IsMadePart, ShowsFirstTwoIn}
 use Rattle.tree_type.specs.DecompositionTrees.{Tree, Branch, NoTrees, Violator}
 use Rattle.tree_type.specs.Invariant.{AreLines, size_of}
 use Rattle.tree_type.specs.Verdicts.{verdict_of}
-use Rattle.cert_check.proofs.PivotedMatrices.{lines_pivoted}
+use Rattle.tree_laws.proofs.PivotedMatrices.{lines_pivoted}
 use Rattle.decomp_tree.specs.Refined.{Refines}
 use Rattle.decomp_tree.specs.Shapes.{IsShapeOn}
 use Rattle.decomp_tree.specs.PivotedShapes.{HasFaultAmong, IsDrawnWith, IsFound, IsFoundAt, IsToldBeforePivot, undecided}

@@ -4,9 +4,9 @@ use Rattle.cmr_base.specs.declared.line_set.LineSet.{LineSet}
 use Rattle.cmr_base.specs.Matrix.{Matrix, entry, IsMatrix}
 use Rattle.cmr_base.specs.Violator.{IsViolator}
 use Rattle.pivots.specs.declared.drawn.DrawnPlace.{DrawnPlace}
-use Rattle.pivots.specs.declared.place.PlacedPivot.{PlacedPivot}
+use Rattle.cmr_base.specs.declared.placed_pivot.PlacedPivot.{PlacedPivot}
 use Rattle.pivots.specs.DrawnPlaces.{drawn_place}
-use Rattle.pivots.specs.PivotedParts.{IsPlaceIn, IsTernaryPivot, pivoted_part}
+use Rattle.cmr_base.specs.PlacedPivots.{IsPlaceIn, IsTernaryPivot, pivoted_part}
 use Rattle.pivots.proofs.PartLaws.{part_pivots_take_violators_back}
 use Rattle.tree_type.specs.DecompositionTrees.{Tree, lines_at_root}
 use Rattle.tree_type.specs.Invariant.{AreLines, AreLinesOf, size_of}
@@ -14,8 +14,8 @@ use Rattle.tree_type.specs.Places.{These, MadePivot, matrix_after}
 use Rattle.tree_type.specs.Soundness.{HasItsLines}
 use Rattle.tree_type.specs.Verdicts.{Verdict, Yes, No, Open, verdict_of}
 use Rattle.tree_type.proofs.PlacedLines.{lines_within}
-use Rattle.cert_check.proofs.PivotedMatrices.{lines_pivoted, pivoted_is_matrix}
-use Rattle.cert_check.proofs.SoundTrees.{fault_tree}
+use Rattle.tree_laws.proofs.PivotedMatrices.{lines_pivoted, pivoted_is_matrix}
+use Rattle.tree_laws.proofs.SoundTrees.{fault_tree}
 use Rattle.decomp_tree.specs.Shapes.{IsShapeOn}
 use Rattle.decomp_tree.specs.Refined.{Refines}
 use Rattle.decomp_tree.specs.PivotedShapes.{AreBefore, IsToldBeforePivot, IsFoundAt, IsFound, IsDrawnWith}

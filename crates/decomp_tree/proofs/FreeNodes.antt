@@ -7,11 +7,11 @@ use Rattle.cmr_base.specs.Matrix.{Matrix, entry, IsMatrix}
 use Rattle.cmr_base.specs.CyclePlaces.{HasNoCycleFault}
 use Rattle.cmr_base.proofs.Lists.{all_weaker}
 use Rattle.r10_leaf.proofs.FreeR10.{fault_free_r10_has_no_violator}
-use Rattle.cert_check.proofs.FreeSets.{IsFreeOn, free_from_part}
-use Rattle.cert_check.proofs.Leaves.{free_empty, free_network, free_conetwork}
-use Rattle.cert_check.proofs.Sums.{free_two, free_three}
-use Rattle.cert_check.proofs.OneSums.{free_apart}
-use Rattle.cert_check.proofs.Reductions.{free_reduced}
+use Rattle.tree_laws.proofs.FreeSets.{IsFreeOn, free_from_part}
+use Rattle.tree_laws.proofs.Leaves.{free_empty, free_network, free_conetwork}
+use Rattle.tree_laws.proofs.Sums.{free_two, free_three}
+use Rattle.tree_laws.proofs.OneSums.{free_apart}
+use Rattle.tree_laws.proofs.Reductions.{free_reduced}
 use Rattle.tree_type.specs.DecompositionTrees.{Finding, Empty, Cycle, Reduced, OneSum, Network, Conetwork, R10, TwoSum, ThreeSum, Enumerated, Violator, Undecided}
 use Rattle.tree_type.specs.Invariant.{AreLines, HasChildren}
 use Rattle.tree_type.specs.Places.{These, lines_left}

@@ -6,11 +6,11 @@ use Rattle.cmr_base.specs.declared.line_set.LineSet.{LineSet}
 use Rattle.cmr_base.specs.Matrix.{Matrix, height}
 use Rattle.cmr_base.proofs.Booleans.{true_is_false}
 use Rattle.cmr_base.proofs.Options.{some_or}
-use Rattle.cert_check.proofs.SoundTrees.{none_or}
+use Rattle.tree_laws.proofs.SoundTrees.{none_or}
 use Rattle.pivots.specs.declared.drawn.DrawnPlace.{DrawnPlace}
-use Rattle.pivots.specs.declared.place.PlacedPivot.{PlacedPivot}
+use Rattle.cmr_base.specs.declared.placed_pivot.PlacedPivot.{PlacedPivot}
 use Rattle.pivots.specs.DrawnPlaces.{drawn_place}
-use Rattle.pivots.specs.PivotedParts.{pivoted_part}
+use Rattle.cmr_base.specs.PlacedPivots.{pivoted_part}
 use Rattle.tree_type.specs.DecompositionTrees.{Finding, Violator, Tree, Trees, Branch, NoTrees, MoreTrees}
 use Rattle.tree_type.specs.Verdicts.{Yes, first_in, first_among, fault_at, open_at, verdict_from, verdict_of}
 use Rattle.decomp_tree.specs.PlainTrees.{plain_finding, plain_tree, plain_trees}

@@ -6,7 +6,7 @@ use Rattle.cmr_base.specs.Matrix.{Matrix, height, entry, IsMatrix}
 use Rattle.cmr_base.specs.CyclePlaces.{HasNoCycleFault}
 use Rattle.cmr_base.proofs.Lists.{all_weaker, all-map}
 use Rattle.cmr_base.proofs.IncreasingLists.{row_set_rises, column_set_rises, increasing_below}
-use Rattle.cert_check.proofs.FreeSets.{IsFreeOn}
+use Rattle.tree_laws.proofs.FreeSets.{IsFreeOn}
 use Rattle.ghouila.proofs.SignsUnique.{no_violator_no_fault}
 use Rattle.tree_type.specs.Invariant.{AreLines}
 use Rattle.tree_type.specs.Soundness.{part}

@@ -7,7 +7,7 @@ use Rattle.cmr_base.specs.Matrix.{Matrix}
 use Rattle.cmr_base.proofs.Lists.{all_prefix, all_back}
 use Rattle.cmr_base.proofs.Options.{some_or, some_same}
 use Rattle.pivots.specs.declared.drawn.DrawnPlace.{DrawnPlace}
-use Rattle.pivots.specs.declared.place.PlacedPivot.{PlacedPivot}
+use Rattle.cmr_base.specs.declared.placed_pivot.PlacedPivot.{PlacedPivot}
 use Rattle.pivots.specs.DrawnPlaces.{drawn_place}
 use Rattle.tree_type.specs.DecompositionTrees.{Finding, Empty, Cycle, Reduced, OneSum, Network, Conetwork, R10, TwoSum, ThreeSum, Enumerated, Violator, Undecided, Pivoted, Tree, Trees, Branch, NoTrees, MoreTrees, lines_at_root}
 use Rattle.tree_type.specs.Invariant.{AreLines, AreLinesOf, size_of, IsTreeWithin, AreTreesWithin}

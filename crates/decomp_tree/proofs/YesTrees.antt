@@ -4,7 +4,7 @@ use Rattle.cmr_base.specs.declared.line_set.LineSet.{LineSet}
 use Rattle.tree_type.specs.DecompositionTrees.{Finding, Empty, Cycle, Reduced, OneSum, Network, Conetwork, R10, TwoSum, ThreeSum, Enumerated, Violator, Undecided, Pivoted, Tree, Trees, Branch, MoreTrees}
 use Rattle.tree_type.specs.Places.{MadePivot}
 use Rattle.tree_type.specs.Soundness.{MayStand}
-use Rattle.cert_check.proofs.SoundTrees.{none_or}
+use Rattle.tree_laws.proofs.SoundTrees.{none_or}
 use Rattle.tree_type.specs.Verdicts.{Yes, first_in, first_among, fault_at, open_at, verdict_from, verdict_of}
 
 -- no node of the tree names a fault, and none is undecided

@@ -6,9 +6,10 @@ use Rattle.cmr_base.specs.Matrix.{Matrix, height}
 use Rattle.cmr_base.specs.LineSets.{IsRowSet, IsColumnSet, first_lines}
 use Rattle.ghouila.specs.PivotLaws.{AreLinesBefore}
 use Rattle.pivots.specs.declared.drawn.DrawnPlace.{DrawnPlace}
-use Rattle.pivots.specs.declared.place.PlacedPivot.{PlacedPivot}
+use Rattle.cmr_base.specs.declared.placed_pivot.PlacedPivot.{PlacedPivot}
 use Rattle.pivots.specs.DrawnPlaces.{drawn_place}
-use Rattle.pivots.specs.PivotedParts.{pivoted_part, AreAmong, IsTernaryPivot, ShowsFirstTwoIn}
+use Rattle.cmr_base.specs.PlacedPivots.{pivoted_part, IsTernaryPivot}
+use Rattle.pivots.specs.PivotedParts.{AreAmong, ShowsFirstTwoIn}
 use Rattle.tree_type.specs.declared.finding.Finding.{Finding as Held}
 use Rattle.tree_type.specs.declared.finding.Finding.TheVariants as held
 use Rattle.tree_type.specs.DecompositionTrees.{Tree, Branch, NoTrees, Undecided, Violator, Pivoted, one_tree}

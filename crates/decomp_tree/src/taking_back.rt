@@ -1,14 +1,14 @@
 // What the tree of a submatrix after a pivot says of the submatrix.
 ghost use Rattle.std.specs.Prelude.{◌≡◌, IfOk};
-ghost use Rattle.pivots.specs.PivotedParts.{IsPlaceIn};
+ghost use Rattle.cmr_base.specs.PlacedPivots.{IsPlaceIn};
 ghost use Rattle.tree_type.specs.DecompositionTrees.{Branch, NoTrees, Pivoted, one_tree, tree_of};
 ghost use Rattle.tree_type.specs.Invariant.{AreLines, HasChildren};
 ghost use Rattle.tree_type.specs.Findings.{finding_shown};
 ghost use Rattle.tree_type.specs.Verdicts.{verdict_of};
 ghost use Rattle.decomp_tree.specs.PivotedShapes.{HasFaultAmong, IsToldBeforePivot, SaysBeforePivot};
 
-use cmr_base::{LineSet, Matrix, Memory};
-use pivots::{PlacedPivot, violator_before_part};
+use cmr_base::{LineSet, Matrix, Memory, PlacedPivot};
+use pivots::violator_before_part;
 use std::alloc::Global;
 use tree_type::{Finding, Node, VerdictOf, copy_of, join_node, verdict_at};
 

@@ -1,5 +1,4 @@
 pub mod Samples
-pub mod DrawnNumbers
 pub mod RandomTrees
 pub mod JoinedRows
 pub mod SumRows

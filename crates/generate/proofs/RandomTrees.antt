@@ -3,9 +3,9 @@ use Rattle.std.proofs.Common.{◌≡◌, ◌<◌, ◌≤◌, ◌+◌, ◌∙◌,
 use Rattle.cmr_base.specs.declared.network.Pair.{Pair}
 use Rattle.cmr_base.specs.Trees.{tail, head, IsTree, IsNetworkOf}
 use Rattle.cmr_base.proofs.TreeTests.{AreConnected, walk-then, walk-back}
-use Rattle.generate.specs.Draws.{draws}
+use Rattle.cmr_base.specs.Draws.{draws}
 use Rattle.generate.specs.Generated.{arcs_to, pairs_of, generated_network}
-use Rattle.generate.proofs.DrawnNumbers.{length-draws, draws_below}
+use Rattle.cmr_base.proofs.DrawnNumbers.{length-draws, draws_below}
 
 abbrev none : Pair
 none = record { tail = 0; head = 0 }

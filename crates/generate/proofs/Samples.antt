@@ -1,7 +1,7 @@
 -- Small generated matrices.
 use Rattle.std.proofs.Common.{◌≡◌, ◌∷◌, [], refl}
 use Rattle.cmr_base.specs.Matrix.{height}
-use Rattle.generate.specs.Draws.{draws}
+use Rattle.cmr_base.specs.Draws.{draws}
 use Rattle.generate.specs.Generated.{generated_network, circulant_sum}
 
 pub three_arcs : generated_network 3 7 ≡ record {

@@ -7,7 +7,7 @@ use Rattle.cmr_base.specs.declared.network.Network.{Network}
 use Rattle.cmr_base.specs.declared.network.Pair.{Pair}
 use Rattle.generate.specs.declared.making.MakeKind.{MakeKind}
 use Rattle.generate.specs.declared.making.MakeKind.TheVariants as kinds
-use Rattle.generate.specs.Draws.{draws}
+use Rattle.cmr_base.specs.Draws.{draws}
 
 -- arcs from these nodes to the nodes from a first one on
 abbrev pub arcs_to : ℕ → List ℕ → List Pair

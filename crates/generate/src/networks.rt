@@ -2,8 +2,7 @@
 ghost use Rattle.std.specs.Prelude.{◌≡◌, ◌≤◌, ◌<◌, ◌+◌, ◌^◌, length, IfOk};
 ghost use Rattle.generate.specs.Generated.{arcs_to, pairs_of, generated_network};
 
-use crate::draws::draw;
-use cmr_base::{MAX_COLUMNS, MAX_ROWS, Memory, Network, Pair, PairList};
+use cmr_base::{MAX_COLUMNS, MAX_ROWS, Memory, Network, Pair, PairList, draw};
 use std::alloc::Global;
 
 /// Makes a random recursive tree of `size` arcs, and `size` random walks.

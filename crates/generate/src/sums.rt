@@ -4,8 +4,7 @@ ghost use Rattle.cmr_base.specs.Matrix.{height, row_of, IsEntry};
 ghost use Rattle.generate.specs.Signs.{drawn_sign};
 ghost use Rattle.generate.specs.Generated.{circulant, circulant_sum, negated_rows, generated_sum};
 
-use crate::draws::draw;
-use cmr_base::{Matrix, Memory, product};
+use cmr_base::{Matrix, Memory, draw, product};
 use std::alloc::Global;
 
 /// Makes the two-sum of `size` R10 matrices, with rows negated at random.

@@ -12,7 +12,8 @@ use Rattle.cmr_base.proofs.SumLaws.{sum_over-map}
 use Rattle.cmr_base.proofs.Lists.{IsJoined, one_more_first, all_without}
 use Rattle.cmr_base.proofs.IncreasingLists.{IsSplitAt, split_at, odd_times, all-odd_times, rises-odd_times}
 use Rattle.cmr_base.proofs.ViolatorLemmas.{violator-odd_times}
-use Rattle.ghouila.specs.Pivot.{reduced, pivoted, IsTernaryRow}
+use Rattle.cmr_base.specs.PlacedPivots.{reduced, pivoted}
+use Rattle.ghouila.specs.Pivot.{IsTernaryRow}
 use Rattle.ghouila.specs.Found.{HasParity}
 use Rattle.ghouila.proofs.PivotSums.{pivoted_at, pivoted_apart}
 use Rattle.ghouila.proofs.PivotBack.{violator_after, violator_before}

@@ -8,7 +8,7 @@ use Rattle.cmr_base.proofs.SumLaws.{sum_over_same, sum_over-zero}
 use Rattle.cmr_base.proofs.Lists.{all_of, all_weaker, all_both, all_without, all-one_more, item_of_one_more}
 use Rattle.cmr_base.proofs.IncreasingLists.{RisesIn, increasing_apart}
 use Rattle.cmr_base.proofs.RowLists.{self_eq, is_ne}
-use Rattle.ghouila.specs.Pivot.{reduced}
+use Rattle.cmr_base.specs.PlacedPivots.{reduced}
 use Rattle.ghouila.specs.IntegralLaws.{IsMultiple}
 use Rattle.ghouila.proofs.Expansions.{expansion_zero_column, minor, schur}
 use Rattle.ghouila.proofs.Sublists.{HasSignIn, zeros_or_sign}

@@ -6,7 +6,7 @@ use Rattle.cmr_base.specs.Signing.{IsSign}
 use Rattle.cmr_base.specs.Determinants.{alternating_sum, without_place, determinant}
 use Rattle.cmr_base.proofs.Integers.{sums, products, mul_assoc, one-mul}
 use Rattle.cmr_base.proofs.Lists.{HasOneMore}
-use Rattle.ghouila.specs.Pivot.{reduced}
+use Rattle.cmr_base.specs.PlacedPivots.{reduced}
 use Rattle.cmr_base.proofs.SignEntries.{sign_square}
 
 -- the alternating sum of a column's entries, each times the value of F at the rows without the entry's row

@@ -8,7 +8,7 @@ use Rattle.cmr_base.proofs.Integers.{sums, products, mul_assoc}
 use Rattle.cmr_base.proofs.SumLaws.{sum_over_same, sum_over-zero}
 use Rattle.cmr_base.proofs.Lists.{HasOneMore, all_weaker, all_both, all_without, all-one_more, item_of_one_more}
 use Rattle.cmr_base.proofs.IncreasingLists.{RisesIn, increasing_apart}
-use Rattle.ghouila.specs.Pivot.{reduced}
+use Rattle.cmr_base.specs.PlacedPivots.{reduced}
 use Rattle.ghouila.specs.IntegralLaws.{IsMultiple}
 use Rattle.ghouila.proofs.SignedSums.{entry_zero, sign_is_entry}
 use Rattle.ghouila.proofs.Expansions.{expansion_zero_column, minor}

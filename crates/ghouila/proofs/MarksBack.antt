@@ -17,7 +17,8 @@ use Rattle.cmr_base.proofs.SumLaws.{sum_over_same}
 use Rattle.cmr_base.proofs.Lists.{IsJoined, all_weaker, all_contained, contains_first, contains_later, sum_over-one_more}
 use Rattle.cmr_base.proofs.IncreasingLists.{increasing_below, increases_along}
 use Rattle.cmr_base.proofs.ViolatorLemmas.{violator_same}
-use Rattle.ghouila.specs.Pivot.{IsOutside, pivoted, PivotsRows}
+use Rattle.cmr_base.specs.PlacedPivots.{pivoted}
+use Rattle.ghouila.specs.Pivot.{IsOutside, PivotsRows}
 use Rattle.ghouila.specs.Found.{HasParity, marked, MarksViolator, MarksAnew}
 use Rattle.ghouila.proofs.PivotSums.{sum_over_column, sum_over_pivot_column}
 use Rattle.ghouila.proofs.PivotBack.{IsViolatorAfter, violator_after, violator_before, sign_and_odd}

@@ -10,7 +10,8 @@ use Rattle.cmr_base.proofs.Parity.{two_mod_four_not_four, two_mod_four_by_differ
 use Rattle.cmr_base.proofs.SumLaws.{sum_over-add, sum_over-sub, sum_over-scale, sum_over-scale_right, sum_over-zero, sum_over_same}
 use Rattle.cmr_base.proofs.Lists.{HasOneMore, all_weaker, all_both, all_without, item_of_one_more, sum_over-one_more}
 use Rattle.cmr_base.proofs.IncreasingLists.{RisesIn, increasing_apart}
-use Rattle.ghouila.specs.Pivot.{reduced, pivoted, IsTernaryRow}
+use Rattle.cmr_base.specs.PlacedPivots.{reduced, pivoted}
+use Rattle.ghouila.specs.Pivot.{IsTernaryRow}
 use Rattle.ghouila.proofs.PivotSums.{pivoted_apart}
 use Rattle.ghouila.proofs.SignedSums.{entry_zero, sign_is_entry}
 use Rattle.ghouila.proofs.Camion.{HasViolatorIn, rows_after, violator_back}

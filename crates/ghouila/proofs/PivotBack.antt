@@ -9,7 +9,7 @@ use Rattle.cmr_base.proofs.Integers.{sums, products, mul_assoc, one-mul}
 use Rattle.cmr_base.proofs.Parity.{even_not_odd, even-add, even-mul_right, four-mul_evens, four-mul_right, two_mod_four-add}
 use Rattle.cmr_base.proofs.SumLaws.{sum_over-add, sum_over_same}
 use Rattle.cmr_base.proofs.Lists.{HasOneMore, IsJoined, all_of, all_weaker, all_both, all-one_more, sum_over-one_more, all_without, item_of_one_more}
-use Rattle.ghouila.specs.Pivot.{pivoted}
+use Rattle.cmr_base.specs.PlacedPivots.{pivoted}
 use Rattle.ghouila.specs.Found.{HasParity}
 use Rattle.ghouila.proofs.PivotSums.{pivoted_at, sum_over_row, sum_over_column, sum_over_pivot_column}
 use Rattle.cmr_base.proofs.SignEntries.{sign_square}

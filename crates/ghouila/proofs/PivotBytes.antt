@@ -5,7 +5,7 @@ use Rattle.std.proofs.lemmas.Int.{ints}
 use Rattle.cmr_base.specs.Matrix.{IsEntry}
 use Rattle.cmr_base.specs.Signing.{IsSign}
 use Rattle.cmr_base.proofs.Integers.{sums, products}
-use Rattle.ghouila.specs.Pivot.{reduced, pivoted}
+use Rattle.cmr_base.specs.PlacedPivots.{reduced, pivoted}
 use Rattle.ghouila.proofs.Bytes.{kept_entry}
 use Rattle.ghouila.proofs.PivotSums.{pivoted_apart, pivoted_at}
 

@@ -26,8 +26,8 @@ use Rattle.cmr_base.proofs.IncreasingLists.{RisesIn, IsSplitAt, split_at, increa
 use Rattle.cmr_base.proofs.SignEntries.{zero_is_entry, negative_is_entry, product_is_entry, sign_square}
 use Rattle.cmr_base.proofs.ViolatorLemmas.{violator_same}
 use Rattle.ghouila.specs.Found.{HasParity}
-use Rattle.ghouila.specs.Pivot.{pivoted}
-use Rattle.ghouila.specs.PivotLaws.{pivot_entry, pivot_at, IsPivotPlace, PivotsUndoThemselves, PivotsTakeViolatorsBack, PivotsKeepViolators, PivotsDecide}
+use Rattle.cmr_base.specs.PlacedPivots.{pivoted, pivot_entry}
+use Rattle.ghouila.specs.PivotLaws.{pivot_at, IsPivotPlace, PivotsUndoThemselves, PivotsTakeViolatorsBack, PivotsKeepViolators, PivotsDecide}
 use Rattle.ghouila.proofs.Camion.{HasViolatorIn}
 use Rattle.ghouila.proofs.CamionLaw.{camion, no_violator}
 use Rattle.ghouila.proofs.PivotSums.{pivoted_at, pivoted_apart}

@@ -7,7 +7,8 @@ use Rattle.cmr_base.proofs.Booleans.{zero_is}
 use Rattle.cmr_base.proofs.Entries.{height-with_entry, entry-with_entry_same, entry-with_entry_other_column, entry-with_entry_other_row, is_matrix-with_entry}
 use Rattle.cmr_base.proofs.Integers.{sums, products}
 use Rattle.cmr_base.proofs.Lists.{all-append, all_both, all_prefix, all_back}
-use Rattle.ghouila.specs.Pivot.{IsOutside, IsTernaryRow, reduced, pivoted, KeepsRowsElsewhere, PivotsRows}
+use Rattle.cmr_base.specs.PlacedPivots.{reduced, pivoted}
+use Rattle.ghouila.specs.Pivot.{IsOutside, IsTernaryRow, KeepsRowsElsewhere, PivotsRows}
 use Rattle.ghouila.proofs.PivotSums.{pivoted_apart, pivoted_at}
 
 pub keeps_all : (m : Matrix) (rows : List ℕ) → KeepsRowsElsewhere m m rows

@@ -5,7 +5,7 @@ use Rattle.cmr_base.specs.Sums.{sum_over}
 use Rattle.cmr_base.proofs.Integers.{sums, products}
 use Rattle.cmr_base.proofs.SumLaws.{sum_over-sub, sum_over-scale, sum_over-scale_right, sum_over_same}
 use Rattle.cmr_base.proofs.Lists.{all_weaker}
-use Rattle.ghouila.specs.Pivot.{reduced, pivoted}
+use Rattle.cmr_base.specs.PlacedPivots.{reduced, pivoted}
 use Rattle.cmr_base.proofs.Booleans.{is_ne, self_eq}
 
 pub pivoted_apart : (M : ℕ → ℕ → ℤ) (r c i j : ℕ) → j ≢ c → pivoted M r c i j ≡ reduced M r c i j

@@ -12,7 +12,8 @@ use Rattle.ghouila.specs.SignRuns.{IsPivotNext, IsPutAside, IsPivotMade, pivot_s
 use Rattle.ghouila.specs.declared.row_signs.RowSigns.{RowSigns}
 use Rattle.ghouila.specs.declared.by_pivots.MarkedSigning.{MarkedSigning}
 use Rattle.ghouila.specs.declared.by_pivots.MarkedSigning.TheVariants.{Signed, Violated}
-use Rattle.ghouila.specs.Pivot.{IsOutside, pivoted, PivotsRows}
+use Rattle.cmr_base.specs.PlacedPivots.{pivoted}
+use Rattle.ghouila.specs.Pivot.{IsOutside, PivotsRows}
 use Rattle.ghouila.specs.Found.{SignsRows}
 use Rattle.ghouila.specs.MarkedSignings.{AddsRun}
 use Rattle.ghouila.proofs.PivotSums.{pivoted_at}

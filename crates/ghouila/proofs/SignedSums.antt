@@ -8,7 +8,7 @@ use Rattle.cmr_base.proofs.Integers.{sums, products}
 use Rattle.cmr_base.proofs.Parity.{IsFour, odd_by_difference}
 use Rattle.cmr_base.proofs.SumLaws.{sum_over-scale, sum_over-exchange, sum_over_same}
 use Rattle.cmr_base.proofs.Lists.{all_of}
-use Rattle.ghouila.specs.Pivot.{pivoted}
+use Rattle.cmr_base.specs.PlacedPivots.{pivoted}
 use Rattle.ghouila.proofs.PivotSums.{pivoted_apart, pivoted_at}
 pub use Rattle.cmr_base.proofs.SignEntries.{zero_is_entry as entry_zero, sign_is_entry, zero_or_sign}
 

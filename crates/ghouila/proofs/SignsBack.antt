@@ -9,7 +9,8 @@ use Rattle.cmr_base.specs.Sums.{sum_over, IsEven, IsOdd}
 use Rattle.cmr_base.proofs.Integers.{sums as integer_sums, products}
 use Rattle.cmr_base.proofs.SumLaws.{sum_over_same}
 use Rattle.cmr_base.proofs.Lists.{HasOneMore, all_weaker, all_both, all-one_more, sum_over-one_more}
-use Rattle.ghouila.specs.Pivot.{IsOutside, pivoted, IsTernaryRow, PivotsRows}
+use Rattle.cmr_base.specs.PlacedPivots.{pivoted}
+use Rattle.ghouila.specs.Pivot.{IsOutside, IsTernaryRow, PivotsRows}
 use Rattle.ghouila.specs.Found.{SignsRows}
 use Rattle.ghouila.proofs.SignedSums.{signed, entry_zero, pivot_sign, pivot_column_vanishes, column_keeps_sum, aside_entry}
 

@@ -10,8 +10,7 @@ use Rattle.cmr_base.proofs.Integers.{sums, products}
 use Rattle.cmr_base.proofs.Parity.{even_by_difference, odd_by_difference}
 use Rattle.cmr_base.proofs.SumLaws.{sum_over-scale, sum_over_same}
 use Rattle.cmr_base.proofs.Lists.{IsJoined, all_of, all_weaker, all_both, sum_over-one_more, all_without, item_of_one_more}
-use Rattle.ghouila.specs.Pivot.{pivoted}
-use Rattle.ghouila.specs.PivotLaws.{pivot_entry}
+use Rattle.cmr_base.specs.PlacedPivots.{pivoted, pivot_entry}
 use Rattle.ghouila.specs.Found.{HasParity}
 use Rattle.ghouila.proofs.PivotSums.{sum_over_column, sum_over_pivot_column}
 use Rattle.ghouila.proofs.PivotBack.{IsViolatorAfter, violator_before, even_back, row_after, total_after}

@@ -1,7 +1,8 @@
 -- Pivots that remove a row from a matrix.
-use Rattle.std.specs.Prelude.{◌≡◌, ◌≢◌, ◌<◌, ◌⊎◌, ℕ, ℤ, pos, ◌+◌, ◌*◌, ◌-ℤ◌, ◌*ℤ◌, neg_ℤ, true, false, ◌==◌, if◌then◌else◌, List, length, slice_index}
+use Rattle.std.specs.Prelude.{◌≡◌, ◌≢◌, ◌<◌, ◌⊎◌, ℕ, ℤ, pos, ◌+◌, ◌*◌, ◌*ℤ◌, neg_ℤ, true, false, List, length, slice_index}
 use Rattle.std.specs.List.{AllByRecursion}
 use Rattle.cmr_base.specs.Matrix.{Matrix, height, entry, IsEntry}
+use Rattle.cmr_base.specs.PlacedPivots.{reduced, pivoted}
 use Rattle.cmr_base.specs.Planes.{has_bit}
 use Rattle.cmr_base.specs.Signing.{IsSign}
 use Rattle.cmr_base.specs.Sums.{sum_over, IsEven, IsOdd}
@@ -9,14 +10,6 @@ use Rattle.cmr_base.specs.Sums.{sum_over, IsEven, IsOdd}
 -- the row is not in the list
 abbrev pub IsOutside : ℕ → List ℕ → Type 0
 IsOutside row rows = AllByRecursion (λ other. other ≢ row) rows
-
--- an entry after the pivot at a row and a column, outside the pivot's column
-abbrev pub reduced : (ℕ → ℕ → ℤ) → ℕ → ℕ → ℕ → ℕ → ℤ
-reduced M row column i j = M i j -ℤ M row column *ℤ (M i column *ℤ M row j)
-
--- the matrix after the pivot, without the pivot's row; the entries of the pivot's column are negated
-abbrev pub pivoted : (ℕ → ℕ → ℤ) → ℕ → ℕ → ℕ → ℕ → ℤ
-pivoted M row column i j = if j == column then neg_ℤ (M row column *ℤ M i column) else reduced M row column i j
 
 -- the first `width` entries are -1, 0 or 1
 abbrev pub IsTernaryRow : ℕ → (ℕ → ℤ) → Type 0

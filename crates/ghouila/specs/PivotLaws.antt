@@ -1,6 +1,6 @@
 -- The pivot of a whole matrix, and the properties that it keeps. In the tableau of `M x + y = b` the pivot is the step of the simplex
 -- method that exchanges the row's y and the column's x.
-use Rattle.std.specs.Prelude.{◌≡◌, ◌≢◌, ◌<◌, ◌↔◌, ℕ, ℤ, ◌*ℤ◌, ◌==◌, if◌then◌else◌, List}
+use Rattle.std.specs.Prelude.{◌≡◌, ◌≢◌, ◌<◌, ◌↔◌, ℕ, List}
 use Rattle.cmr_base.specs.Matrix.{Matrix, height, entry, HasTernaryEntries, IsRectangular, IsTernary}
 use Rattle.cmr_base.specs.LineSets.{IsRowSet, IsColumnSet}
 use Rattle.cmr_base.specs.MatrixSums.{filled}
@@ -8,13 +8,7 @@ use Rattle.cmr_base.specs.Members.{IsIn}
 use Rattle.cmr_base.specs.Signing.{IsSign, IsTotallyUnimodular}
 use Rattle.cmr_base.specs.Sums.{sum_over, IsOdd}
 use Rattle.cmr_base.specs.Violator.{IsViolator, HasNoViolator}
-use Rattle.ghouila.specs.Pivot.{pivoted}
-
--- An entry after the pivot at a row and a column. Outside that row it is the entry of `pivoted`. The row is multiplied by the pivot's
--- entry, and that entry does not change.
-abbrev pub pivot_entry : (ℕ → ℕ → ℤ) → ℕ → ℕ → ℕ → ℕ → ℤ
-pivot_entry M row column i j =
-    if i == row then (if j == column then M row column else M row column *ℤ M row j) else pivoted M row column i j
+use Rattle.cmr_base.specs.PlacedPivots.{pivot_entry}
 
 -- the matrix after the pivot, of the same size
 abbrev pub pivot_at : Matrix → ℕ → ℕ → Matrix

@@ -6,7 +6,8 @@ use Rattle.cmr_base.specs.Matrix.{Matrix, entry}
 use Rattle.cmr_base.specs.Members.{IsIn}
 use Rattle.cmr_base.specs.Sums.{sum_over, IsOdd}
 use Rattle.ghouila.specs.declared.by_pivots.Pivot.{Pivot}
-use Rattle.ghouila.specs.Pivot.{reduced, IsTernaryRow, HasNoPivot, IsFirstPivot, IsFirstTwoEntry, PivotsRows}
+use Rattle.cmr_base.specs.PlacedPivots.{reduced}
+use Rattle.ghouila.specs.Pivot.{IsTernaryRow, HasNoPivot, IsFirstPivot, IsFirstTwoEntry, PivotsRows}
 
 -- the next step is a pivot at this row and column, after which these rows remain
 pub record IsPivotNext (m : Matrix) (rows : List ℕ) (row column : ℕ) (left : List ℕ) : Type 0 where

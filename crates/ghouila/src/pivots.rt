@@ -3,7 +3,8 @@ ghost use Rattle.std.specs.List.{AllByRecursion, Contains};
 ghost use Rattle.cmr_base.specs.Matrix.{Matrix, height, entry, IsEntry, IsMatrix};
 ghost use Rattle.cmr_base.specs.LineSets.{AllBelow, IsRowSet};
 ghost use Rattle.cmr_base.specs.Signing.{IsSign};
-ghost use Rattle.ghouila.specs.Pivot.{IsOutside, reduced, IsTernaryRow, IsPivot, HasNoPivot, IsFirstPivot, ArePivotColumns, IsFirstTwoEntry, HasSquareViolator, KeepsRowsElsewhere, PivotsRows};
+ghost use Rattle.cmr_base.specs.PlacedPivots.{reduced};
+ghost use Rattle.ghouila.specs.Pivot.{IsOutside, IsTernaryRow, IsPivot, HasNoPivot, IsFirstPivot, ArePivotColumns, IsFirstTwoEntry, HasSquareViolator, KeepsRowsElsewhere, PivotsRows};
 
 use cmr_base::{MAX_COLUMNS, Matrix, product};
 

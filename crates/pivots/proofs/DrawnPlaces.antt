@@ -13,11 +13,11 @@ use Rattle.cmr_base.proofs.Booleans.{true_is_false, zero_is}
 use Rattle.cmr_base.proofs.Lists.{all-append, all-map}
 use Rattle.cmr_base.proofs.ListsWithout.{in_from_contains, contains_from_in}
 use Rattle.cmr_base.proofs.Members.{all_of_members}
-use Rattle.generate.specs.Draws.{next_state}
+use Rattle.cmr_base.specs.Draws.{next_state}
 use Rattle.pivots.specs.declared.drawn.DrawnPlace.{DrawnPlace}
-use Rattle.pivots.specs.declared.place.PlacedPivot.{PlacedPivot}
+use Rattle.cmr_base.specs.declared.placed_pivot.PlacedPivot.{PlacedPivot}
 use Rattle.pivots.specs.DrawnPlaces.{row_places, places_on, drawn_place}
-use Rattle.pivots.specs.PivotedParts.{IsPlaceIn}
+use Rattle.cmr_base.specs.PlacedPivots.{IsPlaceIn}
 use Rattle.cmr_base.proofs.Members.{some_in}
 use Rattle.cmr_base.proofs.RowLists.{filter_in, in_filter}
 

@@ -13,8 +13,9 @@ use Rattle.cmr_base.proofs.RemovedLines.{first_lines_increase, in_first_lines, f
 use Rattle.cmr_base.proofs.SignEntries.{negative_is_entry, product_is_entry}
 use Rattle.cmr_base.proofs.Submatrices.{increasing_places}
 use Rattle.cmr_base.proofs.ViolatorLemmas.{violator_rows_reordered, violator_columns_reordered}
-use Rattle.ghouila.specs.Pivot.{IsOutside, reduced, pivoted, IsTernaryRow, KeepsRowsElsewhere, PivotsRows, HasSquareViolator, IsFirstTwoEntry}
-use Rattle.ghouila.specs.PivotLaws.{pivot_entry, pivot_at, IsPivotPlace}
+use Rattle.cmr_base.specs.PlacedPivots.{reduced, pivoted, pivot_entry}
+use Rattle.ghouila.specs.Pivot.{IsOutside, IsTernaryRow, KeepsRowsElsewhere, PivotsRows, HasSquareViolator, IsFirstTwoEntry}
+use Rattle.ghouila.specs.PivotLaws.{pivot_at, IsPivotPlace}
 use Rattle.ghouila.proofs.PivotLaws.{entry_after, filled_again, pivot_entry_same}
 use Rattle.ghouila.proofs.PivotSums.{pivoted_at, pivoted_apart}
 use Rattle.ghouila.proofs.Square.{square_violator}

@@ -4,7 +4,7 @@ use Rattle.std.proofs.lemmas.Bool.{cases_eq, cases_lt}
 use Rattle.cmr_base.specs.Matrix.{Matrix, height, entry, with_entry, IsEntry, IsMatrix}
 use Rattle.cmr_base.proofs.Entries.{entry-with_entry_same, entry-with_entry_other_column, is_matrix-with_entry}
 use Rattle.ghouila.specs.Pivot.{KeepsRowsElsewhere}
-use Rattle.ghouila.specs.PivotLaws.{pivot_entry}
+use Rattle.cmr_base.specs.PlacedPivots.{pivot_entry}
 use Rattle.ghouila.proofs.PivotRow.{keeps_all, keeps_with_entry}
 use Rattle.ghouila.proofs.WholePivots.{entry_there, entry_in_row}
 

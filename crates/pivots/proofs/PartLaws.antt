@@ -27,13 +27,14 @@ use Rattle.cmr_base.proofs.IncreasingLists.{odd_times, all-odd_times, rises-odd_
 use Rattle.cmr_base.proofs.SignEntries.{sign_of_entry}
 use Rattle.cmr_base.proofs.ViolatorLemmas.{violator_same, violator-odd_times}
 use Rattle.ghouila.specs.Found.{HasParity}
-use Rattle.ghouila.specs.PivotLaws.{pivot_entry, pivot_at, IsPivotPlace, AreLinesBefore}
+use Rattle.cmr_base.specs.PlacedPivots.{pivot_entry, replaced_entry, pivoted_part, IsPlaceIn, IsTernaryPivot}
+use Rattle.ghouila.specs.PivotLaws.{pivot_at, IsPivotPlace, AreLinesBefore}
 use Rattle.ghouila.proofs.PivotLaws.{twice, pivot_entry_same, pivots_take_violators_back}
 use Rattle.ghouila.proofs.ViolatedLines.{ViolatedIn, FreeIn}
 use Rattle.ghouila.proofs.WholePivots.{all_fewer, entry_there, whole_before}
-use Rattle.pivots.specs.declared.place.PlacedPivot.{PlacedPivot}
+use Rattle.cmr_base.specs.declared.placed_pivot.PlacedPivot.{PlacedPivot}
 use Rattle.pivots.specs.PartLaws.{HasNoViolatorAmong, PartPivotsTakeViolatorsBack, PartPivotsKeepViolators, PartPivotsStayMatrices}
-use Rattle.pivots.specs.PivotedParts.{replaced_entry, pivoted_part, IsPlaceIn, IsTernaryPivot, AreAmong}
+use Rattle.pivots.specs.PivotedParts.{AreAmong}
 
 -- ---- a violator of a pivot, whose lines may stand more than once
 

@@ -13,11 +13,11 @@ use Rattle.cmr_base.proofs.FilledCells.{filled_small}
 use Rattle.cmr_base.proofs.ListsWithout.{increasing_distinct, same_place}
 use Rattle.cmr_base.proofs.Parts.{entry-submatrix, each-submatrix}
 use Rattle.cmr_base.proofs.SignEntries.{zero_is_entry, sign_of_entry}
-use Rattle.ghouila.specs.PivotLaws.{pivot_entry, pivot_at, IsPivotPlace}
+use Rattle.cmr_base.specs.PlacedPivots.{pivot_entry, replaced_entry, pivoted_part, IsPlaceIn, IsTernaryPivot}
+use Rattle.ghouila.specs.PivotLaws.{pivot_at, IsPivotPlace}
 use Rattle.ghouila.proofs.PivotLaws.{filled_again, pivot_entry_same, pivots_decide}
-use Rattle.pivots.specs.declared.place.PlacedPivot.{PlacedPivot}
+use Rattle.cmr_base.specs.declared.placed_pivot.PlacedPivot.{PlacedPivot}
 use Rattle.pivots.specs.PartLaws.{numbered_place, PartPivotsArePivots, PartPivotsDecide}
-use Rattle.pivots.specs.PivotedParts.{replaced_entry, pivoted_part, IsPlaceIn, IsTernaryPivot}
 use Rattle.pivots.proofs.PartLaws.{entry_among, replaced_is_small}
 
 -- ---- lines by their places

@@ -4,7 +4,8 @@ use Rattle.std.proofs.lemmas.Bool.{cases_eq}
 use Rattle.cmr_base.specs.Matrix.{Matrix, height, entry, IsEntry}
 use Rattle.cmr_base.specs.Violator.{IsViolator}
 use Rattle.cmr_base.proofs.SignEntries.{negative_is_entry, product_is_entry}
-use Rattle.ghouila.specs.PivotLaws.{pivot_entry, IsPivotPlace}
+use Rattle.cmr_base.specs.PlacedPivots.{pivot_entry}
+use Rattle.ghouila.specs.PivotLaws.{IsPivotPlace}
 use Rattle.ghouila.proofs.PivotSums.{pivoted_at, pivoted_apart}
 use Rattle.ghouila.proofs.Square.{small_or_square}
 use Rattle.ghouila.proofs.WholePivots.{entry_there, entry_in_row, entry_elsewhere}

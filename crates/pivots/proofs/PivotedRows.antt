@@ -17,11 +17,11 @@ use Rattle.cmr_base.proofs.ListedLines.{has_line_from_listed, listed_from_has_li
 use Rattle.cmr_base.proofs.ListsWithout.{in_from_contains}
 use Rattle.cmr_base.proofs.Places.{contained_below, each_more, placed_before}
 use Rattle.cmr_base.proofs.IncreasingLists.{RisesIn, increasing_row_set, increasing_column_set}
-use Rattle.ghouila.specs.PivotLaws.{pivot_entry}
+use Rattle.cmr_base.specs.PlacedPivots.{pivot_entry, replaced_entry, IsPlaceIn}
 use Rattle.ghouila.proofs.PivotLaws.{filled_again}
-use Rattle.pivots.specs.declared.place.PlacedPivot.{PlacedPivot}
+use Rattle.cmr_base.specs.declared.placed_pivot.PlacedPivot.{PlacedPivot}
 use Rattle.pivots.specs.ChosenLines.{two_lines}
-use Rattle.pivots.specs.PivotedParts.{replaced_entry, IsPlaceIn, IsMadePart, ShowsFirstTwoIn}
+use Rattle.pivots.specs.PivotedParts.{IsMadePart, ShowsFirstTwoIn}
 use Rattle.pivots.specs.PivotedRows.{IsPivotedRow, IsFirstTwoOfRow}
 use Rattle.pivots.proofs.LinesBefore.{pivot_place}
 use Rattle.pivots.proofs.PivotEntries.{two_is_violator}

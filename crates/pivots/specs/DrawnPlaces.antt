@@ -4,9 +4,9 @@ use Rattle.std.specs.List.{flat_map}
 use Rattle.std.specs.Option.{option_map}
 use Rattle.cmr_base.specs.declared.line_set.LineSet.{LineSet}
 use Rattle.cmr_base.specs.Matrix.{Matrix, entry, is_nonzero}
-use Rattle.generate.specs.Draws.{draw}
+use Rattle.cmr_base.specs.Draws.{draw}
 use Rattle.pivots.specs.declared.drawn.DrawnPlace.{DrawnPlace}
-use Rattle.pivots.specs.declared.place.PlacedPivot.{PlacedPivot}
+use Rattle.cmr_base.specs.declared.placed_pivot.PlacedPivot.{PlacedPivot}
 
 -- the nonzeros of a row in some columns
 abbrev pub row_places : Matrix → List ℕ → ℕ → List PlacedPivot

@@ -6,8 +6,9 @@ use Rattle.cmr_base.specs.LineSets.{IsRowSet, IsColumnSet, submatrix}
 use Rattle.cmr_base.specs.Signing.{IsTotallyUnimodular}
 use Rattle.cmr_base.specs.Violator.{IsViolator}
 use Rattle.ghouila.specs.PivotLaws.{pivot_at, AreLinesBefore}
-use Rattle.pivots.specs.declared.place.PlacedPivot.{PlacedPivot}
-use Rattle.pivots.specs.PivotedParts.{pivoted_part, IsPlaceIn, IsTernaryPivot, AreAmong}
+use Rattle.cmr_base.specs.declared.placed_pivot.PlacedPivot.{PlacedPivot}
+use Rattle.cmr_base.specs.PlacedPivots.{pivoted_part, IsPlaceIn, IsTernaryPivot}
+use Rattle.pivots.specs.PivotedParts.{AreAmong}
 
 -- no violator stands among these lines
 abbrev pub HasNoViolatorAmong : Matrix → LineSet → Type 0

@@ -1,8 +1,8 @@
 -- A row of a submatrix after a pivot.
 use Rattle.std.specs.Prelude.{◌≡◌, ◌≢◌, ◌<◌, ◌⊎◌, ℕ, List, Contains}
 use Rattle.cmr_base.specs.Matrix.{Matrix, height, entry, IsEntry, IsMatrix}
-use Rattle.ghouila.specs.PivotLaws.{pivot_entry}
-use Rattle.pivots.specs.declared.place.PlacedPivot.{PlacedPivot}
+use Rattle.cmr_base.specs.PlacedPivots.{pivot_entry}
+use Rattle.cmr_base.specs.declared.placed_pivot.PlacedPivot.{PlacedPivot}
 
 -- the row has the pivot's entries in these columns, which are -1, 0 and 1, and nothing else has changed
 pub record IsPivotedRow (m before after : Matrix) (columns : List ℕ) (place : PlacedPivot) (row : ℕ) : Type 0 where

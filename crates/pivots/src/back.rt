@@ -7,10 +7,10 @@ ghost use Rattle.cmr_base.specs.Sums.{IsOdd};
 ghost use Rattle.cmr_base.specs.Violator.{IsViolator};
 ghost use Rattle.ghouila.specs.PivotLaws.{pivot_at, AreLinesBefore};
 ghost use Rattle.pivots.specs.ChosenLines.{with_or_without};
-ghost use Rattle.pivots.specs.PivotedParts.{pivoted_part, IsPlaceIn, AreAmong};
+ghost use Rattle.cmr_base.specs.PlacedPivots.{pivoted_part, IsPlaceIn};
+ghost use Rattle.pivots.specs.PivotedParts.{AreAmong};
 
-use crate::PlacedPivot;
-use cmr_base::{Indices, LineSet, MAX_COLUMNS, MAX_ROWS, Matrix, Memory};
+use cmr_base::{Indices, LineSet, MAX_COLUMNS, MAX_ROWS, Matrix, Memory, PlacedPivot};
 use std::alloc::Global;
 
 /// From a violator of the pivot at a nonzero one of the matrix, on the same lines but perhaps the pivot's. Its row is there

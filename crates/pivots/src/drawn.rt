@@ -3,11 +3,9 @@ ghost use Rattle.std.specs.Prelude.{◌≡◌, ◌<◌, ◌≤◌, ◌^◌, Cont
 ghost use Rattle.cmr_base.specs.LineSets.{AllBelow, IsRowSet, IsColumnSet};
 ghost use Rattle.cmr_base.specs.Matrix.{height, entry};
 ghost use Rattle.pivots.specs.DrawnPlaces.{row_places, places_on, drawn_place};
-ghost use Rattle.pivots.specs.PivotedParts.{IsPlaceIn};
+ghost use Rattle.cmr_base.specs.PlacedPivots.{IsPlaceIn};
 
-use crate::PlacedPivot;
-use cmr_base::{LineSet, MAX_COLUMNS, MAX_ROWS, Matrix};
-use generate::draw_below;
+use cmr_base::{LineSet, MAX_COLUMNS, MAX_ROWS, Matrix, PlacedPivot, draw_below};
 
 /// A place that is drawn by chance, and the state after it.
 #[derive(Clone, Copy, Debug, PartialEq, Eq)]

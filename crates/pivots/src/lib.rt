@@ -7,10 +7,8 @@ mod drawn;
 pub mod laws;
 mod matrix_pivot;
 mod part_pivot;
-mod place;
 
 pub use back::{violator_before, violator_before_part};
 pub use drawn::{DrawnPlace, drawn_place};
 pub use matrix_pivot::{Pivoted, pivot};
 pub use part_pivot::{PivotedPart, pivot_part};
-pub use place::PlacedPivot;

@@ -2,7 +2,7 @@ ghost use Rattle.std.specs.Prelude.{◌≡◌, ◌≢◌, ◌<◌, [], ◌∷◌
 ghost use Rattle.cmr_base.specs.LineSets.{first_lines, without};
 ghost use Rattle.cmr_base.specs.Matrix.{height, entry, IsMatrix};
 ghost use Rattle.ghouila.specs.Pivot.{KeepsRowsElsewhere};
-ghost use Rattle.ghouila.specs.PivotLaws.{pivot_entry};
+ghost use Rattle.cmr_base.specs.PlacedPivots.{pivot_entry};
 ghost use Rattle.pivots.specs.ChosenLines.{two_lines};
 ghost use Rattle.pivots.specs.Pivoted.{IsPivoted};
 

@@ -2,13 +2,12 @@
 ghost use Rattle.std.specs.Prelude.{◌≡◌, ◌<◌, ◌↔◌, ◌-ℤ◌, IfOk, IfNone, IfSome, IsTrue};
 ghost use Rattle.cmr_base.specs.LineSets.{IsRowSet, IsColumnSet};
 ghost use Rattle.cmr_base.specs.Matrix.{height, entry, IsEntry, IsMatrix};
-ghost use Rattle.ghouila.specs.PivotLaws.{pivot_entry};
-ghost use Rattle.pivots.specs.PivotedParts.{IsPlaceIn, IsPivotedPart};
+ghost use Rattle.cmr_base.specs.PlacedPivots.{pivot_entry, IsPlaceIn};
+ghost use Rattle.pivots.specs.PivotedParts.{IsPivotedPart};
 ghost use Rattle.pivots.specs.PivotedRows.{IsPivotedRow, IsFirstTwoOfRow};
 
-use crate::PlacedPivot;
 use crate::matrix_pivot::two_lines;
-use cmr_base::{LineSet, Matrix, Memory, product};
+use cmr_base::{LineSet, Matrix, Memory, PlacedPivot, product};
 use std::alloc::Global;
 
 /// What the pivot of a submatrix makes of the matrix.

@@ -12,7 +12,8 @@ use Rattle.cmr_base.proofs.Places.{increasing_same}
 use Rattle.cmr_base.proofs.SumLaws.{sum_over_same}
 use Rattle.cmr_base.proofs.Booleans.{neither}
 use Rattle.ghouila.specs.declared.by_pivots.Pivot.{Pivot}
-use Rattle.ghouila.specs.Pivot.{reduced, IsFirstTwoEntry}
+use Rattle.cmr_base.specs.PlacedPivots.{reduced}
+use Rattle.ghouila.specs.Pivot.{IsFirstTwoEntry}
 use Rattle.ghouila.specs.SignRuns.{IsPivotNext, IsPutAside, IsPivotMade, IsFirstSquare, IsTakenBack, pivot_sign, SignsBySteps, ViolatesBySteps}
 use Rattle.ghouila.proofs.PivotSearch.{pivot_there}
 use Rattle.sign_tool.specs.declared.signing.SetSigning.{SetSigning}

@@ -9,7 +9,8 @@ use Rattle.cmr_base.proofs.SignEntries.{sign_nonzero}
 use Rattle.cmr_base.proofs.SumLaws.{sum_over_same}
 use Rattle.cmr_base.proofs.Booleans.{neither}
 use Rattle.ghouila.specs.declared.by_pivots.Pivot.{Pivot}
-use Rattle.ghouila.specs.Pivot.{reduced, pivoted, HasNoPivot, IsTernaryRow, IsFirstPivot, IsFirstTwoEntry}
+use Rattle.cmr_base.specs.PlacedPivots.{reduced, pivoted}
+use Rattle.ghouila.specs.Pivot.{HasNoPivot, IsTernaryRow, IsFirstPivot, IsFirstTwoEntry}
 use Rattle.ghouila.specs.SignRuns.{IsPivotNext, IsPutAside, IsPivotMade, SignsBySteps, ViolatesBySteps}
 use Rattle.ghouila.proofs.LeftRows.{one_more-remove}
 use Rattle.ghouila.proofs.PivotSearch.{pivot_there}

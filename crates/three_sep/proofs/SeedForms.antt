@@ -7,7 +7,7 @@ use Rattle.cmr_base.specs.declared.separation.Connector.{Connector}
 use Rattle.cmr_base.specs.declared.separation.Form.{Form}
 use Rattle.cmr_base.specs.declared.separation.Three.{Three}
 use Rattle.cmr_base.specs.Matrix.{Matrix, height, entry}
-use Rattle.cmr_base.specs.Separations.{Lines, listed, first_is_flat, second_is_flat, connector_lines}
+use Rattle.cmr_base.specs.Separations.{HasNoThreeSeparation, Lines, listed, first_is_flat, second_is_flat, connector_lines}
 use Rattle.cmr_base.specs.Seeds.{IsLine, IsGoodThree}
 use Rattle.cmr_base.proofs.Lists.{all_both}
 use Rattle.cmr_base.proofs.ListedLines.{in_from_listed, listed_from_in, first_lines_contain}
@@ -15,7 +15,7 @@ use Rattle.cmr_base.proofs.RemovedLines.{in_first_lines, row_set_from_within, co
 use Rattle.cmr_base.proofs.SeedLemmas.{outside_grows, good_three_seed, three_separation_of_seed}
 use Rattle.cmr_base.proofs.Booleans.{same_test}
 use Rattle.three_sep.specs.Searches.{IsFirstOf, HasNoGood}
-use Rattle.three_sep.specs.ThreeSeparations.{HasNoThreeSeparation, IsFirstThreeSeparation}
+use Rattle.three_sep.specs.ThreeSeparations.{IsFirstThreeSeparation}
 
 -- ---- a set as lists
 

@@ -1,11 +1,11 @@
 // The first good seed.
 ghost use Rattle.std.specs.Prelude.{◌≡◌, ◌≢◌, ◌<◌, ◌≤◌, ◌++◌, ◌∷◌, [], pos, true, false, IfOk, OnOk, IfSome, IfNone, MatchOption};
 ghost use Rattle.cmr_base.specs.Matrix.{height, entry};
-ghost use Rattle.cmr_base.specs.Separations.{IsTied, first_is_flat, second_is_flat};
+ghost use Rattle.cmr_base.specs.Separations.{HasNoThreeSeparation, IsTied, first_is_flat, second_is_flat};
 ghost use Rattle.cmr_base.specs.Seeds.{IsLine, form_number};
 ghost use Rattle.cuts.specs.LineCuts.{AreInside, HasNames};
 ghost use Rattle.three_sep.specs.NumberedSeeds.{IsCrossing};
-ghost use Rattle.three_sep.specs.ThreeSeparations.{HasNoThreeSeparation, IsFirstThreeSeparation};
+ghost use Rattle.three_sep.specs.ThreeSeparations.{IsFirstThreeSeparation};
 ghost use Rattle.three_sep.specs.Searches.{HasCorners, HasNoGood, HoldsFirst, IsCorner, IsFirstOf, IsNoSecondColumn, IsNoSecondRow, IsSearchOf, corner_prefix, other_line, second_at};
 
 use crate::concentrated::first_concentrated;

@@ -15,11 +15,11 @@ use crate::value::Sizes;
 use crate::{TreeError, field};
 use cmr_base::{
     Connector, Form, Indices, Line, LineList, LineSet, MAX_COLUMNS, MAX_ROWS, Network, Pair,
-    PairList, Three, Two,
+    PairList, PlacedPivot, Three, Two,
 };
 use std::alloc::Global;
 use text_fields::Words;
-use tree_type::{Finding, PlacedPivot};
+use tree_type::Finding;
 
 /// The finding of a node, and the number of its children.
 #[derive(Debug, Drop)]

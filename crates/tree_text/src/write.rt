@@ -12,11 +12,11 @@ ghost use Rattle.tree_text.specs.CanonicalTrees.{number_of_line, line_name, set_
 
 use crate::header::{title_of, title_word, version_of, version_word};
 use crate::kind_word::{kind_of, word_of};
-use cmr_base::{Connector, Line, LineSet, Memory, Network, Pair, Three, Two};
+use cmr_base::{Connector, Line, LineSet, Memory, Network, Pair, PlacedPivot, Three, Two};
 use itoa::Buffer;
 use std::alloc::Global;
 use text_fields::{Writer, push_line_name};
-use tree_type::{DecTree, Kind, Node, PlacedPivot};
+use tree_type::{DecTree, Kind, Node};
 
 /// The canonical text of a tree: in version 2, or a text of pivots if a node is pivoted.
 pub fn write_tree(alloc: Global, tree: &DecTree) -> Result<Vec<u8>, Memory>

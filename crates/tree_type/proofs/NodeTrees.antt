@@ -7,7 +7,7 @@ use Rattle.cmr_base.specs.declared.line.Line.{Line}
 use Rattle.cmr_base.specs.declared.line_set.LineSet.{LineSet}
 use Rattle.cmr_base.specs.declared.separation.Two.{Two}
 use Rattle.cmr_base.specs.declared.separation.Three.{Three}
-use Rattle.pivots.specs.declared.place.PlacedPivot.{PlacedPivot}
+use Rattle.cmr_base.specs.declared.placed_pivot.PlacedPivot.{PlacedPivot}
 use Rattle.tree_type.specs.declared.tree.Node.{Node, fold_out-Node}
 use Rattle.tree_type.specs.declared.tree.NodeList.{NodeList}
 use Rattle.tree_type.specs.declared.tree.Kind.{Kind}

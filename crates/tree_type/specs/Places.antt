@@ -4,8 +4,8 @@ use Rattle.cmr_base.specs.declared.line.Line.{Line}
 use Rattle.cmr_base.specs.declared.line_set.LineSet.{LineSet}
 use Rattle.cmr_base.specs.Matrix.{Matrix}
 use Rattle.cmr_base.specs.Reductions.{rows_without, columns_without}
-use Rattle.pivots.specs.declared.place.PlacedPivot.{PlacedPivot}
-use Rattle.pivots.specs.PivotedParts.{pivoted_part}
+use Rattle.cmr_base.specs.declared.placed_pivot.PlacedPivot.{PlacedPivot}
+use Rattle.cmr_base.specs.PlacedPivots.{pivoted_part}
 use Rattle.tree_type.specs.Sides.{two_one, two_two, three_one, three_two}
 use Rattle.tree_type.specs.DecompositionTrees.{Finding, Reduced, TwoSum, ThreeSum, Pivoted, Tree, Trees, Branch, NoTrees, MoreTrees, lines_at_root}
 

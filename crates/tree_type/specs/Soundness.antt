@@ -11,7 +11,7 @@ use Rattle.cmr_base.specs.Reductions.{HasLine, line_reason, rows_without, column
 use Rattle.cmr_base.specs.CyclePlaces.{HasNoCycleFault}
 use Rattle.cmr_base.specs.Trees.{Reproduces}
 use Rattle.cmr_base.specs.R10.{IsR10}
-use Rattle.pivots.specs.PivotedParts.{IsTernaryPivot}
+use Rattle.cmr_base.specs.PlacedPivots.{IsTernaryPivot}
 use Rattle.tree_type.specs.Sides.{is_among, sides, HaveLines, IsReference, AreTwoBlocks, AreConnectorsOfSides, HasCornerSign, AreThreeBlocks}
 use Rattle.tree_type.specs.declared.refusal.Refusal.{Refusal}
 use Rattle.tree_type.specs.declared.refusal.Rule.{Rule}

@@ -5,8 +5,7 @@ ghost use Rattle.tree_type.specs.Invariant.{HasChildren};
 ghost use Rattle.tree_type.specs.Findings.{finding_shown};
 
 use crate::{Kind, Node, NodeList};
-use cmr_base::{LineList, LineSet, Memory, Network, Three, Two};
-use pivots::PlacedPivot;
+use cmr_base::{LineList, LineSet, Memory, Network, PlacedPivot, Three, Two};
 use std::alloc::Global;
 
 /// The finding of a node about the submatrix on its lines.

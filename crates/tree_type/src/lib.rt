@@ -19,7 +19,6 @@ pub use cmr_base::{
 pub use dec_tree::DecTree;
 pub use finding::{Finding, join_node};
 pub use node_count::count_nodes;
-pub use pivots::PlacedPivot;
 pub use refusal::{Refusal, Rule};
 pub use tree::{Kind, Node, NodeList};
 pub use verdicts::{VerdictOf, verdict, verdict_at};

@@ -2,8 +2,7 @@
 ghost use Rattle.std.specs.Prelude.{◌≡◌, ◌<◌, ◌++◌, [], ◌∷◌, length, map, slice_get, Some, OnOk, OnErr};
 ghost use Rattle.tree_type.specs.DecompositionTrees.{nodes_in, tree_of, trees_of, trees_from};
 
-use cmr_base::{LineList, LineSet, Memory, Network, Three, Two};
-use pivots::PlacedPivot;
+use cmr_base::{LineList, LineSet, Memory, Network, PlacedPivot, Three, Two};
 use std::alloc::Global;
 
 /// A node: some lines of the matrix, and facts about the submatrix on these lines.

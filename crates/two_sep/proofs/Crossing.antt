@@ -8,14 +8,14 @@ use Rattle.std.proofs.lemmas.List.FromFn.{length-range_with_len, get_or-range_wi
 use Rattle.cmr_base.specs.declared.line.Line.TheVariants.{Row, Column}
 use Rattle.cmr_base.specs.Matrix.{Matrix, height, entry, IsMatrix}
 use Rattle.cmr_base.specs.LineSets.{first_lines}
-use Rattle.cmr_base.specs.Separations.{Lines, IsTwoSeparation}
+use Rattle.cmr_base.specs.Separations.{TwoSeparates, HasNoTwoSeparation, Lines, IsTwoSeparation}
 use Rattle.cmr_base.proofs.Integers.{products}
 use Rattle.cmr_base.proofs.RowLists.{two_cases}
 use Rattle.cmr_base.proofs.ListedLines.{contains_first_lines, first_lines_contain}
 use Rattle.cmr_base.proofs.SeedLemmas.{good_two_seed}
 use Rattle.cmr_base.proofs.SignEntries.{sign_of_entry}
 use Rattle.cmr_base.proofs.SignedProducts.{same_product}
-use Rattle.two_sep.specs.FirstSeeds.{TwoSeparates, HasNoTwoSeparation, HasNoGoodSeed, AreTogether, ArePassed, line_at_number}
+use Rattle.two_sep.specs.FirstSeeds.{HasNoGoodSeed, AreTogether, ArePassed, line_at_number}
 use Rattle.two_sep.proofs.LineNumbers.{line_of-row, line_of-column}
 
 first_factor : (g x : ℤ) → g *ℤ x ≢ pos 0 → g ≢ pos 0

@@ -4,16 +4,9 @@ use Rattle.cmr_base.specs.declared.line.Line.{Line}
 use Rattle.cmr_base.specs.declared.line.Line.TheVariants.{Column, Row}
 use Rattle.cmr_base.specs.declared.separation.Two.{Two}
 use Rattle.cmr_base.specs.Matrix.{Matrix, height, entry, IsMatrix}
-use Rattle.cmr_base.specs.LineSets.{IsRowSet, IsColumnSet, first_lines}
-use Rattle.cmr_base.specs.Separations.{Lines, listed, IsTwoSeparation}
+use Rattle.cmr_base.specs.LineSets.{IsRowSet, IsColumnSet}
+use Rattle.cmr_base.specs.Separations.{Lines, TwoSeparates, listed}
 use Rattle.cmr_base.specs.Seeds.{IsGoodTwo, IsFirstTwo, line_number}
-
--- a two-separation of all lines of the matrix
-abbrev pub TwoSeparates : Matrix → Lines → ℕ → ℕ → Type 0
-TwoSeparates m side i j = IsTwoSeparation (entry m) (first_lines (height m)) (first_lines m.width) side i j
-
-abbrev pub HasNoTwoSeparation : Matrix → Type 0
-HasNoTwoSeparation m = (i j : ℕ) (side : Lines) → ¬ (TwoSeparates m side i j)
 
 -- the separation of the first good two-seed
 pub record IsFirstTwoSeparation (m : Matrix) (two : Two) : Type 0 where

@@ -1,7 +1,8 @@
 // The first two-separation.
 ghost use Rattle.std.specs.Prelude.{◌<◌, ◌+◌, IfOk, MatchOption};
 ghost use Rattle.cmr_base.specs.Matrix.{height};
-ghost use Rattle.two_sep.specs.FirstSeeds.{HasNoTwoSeparation, IsFirstTwoSeparation, ArePassed};
+ghost use Rattle.cmr_base.specs.Separations.{HasNoTwoSeparation};
+ghost use Rattle.two_sep.specs.FirstSeeds.{IsFirstTwoSeparation, ArePassed};
 
 use crate::seeds::first_good_side;
 use cmr_base::{Matrix, Memory, RowsAndColumns, Two, join_labels, own_labels};

@@ -4,8 +4,6 @@
 #![tactic(auto)]
 
 #[cfg(test)]
-mod chains;
-#[cfg(test)]
 mod devices;
 #[cfg(test)]
 mod generated;
@@ -29,6 +27,8 @@ mod r10;
 mod reductions;
 #[cfg(test)]
 mod separations;
+#[cfg(test)]
+mod signed_chains;
 #[cfg(test)]
 mod signings;
 #[cfg(test)]

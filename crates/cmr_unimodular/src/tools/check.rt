@@ -1,6 +1,6 @@
 //! Checking evidence on a matrix: a decomposition tree, a chain of signs, or a violator.
-ghost use Rattle.camion_sign.specs.Chains.{IsSoundChain};
-ghost use Rattle.cert_check.specs.Laws.{Tells};
+ghost use Rattle.chains.specs.Chains.{IsSoundChain};
+ghost use Rattle.tree_laws.specs.Laws.{Tells};
 ghost use Rattle.clap.specs.Words.{app_of, found_of, rows_of};
 ghost use Rattle.std.specs.Prelude.{◌≡◌, IfOk, IsTrue};
 ghost use Rattle.tree_text.specs.TreeReading.{plain_of};
@@ -19,8 +19,8 @@ ghost use Rattle.cmr_unimodular.specs.Check.{ChainDecides, CheckReportsBy, Evide
 ghost use Rattle.cmr_unimodular.specs.declared.tools.check.EvidenceKind.TheVariants as kinds;
 
 use crate::verdict::{answer_of, answer_word, push_named_line};
-use camion_sign::{SizedChain, chain_signs, check_chain};
 use cert_check::accept;
+use chains::{SizedChain, chain_signs, check_chain};
 use clap::{ArgMatches, Command};
 use cmr_base::{LineSet, Matrix, Memory, PathList, Word};
 use cmr_front::evidence_file::{

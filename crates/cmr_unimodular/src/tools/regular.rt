@@ -1,6 +1,6 @@
 //! Testing whether a 0/1 matrix has a totally unimodular signing.
-ghost use Rattle.camion_sign.specs.ChainTexts.{AreLinesIn, IsStepIn, chain_text};
-ghost use Rattle.cert_check.specs.Laws.{Tells};
+ghost use Rattle.chains.specs.ChainTexts.{AreLinesIn, IsStepIn, chain_text};
+ghost use Rattle.tree_laws.specs.Laws.{Tells};
 ghost use Rattle.clap.specs.Words.{app_of, found_of, rows_of};
 ghost use Rattle.std.specs.List.{AllByRecursion};
 ghost use Rattle.std.specs.Prelude.{◌*◌, ◌++◌, ◌≡◌, ◌≤◌, IfOk, IsTrue, OnOk, length, map, option_map};
@@ -18,7 +18,8 @@ ghost use Rattle.cmr_unimodular.specs.Regular.{HasLinesIn, IsSignedTo, RegularDe
 ghost use Rattle.cmr_unimodular.specs.Verdict.{verdict_in, verdict_order_of, verdict_report};
 
 use crate::verdict::{VerdictOptions, decomposed, report_tree};
-use camion_sign::{Chain, SignStepList, sign, write_chain};
+use camion_sign::sign;
+use chains::{Chain, SignStepList, write_chain};
 use clap::{ArgMatches, Command};
 use cmr_base::{Indices, LineSet, MAX_LINES, Matrix, Memory, Word};
 use cmr_front::asked::push_matrix;

@@ -1,7 +1,7 @@
 use Rattle.std.proofs.Common.{◌∙◌, ℤ, pos, ap, w32}
 use Rattle.std.specs.Int.{int_rem_euclid}
 use Rattle.std.proofs.lemmas.Int.{to_z-of_z}
-use Rattle.camion_sign.proofs.OddSums.{minus_closes, plus_closes}
+use Rattle.chains.proofs.OddSums.{minus_closes, plus_closes}
 use Rattle.camion_sign.proofs.signing.closing_sign.Goals as goal
 
 pub returns-then-rem_euclid-eq1-clause-four : goal.returns-then-rem_euclid-eq1-clause-four

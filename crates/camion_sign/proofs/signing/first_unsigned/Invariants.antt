@@ -1,5 +1,5 @@
 use Rattle.std.proofs.Common.{◌<◌, ℕ}
-use Rattle.camion_sign.specs.SignSteps.{IsUnsignedOne}
+use Rattle.chains.specs.SignSteps.{IsUnsignedOne}
 use Rattle.camion_sign.proofs.signing.first_unsigned.Given as goal
 
 abbrev pub invariant-loop-column : goal.invariant-loop-column

@@ -1,5 +1,5 @@
 use Rattle.std.proofs.Common.{◌<◌, ℕ}
-use Rattle.camion_sign.specs.SignSteps.{IsUnsignedOne}
+use Rattle.chains.specs.SignSteps.{IsUnsignedOne}
 use Rattle.camion_sign.specs.SignOrder.{IsForcedBy}
 use Rattle.camion_sign.specs.Signings.{KnowsPlaces, KnowsSigned}
 use Rattle.camion_sign.proofs.signing.forced_one.Given as goal

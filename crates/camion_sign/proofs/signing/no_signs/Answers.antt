@@ -1,6 +1,6 @@
 use Rattle.std.proofs.Common.{◌∙◌}
 use Rattle.cmr_base.specs.Matrix.{height}
-use Rattle.camion_sign.proofs.PlaceLinks.{same_zeros}
+use Rattle.chains.proofs.ChainViolators.{same_zeros}
 use Rattle.camion_sign.proofs.SigningStates.{start_state}
 use Rattle.camion_sign.proofs.signing.no_signs.Goals as goal
 

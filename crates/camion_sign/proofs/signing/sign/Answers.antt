@@ -1,12 +1,12 @@
 use Rattle.std.proofs.Common.{◌≡◌, subst}
 use Rattle.cmr_base.specs.Matrix.{Matrix, height, IsMatrix}
 use Rattle.camion_sign.specs.declared.signing.Signing.{Signing}
-use Rattle.camion_sign.specs.SignSteps.{unsigned}
+use Rattle.chains.specs.SignSteps.{unsigned}
 use Rattle.camion_sign.specs.Signings.{IsAtRow}
-use Rattle.camion_sign.proofs.ChainViolators.{unsigned_signs}
+use Rattle.chains.proofs.ChainViolators.{unsigned_signs}
 use Rattle.camion_sign.proofs.FreeSteps.{chain_steps}
 use Rattle.camion_sign.proofs.SigningStates.{all_are_signed, signs_support}
-use Rattle.camion_sign.proofs.StepCounts.{few_signed, steps_in}
+use Rattle.camion_sign.proofs.SignedSteps.{few_signed, steps_in}
 use Rattle.camion_sign.proofs.signing.sign.Goals as goal
 
 -- all rows of the same matrix are signed

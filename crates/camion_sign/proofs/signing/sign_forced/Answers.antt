@@ -5,9 +5,9 @@ use Rattle.cmr_base.specs.Sums.{IsOdd}
 use Rattle.cmr_base.proofs.SignEntries.{sign_is_entry}
 use Rattle.ghouila.proofs.SignsUnique.{column_in}
 use Rattle.cmr_base.proofs.SmallEntries.{entry_as_byte}
-use Rattle.camion_sign.specs.SignSteps.{IsZeroModFour}
+use Rattle.chains.specs.SignSteps.{IsZeroModFour}
 use Rattle.camion_sign.specs.SignOrder.{IsNextForced}
-use Rattle.camion_sign.specs.declared.step.SignStep.TheVariants.{Forced}
+use Rattle.chains.specs.declared.step.SignStep.TheVariants.{Forced}
 use Rattle.camion_sign.proofs.ForcedCycles.{sum_more, odd_sum}
 use Rattle.camion_sign.proofs.PartnerSteps.{ones_kept}
 use Rattle.camion_sign.proofs.SigningStates.{state_more, fewer_more}

@@ -1,6 +1,6 @@
 use Rattle.std.proofs.Common.{pos, inl, refl, arith}
 use Rattle.ghouila.proofs.SignsUnique.{column_in}
-use Rattle.camion_sign.specs.declared.step.SignStep.TheVariants.{Free}
+use Rattle.chains.specs.declared.step.SignStep.TheVariants.{Free}
 use Rattle.camion_sign.proofs.SigningStates.{state_more, fewer_more}
 use Rattle.camion_sign.proofs.signing.sign_free.Goals as goal
 

@@ -1,5 +1,5 @@
 use Rattle.std.proofs.Common.{ℕ, MatchOption}
-use Rattle.camion_sign.specs.SignSteps.{IsUnsignedOne}
+use Rattle.chains.specs.SignSteps.{IsUnsignedOne}
 use Rattle.camion_sign.specs.Signings.{IsAtRow, IsFirstUnsigned, KnowsPlaces, unsigned_before}
 use Rattle.camion_sign.proofs.signing.sign_row.Given as goal
 

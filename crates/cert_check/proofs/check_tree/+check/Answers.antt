@@ -4,10 +4,10 @@ use Rattle.tree_type.specs.Places.{places_from}
 use Rattle.tree_type.specs.Soundness.{IsFirstBroken}
 use Rattle.tree_type.specs.declared.tree.Node.{the_lemmas}
 use Rattle.cert_check.specs.Answers.{AnswersOn, AnswersOnBoth, AnswersFrom, AnswersBelow, IsRuleAt, KeepsOwn, Stands, nodes_below, due_child_of}
-use Rattle.pivots.specs.PivotedParts.{pivoted_part, IsPivotedPart}
-use Rattle.cert_check.proofs.Answering.{answers_after, answers_below, broken_before, broken_here, both_children, if_ok, reduced_is, two_sum_is, three_sum_is, pivoted_is, goes_pivoted, only_child, first_stands, second_stands}
+use Rattle.cmr_base.specs.PlacedPivots.{pivoted_part}
+use Rattle.pivots.specs.PivotedParts.{IsPivotedPart}
+use Rattle.cert_check.proofs.Answering.{answers_after, answers_below, broken_before, broken_here, both_children, if_ok, reduced_is, two_sum_is, three_sum_is, pivoted_is, goes_pivoted, only_child, first_stands, second_stands, stands_pivoted}
 use Rattle.cert_check.proofs.OwnRules.{own_lines, own_pivot}
-use Rattle.cert_check.proofs.PivotedMatrices.{stands_pivoted}
 use Rattle.cert_check.proofs.Children.{few_children, left_stands, left_refused, left_next, left_none, AreLeft, all_left, child_first, unnamed}
 use Rattle.std.proofs.lemmas.List.{drop_all}
 use Rattle.cert_check.proofs.check_tree.+check.Goals as goal

@@ -1,5 +1,5 @@
 use Rattle.std.proofs.Common.{arith}
-use Rattle.cert_check.proofs.Leaves.{r10_same}
+use Rattle.tree_laws.proofs.Leaves.{r10_same}
 use Rattle.cert_check.proofs.leaf_rules.has_no_fault.Goals as goal
 
 pub is_clean-requires : goal.is_clean-requires

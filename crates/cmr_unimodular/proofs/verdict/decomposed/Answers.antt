@@ -1,5 +1,5 @@
 use Rattle.std.proofs.Common.{length, ap, arith}
-use Rattle.cert_check.proofs.SoundTrees.{tells}
+use Rattle.tree_laws.proofs.SoundTrees.{tells}
 use Rattle.tree_type.specs.DecompositionTrees.{tree_of}
 use Rattle.cmr_unimodular.specs.Verdict.{IsDecomposition}
 use Rattle.cmr_unimodular.proofs.Told.{root_height, told}

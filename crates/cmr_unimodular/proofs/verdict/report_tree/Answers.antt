@@ -1,5 +1,5 @@
 use Rattle.std.proofs.Common.{sym, subst}
-use Rattle.cert_check.specs.Laws.{Tells}
+use Rattle.tree_laws.specs.Laws.{Tells}
 use Rattle.cmr_unimodular.proofs.verdict.report_tree.Goals as goal
 
 pub verdict_text-requires-clause-tells : goal.verdict_text-requires-clause-tells

@@ -1,7 +1,8 @@
 use Rattle.std.proofs.Common.{Option, MatchOption, subst}
 use Rattle.cmr_base.specs.declared.separation.Three.{Three}
 use Rattle.cmr_base.specs.Matrix.{Matrix}
-use Rattle.three_sep.specs.ThreeSeparations.{HasNoThreeSeparation, IsFirstThreeSeparation}
+use Rattle.cmr_base.specs.Separations.{HasNoThreeSeparation}
+use Rattle.three_sep.specs.ThreeSeparations.{IsFirstThreeSeparation}
 use Rattle.decomp_tree.specs.Shapes.{IsThreeSum}
 use Rattle.decomp_tree.proofs.Said.{none_next}
 use Rattle.decomp_tree.specs.Nodes.{submatrix_of}

@@ -3,7 +3,8 @@ use Rattle.cmr_base.specs.declared.line_set.LineSet.{LineSet}
 use Rattle.cmr_base.specs.declared.separation.Two.{Two}
 use Rattle.cmr_base.specs.Matrix.{Matrix, entry}
 use Rattle.cmr_base.specs.CyclePlaces.{HasNoCycleFault}
-use Rattle.two_sep.specs.FirstSeeds.{HasNoTwoSeparation, IsFirstTwoSeparation}
+use Rattle.cmr_base.specs.Separations.{HasNoTwoSeparation}
+use Rattle.two_sep.specs.FirstSeeds.{IsFirstTwoSeparation}
 use Rattle.tree_type.specs.Soundness.{part}
 use Rattle.decomp_tree.specs.Shapes.{IsTwoSum}
 use Rattle.decomp_tree.specs.Seen.{IsNamedFault, IsSeen}

@@ -3,7 +3,7 @@ use Rattle.std.proofs.lemmas.Result.{IfOk-weaker}
 use Rattle.cmr_base.specs.declared.line_set.LineSet.{LineSet}
 use Rattle.cmr_base.specs.Matrix.{Matrix}
 use Rattle.cmr_base.proofs.Options.{some_same}
-use Rattle.pivots.specs.declared.place.PlacedPivot.{PlacedPivot}
+use Rattle.cmr_base.specs.declared.placed_pivot.PlacedPivot.{PlacedPivot}
 use Rattle.tree_type.specs.declared.finding.Finding.{Finding as Held}
 use Rattle.tree_type.specs.declared.finding.Finding.TheVariants as held
 use Rattle.tree_type.specs.DecompositionTrees.{Tree, Branch, NoTrees, Pivoted, one_tree, tree_of}

@@ -1,5 +1,5 @@
 use Rattle.std.proofs.Common.{◌∙◌, ◌+◌, ℕ, List, length, ap, arith}
-use Rattle.generate.proofs.DrawnNumbers.{length-draws}
+use Rattle.cmr_base.proofs.DrawnNumbers.{length-draws}
 use Rattle.generate.proofs.networks.generated_network.Goals as goal
 
 pub arcs_from-requires : goal.arcs_from-requires

@@ -1,5 +1,5 @@
 use Rattle.std.proofs.Common.{◌∙◌, ℕ, List, length, ap}
-use Rattle.generate.proofs.DrawnNumbers.{length-draws}
+use Rattle.cmr_base.proofs.DrawnNumbers.{length-draws}
 use Rattle.generate.proofs.sums.generated_sum.Goals as goal
 
 pub negated-requires : goal.negated-requires

@@ -8,7 +8,8 @@ use Rattle.cmr_base.specs.LineSets.{AllBelow, IsRowSet}
 use Rattle.cmr_base.specs.Signing.{IsSign}
 use Rattle.cmr_base.specs.Sums.{sum_over, IsEven, IsOdd}
 use Rattle.cmr_base.proofs.Lists.{HasOneMore, all_contained, all_without, contains_first, contains_later}
-use Rattle.ghouila.specs.Pivot.{IsOutside, reduced, IsTernaryRow, IsPivot, IsFirstPivot, HasNoPivot, IsFirstTwoEntry, KeepsRowsElsewhere, PivotsRows}
+use Rattle.cmr_base.specs.PlacedPivots.{reduced}
+use Rattle.ghouila.specs.Pivot.{IsOutside, IsTernaryRow, IsPivot, IsFirstPivot, HasNoPivot, IsFirstTwoEntry, KeepsRowsElsewhere, PivotsRows}
 use Rattle.ghouila.specs.Found.{marked, SignsRows, MarksViolator, MarksAnew}
 use Rattle.ghouila.specs.MarkedSignings.{IsOutcome, AddsRun}
 use Rattle.ghouila.specs.SignRuns.{IsTakenBack}

@@ -2,7 +2,8 @@ use Rattle.std.proofs.Common.{ℕ, take, refl, subst, arith}
 use Rattle.std.proofs.lemmas.List.{get_or-take, length-take}
 use Rattle.cmr_base.specs.Matrix.{entry}
 use Rattle.cmr_base.proofs.Lists.{all_at}
-use Rattle.ghouila.specs.Pivot.{reduced, IsTernaryRow}
+use Rattle.cmr_base.specs.PlacedPivots.{reduced}
+use Rattle.ghouila.specs.Pivot.{IsTernaryRow}
 use Rattle.ghouila.proofs.pivots.first_square_violator.Goals as goal
 
 pub returns-in-Some-clause-first : goal.returns-in-Some-clause-first

@@ -4,7 +4,8 @@ use Rattle.cmr_base.specs.Matrix.{Matrix, height, entry, IsEntry}
 use Rattle.cmr_base.specs.LineSets.{IsRowSet}
 use Rattle.cmr_base.proofs.Lists.{all_at, all-take, all_weaker}
 use Rattle.cmr_base.proofs.IncreasingLists.{row_set_rises, increasing_prefix}
-use Rattle.ghouila.specs.Pivot.{IsOutside, reduced, IsTernaryRow, KeepsRowsElsewhere, PivotsRows}
+use Rattle.cmr_base.specs.PlacedPivots.{reduced}
+use Rattle.ghouila.specs.Pivot.{IsOutside, IsTernaryRow, KeepsRowsElsewhere, PivotsRows}
 use Rattle.ghouila.proofs.PivotRow.{pivots_more, keeps_more, reduced_same}
 use Rattle.ghouila.proofs.pivots.make_pivot.Goals as goal
 

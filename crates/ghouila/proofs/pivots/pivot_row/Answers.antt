@@ -3,7 +3,8 @@ use mathlib.Core.Path.{ap₂}
 use Rattle.std.proofs.lemmas.Int.{ints, to_z-of_z}
 use Rattle.cmr_base.specs.Matrix.{Matrix, entry, IsEntry}
 use Rattle.cmr_base.proofs.SmallEntries.{negative_is_entry}
-use Rattle.ghouila.specs.Pivot.{reduced, KeepsRowsElsewhere, PivotsRows}
+use Rattle.cmr_base.specs.PlacedPivots.{reduced}
+use Rattle.ghouila.specs.Pivot.{KeepsRowsElsewhere, PivotsRows}
 use Rattle.ghouila.proofs.Bytes.{zero_byte, reduced_bytes, product_bytes}
 use Rattle.ghouila.proofs.PivotBytes.{entry_byte, negated_byte, zero_below, pivoted_row}
 use Rattle.ghouila.proofs.PivotRow.{IsReduced, keeps_all, keeps_with_entry, reduced_none, reduced_over, reduced_more, reduced_all}

@@ -3,7 +3,7 @@ use Rattle.std.proofs.lemmas.Int.{to_z-of_z}
 use Rattle.std.proofs.lemmas.Bool.{false≢true}
 use Rattle.cmr_base.specs.Matrix.{entry, IsEntry}
 use Rattle.cmr_base.specs.Signing.{IsSign}
-use Rattle.ghouila.specs.Pivot.{reduced}
+use Rattle.cmr_base.specs.PlacedPivots.{reduced}
 use Rattle.ghouila.proofs.Bytes.{zero_byte, reduced_bytes, product_bytes}
 use Rattle.ghouila.proofs.PivotBytes.{entry_byte, zero_below, reduced_row}
 use Rattle.ghouila.proofs.PivotRow.{small_over}

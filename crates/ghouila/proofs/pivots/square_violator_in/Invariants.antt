@@ -1,6 +1,7 @@
 use Rattle.std.proofs.Common.{◌≤◌, ◌-◌}
 use Rattle.cmr_base.specs.Matrix.{entry}
-use Rattle.ghouila.specs.Pivot.{reduced, IsTernaryRow}
+use Rattle.cmr_base.specs.PlacedPivots.{reduced}
+use Rattle.ghouila.specs.Pivot.{IsTernaryRow}
 use Rattle.ghouila.proofs.pivots.square_violator_in.Given as goal
 
 abbrev pub invariant-loop-last : goal.invariant-loop-last

@@ -4,7 +4,7 @@ use Rattle.cmr_base.specs.Matrix.{height, entry}
 use Rattle.cmr_base.proofs.Parts.{length-increasing}
 use Rattle.pivots.specs.declared.drawn.DrawnPlace.{DrawnPlace}
 use Rattle.pivots.specs.DrawnPlaces.{places_on}
-use Rattle.pivots.specs.PivotedParts.{IsPlaceIn}
+use Rattle.cmr_base.specs.PlacedPivots.{IsPlaceIn}
 use Rattle.pivots.proofs.DrawnPlaces.{none_placed, drawn_in, none_drawn}
 use Rattle.pivots.proofs.drawn.drawn_place.Goals as goal
 

@@ -3,7 +3,8 @@ use Rattle.std.specs.List.{AllByRecursion}
 use Rattle.cmr_base.specs.LineSets.{AllBelow, IsRowSet, first_lines, without}
 use Rattle.cmr_base.specs.Matrix.{Matrix, height, entry}
 use Rattle.cmr_base.specs.Signing.{IsSign}
-use Rattle.ghouila.specs.Pivot.{IsOutside, reduced, IsTernaryRow, KeepsRowsElsewhere, PivotsRows, IsFirstTwoEntry}
+use Rattle.cmr_base.specs.PlacedPivots.{reduced}
+use Rattle.ghouila.specs.Pivot.{IsOutside, IsTernaryRow, KeepsRowsElsewhere, PivotsRows, IsFirstTwoEntry}
 use Rattle.pivots.proofs.LinesBefore.{pivot_place}
 use Rattle.pivots.proofs.MadePivots.{others_below, others_rise, others_outside, made_pivot, first_two}
 use Rattle.pivots.proofs.matrix_pivot.pivot.Goals as goal

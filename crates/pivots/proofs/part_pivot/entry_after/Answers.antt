@@ -3,7 +3,7 @@ use mathlib.Core.Path.{ap₂}
 use Rattle.std.proofs.lemmas.Int.{to_z-of_z}
 use Rattle.cmr_base.specs.Matrix.{entry}
 use Rattle.cmr_base.proofs.SmallEntries.{entry_as_byte}
-use Rattle.ghouila.specs.PivotLaws.{pivot_entry}
+use Rattle.cmr_base.specs.PlacedPivots.{pivot_entry}
 use Rattle.ghouila.proofs.PivotBytes.{entry_byte, negated_byte}
 use Rattle.ghouila.proofs.PivotSums.{pivoted_at}
 use Rattle.ghouila.proofs.WholePivots.{entry_there, entry_in_row, entry_elsewhere}

@@ -1,8 +1,8 @@
 use Rattle.std.proofs.Common.{◌∙◌, length, ap, arith, subst, sym}
 use Rattle.std.proofs.lemmas.Result.{IfOk-weaker}
 use Rattle.tree_type.specs.DecompositionTrees.{tree_of}
-use Rattle.cert_check.specs.Laws.{Tells}
-use Rattle.cert_check.proofs.SoundTrees.{tells}
+use Rattle.tree_laws.specs.Laws.{Tells}
+use Rattle.tree_laws.proofs.SoundTrees.{tells}
 use Rattle.cmr_unimodular.specs.Check.{accepted, accepted_report}
 use Rattle.cmr_unimodular.proofs.CheckAnswers.{root_height}
 use Rattle.cmr_unimodular.proofs.tools.check.accepted_tree.Goals as goal

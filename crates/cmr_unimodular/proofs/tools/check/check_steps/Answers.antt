@@ -1,7 +1,7 @@
 use Rattle.std.proofs.lemmas.Option.{MatchOption-at_some}
 use Rattle.std.proofs.lemmas.Result.{IfOk-weaker}
 use Rattle.cmr_base.specs.Matrix.{Matrix}
-use Rattle.camion_sign.specs.Chains.{IsFirstBrokenPart, IsSoundChain}
+use Rattle.chains.specs.Chains.{IsFirstBrokenPart, IsSoundChain}
 use Rattle.cmr_unimodular.specs.Check.{refused}
 use Rattle.cmr_unimodular.proofs.tools.check.check_steps.Goals as goal
 

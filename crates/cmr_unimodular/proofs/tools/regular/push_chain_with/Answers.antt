@@ -1,6 +1,6 @@
 use Rattle.std.proofs.Common.{◌∙◌, ◌++◌, map, option_map, [], ◌∷◌, ap, sym}
 use Rattle.std.proofs.lemmas.List.{map-append}
-use Rattle.camion_sign.specs.ChainTexts.{chain_text}
+use Rattle.chains.specs.ChainTexts.{chain_text}
 use Rattle.cmr_front.specs.Outcome.{file_of}
 use Rattle.cmr_front.specs.Report.{File, asked_file}
 use Rattle.cmr_unimodular.specs.Regular.{chain_with}

@@ -1,7 +1,0 @@
-use Rattle.std.proofs.Common.{◌≡◌, ◌-◌, []}
-use Rattle.text_fields.specs.Reading.{times}
-use Rattle.camion_sign.specs.ChainTexts.{another_step}
-use Rattle.camion_sign.proofs.chain_text.steps.Given as goal
-
-abbrev pub invariant-loop : goal.invariant-loop
-invariant-loop l = times (another_step l.rows l.columns) (l.count - l.counter) l.steps l.words ≡ times (another_step l.rows l.columns) l.count [] l.fn.words

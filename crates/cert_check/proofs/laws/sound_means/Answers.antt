@@ -1,6 +1,0 @@
-use Rattle.tree_type.specs.DecompositionTrees.{tree_of}
-use Rattle.cert_check.proofs.SoundTrees.{tells}
-use Rattle.cert_check.proofs.laws.sound_means.Goals as goal
-
-pub returns : goal.returns
-returns c = λ m is tree within keeps. tells m is tree.rows tree.columns (tree_of tree.root) within keeps
