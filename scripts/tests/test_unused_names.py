@@ -202,7 +202,7 @@ class UnusedNamesTest(ScriptTest):
         self.lists("docs/DECISIONS.md: IsUsed of low: used, or gone", *UNUSED.splitlines())
 
     def test_a_test_is_a_call(self):
-        self.put("worked_examples/src/lib.rt", EXAMPLE)
+        self.put("worked_ground/src/lib.rt", EXAMPLE)
         self.lists(*(it for it in UNUSED.splitlines() if "unused_above" not in it))
 
 
