@@ -1,6 +1,6 @@
 -- How a run ends, from what was decided and how that was carried out.
 use Rattle.std.proofs.Common.{◌≡◌, ◌≤◌, ◌⊎◌, ◌∙◌, ℕ, Bool, IsTrue, List, [], length, Result, Ok, Err, ap, sym, subst, inl, inr, arith, refl}
-use Rattle.std.proofs.lemmas.List.{append-nil}
+use Rattle.std.proofs.lemmas.List.{append-nil, nil_from_length}
 use Rattle.std.specs.Prelude.{IfErr, OnErr}
 use Rattle.std.specs.Result.{IsErr, IsErrAnd}
 use Rattle.cmr_io.specs.Causes.{Rose}
@@ -332,6 +332,12 @@ pub means : (tool : Tool) → IsLawful tool → (standing : Standing) (held : He
     → IsTrue standing.shelf_tells → (answer : Answer) → status ≡ answer_status answer → Means tool held answer
 means tool law standing held reads failed ended mid after status ends (inl same) told answer is = means_ended tool law held standing.shelf_tells standing.shelf_is_calm reads failed ended ends told answer (sym same ∙ is)
 means tool law standing held reads failed ended mid after status ends (inr cut) told answer is = absurd (answered_or_failed status answer failures.Device is cut.0)
+
+-- what an answer means of a tool that reads no file, whatever the shelf tells
+pub means_alone : (tool : Tool) (held : Held) (reads : Between) (answer : Answer) → tool.inputs ≡ [] → MeansRead (work tool) reads answer → Means tool held answer
+means_alone tool held reads answer none read =
+    let empty : read.0 ≡ [] = nil_from_length read.0 (read.1 ∙ ap length none) in
+    ([], ap (given held) none, subst (λ (bytes : List (List ℕ)). tool.Means bytes answer) empty read.4)
 
 -- ---- what is decided on what was read
 

@@ -101,7 +101,7 @@ abbrev pub order_of : Command → Order
 order_of (command.Tu options) = tu (tu_order_of options)
 order_of (command.Regular options) = regular (regular_order_of options)
 order_of (command.SeriesParallel options) = series_parallel (series_parallel_order_of options)
-order_of (command.Test property options) = test property (test_order_of options)
+order_of (command.Test it) = test it.property (test_order_of it.options)
 order_of (command.Generate options) = generate (generate_order_of options)
 order_of (command.Check options) = check (check_order_of options)
 order_of (command.Upgrade options) = upgrade (upgrade_order_of options)

@@ -1,7 +1,7 @@
 // Tools that are called with options in place of words.
 use crate::given::bytes;
 use cmr_io::{MemoryShelf, MemorySink, Shelf, Sink};
-use cmr_tools::{MatrixForm, TestOptions, graphic, network};
+use cmr_tools::{MatrixForm, PropertyTest, TestOptions, TestedProperty, Tool};
 use std::alloc::AllocGlobal;
 use std::process::Abort;
 use std::test::Fail;
@@ -24,11 +24,15 @@ fn tested<R: Threads + Sync + AllocGlobal, S: Shelf, O: Sink, E: Sink>(
     out: &mut O,
     err: &mut E,
 ) -> u8 {
-    if asks_for_graphs {
-        graphic(rt, rt.alloc(), &OPTIONS, shelf, out, err)
-    } else {
-        network(rt, rt.alloc(), &OPTIONS, shelf, out, err)
-    }
+    let test = PropertyTest {
+        property: if asks_for_graphs {
+            TestedProperty::Graphic
+        } else {
+            TestedProperty::Network
+        },
+        options: OPTIONS,
+    };
+    test.run(rt, rt.alloc(), shelf, out, err)
 }
 
 fn answers<R: Threads + Sync + Abort + AllocGlobal>(

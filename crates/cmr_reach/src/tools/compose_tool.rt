@@ -1,13 +1,11 @@
 //! Sums of two matrices.
 ghost use Rattle.clap.specs.Words.{app_of, found_of, rows_of};
-ghost use Rattle.std.specs.Prelude.{◌≡◌, IfOk, IsTrue, false};
+ghost use Rattle.std.specs.Prelude.{◌≡◌, IfOk, false};
 ghost use Rattle.cmr_base.specs.Matrix.{IsMatrix};
 ghost use Rattle.cmr_front.specs.MatrixText.{matrix_in};
 ghost use Rattle.cmr_front.specs.Outcome.{outcome_report};
-ghost use Rattle.cmr_front.specs.Run.{Means, RunsOver, work};
-ghost use Rattle.cmr_front.specs.Status.{answer_status};
 ghost use Rattle.cmr_front.specs.Texts.{ReportsText};
-ghost use Rattle.cmr_front.specs.Tool.{HasOneReport, IsDecision};
+ghost use Rattle.cmr_front.specs.Tool.{IsDecision};
 ghost use Rattle.cmr_front.specs.Words.ReadWords.{Gives};
 ghost use Rattle.cmr_front.specs.declared.outcome.FaultKind.TheVariants as faults;
 ghost use Rattle.cmr_front.specs.declared.status.Answer.{Answer};
@@ -19,11 +17,10 @@ use cmr_front::input::{Input, InputKind, Text};
 use cmr_front::matrix_file::{MatrixForm, matrix_input, read_matrix};
 use cmr_front::outcome::{Outcome, OutputFile, Stop};
 use cmr_front::status::Answer;
-use cmr_front::tool::{Tool, run_tool};
+use cmr_front::tool::Tool;
 use cmr_front::words::arguments::OUTPUT;
 use cmr_front::words::parsing::{form_in, matches_in, operand_in, value_in};
 use cmr_front::words::{WordsError, arguments};
-use cmr_io::{Shelf, Sink};
 pub use compose::SumKind;
 use compose::{SumError, sum_of};
 use itoa::Buffer;
@@ -113,25 +110,6 @@ pub fn read_compose<'a>(alloc: Global, words: &'a [Word]) -> Result<ComposeOptio
     options_in(&matches)
 }
 
-/// Does what `run` does on the words of `compose`, and answers the status.
-pub fn compose<R: Threads + Sync, S: Shelf, O: Sink, E: Sink>(
-    rt: &R,
-    alloc: Global,
-    options: &ComposeOptions<'_>,
-    shelf: &mut S,
-    out: &mut O,
-    err: &mut E,
-) -> u8
-    ensures runs { RunsOver S.Shelf O.Sink E.Sink
-        (work (compose_tool (compose_order_of options.now)))
-        shelf.old out.old err.old shelf.new out.new err.new result }
-    ensures means { IsTrue (S.tells shelf.old) → (answer : Answer) → result ≡ answer_status answer
-        → Means (compose_tool (compose_order_of options.now)) (S.content shelf.old) answer }
-    ensures one { HasOneReport (compose_tool (compose_order_of options.now)) }
-{
-    run_tool(rt, alloc, options, shelf, out, err)
-}
-
 impl<'a> Tool<'a> for ComposeOptions<'a> {
     ghost tool = { λ options. compose_tool (compose_order_of options) };
 
@@ -152,6 +130,8 @@ impl<'a> Tool<'a> for ComposeOptions<'a> {
     ) -> Result<Outcome<'a>, Stop<'a>> {
         decide_on(alloc, self, &texts[0].bytes, &texts[1].bytes)
     }
+
+    fn lawful(&self) {}
 }
 
 fn decide_on<'a>(

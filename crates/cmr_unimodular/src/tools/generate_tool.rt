@@ -1,13 +1,9 @@
 //! Making a matrix from a number, and testing total unimodularity on it.
 ghost use Rattle.clap.specs.Words.{app_of, found_of, rows_of};
-ghost use Rattle.std.specs.Prelude.{◌≡◌, ◌≤◌, IfOk, IsTrue};
+ghost use Rattle.std.specs.Prelude.{◌≡◌, ◌≤◌, IfOk};
 ghost use Rattle.cmr_base.specs.Matrix.{IsMatrix};
 ghost use Rattle.cmr_front.specs.Outcome.{outcome_report};
-ghost use Rattle.cmr_front.specs.Run.{Means, RunsOver, work};
-ghost use Rattle.cmr_front.specs.Status.{answer_status};
-ghost use Rattle.cmr_front.specs.Tool.{HasOneReport};
 ghost use Rattle.cmr_front.specs.Words.ReadWords.{Gives};
-ghost use Rattle.cmr_front.specs.declared.status.Answer.{Answer};
 ghost use Rattle.cmr_unimodular.specs.Generate.{GenerateDecides, IsInRange, generate_app, generate_order, generate_order_in, generate_order_of, generate_report, generate_tool, generate_verdict, make_kind_in, kind_word, most_size, number_in, size_in, summary_line};
 ghost use Rattle.cmr_unimodular.specs.Verdict.{verdict_order_of};
 
@@ -18,13 +14,12 @@ use cmr_base::{MAX_ROWS, Matrix, Memory, Word};
 use cmr_front::asked::push_matrix;
 use cmr_front::input::{Input, Text};
 use cmr_front::outcome::{Outcome, Stop};
-use cmr_front::tool::{Tool, run_tool};
+use cmr_front::tool::Tool;
 use cmr_front::words::arguments::OUTPUT;
 use cmr_front::words::parsing::{
     lines_in, matches_in, number_from, pivots_in, value_in, workers_in,
 };
 use cmr_front::words::{WordsError, arguments};
-use cmr_io::{Shelf, Sink};
 pub use generate::MakeKind;
 use generate::make;
 use itoa::Buffer;
@@ -140,26 +135,6 @@ pub fn read_generate<'a>(
     options_in(&matches)
 }
 
-/// Does what `run` does on the words of `generate`, and answers the status.
-pub fn generate_and_run<R: Threads + Sync, S: Shelf, O: Sink, E: Sink>(
-    rt: &R,
-    alloc: Global,
-    options: &GenerateOptions<'_>,
-    shelf: &mut S,
-    out: &mut O,
-    err: &mut E,
-) -> u8
-    requires { IsInRange (generate_order_of options.now) }
-    ensures runs { RunsOver S.Shelf O.Sink E.Sink
-        (work (generate_tool (generate_order_of options.now)))
-        shelf.old out.old err.old shelf.new out.new err.new result }
-    ensures means { (answer : Answer) → result ≡ answer_status answer
-        → Means (generate_tool (generate_order_of options.now)) (S.content shelf.old) answer }
-    ensures one { HasOneReport (generate_tool (generate_order_of options.now)) }
-{
-    run_tool(rt, alloc, options, shelf, out, err)
-}
-
 impl<'a> Tool<'a> for GenerateOptions<'a> {
     ghost tool = { λ options. generate_tool (generate_order_of options) };
 
@@ -175,6 +150,8 @@ impl<'a> Tool<'a> for GenerateOptions<'a> {
     ) -> Result<Outcome<'a>, Stop<'a>> {
         Ok(make_and_test(rt, alloc, self)?)
     }
+
+    fn lawful(&self) {}
 }
 
 fn make_and_test<'a, R: Threads + Sync>(
