@@ -1,4 +1,4 @@
-// The shape that all tools have.
+// A tool, and how it runs.
 ghost use Rattle.std.specs.Prelude.{[], ◌≡◌, ◌≤◌, IfOk, IsTrue, length, map};
 ghost use Rattle.std.specs.Thread.{IsSync};
 ghost use Rattle.cmr_io.specs.Causes.{Rose};
@@ -23,14 +23,14 @@ use std::thread::Threads;
 
 /// A tool with its options.
 pub trait Tool<'a> {
-    /// What it reads, reports and means.
+    /// What it reads and reports, and what its answers mean.
     ghost tool: { Self → tools.Tool };
 
     /// The files that it reads, in order.
     fn inputs(&self, alloc: Global) -> Result<Vec<Input<'a>>, Memory>
         ensures { IfOk result (λ inputs. map input_file inputs.items ≡ (tool self.now).inputs) };
 
-    /// Decides on what these files hold.
+    /// Decides on the contents of these files.
     fn decide<R: Threads + Sync>(
         &self,
         rt: &R,
@@ -42,11 +42,11 @@ pub trait Tool<'a> {
         requires count { length texts.now ≡ length (tool self.now).inputs }
         ensures { IsDecision ((tool self.now).Reports (map bytes_of texts.now)) result };
 
-    /// Does nothing: the contract is the law that the tool keeps.
+    /// Does nothing. Its contract is the law of the tool.
     fn lawful(&self)
         ensures { IsLawful (tool self.now) };
 
-    /// Carries the tool from its order to its end: reads its files, decides, writes, and answers the status.
+    /// Carries the tool from its order to its end: reads its files, decides, writes, and returns the status.
     final fn run<R: Threads + Sync, S: Shelf, O: Sink, E: Sink>(
         &self,
         rt: &R,
