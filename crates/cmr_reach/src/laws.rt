@@ -7,8 +7,8 @@ ghost use Rattle.cmr_reach.specs.Parts.{PartsOrder, parts_tool};
 ghost use Rattle.cmr_reach.specs.Sign.{SignOrder, sign_tool};
 ghost use Rattle.cmr_reach.specs.WayBack.{PartsComposeBack};
 
-/// Where `parts` writes two files of different names, `compose` with the sum of the printed kind writes of them the matrix
-/// with its lines in the printed order.
+/// If `parts` writes two files of different names, `compose` of these files with the sum of the printed kind writes the
+/// matrix with its lines in the printed order.
 pub fn parts_compose_back()
     ensures { PartsComposeBack }
 {}

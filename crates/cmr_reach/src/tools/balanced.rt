@@ -32,18 +32,18 @@ use std::alloc::{AllocError, Global};
 use std::thread::Threads;
 use tree_type::{DecTree, VerdictOf, verdict};
 
-/// What `balanced` is asked to do. A file of the name `-` is standard input.
+/// The options of `balanced`. A file of the name `-` is standard input.
 #[derive(Clone, Copy, Debug, PartialEq, Eq)]
 pub struct BalancedOptions<'a> {
     /// The form of the matrix text.
     pub form: MatrixForm,
-    /// The most lines on the shorter side of what is searched whole, 0 to 24.
+    /// The maximum number of lines on the shorter side of an exhaustive search, 0 to 24.
     pub lines: u32,
-    /// The most pivots of the decomposition on the way to a node where nothing else decides it, 0 to 100.
+    /// The maximum number of pivots of the decomposition on the path to a node that nothing else decides, 0 to 100.
     pub pivots: u32,
-    /// How many workers share a search, 1 to 64. The answer does not depend on it.
+    /// The number of workers that share a search, 1 to 64. The answer does not depend on it.
     pub workers: u32,
-    /// The file that gets the fault where there is one.
+    /// The file that gets the fault, if there is one.
     pub fault: Option<&'a str>,
     /// The file that holds the matrix text.
     pub file: &'a str,
@@ -147,7 +147,7 @@ fn without_cycle_fault<'a, R: Threads + Sync>(
     }
 }
 
-// Whether the decomposition says that the matrix is totally unimodular.
+// Whether the decomposition has the verdict yes.
 fn is_decomposed<R: Threads + Sync>(
     rt: &R,
     alloc: Global,

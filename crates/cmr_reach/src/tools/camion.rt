@@ -18,12 +18,12 @@ use cmr_front::words::{WordsError, arguments};
 use std::alloc::{AllocError, Global};
 use std::thread::Threads;
 
-/// What `camion` is asked to do. A file of the name `-` is standard input.
+/// The options of `camion`. A file of the name `-` is standard input.
 #[derive(Clone, Copy, Debug, PartialEq, Eq)]
 pub struct CamionOptions<'a> {
     /// The form of the matrix text.
     pub form: MatrixForm,
-    /// The file that gets the cycle fault where there is one.
+    /// The file that gets the cycle fault, if there is one.
     pub fault: Option<&'a str>,
     /// The file that holds the matrix text.
     pub file: &'a str,

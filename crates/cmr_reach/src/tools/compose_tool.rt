@@ -28,7 +28,7 @@ use matrix_text::write_dense;
 use std::alloc::{AllocError, Global};
 use std::thread::Threads;
 
-/// What `compose` is asked to do. A file of the name `-` is standard input where it is read.
+/// The options of `compose`. An input file of the name `-` is standard input.
 #[derive(Clone, Copy, Debug, PartialEq, Eq)]
 pub struct ComposeOptions<'a> {
     /// The form of both matrix texts.
@@ -179,20 +179,20 @@ fn compose_matrices<'a>(
     }
 }
 
-/// Why two matrices are not composed.
+/// The cause why two matrices have no sum.
 #[derive(Clone, Copy, Debug, PartialEq, Eq)]
 pub enum Obstacle {
     /// The sum would have more rows than a matrix may have.
     TooManyRows,
-    /// It would have more columns.
+    /// The sum would have more columns than a matrix may have.
     TooManyColumns,
-    /// The matrices have not the connecting lines of the sum.
+    /// The matrices do not have the connecting lines of the sum.
     BadConnector,
     /// An entry of the sum is not -1, 0 or 1.
     BadEntry,
 }
 
-/// The sum of two matrices, or why there is none.
+/// The sum of two matrices, or the cause why there is none.
 #[derive(Debug, Drop)]
 pub enum Composition {
     Sum(Matrix),

@@ -34,7 +34,7 @@ use std::thread::Threads;
 use tree_text::{kind_of, word_of};
 use tree_type::{DecTree, Kind, Rule};
 
-/// What `parts` is asked to do. A file of the name `-` is standard input where it is read.
+/// The options of `parts`. An input file of the name `-` is standard input.
 #[derive(Clone, Copy, Debug, PartialEq, Eq)]
 pub struct PartsOptions<'a> {
     /// The form of the matrix text.
@@ -201,7 +201,7 @@ fn root_word(tree: &DecTree) -> &'static [u8]
     word_of(kind_of(tree.root()))
 }
 
-// The two matrices of the root, where it is a sum of two.
+// The two matrices of the root, if it is a sum of two.
 fn arrange_root(alloc: Global, matrix: &Matrix, tree: &DecTree) -> Result<Option<Arranged>, Memory>
     requires { IsSound matrix.now tree.now }
     ensures { IfOk result (IsArranged matrix.now (root_of (plain_of tree.now))) }

@@ -30,7 +30,7 @@ use sign_tool::{Pivot, PivotList, SetSigning, sign_set};
 use std::alloc::{AllocError, Global};
 use std::thread::Threads;
 
-/// What `sign` is asked to do.
+/// The options of `sign`.
 #[derive(Clone, Copy, Debug, PartialEq, Eq)]
 pub struct SignOptions<'a> {
     /// The form of the matrix text.
