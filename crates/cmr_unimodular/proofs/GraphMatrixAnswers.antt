@@ -1,4 +1,4 @@
--- What the answers of `graphic` and `network` say, with `-c` and without.
+-- The meaning of the answers of `graphic` and `network`, with `-c` and without.
 use Rattle.std.proofs.Common.{◌≡◌, ◌∙◌, ℕ, Bool, true, false, List, [], ◌∷◌, Result, Ok, Err, ap, refl, sym, subst, arith}
 use Rattle.std.specs.Prelude.{IfOk}
 use Rattle.cmr_base.specs.declared.memory.Memory.{Memory}
@@ -74,12 +74,12 @@ test_inputs p o = go o.from_graph
     go true = refl
     go false = refl
 
--- with `-c` the decision is the one on the graph
+-- with `-c` the tool decides on the graph
 pub decides_on_graph : (p : TestedProperty) (o : TestOrder) (bytes : List (List ℕ)) (ended : Result Outcome Stop) → o.from_graph ≡ true → IsDecision ((graph_matrix_tool p o.file).Reports bytes) ended → IsDecision ((test_tool p o).Reports bytes) ended
 decides_on_graph p o bytes ended graph decided =
     subst (λ (b : Bool). IsDecision ((either_tool b (graph_matrix_tool p o.file) (path_tool p o)).Reports bytes) ended) (sym graph) decided
 
--- and without, the one on the matrix
+-- without `-c` it decides on the matrix
 pub decides_on_matrix : (p : TestedProperty) (o : TestOrder) (bytes : List (List ℕ)) (ended : Result Outcome Stop) → o.from_graph ≡ false → IsDecision ((path_tool p o).Reports bytes) ended → IsDecision ((test_tool p o).Reports bytes) ended
 decides_on_matrix p o bytes ended plain decided =
     subst (λ (b : Bool). IsDecision ((either_tool b (graph_matrix_tool p o.file) (path_tool p o)).Reports bytes) ended) (sym plain) decided

@@ -12,14 +12,14 @@ ghost use Rattle.cmr_unimodular.specs.Tu.{TuOrder, tu_tool};
 ghost use Rattle.cmr_unimodular.specs.Upgrade.{UpgradeOrder, upgrade_tool};
 ghost use Rattle.cmr_unimodular.specs.declared.tools.graphic_network.TestedProperty.{TestedProperty};
 
-/// What `tu` and `regular` write as evidence is accepted by `check` with the same matrix: the decomposition tree and the violator of a
-/// no with the matrix that was decomposed, which `regular` writes too, and the chain of a no with the 0/1 matrix that was read.
+/// `check` accepts the evidence that `tu` and `regular` write, with the same matrix. It accepts the decomposition tree and the violator
+/// of a no with the matrix that was decomposed, which `regular` also writes, and the chain of a no with the 0/1 matrix that was read.
 pub fn evidence_is_accepted()
     ensures tests { TestsAreAccepted }
     ensures signings { SigningsAreAccepted }
 {}
 
-/// Two reports of `tu`, `regular`, `graphic` or `network` on the same texts differ at most in which networks realise a matrix.
+/// Two reports of `tu`, `regular`, `graphic` or `network` on the same texts can differ only in which networks realise a matrix.
 pub fn reports_are_alike()
     ensures tu { (o : TuOrder) → HasAlikeReports (tu_tool o) }
     ensures regular { (o : RegularOrder) → HasAlikeReports (regular_tool o) }

@@ -41,7 +41,7 @@ use std::thread::Threads;
 use text_fields::Words;
 use tree_type::{DecTree, Rule, VerdictOf, verdict};
 
-/// What `check` is asked to do. A file of the name `-` is standard input.
+/// The options of `check`. A file of the name `-` is standard input.
 #[derive(Clone, Copy, Debug, PartialEq, Eq)]
 pub struct CheckOptions<'a> {
     /// The form of the matrix text.
@@ -89,14 +89,14 @@ pub fn read_check<'a>(alloc: Global, words: &'a [Word]) -> Result<CheckOptions<'
     options_in(&matches)
 }
 
-/// What evidence is, by its first word.
+/// The kind of evidence, by its first word.
 #[derive(Clone, Copy, Debug, PartialEq, Eq)]
 pub enum EvidenceKind {
     /// A decomposition tree, with pivots or without.
     Tree,
     /// A chain of signs.
     Chain,
-    /// Lines that are to be a violator.
+    /// Lines that claim to be a violator.
     Violator,
 }
 
@@ -311,7 +311,7 @@ fn accepted_chain<'a>(
     irregular(alloc, &signs, &chain.chain.violator)
 }
 
-// Evidence that keeps its rules, by its verdict.
+// The outcome for evidence that keeps its rules, by its verdict.
 fn accepted<'a>(
     alloc: Global,
     matrix: &Matrix,
@@ -335,7 +335,7 @@ fn refused<'a>(alloc: Global, path: &PathList, rule: Rule) -> Result<Outcome<'a>
     Ok(said(alloc, Answer::Refused, text))
 }
 
-// A chain that keeps its rules and gives these signs.
+// The outcome for a chain that keeps its rules and gives these signs.
 fn irregular<'a>(alloc: Global, signs: &Matrix, lines: &LineSet) -> Result<Outcome<'a>, Memory>
     requires rows { AllBelow (height signs.now) lines.now.rows }
     requires columns { AllBelow signs.now.width lines.now.columns }

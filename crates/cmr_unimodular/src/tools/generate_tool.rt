@@ -1,4 +1,4 @@
-//! Making a matrix from a number, and testing total unimodularity on it.
+//! Generating a matrix from a number, and testing whether it is totally unimodular.
 ghost use Rattle.clap.specs.Words.{app_of, found_of, rows_of};
 ghost use Rattle.std.specs.Prelude.{◌≡◌, ◌≤◌, IfOk};
 ghost use Rattle.cmr_base.specs.Matrix.{IsMatrix};
@@ -26,20 +26,20 @@ use itoa::Buffer;
 use std::alloc::{AllocError, Global};
 use std::thread::Threads;
 
-/// What `generate` is asked to do.
+/// The options of `generate`.
 #[derive(Clone, Copy, Debug, PartialEq, Eq)]
 pub struct GenerateOptions<'a> {
-    /// What is made.
+    /// The kind of the generated matrix.
     pub what: MakeKind,
-    /// How many arcs the tree of a network has, 1 to 1000, or how many R10 matrices are summed, 1 to 249.
+    /// The number of arcs of the tree of a network, 1 to 1000, or the number of R10 matrices in the sum, 1 to 249.
     pub size: u32,
-    /// The number from which all others are drawn, below 2^31.
+    /// The number from which all other numbers are drawn, below 2^31.
     pub number: u32,
-    /// The most lines on the shorter side of a part that is searched whole where nothing else decides it, 0 to 24.
+    /// The maximum number of lines on the shorter side of a part for an exhaustive search, 0 to 24.
     pub lines: u32,
-    /// The most pivots on the way to a part where nothing else decides it, 0 to 100.
+    /// The maximum number of pivots on the path to a part that nothing else decides, 0 to 100.
     pub pivots: u32,
-    /// How many workers share the searches, 1 to 64. The answer is the same for each number.
+    /// The number of workers that share the searches, 1 to 64. The answer does not depend on it.
     pub workers: u32,
     /// The file that gets the matrix.
     pub output: Option<&'a str>,
@@ -79,7 +79,7 @@ fn kind_in(matches: &ArgMatches<'_>) -> Result<MakeKind, WordsError>
     }
 }
 
-// The greatest size, with which the matrix has at most 1000 rows and columns.
+// The maximum size: the matrix has at most 1000 rows and columns with it.
 fn most_size(what: MakeKind) -> u32
     ensures { result ≡ most_size what }
 {
@@ -182,7 +182,7 @@ fn verdict_options<'a>(options: &GenerateOptions<'a>) -> VerdictOptions<'a>
     }
 }
 
-// The summary before what is told, and the matrix after its files.
+// The summary before the output of the verdict, and the matrix after its files.
 fn with_summary<'a>(
     alloc: Global,
     options: &GenerateOptions<'a>,

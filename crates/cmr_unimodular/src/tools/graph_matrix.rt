@@ -15,7 +15,7 @@ use graph_text::{SizedNetwork, matrix_of};
 use matrix_text::write_dense;
 use std::alloc::Global;
 
-/// What is decided on a graph text: its matrix is written.
+/// The decision on a graph text: its matrix is written.
 pub fn matrix_of_text<'a>(
     alloc: Global,
     property: TestedProperty,

@@ -1,5 +1,5 @@
-//! Testing whether the columns of a matrix are paths of a tree, with or without directions, and writing the matrix of such a
-//! tree.
+//! Testing whether the columns of a matrix are paths of a tree, with or without directions, and writing the matrix of such
+//! a tree.
 ghost use Rattle.clap.specs.Words.{app_of, found_of, rows_of};
 ghost use Rattle.std.specs.Prelude.{◌++◌, ◌≡◌, IfOk, IfSome, IsSomeAnd, MatchOption, OnOk, length, map, option_map};
 ghost use Rattle.cmr_base.specs.LineSets.{AllBelow};
@@ -32,7 +32,7 @@ use network_orient::{minimal_not_network, orient};
 use std::alloc::{AllocError, Global};
 use std::thread::Threads;
 
-/// What `graphic` and `network` test.
+/// The properties that `graphic` and `network` test.
 #[derive(Clone, Copy, Debug, PartialEq, Eq)]
 pub enum TestedProperty {
     /// The matrix is 0/1, and its columns are paths of a tree.
@@ -41,18 +41,18 @@ pub enum TestedProperty {
     Network,
 }
 
-/// What `graphic` or `network` is asked to do. A file of the name `-` is standard input where it is read.
+/// The options of `graphic` and `network`. An input file of the name `-` is standard input.
 #[derive(Clone, Copy, Debug, PartialEq, Eq)]
 pub struct TestOptions<'a> {
-    /// The form of the matrix text, dense where a graph text is read.
+    /// The form of the matrix text, and dense for a graph text.
     pub form: MatrixForm,
     /// Whether the transposed matrix is tested.
     pub transposed: bool,
-    /// The file that gets a minimal submatrix without the property, where there is one.
+    /// The file that gets a minimal submatrix without the property, if there is one.
     pub minimal: Option<&'a str>,
-    /// The file that gets a graph that shows the property, where there is one.
+    /// The file that gets a graph that shows the property, if there is one.
     pub graph: Option<&'a str>,
-    /// Whether a graph text is read and its matrix written, and nothing tested. No other option then stands beside it.
+    /// Whether a graph text is read and its matrix written, and nothing is tested. Then no other option is given.
     pub from_graph: bool,
     /// The file that holds the matrix text or the graph text.
     pub file: &'a str,
@@ -81,7 +81,7 @@ fn test_command<'a>(alloc: Global, property: TestedProperty) -> Result<Command<'
     arguments::tool_command(alloc, tool_name(property), args)
 }
 
-// Whether an option of the test of a matrix stands among the words, be it with its default value.
+// Whether an option for the test of a matrix is given, including with its default value.
 fn is_test_asked(matches: &ArgMatches<'_>) -> bool
     ensures { result ≡ is_test_asked (rows_of (found_of matches.now)) }
 {
@@ -126,9 +126,9 @@ pub fn read_test<'a>(
 /// The test of a property, or with `from_graph` the matrix of a graph text.
 #[derive(Clone, Copy, Debug)]
 pub struct PropertyTest<'a> {
-    /// What is tested.
+    /// The property.
     pub property: TestedProperty,
-    /// How it is tested.
+    /// The options of its test.
     pub options: TestOptions<'a>,
 }
 
@@ -289,7 +289,7 @@ fn push_graph<'a>(
     Ok(())
 }
 
-// The text of a network for the matrix that is tested.
+// The text of a network for the tested matrix.
 fn write_tested(
     alloc: Global,
     transposed: bool,
@@ -331,7 +331,7 @@ fn no<'a>(
     })
 }
 
-// The lines of the matrix that is given which make a minimal submatrix without the property.
+// The lines of the given matrix that are a minimal submatrix without the property.
 fn asked_minimal(
     alloc: Global,
     property: TestedProperty,
@@ -368,7 +368,7 @@ fn find_minimal(
     }
 }
 
-// Lines of the matrix that is tested as lines of the one that is given.
+// Lines of the tested matrix as lines of the given matrix.
 fn given_lines(transposed: bool, lines: LineSet) -> LineSet
     ensures { tested_lines transposed result ≡ lines }
 {

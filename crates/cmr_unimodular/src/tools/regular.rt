@@ -31,24 +31,24 @@ use std::alloc::{AllocError, Global};
 use std::thread::Threads;
 use tree_type::{DecTree, VerdictOf, verdict};
 
-/// What `regular` is asked to do. A file of the name `-` is standard input where it is read.
+/// The options of `regular`. An input file of the name `-` is standard input.
 #[derive(Clone, Copy, Debug, PartialEq, Eq)]
 pub struct RegularOptions<'a> {
     /// The form of the matrix text.
     pub form: MatrixForm,
-    /// The most lines on the shorter side of a part that is searched whole where nothing else decides it, 0 to 24.
+    /// The maximum number of lines on the shorter side of a part for an exhaustive search, 0 to 24.
     pub lines: u32,
-    /// The most pivots on the way to a part where nothing else decides it, 0 to 100.
+    /// The maximum number of pivots on the path to a part that nothing else decides, 0 to 100.
     pub pivots: u32,
-    /// How many workers share the searches, 1 to 64. The answer is the same for each number.
+    /// The number of workers that share the searches, 1 to 64. The answer does not depend on it.
     pub workers: u32,
     /// The file that gets the decomposition tree of the signed matrix.
     pub tree: Option<&'a str>,
-    /// The file that gets the violator of the signed matrix where there is one.
+    /// The file that gets the violator of the signed matrix, if there is one.
     pub fault: Option<&'a str>,
     /// The file that gets the signed matrix.
     pub signed: Option<&'a str>,
-    /// The file that gets the chain of signs with the violator, where there is one.
+    /// The file that gets the chain of signs with the violator, if there is one.
     pub chain: Option<&'a str>,
     /// The file that holds the matrix text.
     pub file: &'a str,
@@ -192,7 +192,7 @@ fn verdict_options<'a>(options: &RegularOptions<'a>) -> VerdictOptions<'a>
     }
 }
 
-// The files of the signed matrix and of the chain after those of the verdict.
+// The files of the signed matrix and of the chain, after the files of the verdict.
 fn with_signing<'a>(
     alloc: Global,
     options: &RegularOptions<'a>,
@@ -228,7 +228,7 @@ fn with_signing<'a>(
     })
 }
 
-// Appends the file of the chain, where the verdict is no.
+// Appends the file of the chain if the verdict is no.
 fn push_chain<'a>(
     alloc: Global,
     files: &mut Vec<OutputFile<'a>>,

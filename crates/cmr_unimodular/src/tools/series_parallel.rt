@@ -26,18 +26,18 @@ use sp_reduce::{Reduction, minimal_not_sp, reduce};
 use std::alloc::{AllocError, Global};
 use std::thread::Threads;
 
-/// What `series-parallel` is asked to do. A file of the name `-` is standard input where it is read.
+/// The options of `series-parallel`. An input file of the name `-` is standard input.
 #[derive(Clone, Copy, Debug, PartialEq, Eq)]
 pub struct SpOptions<'a> {
     /// The form of the matrix text.
     pub form: MatrixForm,
-    /// Whether the matrix is 0/1. A line is then not reducible as the negative of another.
+    /// Whether the matrix is 0/1. Then a line is not reducible as the negative of another line.
     pub binary: bool,
-    /// The file that gets a minimal submatrix that is not series-parallel, where there is one.
+    /// The file that gets a minimal submatrix that is not series-parallel, if there is one.
     pub minimal: Option<&'a str>,
     /// The file that gets the list of reductions.
     pub steps: Option<&'a str>,
-    /// The file that gets what the reductions leave.
+    /// The file that gets the lines that the reductions leave.
     pub rest: Option<&'a str>,
     /// The file that holds the matrix text.
     pub file: &'a str,
@@ -209,7 +209,7 @@ fn no_text(
     Ok(text)
 }
 
-// Appends the files of the steps and of what they leave.
+// Appends the files of the steps and of the lines that they leave.
 fn push_reduction<'a>(
     alloc: Global,
     files: &mut Vec<OutputFile<'a>>,

@@ -20,20 +20,20 @@ use cmr_front::words::{WordsError, arguments};
 use std::alloc::{AllocError, Global};
 use std::thread::Threads;
 
-/// What `tu` is asked to do. A file of the name `-` is standard input.
+/// The options of `tu`. An input file of the name `-` is standard input.
 #[derive(Clone, Copy, Debug, PartialEq, Eq)]
 pub struct TuOptions<'a> {
     /// The form of the matrix text.
     pub form: MatrixForm,
-    /// The most lines on the shorter side of a part that is searched whole where nothing else decides it, 0 to 24.
+    /// The maximum number of lines on the shorter side of a part for an exhaustive search, 0 to 24.
     pub lines: u32,
-    /// The most pivots on the way to a part where nothing else decides it, 0 to 100.
+    /// The maximum number of pivots on the path to a part that nothing else decides, 0 to 100.
     pub pivots: u32,
-    /// How many workers share the searches, 1 to 64. The answer is the same for each number.
+    /// The number of workers that share the searches, 1 to 64. The answer does not depend on it.
     pub workers: u32,
     /// The file that gets the decomposition tree.
     pub tree: Option<&'a str>,
-    /// The file that gets the violator where there is one.
+    /// The file that gets the violator, if there is one.
     pub fault: Option<&'a str>,
     /// The file that holds the matrix text.
     pub file: &'a str,

@@ -25,7 +25,7 @@ use std::thread::Threads;
 use tree_text::write_tree;
 use tree_type::{DecTree, count_nodes};
 
-/// What `upgrade` is asked to do. A file of the name `-` is standard input where it is read.
+/// The options of `upgrade`. An input file of the name `-` is standard input.
 #[derive(Clone, Copy, Debug, PartialEq, Eq)]
 pub struct UpgradeOptions<'a> {
     /// The file that holds the tree text, of any version.
