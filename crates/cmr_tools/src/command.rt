@@ -1,5 +1,5 @@
-//! A tool with its options: how it is read from the words of the command line, and how it is carried out. The first word
-//! names the tool, and `clap` reads the others, except for a last word `-`, which says that the tool reads standard input.
+//! A tool with its options: how it is read from the arguments of the command line, and how it runs. The first argument
+//! names the tool, and `clap` reads the others, except a last argument `-`, with which the tool reads standard input.
 ghost use Rattle.std.specs.Prelude.{◌≡◌, IfOk, IsTrue};
 ghost use Rattle.cmr_front.specs.Run.{Means, RunsOver, work};
 ghost use Rattle.cmr_front.specs.Status.{answer_status};
@@ -37,7 +37,7 @@ pub enum Command<'a> {
     SeriesParallel(SpOptions<'a>),
     /// Tests whether the columns of a matrix are paths of a tree.
     Test(PropertyTest<'a>),
-    /// Makes a matrix from a number, and tests whether it is totally unimodular.
+    /// Generates a matrix from a number, and tests whether it is totally unimodular.
     Generate(GenerateOptions<'a>),
     /// Checks evidence on a matrix.
     Check(CheckOptions<'a>),
@@ -55,7 +55,7 @@ pub enum Command<'a> {
     Compose(ComposeOptions<'a>),
 }
 
-/// What the first word may be. `graphic` and `network` are one tool, which tests a property.
+/// The names of the tools. `graphic` and `network` are one tool, which tests a property.
 #[derive(Clone, Copy)]
 enum ToolName {
     Tu,
@@ -72,7 +72,7 @@ enum ToolName {
     Compose,
 }
 
-/// The command that the words give.
+/// The command that the arguments give.
 pub fn read_words<'a>(alloc: Global, words: &'a WordList) -> Result<Command<'a>, WordsError>
     ensures value { Gives order_of result (order words.now) }
     ensures ranges { IfOk result (λ command. (tool_of (order_of command)).InRanges) }
@@ -116,7 +116,7 @@ fn read_options<'a>(
     }
 }
 
-// The tool that a word names.
+// The tool that an argument names.
 fn tool_named(word: &str) -> Option<ToolName>
     ensures { result ≡ tool_named word.now }
 {
@@ -138,7 +138,7 @@ fn tool_named(word: &str) -> Option<ToolName>
     }
 }
 
-/// Carries out a command, and answers the status.
+/// Carries out a command, and returns the status.
 pub fn obey<R: Threads + Sync, S: Shelf, O: Sink, E: Sink>(
     rt: &R,
     alloc: Global,

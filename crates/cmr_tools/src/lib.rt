@@ -1,4 +1,4 @@
-//! The words of the command line with all tools, and the one call that the program makes.
+//! The arguments of the command line with all tools, and the one call that the program makes.
 #![tactic(auto)]
 
 mod command;
