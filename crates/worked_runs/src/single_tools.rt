@@ -1,4 +1,4 @@
-// Tools that are called with options in place of words.
+// Tools that are called with options instead of arguments.
 use crate::given::bytes;
 use cmr_io::{MemoryShelf, MemorySink, Shelf, Sink};
 use cmr_tools::{MatrixForm, PropertyTest, TestOptions, TestedProperty, Tool};
@@ -16,7 +16,7 @@ const OPTIONS: TestOptions<'static> = TestOptions {
     file: "f",
 };
 
-// Says nothing of what is known of the calls, so that the tests rest on what they see alone.
+// Has no clauses, so that the tests depend only on what they see of the calls.
 fn tested<R: Threads + Sync + AllocGlobal, S: Shelf, O: Sink, E: Sink>(
     rt: &R,
     asks_for_graphs: bool,
