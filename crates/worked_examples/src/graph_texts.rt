@@ -4,7 +4,7 @@ use graph_text::{GraphError, matrix_of, read_graph, write_graph};
 use std::alloc::Global;
 use std::test::Fail;
 
-// The kind of the first fault, and its place.
+// The kind of the first fault, and its position.
 fn graph_fault(alloc: Global, text: &str) -> Result<Vec<u8>, Fail> {
     match read_graph(alloc, &bytes(alloc, text)?) {
         Err(GraphError::Fault { kind, place }) => row_text(
@@ -59,8 +59,8 @@ fn matrices_of_graph_texts(rt: HostRuntime) -> Result<(), Fail> {
     Ok(())
 }
 
-// A text that is no graph, and its first fault. The last three have a loop, two arcs between two nodes, and a cycle beside
-// a lone node.
+// A text that is not a graph, and its first fault. The last three have a loop, two arcs between two nodes, and a cycle and
+// an isolated node.
 const FAULTS: &str = "\
 0 1/; Short 4/
 0 x r1/; NotNumber 2/

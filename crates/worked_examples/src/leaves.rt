@@ -68,10 +68,10 @@ fn balance_faults(rt: HostRuntime) -> Result<(), Fail> {
         (triangle, 3, 3, "0 1 2/0 1 2/"),
         (triangle, 2, 1, "too many 3/"),
         ("4 4/1 1 0 0/1 0 1 0/1 0 0 1/1 1 1 1/", 4, 3, "clean/"),
-        // Of four columns on two rows the first two that are a fault, also where there are more rows than columns.
+        // Of four columns on two rows the first two that are a fault, also if there are more rows than columns.
         ("2 4/1 0 1 1/1 0 1 -1/", 2, 1, "0 1/0 3/"),
         ("4 2/1 1/0 0/1 1/1 -1/", 2, 3, "0 3/0 1/"),
-        // Of columns alike the least is taken.
+        // Of equal columns the least is taken.
         ("3 5/1 1 1 0 0/0 0 1 0 1/1 1 0 0 1/", 3, 1, "0 1 2/0 2 4/"),
         ("3 5/1 1 1 0 0/0 0 1 0 1/1 1 0 0 1/", 3, 3, "0 1 2/0 2 4/"),
     ] {
