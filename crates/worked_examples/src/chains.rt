@@ -65,7 +65,7 @@ fn chains_with_a_broken_part(rt: HostRuntime) -> Result<(), Fail> {
             "cmr-chain 1/3 4 9/free 1 1/free 1 2/free 1 4/free 2 1/free 2 4/free 2 3/free 3 2/forced 3 3 3 3 1 2 3 1 2 3/forced 3 4 2 2 1 3 2 4/violator 2 2 2 3 3 4/",
             "broken 5/",
         ),
-        // The last step is missing, so one of the violator's ones is unsigned, and so is an entry where an earlier one is missing.
+        // The last step is missing, so one of the violator's ones is unsigned. If an earlier step is missing, its entry is unsigned.
         (
             "cmr-chain 1/3 4 8/free 1 1/free 1 2/free 1 4/free 2 1/forced 2 4 2 2 1 2 1 4/free 2 3/free 3 2/forced 3 3 3 3 1 2 3 1 2 3/violator 2 2 2 3 3 4/",
             "broken 9/",

@@ -81,7 +81,7 @@ fn balance_faults(rt: HostRuntime) -> Result<(), Fail> {
     Ok(())
 }
 
-// Stops the test where one of the two searches finds something else.
+// Stops the test if one of the two searches finds something else.
 fn finds<R: Threads + Sync + Abort + AllocGlobal>(
     rt: &R,
     matrix: &Matrix,
