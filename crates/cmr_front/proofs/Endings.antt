@@ -334,8 +334,8 @@ means tool law standing held reads failed ended mid after status ends (inl same)
 means tool law standing held reads failed ended mid after status ends (inr cut) told answer is = absurd (answered_or_failed status answer failures.Device is cut.0)
 
 -- what an answer means of a tool that reads no file, whatever the shelf tells
-pub means_alone : (tool : Tool) (held : Held) (reads : Between) (answer : Answer) → tool.inputs ≡ [] → MeansRead (work tool) reads answer → Means tool held answer
-means_alone tool held reads answer none read =
+pub means_without_files : (tool : Tool) (held : Held) (reads : Between) (answer : Answer) → tool.inputs ≡ [] → MeansRead (work tool) reads answer → Means tool held answer
+means_without_files tool held reads answer none read =
     let empty : read.0 ≡ [] = nil_from_length read.0 (read.1 ∙ ap length none) in
     ([], ap (given held) none, subst (λ (bytes : List (List ℕ)). tool.Means bytes answer) empty read.4)
 

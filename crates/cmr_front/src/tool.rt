@@ -61,7 +61,7 @@ pub trait Tool<'a> {
             shelf.old out.old err.old shelf.new out.new err.new result }
         ensures means { IsTrue (S.tells shelf.old) → (answer : Answer) → result ≡ answer_status answer
             → Means (tool self.now) (S.content shelf.old) answer }
-        ensures alone { (tool self.now).inputs ≡ [] → (answer : Answer) → result ≡ answer_status answer
+        ensures no_files { (tool self.now).inputs ≡ [] → (answer : Answer) → result ≡ answer_status answer
             → Means (tool self.now) (S.content shelf.old) answer }
     {
         self.lawful();

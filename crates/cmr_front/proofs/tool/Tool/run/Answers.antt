@@ -3,7 +3,7 @@ use Rattle.cmr_front.specs.Ending.{devices, standing, telling, CarriesOut, HasRo
 use Rattle.cmr_front.specs.Outcome.{ended_report}
 use Rattle.cmr_front.specs.Run.{work}
 use Rattle.cmr_front.specs.Unread.{between}
-use Rattle.cmr_front.proofs.Endings.{means, means_alone, pointwise, runs}
+use Rattle.cmr_front.proofs.Endings.{means, means_without_files, pointwise, runs}
 use Rattle.cmr_front.proofs.tool.Tool.run.Goals as goal
 
 pub returns-clause-runs : goal.returns-clause-runs
@@ -55,6 +55,6 @@ returns-clause-means g c =
     read.ensures.ends done.ensures.status
 
 -- a tool that reads no file
-pub returns-clause-alone : goal.returns-clause-alone
-returns-clause-alone g c = λ none answer is.
-    means_alone (g.Self.Tool.tool c.args.self.now) (g.S.Shelf.content c.args.shelf.now) _ answer none ((returns-clause-runs g c).means answer is)
+pub returns-clause-no_files : goal.returns-clause-no_files
+returns-clause-no_files g c = λ none answer is.
+    means_without_files (g.Self.Tool.tool c.args.self.now) (g.S.Shelf.content c.args.shelf.now) _ answer none ((returns-clause-runs g c).means answer is)
