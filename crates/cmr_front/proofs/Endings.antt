@@ -1,6 +1,6 @@
 -- How a run ends, from what was decided and how that was carried out.
 use Rattle.std.proofs.Common.{◌≡◌, ◌≤◌, ◌⊎◌, ◌∙◌, ℕ, Bool, IsTrue, List, [], length, Result, Ok, Err, ap, sym, subst, inl, inr, arith, refl}
-use Rattle.std.proofs.lemmas.List.{append-nil}
+use Rattle.std.proofs.lemmas.List.{append-nil, nil_from_length}
 use Rattle.std.specs.Prelude.{IfErr, OnErr}
 use Rattle.std.specs.Result.{IsErr, IsErrAnd}
 use Rattle.cmr_io.specs.Causes.{Rose}
@@ -26,7 +26,7 @@ use Rattle.cmr_front.proofs.Statuses.{answered_or_failed, status_of}
 pub pointwise : {A B : Type 0} (f g : A → B) → ((x : A) → f x ≡ g x) → f ≡ g
 pointwise f g h = λ i. λ x. h x i
 
--- an error that is passed on is the one that came
+-- an error that is passed on is the given error
 pub passed_on : (D : Result Outcome Stop → Type 0) (r : Result Outcome Stop) (stop : Stop) → IsErr r × IsErrAnd r (λ e. e ≡ stop) → D (Err stop) → D r
 passed_on D (Ok outcome) stop h d = let e = h.0 in cc
 passed_on D (Err e) stop h d = subst (λ s. D (Err s)) (sym h.1) d
@@ -44,11 +44,11 @@ abbrev pub IsLawfulOrder : Ordered → Type 0
 IsLawfulOrder nothing = Unit {0}
 IsLawfulOrder (work tool) = IsLawful tool
 
--- what stands on the devices once the files were read
+-- the devices after the files were read
 abbrev pub after_reading : Devices → Held → Reads → Log → Bool → ℕ → Devices
 after_reading before held reads writes failed faults = record before { held = held; reads = reads; writes = writes; failed = failed; shelf_faults = faults }
 
--- What was decided, from what stood on the devices before to what stands there once the files were read.
+-- What was decided, from the devices before the run to the devices after the files were read.
 pub record IsDecided (ordered : Ordered) (standing : Standing) (before mid : Devices) (ended : Result Outcome Stop) : Type 0 where
   pub lawful : IsLawfulOrder ordered
   pub told : IsTrue standing.shelf_is_calm → IsTrue standing.shelf_tells
@@ -81,7 +81,7 @@ has_ended ordered standing (Err (stops.BadText name kind place)) before after st
 has_ended ordered standing (Err (stops.CannotRead name)) before after status ends done cause = unread name.now ends (cause refl) done.0 done.1
 has_ended ordered standing (Err stops.Memory) before after status ends done cause = no_memory ends done.0 done.1
 
--- an end is that of a carrying out that leaves the reads, and where it is a stop the last call, as they were
+-- an end whose carrying out changes no reads; if it is a stop, the last call stays the same too
 ends_after : (ordered : Ordered) (held : Held) (tells calm : Bool) (before mid after : Reads) (failed still : Bool) (ended : Result Outcome Stop) → after ≡ mid → OnErr ended (still ≡ failed)
     → Ends ordered held tells calm (between before mid) failed ended → Ends ordered held tells calm (between before after) still ended
 ends_after ordered held tells calm before mid after failed still (Ok outcome) same stays ends =
@@ -90,7 +90,7 @@ ends_after ordered held tells calm before mid after failed still (Err stop) same
     subst (λ reads. Ends ordered held tells calm (between before reads) still (Err stop)) (sym same)
     (subst (λ last. Ends ordered held tells calm (between before mid) last (Err stop)) (sym stays) ends)
 
--- seen from before a read, which changes nothing that the names hold, and begins no write
+-- seen from before a read: a read changes no file and begins no write
 seen_from : (ended : Result Outcome Stop) (tells : Telling) (before : Devices) (held : Held) (reads : Reads) (writes : Log) (failed : Bool) (faults : ℕ) (after : Devices) (status : ℕ)
     → held ≡ before.held → writes ≡ before.writes → before.shelf_faults ≤ faults
     → CarriesOut ended tells (after_reading before held reads writes failed faults) after status → CarriesOut ended tells before after status
@@ -159,7 +159,7 @@ none_written (Ok outcome) tells before after status (unwritten e u) is = absurd 
 none_written (Ok outcome) tells before after status (cut_short e c) is = absurd (none_by_device status e is)
 none_written (Err stop) tells before after status done is = done.1.writes ∙ ap (after_files before.writes) (no_files stop)
 
--- no read is begun where the reads are as they were
+-- no read is begun if the reads have not changed
 pub none_begun : (ordered : Ordered) (before after : Reads) → after ≡ before → BeginsInOrder ordered (between before after)
 none_begun nothing before after same = same
 none_begun (work tool) before after same = (
@@ -171,7 +171,7 @@ none_begun (work tool) before after same = (
   },
 )
 
--- memory is refused before a read is begun, whatever is ordered
+-- an allocation fails before a read is begun, for every order
 pub refused_memory : (ordered : Ordered) (standing : Standing) (before after : Devices) (status : ℕ) → after.reads ≡ before.reads
     → CarriesOut (Err stops.Memory) (telling_of standing) before after status → Runs ordered standing before after status
 refused_memory ordered standing before after status same done = record {
@@ -186,7 +186,7 @@ refused_memory ordered standing before after status same done = record {
   statuses = inr (failures.Memory, done.0);
 }
 
--- all reports of an ordered have one status
+-- all reports of an order have one status
 one_of_given : (tool : Tool) → IsLawful tool → (read : Given) (r s : Report) → ReportsGiven tool read r → ReportsGiven tool read s → r.status ≡ s.status
 one_of_given tool law (not_there name) r s a b = absurd a
 one_of_given tool law (too_much name) r s a b = status_of r _ a ∙ sym (status_of s _ b)
@@ -204,13 +204,13 @@ record IsReported (ordered : Ordered) (held : Held) (ended report : Report) : Ty
 is_reported : (ordered : Ordered) → IsLawfulOrder ordered → (held : Held) (ended report : Report) → Reports ordered held ended → Reports ordered held report → IsReported ordered held ended report
 is_reported ordered law held ended report a b = record { reports = a; status = one_status ordered law held ended report a b }
 
--- on a file that is missing there is none
+-- a missing file has no report
 none_of_missing : (ordered : Ordered) (held : Held) (tells calm : Bool) (reads : Between) (failed : Bool) (name : List ℕ) → CannotRead ordered held tells calm reads failed name → IsTrue tells → IsTrue calm
     → (report : Report) → ¬ (Reports ordered held report)
 none_of_missing nothing held tells calm reads failed name at told is_calm report is = at
 none_of_missing (work tool) held tells calm reads failed name at told is_calm report is = subst (λ g. ReportsGiven tool g report) (at.missing told is_calm) is
 
--- or there is none to be had
+-- or there is no status
 the_status : (ordered : Ordered) → IsLawfulOrder ordered → (held : Held) (tells calm : Bool) (reads : Between) (failed : Bool) (ended : Result Outcome Stop) → Ends ordered held tells calm reads failed ended → IsTrue tells → (report : Report) → Reports ordered held report
     → IsReported ordered held (ended_report ended) report ⊎ (((ended_report ended).status ≡ failure_status failures.Device) × (IsTrue calm → ⊥)) ⊎ (ended ≡ Err stops.Memory)
 the_status ordered law held tells calm reads failed (Ok outcome) ends told report is = inl (is_reported ordered law held _ report (ends.1 told) is)
@@ -332,6 +332,12 @@ pub means : (tool : Tool) → IsLawful tool → (standing : Standing) (held : He
     → IsTrue standing.shelf_tells → (answer : Answer) → status ≡ answer_status answer → Means tool held answer
 means tool law standing held reads failed ended mid after status ends (inl same) told answer is = means_ended tool law held standing.shelf_tells standing.shelf_is_calm reads failed ended ends told answer (sym same ∙ is)
 means tool law standing held reads failed ended mid after status ends (inr cut) told answer is = absurd (answered_or_failed status answer failures.Device is cut.0)
+
+-- what an answer means of a tool that reads no file, whatever the shelf tells
+pub means_without_files : (tool : Tool) (held : Held) (reads : Between) (answer : Answer) → tool.inputs ≡ [] → MeansRead (work tool) reads answer → Means tool held answer
+means_without_files tool held reads answer none read =
+    let empty : read.0 ≡ [] = nil_from_length read.0 (read.1 ∙ ap length none) in
+    ([], ap (given held) none, subst (λ (bytes : List (List ℕ)). tool.Means bytes answer) empty read.4)
 
 -- ---- what is decided on what was read
 

@@ -1,4 +1,4 @@
--- What the names hold after some files were written in order.
+-- The contents of the names after some files were written in order.
 use Rattle.std.proofs.Common.{◌≡◌, ◌≢◌, ◌<◌, ◌≤◌, ◌+◌, ◌++◌, ◌∷◌, ◌∙◌, ℕ, Bool, true, false, zero, suc, List, [], Some, length, map, take, get_or, ap, sym, refl, subst, arith, cond}
 use Rattle.std.specs.Prelude.{IsSomeAnd, Option, option_map}
 use Rattle.std.specs.Str.{bytes_eq}
@@ -30,12 +30,12 @@ after_files-append : (writes : Log) (files : List File) (file : File) → after_
 after_files-append writes [] file = refl
 after_files-append writes (f ∷ files) file = after_files-append (log_with writes f.name f.bytes) files file
 
--- the files before a place, and the one there
+-- the files before a place, and the file at this place
 files_on : (files : List OutputFile) (k : ℕ) (file : OutputFile) → k < length files → file ≡ get_or files k file → map file_of (take k files) ++ file_of file ∷ [] ≡ map file_of (take (k + 1) files)
 files_on files k file h is =
     ap (λ f. map file_of (take k files) ++ file_of f ∷ []) is ∙ sym (ap (map file_of) (take_more files k file h) ∙ map-append file_of (take k files) (get_or files k file ∷ []))
 
--- a write of a file more
+-- the write of one more file
 pub one_more_write : (start mid : Log) (files : List OutputFile) (k : ℕ) (file : OutputFile) → k < length files → file ≡ get_or files k file → mid ≡ after_files start (map file_of (take k files))
     → log_with mid (file_of file).name (file_of file).bytes ≡ after_files start (map file_of (take (k + 1) files))
 one_more_write start mid files k file h is e =
@@ -43,7 +43,7 @@ one_more_write start mid files k file h is e =
     ∙ sym (after_files-append start (map file_of (take k files)) (file_of file))
     ∙ ap (after_files start) (files_on files k file h is)
 
--- a file more
+-- one more file
 pub one_more : (held mid : Held) (files : List OutputFile) (k : ℕ) (file : OutputFile) (name : List ℕ) → k < length files → file ≡ get_or files k file
     → mid name ≡ with_files held (map file_of (take k files)) name
     → with_file mid (file_of file) name ≡ with_files held (map file_of (take (k + 1) files)) name
@@ -91,7 +91,7 @@ room_at before room files k file h is same rooms =
     let r : HasRooms before (file_of file ∷ []) = subst (λ f. HasRooms before (file_of f ∷ [])) (sym is) (room_of before files k file h rooms) in
     (subst (λ o. IsSomeAnd o (λ most. length (file_of file).bytes ≤ most)) (sym (same (file_of file).name)) r.0, tt)
 
--- the file that stands at a place
+-- the file at a place
 pub file_at : (files : List OutputFile) (k : ℕ) (found : OutputFile) (file : File) → k < length files → found ≡ get_or files k found → slice_get (map file_of files) k ≡ Some file → file_of found ≡ file
 file_at files k found file h is e =
     let same : Some (file_of found) ≡ Some file = sym (there files k found h is) ∙ e in

@@ -36,7 +36,7 @@ module _ (file : List ℕ) (Decides : SizedNetwork → Report → Type 0) where
   together bytes r s (one, is_one, a) (two, is_two, b) =
       (one, a, subst (λ (read : Result SizedNetwork (Fault GraphKind)). ReportsText faults.Graph file Decides read s) (readings_are_one (text_of bytes) two one is_two is_one) b)
 
-  -- the tool is lawful where its decisions on networks are
+  -- the tool is lawful if its decisions on networks are lawful
   pub graph_lawful : (Says : SizedNetwork → Answer → Type 0) → ((net : SizedNetwork) (r s : Report) → Decides net r → Decides net s → r.status ≡ s.status)
       → ((net : SizedNetwork) (r : Report) (answer : Answer) → Decides net r → r.status ≡ answer_status answer → Says net answer)
       → ((net : SizedNetwork) (r : Report) → Decides net r → IsAnswered r) → IsLawful (graph_tool file Decides Says)
@@ -48,7 +48,7 @@ module _ (file : List ℕ) (Decides : SizedNetwork → Report → Type 0) where
       (matrix_file file)
       (λ bytes r a is. fault_of_last faults.Graph file Decides (matrix_file file ∷ []) (0, omega arith, refl) answers a.0 r a.2 is)
 
-  -- it has one report where its decisions on networks have one
+  -- it has one report if its decisions on networks have one
   pub one_report_of_graph : (Says : SizedNetwork → Answer → Type 0) → ((net : SizedNetwork) (r s : Report) → Decides net r → Decides net s → r ≡ s) → HasOneReport (graph_tool file Decides Says)
   one_report_of_graph Says one =
       one_report_of_one (ReportsGraph file Decides) (λ bytes r s a b. let t = together bytes r s a b in one_report_of_text faults.Graph file Decides one t.0 r s t.1 t.2) (SaysOfGraph Says) (matrix_file file)

@@ -31,7 +31,7 @@ read_alone held file bytes e = go (reading held file) e
     go above_limit e = cc
     go (whole found) e = cc
 
--- a name that holds the same is read as before
+-- a name whose content has not changed is read as before
 pub read_same : (held later : Held) (file : InputFile) → later file.name ≡ held file.name → reading later file ≡ reading held file
 read_same held later file e = ap (reading_of (most_bytes file.kind)) e
 

@@ -1,4 +1,4 @@
--- What reading some files one after another comes to.
+-- What a sequence of reads gives.
 use Rattle.std.proofs.Common.{◌≡◌, ◌<◌, ◌≤◌, ◌+◌, ◌++◌, ◌∙◌, ℕ, zero, suc, Bool, IsTrue, List, [], ◌∷◌, length, map, take, slice_get, Some, get_or, ap, sym, subst, refl, arith, add-one}
 use Rattle.std.proofs.lemmas.List.{append_assoc, length-append, map-append}
 use Rattle.cmr_front.specs.declared.input.Input.{Input}
@@ -16,7 +16,7 @@ use Rattle.cmr_front.specs.Stopped.{StopsInputs, StopsOnText, StopsReading}
 use Rattle.cmr_front.specs.Unread.{AreNearlyWithin, AreRead, AreWithinLimits, Between, between, HaveBegun, HaveBegunWith, HaveGiven, IsNameAt}
 use Rattle.cmr_front.specs.declared.status.Failure.TheVariants as failures
 
--- what a place beyond the last one holds
+-- a place after the last file
 abbrev pub no_input : Input
 no_input = record { name = record { ref_ptr = (0, 0); now = [] }; kind = MatrixText }
 
@@ -27,7 +27,7 @@ module _ (held : Held) where
   abbrev pub given_of : List Input → Given
   given_of inputs = given held (map input_file inputs)
 
-  -- after a file that is there
+  -- after a file that exists
   one_text_more : (name : List ℕ) (read : Reading) (others all : Given) (before : List (List ℕ)) (bytes : List ℕ) → and_then name read others ≡ texts before
       → ((rest : List (List ℕ)) → others ≡ texts rest → all ≡ texts (rest ++ bytes ∷ [])) → and_then name read all ≡ texts (before ++ bytes ∷ [])
   one_text_more name missing others all before bytes e later = cc
@@ -54,7 +54,7 @@ module _ (held : Held) where
   still_above name (whole first) (too_much _) all before other e later = cc
   still_above name (whole first) (texts rest) all before other e later = ap (with_text first) (later rest refl)
 
-  -- a text more
+  -- one more text
   one_more : (inputs : List Input) (k : ℕ) (before : List (List ℕ)) (bytes : List ℕ) → k < length inputs
       → given_of (take k inputs) ≡ texts before → reading held (file_at inputs k) ≡ whole bytes → given_of (take (suc k) inputs) ≡ texts (before ++ bytes ∷ [])
   one_more [] k before bytes h e f = absurd (omega arith)
@@ -64,7 +64,7 @@ module _ (held : Held) where
   one_more (input ∷ inputs) (suc k) before bytes h e f =
       one_text_more input.name.now (reading held (input_file input)) (given_of (take k inputs)) (given_of (take (suc k) inputs)) before bytes e (λ rest is. one_more inputs k rest bytes (omega arith) is f)
 
-  -- a file that is not there, after some that are
+  -- a file that does not exist, after files that exist
   stops_unread : (inputs : List Input) (k : ℕ) (before : List (List ℕ)) → k < length inputs
       → given_of (take k inputs) ≡ texts before → reading held (file_at inputs k) ≡ missing → given_of inputs ≡ not_there (file_at inputs k).name
   stops_unread [] k before h e f = absurd (omega arith)
@@ -85,7 +85,7 @@ name_at [] k h = absurd (omega arith)
 name_at (input ∷ inputs) zero h = refl
 name_at (input ∷ inputs) (suc k) h = name_at inputs k (omega arith)
 
--- what a reading of a file is while the names hold the same
+-- the reading of a file while the contents of the names stay the same
 same_reading : (held mid : Held) → ((name : List ℕ) → mid name ≡ held name) → (file : InputFile) → reading held file ≡ reading mid file
 same_reading held mid same file = ap (reading_of (most_bytes file.kind)) (sym (same file.name))
 
@@ -96,7 +96,7 @@ texts_more held mid inputs k old new text h same before here more =
     rw (more, map-append bytes_of old (text ∷ []), add-one)
     (one_more held inputs k (map bytes_of old) (bytes_of text) h before (same_reading held mid same (file_at inputs k) ∙ here))
 
--- a read more has come to its end
+-- one more read has reached its end
 pub one_more_ended : (before mid after k : ℕ) → up_to_last mid ≡ up_to_last (before + k) → after ≡ next_number mid → up_to_last after ≡ up_to_last (before + (k + 1))
 one_more_ended before mid after k so_far more = omega (arith, so_far, more)
 
@@ -108,7 +108,7 @@ one_name_more [] k h = absurd (omega arith)
 one_name_more (input ∷ inputs) zero h = refl
 one_name_more (input ∷ inputs) (suc k) h = ap (λ (names : List (List ℕ)). input.name.now ∷ names) (one_name_more inputs k (omega arith))
 
--- one read more was begun, that of the next file
+-- one more read was begun, the read of the next file
 pub one_more_begun : (before mid after : Reads) (inputs : List Input) (k : ℕ) → k < length inputs → HaveBegun (map input_file inputs) k (between before mid)
     → after.names ≡ mid.names ++ (file_at inputs k).name ∷ [] → HaveBegun (map input_file inputs) (k + 1) (between before after)
 one_more_begun before mid after inputs k h so_far more =
@@ -116,7 +116,7 @@ one_more_begun before mid after inputs k h so_far more =
     ∙ append_assoc before.names (take k (names_of inputs)) ((file_at inputs k).name ∷ [])
     ∙ ap (λ (names : List (List ℕ)). before.names ++ names) (one_name_more inputs k h ∙ ap (λ (n : ℕ). take n (names_of inputs)) (sym (add-one k)))
 
--- one text more within the limit of its file
+-- one more text, within the limit of its file
 within_more : (inputs : List Input) (k : ℕ) (bytes : List (List ℕ)) (text : List ℕ) → k < length inputs → length bytes ≡ k → AreWithinLimits (map input_file inputs) bytes → length text ≤ most_bytes (file_at inputs k).kind
     → AreWithinLimits (map input_file inputs) (bytes ++ text ∷ [])
 within_more [] k bytes text h count within here = absurd (omega arith)
@@ -125,7 +125,7 @@ within_more (input ∷ inputs) zero (first ∷ bytes) text h count within here =
 within_more (input ∷ inputs) (suc k) [] text h count within here = absurd (omega arith)
 within_more (input ∷ inputs) (suc k) (first ∷ bytes) text h count within here = (within.0, within_more inputs k bytes text (omega arith) (omega arith) within.1 here)
 
--- one text more with at most one byte more than the limit of its file
+-- one more text, at most one byte longer than the limit of its file
 nearly_more : (inputs : List Input) (k : ℕ) (bytes : List (List ℕ)) (text : List ℕ) → k < length inputs → length bytes ≡ k → AreNearlyWithin (map input_file inputs) bytes → length text ≤ most_bytes (file_at inputs k).kind + 1
     → AreNearlyWithin (map input_file inputs) (bytes ++ text ∷ [])
 nearly_more [] k bytes text h count within here = absurd (omega arith)
@@ -147,7 +147,7 @@ begun_with files bytes count reads is begun gave = record {
   nearly = nearly_within files bytes gave.within;
 }
 
--- one read more has given its text
+-- one more read has given its text
 pub one_more_given : (before mid after : Reads) (inputs : List Input) (k : ℕ) (bytes : List (List ℕ)) (text : List ℕ) → k < length inputs → length bytes ≡ k
     → HaveGiven (map input_file inputs) bytes (between before mid) → after.texts ≡ mid.texts ++ text ∷ [] → length text ≤ most_bytes (file_at inputs k).kind
     → HaveGiven (map input_file inputs) (bytes ++ text ∷ []) (between before after)

@@ -1,4 +1,4 @@
--- What `clap` promises of a parse, as what the command makes of the words.
+-- What `clap` promises of a parse, in terms of the command's arguments.
 use Rattle.std.proofs.Common.{◌≡◌, ◌≢◌, inl, inr, refl, List, [], ◌∷◌, Option, Some, None, Result, Ok, Err, true, false, map, subst}
 use Rattle.std.specs.Prelude.{IfOk}
 use Rattle.std.specs.List.{list_any}
@@ -42,21 +42,21 @@ matches_refused a words e (Err Refused) none (inr among) cause =
     let fault : IsAmong (kind_of e) (fault_of a words) = subst (λ (ws : List Text). IsAmong (kind_of e) (fault_of a ws)) (map-id words) among in
     rw none (faultless-among (kind_of e) (fault_of a words) (matches_of a words) fault)
 
--- a reading that begins with the matches of a command of which no word is `-`
+-- a reading that begins with the matches of a command without an argument `-`
 pub Gives-matches_in : {X Y : Type 0} (view : X → Y) (a b : App) (words : List Text) (rows : List Row) (f : List Row → Option Y) (r : Result X WordsError)
     → a ≡ b → matches_in a words ≡ Some rows → Gives view r (f rows) → Gives view r (matches_in b words >>= f)
 Gives-matches_in view a b words rows f r same found read =
     let taken : matches_in b words ≡ Some rows = subst (λ (x : App). matches_in x words ≡ Some rows) same found in
     rw taken read
 
--- and with those of a command whose last argument is [FILE]
+-- and a reading that begins with the matches of a command whose last argument is [FILE]
 pub Gives-matches_with_input : {X Y : Type 0} (view : X → Y) (a b : App) (words : List Text) (rows : List Row) (f : List Row → Option Y) (r : Result X WordsError)
     → a ≡ b → matches_with_input a words ≡ Some rows → Gives view r (f rows) → Gives view r (matches_with_input b words >>= f)
 Gives-matches_with_input view a b words rows f r same found read =
     let taken : matches_with_input b words ≡ Some rows = subst (λ (x : App). matches_with_input x words ≡ Some rows) same found in
     rw taken read
 
--- what is given is as all that is defined is
+-- a given value satisfies what every defined value satisfies
 pub as_defined : {X Y : Type 0} (view : X → Y) (P : Y → Type 0) (r : Result X WordsError) (defined : Option Y) → Gives view r defined → ((y : Y) → defined ≡ Some y → P y) → IfOk r (λ x. P (view x))
 as_defined view P (Ok x) defined gives each = each (view x) gives
 as_defined view P (Err Refused) defined gives each = tt

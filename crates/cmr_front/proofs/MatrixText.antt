@@ -23,17 +23,17 @@ use Rattle.cmr_front.specs.Tool.{IsDecision, IsFaultOfFile, IsLawful}
 use Rattle.cmr_front.proofs.Statuses.{IsAnswered}
 use Rattle.cmr_front.proofs.Texts.{answered, fault_of_last, fault_reported, one_of_text, read_reported}
 
--- what is read is a matrix within the limits
+-- a matrix that is read is within the limits
 pub read_is_matrix : (form : MatrixForm) (binary : Bool) (bytes : List ℕ) (m : Matrix) → matrix_in form binary bytes ≡ Ok m → IsMatrix m
 read_is_matrix Dense binary bytes m read = dense_is_matrix binary (text_of bytes) m read
 read_is_matrix Sparse binary bytes m read = sparse_is_matrix binary (text_of bytes) m read
 
--- and one of zeros and ones where it is read as 0/1
+-- and has only zeros and ones if it is read as 0/1
 pub read_is_binary : (form : MatrixForm) (bytes : List ℕ) (m : Matrix) → matrix_in form true bytes ≡ Ok m → IsBinary m
 read_is_binary Dense bytes m read = dense_binary true (text_of bytes) (Ok m) read refl
 read_is_binary Sparse bytes m read = sparse_binary true (text_of bytes) (Ok m) read refl
 
--- the text of a list of one
+-- the text of a list with one item
 pub one_text : (ts : List Text) (t : Text) → length ts ≡ 1 → t ≡ get_or ts 0 t → map bytes_of ts ≡ bytes_of t ∷ []
 one_text [] t one is = absurd (omega arith)
 one_text (first ∷ []) t one is = ap (λ (x : Text). bytes_of x ∷ []) (sym is)
@@ -72,7 +72,7 @@ module _ (s : Source) (Decides : Matrix → Report → Type 0) where
         (bytes, refl, found.0, found.1, says found.0 r answer found.2 is)
     means (bytes ∷ other ∷ others) r answer a is = absurd a
 
-    -- the tool is lawful where its decisions are answers, and lawful
+    -- the tool is lawful if its decisions are answers and lawful
     pub lawful : (InRanges : Type 0) → ((m : Matrix) (r t : Report) → Decides m r → Decides m t → r.status ≡ t.status) → ((m : Matrix) (r : Report) → Decides m r → IsAnswered r)
         → IsLawful (matrix_tool s InRanges Decides Says)
     lawful InRanges one answers = record { one_status = one_status one; means = means; at_fault = at_fault answers }

@@ -1,4 +1,4 @@
--- There is one minimal submatrix of which a tool tells.
+-- The minimal submatrix that a tool reports is unique.
 use Rattle.std.proofs.Common.{◌≡◌, ◌∙◌, ℕ, List, [], ◌∷◌, Option, Some, None, inl, inr, ap₂, sym}
 use Rattle.cmr_base.specs.declared.line.Line.{Line}
 use Rattle.cmr_base.specs.declared.line_set.LineSet.{LineSet}

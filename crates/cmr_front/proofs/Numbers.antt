@@ -1,4 +1,4 @@
--- Numbers of a range that a text writes, as the parser of `i64` reads them.
+-- Texts of numbers within a range, as the parser of `i64` reads them.
 use Rattle.std.proofs.Common.{◌≡◌, ℕ, ℤ, pos, neg_ℤ, ◌≤ℤ◌, ◌≤◌, zero, suc, List, Option, Some, None, Bool, true, false, cond, refl, sym, ap, subst, ◌∙◌, FitsSigned, to_z, of_z, w64, codes, arith}
 use lib.IntN.{nat_abs}
 use Rattle.std.specs.Option.{option_map_or}
@@ -17,7 +17,7 @@ use Rattle.cmr_base.specs.declared.limits.TheConstants.{MAX_LINES}
 number_from-some : (least most : ℕ) (text : List ℕ) → IsSignedIn (pos least) (pos most) text → number_from least most text ≡ Some (digits_value 10 (without_leading_sign text))
 number_from-some least most text h = ap (λ (b : Bool). cond b (Some (digits_value 10 (without_leading_sign text))) None) (Accepts-accepts false (vp.Signed (pos least) (pos most)) text h)
 
--- a text that is no number of the range
+-- a text that does not represent a number of the range
 pub number_from-none : (least most : ℕ) (text : List ℕ) → (IsSignedIn (pos least) (pos most) text → ⊥) → None ≡ number_from least most text
 number_from-none least most text h = go (is_signed_in (pos least) (pos most) text) refl
   where
@@ -53,7 +53,7 @@ number_from-between least most text n e = go (is_signed_in (pos least) (pos most
         subst (λ (d : ℕ). (least ≤ d) × (d ≤ most)) same (of_sign (starts_with_minus text) (digits_value 10 (without_leading_sign text)) within.2 within.3)
     go false is e = cc
 
--- the lines, the pivots and the workers that words name
+-- the lines, pivots and workers that arguments name
 pub lines_in-le : (rows : List Row) (lines : ℕ) → lines_in rows ≡ Some lines → lines ≤ MAX_LINES
 lines_in-le rows lines e = go (first_of (codes "lines") rows) e
   where
@@ -75,7 +75,7 @@ workers_in-between rows workers e = go (first_of (codes "workers") rows) e
     go None e = let same : 1 ≡ workers = cc in (omega arith, omega arith)
     go (Some text) e = number_from-between 1 64 text workers e
 
--- what is made of the form and of these three numbers
+-- a value from the form and these three numbers
 pub with_numbers : {O : Type 0} (P : O → Type 0) (make : MatrixForm → ℕ → ℕ → ℕ → O) (rows : List Row) (o : O)
     → ((form : MatrixForm) (lines pivots workers : ℕ) → lines ≤ MAX_LINES → pivots ≤ 100 → (1 ≤ workers) × (workers ≤ 64) → P (make form lines pivots workers))
     → (form_in rows >>= (λ f. lines_in rows >>= (λ l. pivots_in rows >>= (λ p. workers_in rows >>= (λ w. Some (make f l p w)))))) ≡ Some o → P o

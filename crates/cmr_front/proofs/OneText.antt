@@ -39,6 +39,6 @@ module _ (On : List ℕ → Report → Type 0) where
       at_fault (bytes ∷ []) r d is = fault bytes r d is
       at_fault (bytes ∷ other ∷ texts) r d is = absurd d
 
-      -- the tool is lawful where what it says of the text is
+      -- the tool is lawful if its reports on the text are
       pub text_lawful : IsLawful (text_tool file On Says)
       text_lawful = record { one_status = one_status; means = means; at_fault = at_fault }

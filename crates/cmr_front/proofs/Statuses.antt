@@ -1,4 +1,4 @@
--- The status of a report; none is one of an answer and of a failure.
+-- The status of a report. No status belongs to both an answer and a failure.
 use Rattle.std.proofs.Common.{◌≡◌, ◌≤◌, ◌⊎◌, ℕ, ap, inl, inr, arith}
 use Rattle.cmr_front.specs.declared.status.Answer.{Answer}
 use Rattle.cmr_front.specs.declared.status.Answer.TheVariants.{Yes, No, Undecided, Refused}
@@ -29,10 +29,10 @@ answered_or_failed status answer failure a f = go (answer_outside answer) (failu
     go (inl low) between = omega arith
     go (inr high) between = omega arith
 
--- the status is one of an answer
+-- the status of an answer
 abbrev pub IsAnswered : Report → Type 0
 IsAnswered r = (answer : Answer) × (r.status ≡ answer_status answer)
 
--- and so the report is no line on a text
+-- so the report is not a line on a text
 pub no_fault : (r : Report) → IsAnswered r → r.status ≡ failure_status Text → ⊥
 no_fault r (answer, is) fault = answered_or_failed r.status answer Text is fault

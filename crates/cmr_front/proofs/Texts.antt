@@ -1,4 +1,4 @@
--- What is reported on a text, and on two of them.
+-- Reports on a text, and on two texts.
 use Rattle.std.proofs.Common.{◌≡◌, ◌∙◌, ℕ, List, [], ◌∷◌, Result, Ok, Err, length, map, get_or, ap₂, sym, subst, refl, arith}
 use Rattle.std.specs.Prelude.{Contains}
 use Rattle.text_fields.specs.Reading.{Fault}
@@ -19,7 +19,7 @@ use Rattle.cmr_front.specs.Tool.{HasOneReport, IsDecision, IsFaultOfFile, IsLawf
 use Rattle.cmr_front.proofs.Statuses.{IsAnswered, answered_or_failed, no_fault, status_of}
 
 module _ {A K : Type 0} (kind_of : K → FaultKind) (file : List ℕ) (Decides : A → Report → Type 0) where
-  -- what is decided on what a text represents
+  -- a decision on the value that a text represents
   pub read_reported : (read : Result A (Fault K)) (x : A) (report : Report) → read ≡ Ok x → Decides x report → ReportsText kind_of file Decides read report
   read_reported read x report e d = subst (λ r. ReportsText kind_of file Decides r report) (sym e) d
 
@@ -42,26 +42,26 @@ module _ {A K : Type 0} (kind_of : K → FaultKind) (file : List ℕ) (Decides :
   one_report_of_text one (Ok x) r t a b = one x r t a b
   one_report_of_text one (Err fault) r t a b = a ∙ sym b
 
-  -- an answer is one on what the text represents
+  -- an answer is an answer on the value that the text represents
   pub answered : (read : Result A (Fault K)) (r : Report) (answer : Answer) → ReportsText kind_of file Decides read r → r.status ≡ answer_status answer → (x : A) × (read ≡ Ok x) × Decides x r
   answered (Ok x) r answer d is = (x, refl, d)
   answered (Err fault) r answer e is = absurd (answered_or_failed r.status answer failures.Text is (status_of r _ e))
 
-  -- a text at fault is that of its file, where what is decided on what a text represents names one of the files too
+  -- a text at fault is the text of its file if the decision on the value of a text also names one of the files
   pub fault_of_text : (files : List InputFile) → Contains (map (λ (f : InputFile). f.name) files) file
       → ((x : A) (r : Report) → Decides x r → r.status ≡ failure_status failures.Text → IsFaultOfFile files r)
       → (read : Result A (Fault K)) (r : Report) → ReportsText kind_of file Decides read r → r.status ≡ failure_status failures.Text → IsFaultOfFile files r
   fault_of_text files named behind (Ok x) r d is = behind x r d is
   fault_of_text files named behind (Err fault) r e is = record { name = file; kind = kind_of fault.0; place = fault.1; is_read = named; report_is = e }
 
-  -- and where that is an answer
+  -- and if that decision is an answer
   pub fault_of_last : (files : List InputFile) → Contains (map (λ (f : InputFile). f.name) files) file → ((x : A) (r : Report) → Decides x r → IsAnswered r)
       → (read : Result A (Fault K)) (r : Report) → ReportsText kind_of file Decides read r → r.status ≡ failure_status failures.Text → IsFaultOfFile files r
   fault_of_last files named answers = fault_of_text files named (λ x r d is. absurd (no_fault r (answers x r d) is))
 
 -- ---- two texts
 
--- the texts of a list of two
+-- the texts of a list with two items
 two_texts : (ts : List Text) (t u : Text) → length ts ≡ 2 → t ≡ get_or ts 0 t → u ≡ get_or ts 1 u → map bytes_of ts ≡ bytes_of t ∷ bytes_of u ∷ []
 two_texts [] t u two is are = absurd (omega arith)
 two_texts (first ∷ []) t u two is are = absurd (omega arith)
@@ -100,6 +100,6 @@ module _ (On : List ℕ → List ℕ → Report → Type 0) where
       at_fault (first ∷ second ∷ []) r d is = fault first second r d is
       at_fault (first ∷ second ∷ third ∷ texts) r d is = absurd d
 
-      -- the tool is lawful where what it says of two texts is
+      -- the tool is lawful if its reports on two texts are
       pub pair_lawful : IsLawful (pair_tool files On Says)
       pair_lawful = record { one_status = one_status; means = means; at_fault = at_fault }

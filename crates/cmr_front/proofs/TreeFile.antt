@@ -12,7 +12,7 @@ use Rattle.cmr_front.proofs.OneText.{one_report_of_one, text_lawful}
 use Rattle.cmr_front.proofs.Statuses.{IsAnswered}
 use Rattle.cmr_front.proofs.Texts.{answered, fault_of_last, one_of_text, one_report_of_text}
 
--- the tool is lawful where its decisions on trees are
+-- the tool is lawful if its decisions on trees are
 pub tree_lawful : (file : List ℕ) (Decides : PlainTree → Report → Type 0) (Says : PlainTree → Answer → Type 0)
     → ((t : PlainTree) (r s : Report) → Decides t r → Decides t s → r.status ≡ s.status)
     → ((bytes : List ℕ) (t : PlainTree) (r : Report) (answer : Answer) → tree (text_of bytes) ≡ Ok t → Decides t r → r.status ≡ answer_status answer → Says t answer)
@@ -24,6 +24,6 @@ tree_lawful file Decides Says one says answers =
     (evidence_file file)
     (λ bytes. fault_of_last faults.Tree file Decides (evidence_file file ∷ []) (0, omega arith, refl) answers (tree (text_of bytes)))
 
--- it has one report where its decisions on trees have one
+-- it has one report if its decisions on trees have one
 pub one_report_of_tree : (file : List ℕ) (Decides : PlainTree → Report → Type 0) (Says : PlainTree → Answer → Type 0) → ((t : PlainTree) (r s : Report) → Decides t r → Decides t s → r ≡ s) → HasOneReport (tree_tool file Decides Says)
 one_report_of_tree file Decides Says one = one_report_of_one (ReportsTree file Decides) (λ bytes. one_report_of_text faults.Tree file Decides one (tree (text_of bytes))) (SaysOfTree Says) (evidence_file file)

@@ -1,4 +1,4 @@
--- What stands on the devices when a run ends.
+-- The devices when a run ends.
 use Rattle.std.specs.Prelude.{◌≡◌, ◌≢◌, ◌≤◌, ◌++◌, ℕ, Bool, IsTrue, List, length, take, Option, Some, IsSomeAnd, slice_get, codes, Result, Ok, Err}
 use Rattle.std.specs.List.{AllByRecursion}
 use Rattle.cmr_io.specs.Causes.{Rose}
@@ -15,9 +15,9 @@ use Rattle.cmr_front.specs.Outcome.{cannot_write_line, outcome_report, stop_repo
 use Rattle.cmr_front.specs.Status.{failure_status}
 use Rattle.cmr_front.specs.SinkLines.{IsWritten}
 
--- What the names hold, what all reads of the shelf have given, which writes were begun with what each has taken, and whether the
--- last call of the shelf failed; what standard output and standard error have got, and what they have taken; and how often a
--- call on each device has failed.
+-- The state of the devices: the contents of the names, the results of all reads of the shelf, the writes that were begun with the
+-- bytes that each has taken, and whether the last call of the shelf failed; the bytes that standard output and standard error have
+-- got, and the bytes that they have taken; and the number of failed calls of each device.
 pub record Devices : Type 0 where
   pub held : Held
   pub reads : Reads
@@ -47,7 +47,7 @@ devices s o e shelf out err = record {
   error_faults = e.faults err;
 }
 
--- Which devices tell their bytes, which are calm, and what rooms they have.
+-- Which devices tell their bytes, which are calm, and their rooms.
 pub record Standing : Type 0 where
   pub shelf_tells : Bool
   pub output_tells : Bool
@@ -92,9 +92,9 @@ pub record IsReadyFor (report : Report) (devices : Standing) : Type 0 where
   pub rooms : HasRooms devices.shelf_room report.files
   pub room : length report.output ≤ devices.output_room
 
--- All files of the report and all of its standard output were written, and its line to standard error. Whether the devices tell
--- their bytes or not, the writes that were begun are those of its files, in order, each once and whole, and the sinks have taken
--- its output and its line.
+-- All files of the report and all of its standard output were written, and its line to standard error. Even if the devices do not
+-- tell their bytes, the writes of its files were begun, in order, each once and whole, and no others, and the sinks have taken its
+-- output and its line.
 pub record IsDelivered (report : Report) (tells : Telling) (before after : Devices) : Type 0 where
   pub files : IsTrue tells.shelf → (name : List ℕ) → after.held name ≡ with_files before.held report.files name
   pub writes : after.writes ≡ after_files before.writes report.files
@@ -103,7 +103,7 @@ pub record IsDelivered (report : Report) (tells : Telling) (before after : Devic
   pub error : IsTrue tells.error → IsWritten before.error after.error before.error_faults after.error_faults report.error
   pub error_taken : IsWritten before.error_taken after.error_taken before.error_faults after.error_faults report.error
 
--- The file at a place could not be written: those before it are whole, and it is as before or holds a prefix of its bytes.
+-- The file at a place could not be written. The files before it are whole. It is unchanged or holds a prefix of its bytes.
 pub record IsLeftAt (files : List File) (place : ℕ) (file : File) (before after : Held) : Type 0 where
   pub others : (name : List ℕ) → name ≢ file.name → after name ≡ with_files before (take place files) name
   pub here : StaysOrHoldsPrefix (with_files before (take place files) file.name) (after file.name) file.bytes
@@ -112,8 +112,8 @@ pub record IsLeftAt (files : List File) (place : ℕ) (file : File) (before afte
 abbrev pub IsBegunLast : List File → ℕ → File → Log → Log → Type 0
 IsBegunLast files place file before after = (count : ℕ) × (after ≡ log_with (after_files before (take place files)) file.name (take count file.bytes))
 
--- A file could not be written, and nothing was put to standard output: its write was begun last, and the last call of the shelf
--- failed.
+-- A file could not be written, and standard output got nothing. The write of this file was begun last, and the last call of the
+-- shelf failed.
 pub record IsUnwritten (report : Report) (tells : Telling) (before after : Devices) : Type 0 where
   pub place : ℕ
   pub file : File
@@ -127,7 +127,7 @@ pub record IsUnwritten (report : Report) (tells : Telling) (before after : Devic
   pub error_taken : IsWritten before.error_taken after.error_taken before.error_faults after.error_faults (cannot_write_line file.name)
   pub cause : Rose before.shelf_faults after.shelf_faults
 
--- Standard output failed: all files are whole, and a prefix of it was put.
+-- Standard output failed. All files are whole, and a prefix of the output was written.
 pub record IsCutShort (report : Report) (tells : Telling) (before after : Devices) : Type 0 where
   pub files : IsTrue tells.shelf → (name : List ℕ) → after.held name ≡ with_files before.held report.files name
   pub writes : after.writes ≡ after_files before.writes report.files
@@ -137,7 +137,7 @@ pub record IsCutShort (report : Report) (tells : Telling) (before after : Device
   pub error_taken : IsWritten before.error_taken after.error_taken before.error_faults after.error_faults (cannot_write_line (codes "-"))
   pub cause : Rose before.output_faults after.output_faults
 
--- How a report is carried out: whole, or a device stops it.
+-- How a report is carried out: completely, or up to the call of a device that fails.
 pub data IsCarriedOut (report : Report) (tells : Telling) (before after : Devices) (status : ℕ) : Type 0 where
   delivered : status ≡ report.status → IsDelivered report tells before after → IsCarriedOut report tells before after status
   unwritten : status ≡ failure_status Device → IsUnwritten report tells before after → IsCarriedOut report tells before after status

@@ -1,4 +1,4 @@
--- Tools that read evidence, by itself or after a matrix text.
+-- Tools that read only evidence, or a matrix text and then evidence.
 use Rattle.std.specs.Prelude.{◌≡◌, ℕ, List, [], ◌∷◌, Ok}
 use Rattle.cmr_base.specs.Matrix.{Matrix}
 use Rattle.text_fields.specs.TextWords.{text_of}
@@ -22,15 +22,15 @@ evidence_file name = record { name = name; kind = Evidence }
 abbrev pub evidence_files : List ℕ → List ℕ → List InputFile
 evidence_files matrix evidence = matrix_file matrix ∷ evidence_file evidence ∷ []
 
--- the tool that reports this on the two texts, and whose answers say that of them
+-- the tool with these reports on the two texts and these meanings of its answers
 abbrev pub evidence_tool : List ℕ → List ℕ → (List ℕ → List ℕ → Report → Type 0) → (List ℕ → List ℕ → Answer → Type 0) → Tool
 evidence_tool matrix evidence Reports Says = pair_tool (evidence_files matrix evidence) Reports Says
 
--- what is reported on the tree that a text represents
+-- the reports on the tree that a text represents
 abbrev pub ReportsTree : List ℕ → (PlainTree → Report → Type 0) → List ℕ → Report → Type 0
 ReportsTree file Decides bytes report = ReportsText faults.Tree file Decides (tree (text_of bytes)) report
 
--- the text represents a tree, of which an answer says so
+-- the text represents a tree that satisfies the meaning of an answer
 abbrev pub SaysOfTree : (PlainTree → Answer → Type 0) → List ℕ → Answer → Type 0
 SaysOfTree Says bytes answer = (t : PlainTree) × (tree (text_of bytes) ≡ Ok t) × Says t answer
 

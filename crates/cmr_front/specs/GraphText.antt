@@ -15,11 +15,11 @@ use Rattle.cmr_front.specs.Report.{Report}
 use Rattle.cmr_front.specs.Texts.{ReportsText}
 use Rattle.cmr_front.specs.Tool.{Tool}
 
--- what is reported on the network that a text represents, or on its fault
+-- the reports on the network that a text represents, or on its fault
 abbrev pub ReportsGraph : List ℕ → (SizedNetwork → Report → Type 0) → List ℕ → Report → Type 0
 ReportsGraph file Decides bytes report = (read : Result SizedNetwork (Fault GraphKind)) × IsGraph (text_of bytes) read × ReportsText faults.Graph file Decides read report
 
--- the text represents a network, of which an answer says so
+-- the text represents a network that satisfies the meaning of an answer
 abbrev pub SaysOfGraph : (SizedNetwork → Answer → Type 0) → List ℕ → Answer → Type 0
 SaysOfGraph Says bytes answer = (net : SizedNetwork) × IsGraph (text_of bytes) (Ok net) × Says net answer
 
@@ -27,7 +27,7 @@ SaysOfGraph Says bytes answer = (net : SizedNetwork) × IsGraph (text_of bytes) 
 abbrev pub graph_tool : List ℕ → (SizedNetwork → Report → Type 0) → (SizedNetwork → Answer → Type 0) → Tool
 graph_tool file Decides Says = text_tool (matrix_file file) (ReportsGraph file Decides) (SaysOfGraph Says)
 
--- what a stop says of a graph text that was read
+-- the meaning of a stop for a graph text that was read
 abbrev pub StopsGraph : List ℕ → List ℕ → Stop → Type 0
 StopsGraph name bytes stops.BadWords = ⊥
 StopsGraph name bytes (stops.CannotRead file) = ⊥

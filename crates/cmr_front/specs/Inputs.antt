@@ -1,4 +1,4 @@
--- The files that a tool reads, and what they hold.
+-- The files that a tool reads, and their contents.
 use Rattle.std.specs.Prelude.{ℕ, nat_lt, if◌then◌else◌, List, [], ◌∷◌, length, Option, Some, None}
 use Rattle.cmr_front.specs.declared.input.Input.{Input}
 use Rattle.cmr_front.specs.declared.input.InputKind.{InputKind}
@@ -15,16 +15,16 @@ pub record InputFile : Type 0 where
 abbrev pub input_file : Input → InputFile
 input_file input = record { name = input.name.now; kind = input.kind }
 
--- the bytes of what a file holds
+-- the bytes of a file
 abbrev pub bytes_of : Text → List ℕ
 bytes_of text = text.bytes.items
 
--- the most bytes that it may have: 16 MiB and 256 MiB
+-- the maximum number of bytes of a file: 16 MiB and 256 MiB
 abbrev pub most_bytes : InputKind → ℕ
 most_bytes MatrixText = MAX_TEXT
 most_bytes Evidence = MAX_EVIDENCE
 
--- a file that is not there, one above its limit, or all that it holds
+-- a file does not exist, exceeds its limit, or has these bytes
 pub data Reading : Type 0 where
   missing : Reading
   above_limit : Reading
@@ -37,7 +37,7 @@ reading_of most (Some bytes) = if nat_lt most (length bytes) then above_limit el
 abbrev pub reading : Held → InputFile → Reading
 reading held file = reading_of (most_bytes file.kind) (held file.name)
 
--- What reading some files in order comes to: their texts, or the name of the first one that is not there or above its limit.
+-- What reading some files in order gives: their texts, or the name of the first file that does not exist or exceeds its limit.
 pub data Given : Type 0 where
   not_there : List ℕ → Given
   too_much : List ℕ → Given

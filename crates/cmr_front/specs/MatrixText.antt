@@ -33,13 +33,13 @@ abbrev pub matrix_in : MatrixForm → Bool → List ℕ → Result Matrix (Fault
 matrix_in Dense binary bytes = dense binary (text_of bytes)
 matrix_in Sparse binary bytes = sparse binary (text_of bytes)
 
--- what is reported on the one text
+-- the reports on the one text
 abbrev pub ReportsMatrix : Source → (Matrix → Report → Type 0) → List (List ℕ) → Report → Type 0
 ReportsMatrix s Decides [] report = ⊥
 ReportsMatrix s Decides (bytes ∷ []) report = ReportsText faults.Matrix s.file Decides (matrix_in s.form s.binary bytes) report
 ReportsMatrix s Decides (bytes ∷ other ∷ texts) report = ⊥
 
--- what an answer says of the matrix that the text represents
+-- the meaning of an answer for the matrix that the text represents
 abbrev pub SaysOfMatrix : Source → (Matrix → Answer → Type 0) → List (List ℕ) → Answer → Type 0
 SaysOfMatrix s Says texts answer = (bytes : List ℕ) × (texts ≡ bytes ∷ []) × (m : Matrix) × (matrix_in s.form s.binary bytes ≡ Ok m) × Says m answer
 

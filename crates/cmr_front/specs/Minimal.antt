@@ -1,4 +1,4 @@
--- The minimal submatrix without a property, of which a tool tells where its file is asked for.
+-- The minimal submatrix without a property, which a tool reports if its file is requested.
 use Rattle.std.specs.Prelude.{◌≡◌, ◌++◌, ℕ, List, [], Option, Some, None, IsSomeAnd, codes}
 use Rattle.cmr_base.specs.Matrix.{Matrix, height}
 use Rattle.cmr_base.specs.GreedySets.{IsGreedySet, IsMinimalWithout}
@@ -7,17 +7,17 @@ use Rattle.matrix_text.specs.CanonicalMatrices.{submatrix_text}
 use Rattle.cmr_front.specs.Printed.{line_set_text}
 use Rattle.cmr_front.specs.Report.{File, asked_file}
 
--- the greedy set, which lacks the property and is minimal so
+-- the greedy set: it lacks the property and is minimal with that
 pub record IsMinimalSet (P : Matrix → Type 0) (m : Matrix) (lines : LineSet) : Type 0 where
   pub greedy : IsGreedySet P m lines.rows lines.columns
   pub minimal : IsMinimalWithout P m lines.rows lines.columns
 
--- this set where its file is asked for, and else none
+-- this set if its file is requested, and none otherwise
 abbrev pub IsMinimalAsked : (Matrix → Type 0) → Matrix → Option (List ℕ) → Option LineSet → Type 0
 IsMinimalAsked P m None found = found ≡ None
 IsMinimalAsked P m (Some name) found = IsSomeAnd found (IsMinimalSet P m)
 
--- how it is printed
+-- its line of output
 abbrev pub minimal_line : Option LineSet → List ℕ
 minimal_line None = []
 minimal_line (Some lines) = codes "minimal " ++ line_set_text lines.rows lines.columns ++ codes "\n"

@@ -5,16 +5,16 @@ use Rattle.cmr_front.specs.Inputs.{InputFile}
 use Rattle.cmr_front.specs.Report.{Report}
 use Rattle.cmr_front.specs.Tool.{Tool}
 
--- what is reported on the one text
+-- the reports on the one text
 abbrev pub ReportsOne : (List ℕ → Report → Type 0) → List (List ℕ) → Report → Type 0
 ReportsOne On [] report = ⊥
 ReportsOne On (bytes ∷ []) report = On bytes report
 ReportsOne On (bytes ∷ other ∷ texts) report = ⊥
 
--- what an answer says of the one text
+-- the meaning of an answer for the one text
 abbrev pub SaysOfOne : (List ℕ → Answer → Type 0) → List (List ℕ) → Answer → Type 0
 SaysOfOne Says texts answer = (bytes : List ℕ) × (texts ≡ bytes ∷ []) × Says bytes answer
 
--- the tool that reports this on the text of a file, and whose answers say that of it
+-- the tool with these reports on the text of a file and these meanings of its answers
 abbrev pub text_tool : InputFile → (List ℕ → Report → Type 0) → (List ℕ → Answer → Type 0) → Tool
 text_tool file Reports Says = record { inputs = file ∷ []; InRanges = Unit {0}; Reports = ReportsOne Reports; Means = SaysOfOne Says }

@@ -1,4 +1,4 @@
--- The report that an outcome or a stop makes.
+-- The report of an outcome or a stop.
 use Rattle.std.specs.Prelude.{◌++◌, ℕ, List, [], map, codes, Result, Ok, Err}
 use Rattle.std.specs.Fmt.{decimal}
 use Rattle.matrix_text.specs.declared.error.TextKind.{TextKind}
@@ -112,7 +112,7 @@ stop_report (stops.TooLong name) = too_long name.now
 stop_report (stops.BadText name kind place) = bad_text name.now kind place
 stop_report stops.Memory = out_of_memory
 
--- the report of an outcome, or of the stop that stands in its place
+-- the report of an outcome or of a stop
 abbrev pub ended_report : Result Outcome Stop → Report
 ended_report (Ok outcome) = outcome_report outcome
 ended_report (Err stop) = stop_report stop

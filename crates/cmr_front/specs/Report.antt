@@ -1,11 +1,11 @@
--- What a run is to give, and what the names of a shelf hold.
+-- The results that a run has to give, and the contents of the names of a shelf.
 use Rattle.std.specs.Prelude.{ℕ, List, [], ◌∷◌, Option, Some, None, if◌then◌else◌}
 use Rattle.std.specs.Str.{bytes_eq}
 use Rattle.cmr_io.specs.Log.{Log, log_with}
 use Rattle.cmr_front.specs.declared.status.Failure.{Failure}
 use Rattle.cmr_front.specs.Status.{failure_status}
 
--- what each name holds, where it is there
+-- the content of each name that exists
 abbrev pub Held : Type 0
 Held = List ℕ → Option (List ℕ)
 
@@ -25,16 +25,16 @@ pub record Report : Type 0 where
 abbrev pub refusal : Failure → List ℕ → Report
 refusal failure line = record { status = failure_status failure; output = []; error = line; files = [] }
 
--- a file of this name, where one is asked for
+-- a file of this name if it is requested
 abbrev pub asked_file : Option (List ℕ) → List ℕ → List File
 asked_file None bytes = []
 asked_file (Some name) bytes = record { name = name; bytes = bytes } ∷ []
 
--- what the names hold after a file was written
+-- the contents of the names after a file was written
 abbrev pub with_file : Held → File → Held
 with_file held file name = if bytes_eq name file.name then Some file.bytes else held name
 
--- what the names hold after some files were written in order
+-- the contents of the names after some files were written in order
 abbrev pub with_files : Held → List File → Held
 with_files held [] = held
 with_files held (file ∷ files) = with_files (with_file held file) files

@@ -1,4 +1,4 @@
--- What a tool is, with its options.
+-- A tool with its options.
 use Rattle.std.specs.Prelude.{◌≡◌, ℕ, List, Contains, map, Result, Ok, Err}
 use Rattle.cmr_front.specs.declared.outcome.FaultKind.{FaultKind}
 use Rattle.cmr_front.specs.declared.outcome.Outcome.{Outcome}
@@ -16,9 +16,9 @@ pub record Tool : Type 1 where
   pub inputs : List InputFile
   -- the numbers of its options are in their ranges
   pub InRanges : Type 0
-  -- what it reports on the texts of these files
+  -- its reports on the texts of these files
   pub Reports : List (List ℕ) → Report → Type 0
-  -- what an answer says of these texts
+  -- the meaning of an answer for these texts
   pub Means : List (List ℕ) → Answer → Type 0
 
 -- the line on the text of one of these files
@@ -29,8 +29,8 @@ pub record IsFaultOfFile (files : List InputFile) (report : Report) : Type 0 whe
   pub is_read : Contains (map (λ file. file.name) files) name
   pub report_is : report ≡ bad_text name kind place
 
--- What is asked of each tool: all that it can report has one status, a report with an answer means what the answer says, and
--- one with the status of a text at fault is the line on a file that the tool reads.
+-- The law of each tool: all its reports have one status, a report with an answer means what the answer says, and a report with the
+-- status of a text fault is the line on a file that the tool reads.
 pub record IsLawful (tool : Tool) : Type 0 where
   pub one_status : (bytes : List (List ℕ)) (r s : Report) → tool.Reports bytes r → tool.Reports bytes s → r.status ≡ s.status
   pub means : (bytes : List (List ℕ)) (r : Report) (answer : Answer) → tool.Reports bytes r → r.status ≡ answer_status answer → tool.Means bytes answer
@@ -40,7 +40,7 @@ pub record IsLawful (tool : Tool) : Type 0 where
 abbrev pub HasOneReport : Tool → Type 0
 HasOneReport tool = (bytes : List (List ℕ)) (r s : Report) → tool.Reports bytes r → tool.Reports bytes s → r ≡ s
 
--- What is decided on texts that were read: a report, or an allocation failure.
+-- A decision on texts that were read: a report, or an allocation failure.
 abbrev pub IsDecision : (Report → Type 0) → Result Outcome Stop → Type 0
 IsDecision Reports (Ok outcome) = Reports (outcome_report outcome)
 IsDecision Reports (Err stops.BadWords) = ⊥

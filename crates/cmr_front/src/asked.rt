@@ -1,4 +1,4 @@
-// Files that a tool writes where they are asked for.
+// Files that a tool writes if they are requested.
 ghost use Rattle.std.specs.Prelude.{◌≡◌, ◌++◌, IfSome, OnOk, map, option_map};
 ghost use Rattle.cmr_base.specs.LineSets.{AllBelow};
 ghost use Rattle.cmr_base.specs.Matrix.{height};
@@ -71,7 +71,7 @@ pub fn push_steps<'a>(
     Ok(())
 }
 
-/// Appends the file of a minimal submatrix, where there is one.
+/// Appends the file of a minimal submatrix, if there is one.
 pub fn push_minimal<'a>(
     alloc: Global,
     files: &mut Vec<OutputFile<'a>>,

@@ -1,4 +1,4 @@
-// Carrying out what a tool decided.
+// Carrying out the decision of a tool.
 ghost use Rattle.std.specs.Prelude.{◌≡◌, ◌≢◌, ◌≤◌, ◌<◌, ◌⊎◌, ℕ, List, [], ◌∷◌, IfErr, IsOk, IsTrue, OnErr, OnOk, length, map, slice_get, take};
 ghost use Rattle.cmr_io.specs.Causes.{HasCause, Rose};
 ghost use Rattle.cmr_io.specs.Kept.{IsFaultCounted, KeepsStanding};
@@ -15,7 +15,7 @@ use crate::outcome::{Outcome, OutputFile, Stop};
 use crate::status::Failure;
 use cmr_io::{Shelf, Sink, WriteFault, write_file, write_whole};
 
-/// Writes what was decided, or the line that says why nothing was, and answers the status.
+/// Writes the outcome, or the line that says why there is none, and returns the status.
 pub fn carry_out<S: Shelf, O: Sink, E: Sink>(
     ended: &Result<Outcome<'_>, Stop<'_>>,
     shelf: &mut S,

@@ -13,7 +13,7 @@ use itoa::Buffer;
 use matrix_text::TextKind;
 use tree_text::TreeKind;
 
-/// Writes the line that says why a run has no outcome. A failure changes nothing else.
+/// Writes the line that says why a run has no outcome. If the write fails, nothing else changes.
 pub fn write_stop<E: Sink>(err: &mut E, stop: &Stop<'_>)
     ensures { GetsLine E.Sink err.old err.new (stop_report stop.now).error }
 {
@@ -26,7 +26,7 @@ pub fn write_stop<E: Sink>(err: &mut E, stop: &Stop<'_>)
     }
 }
 
-/// Writes that a name cannot be written. A failure changes nothing else.
+/// Writes that a name cannot be written. If the write fails, nothing else changes.
 pub fn write_cannot_write<E: Sink>(err: &mut E, name: &str)
     ensures { GetsLine E.Sink err.old err.new (cannot_write_line name.now) }
 {

@@ -1,4 +1,4 @@
-// The files of a tool that reads evidence, by itself or after a matrix text.
+// The files of a tool that reads only evidence, or a matrix text and then evidence.
 ghost use Rattle.std.specs.Prelude.{◌≡◌, ◌∷◌, [], IfOk, IfErr, Ok, map};
 ghost use Rattle.text_fields.specs.TextWords.{text_of};
 ghost use Rattle.matrix_text.specs.Submatrix.{named_lines};

@@ -15,7 +15,7 @@ use cmr_base::{MAX_EVIDENCE, MAX_TEXT};
 use cmr_io::{ReadError, Shelf, read_whole};
 use std::alloc::Global;
 
-/// What a file is read for.
+/// The purpose of a file that is read.
 #[derive(Clone, Copy, Debug, PartialEq, Eq)]
 pub enum InputKind {
     /// The text of a matrix, or of a graph that represents one.
@@ -25,7 +25,7 @@ pub enum InputKind {
 }
 
 impl InputKind {
-    /// The most bytes that the file may hold.
+    /// The maximum number of bytes of the file.
     pub fn most(self) -> usize
         ensures { result ≡ most_bytes self }
     {
@@ -43,13 +43,13 @@ pub struct Input<'a> {
     pub kind: InputKind,
 }
 
-/// All that a file holds.
+/// The content of a file.
 #[derive(Debug, Drop)]
 pub struct Text {
     pub bytes: Vec<u8>,
 }
 
-/// What the files hold, in their order, or why the run ends. The first that cannot be read or that holds too much
+/// The contents of the files, in their order, or why the run ends. The first file that cannot be read or is too long
 /// ends it, and the files after it are not read.
 pub fn read_inputs<'a, S: Shelf>(
     alloc: Global,

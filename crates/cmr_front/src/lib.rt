@@ -1,5 +1,5 @@
-//! What the tools of the program share: the shape of a tool and how it is run, the words of the command line, the files
-//! that are read and written, the lines that are printed, and the statuses.
+//! The common parts of the tools of the program: what a tool is and how it runs, the arguments of the command line, the
+//! files that are read and written, the printed lines, and the statuses.
 #![tactic(auto)]
 
 pub mod asked;

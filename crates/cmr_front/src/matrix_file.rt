@@ -13,7 +13,7 @@ use cmr_base::{Matrix, Memory};
 use matrix_text::{TextError, read_dense, read_sparse};
 use std::alloc::Global;
 
-/// How the text of a matrix is laid out.
+/// The form of a matrix text.
 #[derive(Clone, Copy, Debug, PartialEq, Eq)]
 pub enum MatrixForm {
     /// The two sizes and all entries, row by row.
@@ -22,7 +22,7 @@ pub enum MatrixForm {
     Sparse,
 }
 
-/// The one file that such a tool reads.
+/// The one file of a tool that reads one matrix text.
 pub fn matrix_input<'a>(alloc: Global, name: &'a str) -> Result<Vec<Input<'a>>, Memory>
     ensures { IfOk result (λ inputs. map input_file inputs.items
         ≡ matrix_file name.entry.now ∷ []) }
@@ -35,8 +35,8 @@ pub fn matrix_input<'a>(alloc: Global, name: &'a str) -> Result<Vec<Input<'a>>, 
     Ok(inputs)
 }
 
-/// The matrix that the text of a file represents, or why the run ends: the text's first fault. With `binary` an
-/// entry -1 is one.
+/// The matrix that the text of a file represents, or why the run ends: the text's first fault. If `binary` is true,
+/// an entry -1 is a fault.
 pub fn read_matrix<'a>(
     alloc: Global,
     name: &'a str,

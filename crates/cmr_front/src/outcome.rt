@@ -1,4 +1,4 @@
-// What a tool decided, or why it decided nothing.
+// The decision of a tool, or why there is none.
 ghost use Rattle.std.specs.Prelude.{◌≡◌};
 
 use crate::status::{Answer, Failure};
@@ -7,15 +7,15 @@ use graph_text::GraphKind;
 use matrix_text::TextKind;
 use tree_text::TreeKind;
 
-/// A file that is to be written.
+/// A file to write.
 #[derive(Debug, Drop)]
 pub struct OutputFile<'a> {
     pub name: &'a str,
     pub bytes: Vec<u8>,
 }
 
-/// What a tool decided: its answer, the bytes of standard output, and the files in the order in which they
-/// are written.
+/// The decision of a tool: its answer, the bytes of standard output, and the files in the order in which they are
+/// written.
 #[derive(Debug, Drop)]
 pub struct Outcome<'a> {
     pub answer: Answer,
@@ -23,7 +23,7 @@ pub struct Outcome<'a> {
     pub files: Vec<OutputFile<'a>>,
 }
 
-/// What is wrong with a text.
+/// The kind of a text with a fault, and the fault.
 #[derive(Clone, Copy, Debug, PartialEq, Eq)]
 pub enum FaultKind {
     /// With the text of a matrix or of a submatrix.
@@ -68,7 +68,7 @@ impl Stop<'_> {
     ghost use Rattle.cmr_front.specs.Outcome.{stop_report};
     ghost use Rattle.cmr_front.specs.Status.{failure_status};
 
-    /// The failure that it is.
+    /// The failure of this stop.
     pub fn failure(&self) -> Failure
         ensures { (stop_report self.now).status ≡ failure_status result }
     {

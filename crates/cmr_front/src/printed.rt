@@ -32,7 +32,7 @@ fn push_line_numbers(text: &mut Vec<u8>, lines: &Indices) -> Result<(), Memory>
     Ok(())
 }
 
-/// Appends the line that tells of a violator and its sum.
+/// Appends the line on a violator and its sum.
 pub fn push_violator_line(text: &mut Vec<u8>, lines: &LineSet, sum: i32) -> Result<(), Memory>
     ensures { OnOk result (text.new.items
         ≡ text.old.items ++ violator_line lines.now.rows lines.now.columns sum) }
@@ -54,7 +54,7 @@ pub fn push_sum(text: &mut Vec<u8>, sum: i32) -> Result<(), Memory>
     Ok(())
 }
 
-/// Appends the line that tells what is left open.
+/// Appends the line on the lines that are left open.
 pub fn push_open_line(text: &mut Vec<u8>, lines: &LineSet) -> Result<(), Memory>
     ensures { OnOk result (text.new.items
         ≡ text.old.items ++ open_line lines.now.rows lines.now.columns) }
@@ -65,7 +65,7 @@ pub fn push_open_line(text: &mut Vec<u8>, lines: &LineSet) -> Result<(), Memory>
     Ok(())
 }
 
-/// Appends the line that tells of a minimal submatrix, where there is one.
+/// Appends the line on a minimal submatrix, if there is one.
 pub fn push_minimal_line(text: &mut Vec<u8>, minimal: &Option<LineSet>) -> Result<(), Memory>
     ensures { OnOk result (text.new.items ≡ text.old.items ++ minimal_line minimal.now) }
 {

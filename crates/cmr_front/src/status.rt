@@ -2,14 +2,14 @@
 ghost use Rattle.std.specs.Prelude.{◌≡◌};
 ghost use Rattle.cmr_front.specs.Status.{answer_status, failure_status};
 
-/// What a tool answers on what it read.
+/// The answer of a tool on the texts that it read.
 #[derive(Clone, Copy, Debug, PartialEq, Eq)]
 pub enum Answer {
-    /// The matrix has the property, the evidence that it has is accepted, or what was asked for is made.
+    /// The matrix has the property, the evidence for it is accepted, or the requested file is made.
     Yes,
-    /// It has not, or the evidence that it has not is accepted.
+    /// The matrix does not have the property, or the evidence against it is accepted.
     No,
-    /// Neither was found within the budget.
+    /// The budget does not suffice for a yes or a no.
     Undecided,
     /// The evidence breaks a rule.
     Refused,
@@ -29,16 +29,16 @@ impl Answer {
     }
 }
 
-/// Why a run gives no answer.
+/// The cause of a run without an answer.
 #[derive(Clone, Copy, Debug, PartialEq, Eq)]
 pub enum Failure {
-    /// The words of the command line are refused.
+    /// The arguments of the command line are refused.
     Words,
-    /// A file holds too much, or its text has a fault.
+    /// A file is too long, or its text has a fault.
     Text,
     /// A call of a device failed.
     Device,
-    /// Memory was refused.
+    /// An allocation failed.
     Memory,
 }
 

@@ -1,5 +1,5 @@
-// The shape that all tools have.
-ghost use Rattle.std.specs.Prelude.{◌≡◌, ◌≤◌, IfOk, IsTrue, length, map};
+// A tool, and how it runs.
+ghost use Rattle.std.specs.Prelude.{[], ◌≡◌, ◌≤◌, IfOk, IsTrue, length, map};
 ghost use Rattle.std.specs.Thread.{IsSync};
 ghost use Rattle.cmr_io.specs.Causes.{Rose};
 ghost use Rattle.cmr_io.specs.Kept.{KeepsNames};
@@ -23,14 +23,14 @@ use std::thread::Threads;
 
 /// A tool with its options.
 pub trait Tool<'a> {
-    /// What it reads, reports and means.
+    /// What it reads and reports, and what its answers mean.
     ghost tool: { Self → tools.Tool };
 
     /// The files that it reads, in order.
     fn inputs(&self, alloc: Global) -> Result<Vec<Input<'a>>, Memory>
         ensures { IfOk result (λ inputs. map input_file inputs.items ≡ (tool self.now).inputs) };
 
-    /// Decides on what these files hold.
+    /// Decides on the contents of these files.
     fn decide<R: Threads + Sync>(
         &self,
         rt: &R,
@@ -41,27 +41,33 @@ pub trait Tool<'a> {
         requires ranges { (tool self.now).InRanges }
         requires count { length texts.now ≡ length (tool self.now).inputs }
         ensures { IsDecision ((tool self.now).Reports (map bytes_of texts.now)) result };
-}
 
-/// Carries a tool from its order to its end: reads its files, decides, writes, and answers the status.
-pub fn run_tool<'a, R: Threads + Sync, S: Shelf, O: Sink, E: Sink, T: Tool<'a>>(
-    rt: &R,
-    alloc: Global,
-    tool: &T,
-    shelf: &mut S,
-    out: &mut O,
-    err: &mut E,
-) -> u8
-    requires ranges { (T.tool tool.now).InRanges }
-    requires lawful { IsLawful (T.tool tool.now) }
-    ensures runs { RunsOver S.Shelf O.Sink E.Sink
-        (work (T.tool tool.now))
-        shelf.old out.old err.old shelf.new out.new err.new result }
-    ensures means { IsTrue (S.tells shelf.old) → (answer : Answer) → result ≡ answer_status answer
-        → Means (T.tool tool.now) (S.content shelf.old) answer }
-{
-    let ended = examine(rt, alloc, tool, shelf);
-    carry_out(&ended, shelf, out, err)
+    /// Does nothing. Its contract is the law of the tool.
+    fn lawful(&self)
+        ensures { IsLawful (tool self.now) };
+
+    /// Carries the tool from its order to its end: reads its files, decides, writes, and returns the status.
+    final fn run<R: Threads + Sync, S: Shelf, O: Sink, E: Sink>(
+        &self,
+        rt: &R,
+        alloc: Global,
+        shelf: &mut S,
+        out: &mut O,
+        err: &mut E,
+    ) -> u8
+        requires ranges { (tool self.now).InRanges }
+        ensures runs { RunsOver S.Shelf O.Sink E.Sink
+            (work (tool self.now))
+            shelf.old out.old err.old shelf.new out.new err.new result }
+        ensures means { IsTrue (S.tells shelf.old) → (answer : Answer) → result ≡ answer_status answer
+            → Means (tool self.now) (S.content shelf.old) answer }
+        ensures no_files { (tool self.now).inputs ≡ [] → (answer : Answer) → result ≡ answer_status answer
+            → Means (tool self.now) (S.content shelf.old) answer }
+    {
+        self.lawful();
+        let ended = examine(rt, alloc, self, shelf);
+        carry_out(&ended, shelf, out, err)
+    }
 }
 
 fn examine<'a, R: Threads + Sync, S: Shelf, T: Tool<'a>>(

@@ -1,4 +1,4 @@
-//! Words of the command line, as `clap` and the tools read them.
+//! Arguments of the command line, as `clap` and the tools read them.
 ghost use Rattle.std.specs.Prelude.{◌≡◌, ◌≢◌};
 ghost use Rattle.clap.specs.Words.{kind_of};
 ghost use Rattle.clap.specs.declared.error.kind.ErrorKind.TheVariants.{OutOfMemory};
@@ -10,12 +10,12 @@ pub mod parsing;
 use clap::error::ErrorKind;
 use std::alloc::AllocError;
 
-/// Why there is no command.
+/// The cause why there is no command.
 #[derive(Clone, Copy, Debug, PartialEq, Eq)]
 pub enum WordsError {
-    /// The first word names no tool, or the tool does not take the others.
+    /// The first argument names no tool, or the tool refuses the other arguments.
     Refused,
-    /// Memory was refused.
+    /// An allocation failed.
     Memory,
 }
 

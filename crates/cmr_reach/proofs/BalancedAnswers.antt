@@ -1,4 +1,4 @@
--- What the answers of `balanced` say of the matrix.
+-- The meaning of the answers of `balanced` for the matrix.
 use Rattle.std.proofs.Common.{◌≡◌, ◌<◌, ◌≤◌, ◌∙◌, inl, inr, ℕ, List, Option, Some, None, refl, subst, sym, arith}
 use Rattle.std.proofs.lemmas.Bool.{cases_lt}
 use Rattle.cmr_base.specs.declared.line_set.LineSet.{LineSet}
@@ -43,7 +43,7 @@ least_is_fault m lines is = elim (cases_lt m.width (height m)) [
   | inr many ↦ let by = is.few_rows (omega arith) in record { row_set = by.row_set; column_set = by.columns_least.column_set; balance_fault = by.columns_least.fault }
 ]
 
--- and so is the cycle fault
+-- the cycle fault is a fault
 pub cycle_is_fault : (m : Matrix) (lines : LineSet) → IsMatrix m → IsCycleFault m lines.rows lines.columns → IsFaultOf m lines
 cycle_is_fault m lines shape is = record { row_set = is.row_set; column_set = is.column_set; balance_fault = cycle_fault_unbalanced m (is_ternary m shape) lines.rows lines.columns is }
 
@@ -54,7 +54,7 @@ undecomposed budget pivots m tree is shape apart other = apart (one_verdict budg
 pub tree_for : (m : Matrix) (tree : SizedTree) → tree.rows ≡ height m → tree.columns ≡ m.width → IsDecTree tree → IsTreeFor (height m) m.width (tree_of tree.root)
 tree_for m tree rows columns is = subst (λ n. IsTreeFor n m.width (tree_of tree.root)) rows (subst (λ n. IsTreeFor tree.rows n (tree_of tree.root)) columns is)
 
--- a sound tree that says yes says that the matrix is balanced
+-- a matrix with a sound tree whose verdict is yes is balanced
 pub balanced_by_tree : (m : Matrix) → IsMatrix m → (tree : SizedTree) → IsDecTree tree → IsSound m tree → verdict_of (tree_of tree.root) ≡ verdicts.Yes → IsBalanced m
 balanced_by_tree m shape tree is sound says = free_is_balanced m (is_ternary m shape) (subst (Tells m) says (tells m shape tree.rows tree.columns (tree_of tree.root) is sound)).none
 
@@ -113,7 +113,7 @@ says o m r answer (cycle fault is bad e) status = says_no o m fault bad answer (
 says o m r answer (decomposed none tree balanced e) status = says_yes o m balanced answer (sym (status_of r _ e) ∙ status)
 says o m r answer (searched untold found has e) status = says_found o m untold found has answer (sym (status_of r _ e) ∙ status)
 
--- ---- what is decided is an answer
+-- ---- a decision is an answer
 
 search_answers : (o : BalancedOrder) (m : Matrix) (found : LeastSubmatrix) (r : Report) → r ≡ search_report o m found → IsAnswered r
 search_answers o m Clean r e = (Yes, status_of r _ e)
@@ -128,7 +128,7 @@ answers o m r (searched untold found has e) = search_answers o m found r e
 pub balanced_lawful : (o : BalancedOrder) → IsLawful (balanced_tool o)
 balanced_lawful o = lawful (balanced_source o) (BalancedDecides o) (BalancedMeans o) (says o) (IsInRanges o) (one_status o) (answers o)
 
--- the numbers that words of `balanced` name are in their ranges, and so are the pivots
+-- the numbers in the arguments of `balanced` are in their ranges, the pivots included
 pub balanced_order-ranges : (words : List Text) (o : BalancedOrder) → balanced_order words ≡ Some o → IsInRanges o × (o.pivots ≤ 100)
 balanced_order-ranges words o e = go (matches_with_input balanced_app words) e
   where

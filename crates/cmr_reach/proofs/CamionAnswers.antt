@@ -1,4 +1,4 @@
--- What the answers of `camion` say of the matrix.
+-- The meaning of the answers of `camion` for the matrix.
 use Rattle.std.proofs.Common.{◌≡◌, ◌∙◌, false, sym, arith}
 use Rattle.cmr_base.specs.declared.line_set.LineSet.{LineSet}
 use Rattle.cmr_base.specs.Matrix.{Matrix, entry, IsMatrix}
@@ -14,7 +14,7 @@ use Rattle.cmr_front.proofs.MatrixText.{lawful, read_is_matrix}
 use Rattle.cmr_front.proofs.Statuses.{IsAnswered, status_of}
 use Rattle.cmr_reach.specs.Camion.{CamionDecides, CamionMeans, camion_source, camion_tool, no, yes, CamionOrder}
 
--- a matrix with a cycle fault is not without one
+-- a matrix with a cycle fault does not satisfy that it has none
 pub not_both : (m : Matrix) (fault : LineSet) → HasNoCycleFault (entry m) → IsCycleFault m fault.rows fault.columns → ⊥
 not_both m fault none is = none is.row is.first_column is.last_column is.path is.fault
 
@@ -24,7 +24,7 @@ one_status o m r s (yes none e) (no fault is f) = absurd (not_both m fault none 
 one_status o m r s (no fault is e) (yes none f) = absurd (not_both m fault none is)
 one_status o m r s (no fault is e) (no fault' is' f) = status_of r _ e ∙ sym (status_of s _ f)
 
--- what an answer tells of a matrix, without what follows of it
+-- the meaning of an answer for a matrix, without its consequences
 abbrev Tells : Matrix → Answer → Type 0
 Tells m Yes = HasNoCycleFault (entry m)
 Tells m No = (fault : LineSet) × IsCycleFault m fault.rows fault.columns
@@ -41,7 +41,7 @@ says o m r No (no fault lines e) is = (fault, lines)
 says o m r Undecided (no fault lines e) is = let s = status_of r _ e in absurd (omega arith)
 says o m r Refused (no fault lines e) is = let s = status_of r _ e in absurd (omega arith)
 
--- what follows of it
+-- its consequences
 means : (m : Matrix) (answer : Answer) → IsMatrix m → Tells m answer → CamionMeans m answer
 means m Yes is none = (none, λ n ternary one unimodular. (fault_free_decides m n (is_ternary m is) ternary one unimodular).1 none)
 means m No is (fault, found) = (fault, found, λ unimodular. not_both m fault ((fault_free_decides m m (is_ternary m is) (is_ternary m is) (own_support m) unimodular).0 unimodular) found)

@@ -1,4 +1,4 @@
--- What the answers of `compose` say of the two matrices.
+-- The meaning of the answers of `compose` for the two matrices.
 use Rattle.std.proofs.Common.{◌≡◌, ◌∙◌, ℕ, List, false, ap, sym, refl, arith, Ok}
 use Rattle.std.proofs.lemmas.Bool.{false≢true}
 use Rattle.cmr_base.specs.Matrix.{Matrix, HasTernaryEntries, IsMatrix}
@@ -28,7 +28,7 @@ use Rattle.cmr_reach.specs.Compose.{ComposeDecides, ComposeMeans, ComposeReports
 -- ---- one report
 
 module _ (kind : SumKind) (first second : Matrix) where
-  -- where there is a sum, nothing stands in its way
+  -- if there is a sum, there is no obstacle
   unhindered : (obstacle : Obstacle) → IsComposed kind first second → IsObstacle kind first second obstacle → ⊥
   unhindered TooManyRows is not = not is.rows
   unhindered TooManyColumns is not = not.1 is.columns
@@ -101,7 +101,7 @@ fault o first second =
 pub compose_lawful : (o : ComposeOrder) → IsLawful (compose_tool o)
 compose_lawful o = pair_lawful (ComposeReports o) (ComposeSays o) (λ first second r s a b. ap (λ report. report.status) (one o first second r s a b)) (says o) (compose_files o) (fault o)
 
--- ---- why there is no sum
+-- ---- the cause why there is no sum
 
 pub not_ternary : (kind : SumKind) (first second : Matrix) → IsCauseOf kind first second errors.BadEntry → HaveSum kind first second × ¬ (HasTernaryEntries (sum_of kind first second))
 not_ternary kinds.One first second cause = absurd cause

@@ -17,7 +17,7 @@ use Rattle.cmr_reach.proofs.BalancedAnswers.{least_is_fault}
 use Rattle.cmr_reach.proofs.CamionAnswers.{not_both}
 use Rattle.cmr_reach.proofs.OneFault.{one_least_fault}
 
--- faults with the same lines are reported alike
+-- faults with the same lines have the same reports
 same_fault : (label : List ℕ) (name : Option (List ℕ)) (m : Matrix) (fault other : LineSet) → (fault.rows ≡ other.rows) × (fault.columns ≡ other.columns) → fault_report label name m fault ≡ fault_report label name m other
 same_fault label name m fault other same = ap₂ (λ rows columns. fault_report label name m (let lines : LineSet = record { rows = rows; columns = columns } in lines)) same.0 same.1
 
@@ -73,6 +73,6 @@ balanced_same o n workers m report (cycle fault is bad e) = cycle fault is bad e
 balanced_same o n workers m report (decomposed none tree all e) = decomposed none tree all e
 balanced_same o n workers m report (searched untold found has e) = searched untold found has (e ∙ same_search o n workers m found)
 
--- their number changes nothing of what is reported
+-- their number does not affect the reports
 pub balanced_workers : (o : BalancedOrder) (n workers : ℕ) (bytes : List (List ℕ)) (report : Report) → (balanced_tool (with_workers o n)).Reports bytes report → (balanced_tool (with_workers o workers)).Reports bytes report
 balanced_workers o n workers = matrix_either (balanced_source o) (BalancedDecides (with_workers o n)) (BalancedDecides (with_workers o workers)) (balanced_same o n workers)

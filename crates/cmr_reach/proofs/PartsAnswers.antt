@@ -1,4 +1,4 @@
--- What the answers of `parts` say of the matrix and of the tree.
+-- The meaning of the answers of `parts` for the matrix and the tree.
 use Rattle.std.proofs.Common.{◌≡◌, ◌∙◌, inl, inr, ℕ, List, map, length, false, ap, ap₂, sym, subst, arith, Ok, refl}
 use Rattle.std.proofs.lemmas.List.{length-map}
 use Rattle.cmr_base.specs.LineSets.{submatrix}

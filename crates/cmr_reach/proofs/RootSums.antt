@@ -20,7 +20,7 @@ use Rattle.tree_type.proofs.NodeTrees.{said, tree_is}
 use Rattle.tree_type.proofs.SideLemmas.{three_sums_separate, two_sums_separate}
 use Rattle.cmr_reach.specs.Parts.{HasNoParts, IsArranged}
 
--- two facts beside what stands of a result
+-- two more facts about a result
 pub with_both : {X E : Type 0} (r : Result X E) (P : X → Type 0) (A B : Type 0) → IfOk r P → IfOk r (λ _. A) → IfOk r (λ _. B) → IfOk r (λ x. P x × A × B)
 with_both (Ok x) P A B p a b = (p, a, b)
 with_both (Err e) P A B p a b = tt
@@ -28,7 +28,7 @@ with_both (Err e) P A B p a b = tt
 pub tree_by_kind : (root : Node) (k : Kind) (finding : Finding) (trees : Trees) → root.kind ≡ k → said k ≡ (finding, trees) → tree_of root ≡ Branch root.lines finding trees
 tree_by_kind root k finding trees e f = tree_is root ∙ ap (λ (p : Finding × Trees). Branch root.lines p.0 p.1) (ap said e ∙ f)
 
--- in the words of the matrix's own lines
+-- in terms of the lines of the matrix
 on_all_lines : (m : Matrix) (rows columns : ℕ) (lines : LineSet) (P : List ℕ → List ℕ → Type 0) → rows ≡ height m → columns ≡ m.width
     → lines.rows ≡ first_lines rows → lines.columns ≡ first_lines columns → P lines.rows lines.columns → P (first_lines (height m)) (first_lines m.width)
 on_all_lines m rows columns lines P e f g h p =

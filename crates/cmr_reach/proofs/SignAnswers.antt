@@ -1,4 +1,4 @@
--- What the answers of `sign` say of the matrix and the rows.
+-- The meaning of the answers of `sign` for the matrix and the rows.
 use Rattle.std.proofs.Common.{◌≡◌, ◌∙◌, ℕ, List, false, ap, sym, arith, refl}
 use Rattle.cmr_base.specs.declared.line_set.LineSet.{LineSet}
 use Rattle.cmr_base.specs.Matrix.{Matrix}
@@ -58,7 +58,7 @@ says o matrix rows r answer reports is =
     let decided = named.2 in
     (found.0, found.1, (named.0, named.1, says_of_answer found.0 named.0.rows decided.answer decided.is_answer answer (sym (status_of r _ decided.report_is) ∙ is)))
 
--- ---- what is decided is an answer
+-- ---- a decision is an answer
 
 report_answers : (m : Matrix) (rows : List ℕ) (answer : SetSigning) (r : Report) → r ≡ sign_report m rows answer → IsAnswered r
 report_answers m rows (Signed signs steps) r e = (Yes, status_of r _ e)

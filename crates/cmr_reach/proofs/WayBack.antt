@@ -1,4 +1,4 @@
--- The files that `parts` writes are composed again.
+-- `compose` inverts `parts` on the files that `parts` writes.
 use Rattle.std.proofs.Common.{◌≡◌, ◌≢◌, ◌≤◌, ℕ, Bool, false, List, [], ◌∷◌, Some, length, ap, ap₂, sym, subst, refl, arith}
 use Rattle.std.specs.Prelude.{if◌then◌else◌}
 use Rattle.std.specs.Str.{bytes_eq}
@@ -26,7 +26,7 @@ use Rattle.cmr_reach.specs.Parts.{ArePartsOfRoot, PartsDecides, PartsReports, pa
 use Rattle.cmr_reach.specs.WayBack.{PartsComposeBack, back_order}
 use Rattle.cmr_reach.proofs.PartsAnswers.{composed_to}
 
--- ---- what the names hold once two files were written
+-- ---- the contents of the names after two files were written
 
 module _ (held : Held) (f g : File) where
   first_held : f.name ≢ g.name → with_files held (f ∷ g ∷ []) f.name ≡ Some f.bytes
@@ -42,7 +42,7 @@ both_read held f g apart few many =
     ap₂ (λ x y. and_then f.name x (and_then g.name y (texts [])))
     (read_whole written (matrix_file f.name) f.bytes (first_held held f g apart) few) (read_whole written (matrix_file g.name) g.bytes (second_held held f g) many)
 
--- ---- what was read
+-- ---- the texts that were read
 
 pair_reported : (o : PartsOrder) (read : Given) (report : Report) → ReportsGiven (parts_tool o) read report → report.status ≡ answer_status Yes
     → (matrix : List ℕ) × (evidence : List ℕ) × (read ≡ texts (matrix ∷ evidence ∷ [])) × PartsReports o matrix evidence report

@@ -1,4 +1,4 @@
--- What the words of `balanced` order, what it reports, and what its answers mean.
+-- The order of the arguments of `balanced`, its reports, and the meaning of its answers.
 use Rattle.std.specs.Prelude.{◌≡◌, ◌<◌, ◌≤◌, ℕ, false, List, codes, [], ◌∷◌, Option, Some, option_map}
 use Rattle.cmr_base.specs.declared.limits.TheConstants.{MAX_LINES}
 use Rattle.cmr_base.specs.declared.line_set.LineSet.{LineSet}
@@ -28,7 +28,7 @@ use Rattle.cmr_front.specs.Words.Parsing.{fault_in, file_in, form_in, lines_in, 
 use Rattle.cmr_front.specs.Words.ReadWords.{◌>>=◌}
 use Rattle.cmr_reach.specs.declared.tools.balanced.BalancedOptions.{BalancedOptions}
 
--- ---- the words
+-- ---- the arguments
 
 -- the options of `balanced`
 pub record BalancedOrder : Type 0 where
@@ -69,7 +69,7 @@ balanced_order_of options = record {
 abbrev pub balanced_label : List ℕ
 balanced_label = codes "balanced"
 
--- the decomposition of the matrix within the budget and with this number of pivots says that it is totally unimodular
+-- the decomposition of the matrix within the budget and with this number of pivots has the verdict yes
 pub record IsDecomposed (budget pivots : ℕ) (m : Matrix) : Type 0 where
   pub tree : Tree
   pub is_tree : IsTreeFor (height m) m.width tree
@@ -82,25 +82,25 @@ pub record IsFaultOf (m : Matrix) (fault : LineSet) : Type 0 where
   pub column_set : IsColumnSet m fault.columns
   pub balance_fault : IsBalanceFault (entry m) fault.rows fault.columns
 
--- neither a cycle fault nor the decomposition decides
+-- there is no cycle fault, and the decomposition does not decide
 pub record IsUntold (budget pivots : ℕ) (m : Matrix) : Type 0 where
   pub no_fault : HasNoCycleFault (entry m)
   pub undecomposed : ¬ (IsDecomposed budget pivots m)
 
--- what a search finds: no fault, the least one, or too many lines
+-- the result of a search: no fault, the least one, or too many lines
 abbrev pub search_report : BalancedOrder → Matrix → LeastSubmatrix → Report
 search_report o m Clean = yes_report balanced_label
 search_report o m (Found fault) = fault_report balanced_label o.fault m fault
 search_report o m (TooMany shorter) = open_report balanced_label m
 
--- On a matrix: a no with its cycle fault where it has one; else a yes where its decomposition says so; else what the search of
--- its shorter side finds within the budget.
+-- On a matrix: a no with its cycle fault if it has one; otherwise a yes if its decomposition has the verdict yes; otherwise the
+-- result of the search of its shorter side within the budget.
 pub data BalancedDecides (o : BalancedOrder) (m : Matrix) (report : Report) : Type 0 where
   cycle : (fault : LineSet) → IsCycleFault m fault.rows fault.columns → IsFaultOf m fault → report ≡ fault_report balanced_label o.fault m fault → BalancedDecides o m report
   decomposed : HasNoCycleFault (entry m) → IsDecomposed o.lines o.pivots m → IsBalanced m → report ≡ yes_report balanced_label → BalancedDecides o m report
   searched : IsUntold o.lines o.pivots m → (found : LeastSubmatrix) → HasSearchedFaults m o.lines found → report ≡ search_report o m found → BalancedDecides o m report
 
--- what an answer leaves open: nothing but a search decides, and the shorter side has too many lines for it
+-- an open matrix: only a search decides, and the shorter side has too many lines for it
 pub record IsUndecided (budget pivots : ℕ) (m : Matrix) : Type 0 where
   pub untold : IsUntold budget pivots m
   pub above : budget < shorter_side m

@@ -1,4 +1,4 @@
--- What the words of `camion` order, what it reports, and what its answers mean.
+-- The order of the arguments of `camion`, its reports, and the meaning of its answers.
 use Rattle.std.specs.Prelude.{◌≡◌, ℕ, false, List, codes, [], ◌∷◌, Option, Some, option_map}
 use Rattle.cmr_base.specs.declared.line_set.LineSet.{LineSet}
 use Rattle.cmr_base.specs.Matrix.{Matrix, entry, IsTernary}
@@ -18,7 +18,7 @@ use Rattle.cmr_front.specs.Words.Parsing.{fault_in, file_in, form_in, matches_wi
 use Rattle.cmr_front.specs.Words.ReadWords.{◌>>=◌}
 use Rattle.cmr_reach.specs.declared.tools.camion.CamionOptions.{CamionOptions}
 
--- ---- the words
+-- ---- the arguments
 
 -- the options of `camion`
 pub record CamionOrder : Type 0 where
@@ -50,12 +50,12 @@ camion_order_of options = record {
 abbrev pub camion_label : List ℕ
 camion_label = codes "camion"
 
--- on a matrix: a yes where it has no cycle fault, and else a no with the cycle fault
+-- on a matrix: a yes if it has no cycle fault, and otherwise a no with the cycle fault
 pub data CamionDecides (o : CamionOrder) (m : Matrix) (report : Report) : Type 0 where
   yes : HasNoCycleFault (entry m) → report ≡ yes_report camion_label → CamionDecides o m report
   no : (fault : LineSet) → IsCycleFault m fault.rows fault.columns → report ≡ fault_report camion_label o.fault m fault → CamionDecides o m report
 
--- it is totally unimodular if a matrix of its support is
+-- it is totally unimodular if some matrix of its support is
 abbrev pub IsUnimodularIfSome : Matrix → Type 0
 IsUnimodularIfSome m = (n : Matrix) → IsTernary n → HaveOneSupport m n → IsTotallyUnimodular n → IsTotallyUnimodular m
 

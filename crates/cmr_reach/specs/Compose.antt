@@ -1,4 +1,4 @@
--- What the words of `compose` order, what it reports on two matrices, and what its answers mean.
+-- The order of the arguments of `compose`, its reports on two matrices, and the meaning of its answers.
 use Rattle.std.specs.Prelude.{◌≡◌, ◌≤◌, ◌+◌, ◌++◌, ℕ, false, List, [], ◌∷◌, Ok, codes, Option, Some, None, if◌then◌else◌}
 use Rattle.std.specs.Fmt.{decimal}
 use Rattle.cmr_base.specs.declared.limits.TheConstants.{MAX_COLUMNS, MAX_ROWS}
@@ -30,7 +30,7 @@ use Rattle.cmr_front.specs.Words.Parsing.{form_in, matches_in}
 use Rattle.cmr_front.specs.Words.ReadWords.{◌>>=◌}
 use Rattle.cmr_reach.specs.declared.tools.compose_tool.ComposeOptions.{ComposeOptions}
 
--- ---- the words
+-- ---- the arguments
 
 -- the options of `compose`
 pub record ComposeOrder : Type 0 where
@@ -77,23 +77,23 @@ compose_order_of options = record {
   output = options.output.now;
 }
 
--- ---- the sum, or why there is none
+-- ---- the sum, or the cause why there is none
 
--- The sum would have at most as many rows and columns as a matrix may have: those of both matrices without the ones that it loses.
+-- The sum has at most as many rows and columns as a matrix may have: the lines of both matrices without the lines that it loses.
 abbrev pub HaveFewRows : SumKind → Matrix → Matrix → Type 0
 HaveFewRows kind first second = height first + height second ≤ MAX_ROWS + lost_rows kind
 
 abbrev pub HaveFewColumns : SumKind → Matrix → Matrix → Type 0
 HaveFewColumns kind first second = first.width + second.width ≤ MAX_COLUMNS + lost_columns kind
 
--- the sum is defined, and a matrix
+-- the sum is defined, and is a matrix
 pub record IsComposed (kind : SumKind) (first second : Matrix) : Type 0 where
   pub rows : HaveFewRows kind first second
   pub columns : HaveFewColumns kind first second
   pub connected : HaveSum kind first second
   pub is_matrix : IsMatrix (sum_of kind first second)
 
--- each obstacle stands where those before it do not
+-- each obstacle holds only if the obstacles before it do not hold
 abbrev pub IsObstacle : SumKind → Matrix → Matrix → Obstacle → Type 0
 IsObstacle kind first second TooManyRows = ¬ (HaveFewRows kind first second)
 IsObstacle kind first second TooManyColumns = HaveFewRows kind first second × ¬ (HaveFewColumns kind first second)
@@ -151,7 +151,7 @@ ComposeMeans o first second Refused = (obstacle : Obstacle) × IsObstacle o.sum 
 
 -- ---- the tool
 
--- on the texts of the two matrices: the faults of the first come first
+-- on the texts of the two matrices: a fault of the first text has precedence
 abbrev pub ComposeReports : ComposeOrder → List ℕ → List ℕ → Report → Type 0
 ComposeReports o first second report =
     ReportsText faults.Matrix o.first (λ a. ReportsText faults.Matrix o.second (ComposeDecides o a) (matrix_in o.form false second)) (matrix_in o.form false first) report

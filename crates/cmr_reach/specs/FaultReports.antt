@@ -1,4 +1,4 @@
--- Reports of what is decided by faults, under the label of a tool.
+-- Reports of decisions by faults, under the label of a tool.
 use Rattle.std.specs.Prelude.{◌++◌, ℕ, ℤ, List, [], Option, codes}
 use Rattle.std.specs.Fmt.{signed_decimal}
 use Rattle.cmr_base.specs.declared.line_set.LineSet.{LineSet}
@@ -18,7 +18,7 @@ yes_report label = record { status = answer_status Yes; output = label ++ codes 
 abbrev pub named_fault : List ℕ → List ℕ → ℤ → List ℕ
 named_fault rows columns sum = codes "fault " ++ line_set_text rows columns ++ codes " sum " ++ signed_decimal sum ++ codes "\n"
 
--- a no with this fault, which is written where its file is asked for
+-- a no with this fault, which is written if its file is requested
 abbrev pub fault_report : List ℕ → Option (List ℕ) → Matrix → LineSet → Report
 fault_report label name m fault = record {
   status = answer_status No;

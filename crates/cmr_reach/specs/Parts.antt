@@ -1,4 +1,4 @@
--- What the words of `parts` order, what it reports on a matrix with a decomposition tree, and what its answers mean.
+-- The order of the arguments of `parts`, its reports on a matrix with a decomposition tree, and the meaning of its answers.
 use Rattle.std.specs.Prelude.{◌≡◌, ◌⊎◌, ◌++◌, ℕ, false, List, [], ◌∷◌, Ok, Option, Some, None, codes}
 use Rattle.cmr_base.specs.Matrix.{Matrix, IsMatrix}
 use Rattle.cmr_base.specs.LineSets.{submatrix}
@@ -33,7 +33,7 @@ use Rattle.cmr_front.specs.Words.Parsing.{form_in, matches_in}
 use Rattle.cmr_front.specs.Words.ReadWords.{◌>>=◌}
 use Rattle.cmr_reach.specs.declared.tools.parts.PartsOptions.{PartsOptions}
 
--- ---- the words
+-- ---- the arguments
 
 -- the options of `parts`
 pub record PartsOrder : Type 0 where
@@ -87,32 +87,32 @@ parts_report o kind both = record {
 abbrev pub said_refused : List ℕ → Report
 said_refused output = record { status = answer_status Refused; output = output; error = []; files = [] }
 
--- the word of what a root says
+-- the word for a root
 abbrev pub root_word : Finding → List ℕ
 root_word finding = word_of_kind (kind_of finding)
 
--- the root says something else than a sum of two matrices
+-- the root is not a sum of two matrices
 abbrev pub other_root_report : List ℕ → Report
 other_root_report kind = said_refused (codes "refused: root is " ++ kind ++ codes "\n")
 
--- ---- what is decided
+-- ---- the decisions
 
--- the root is a sum of this kind of these two matrices: those of its separation
+-- the root is a sum of this kind of these two matrices, which are the matrices of its separation
 abbrev pub IsRootSum : Matrix → SumKind → Arranged → Finding → Type 0
 IsRootSum m kind both (TwoSum two) = (kind ≡ sums.Two) × (both ≡ arranged m (two_arrangement m two))
 IsRootSum m kind both (ThreeSum three) = (kind ≡ sum_kind_of three.form) × (both ≡ arranged m (three_arrangement m three))
 IsRootSum m kind both finding = ⊥
 
--- the root is no sum of two matrices
+-- the root is not a sum of two matrices
 abbrev pub HasNoParts : Matrix → Finding → Type 0
 HasNoParts m finding = (kind : SumKind) (both : Arranged) → ¬ (IsRootSum m kind both finding)
 
--- the two matrices of the root's separation, whose sum is the matrix with its lines in their order; none where it is no sum of two
+-- the two matrices of the root's separation, whose sum is the matrix with its lines in their order; none if it is not such a sum
 abbrev pub IsArranged : Matrix → Finding → Option Arranged → Type 0
 IsArranged m finding None = HasNoParts m finding
 IsArranged m finding (Some both) = IsMatrix m × (kind : SumKind) × IsRootSum m kind both finding × IsRoundTrip kind m both
 
--- what stands of the parts of a matrix that the root gives
+-- the facts about the parts of a matrix that the root gives
 pub record ArePartsOfRoot (m : Matrix) (finding : Finding) (kind : SumKind) (both : Arranged) : Type 0 where
   pub of_root : IsRootSum m kind both finding
   pub round_trip : IsRoundTrip kind m both
@@ -123,7 +123,7 @@ pub record ArePartsOfRoot (m : Matrix) (finding : Finding) (kind : SumKind) (bot
 abbrev pub root_of : PlainTree → Finding
 root_of t = finding_of t.root
 
--- on a matrix with a tree: by the root where the tree keeps its rules, whatever it says of the matrix
+-- on a matrix with a tree: by the root if the tree keeps its rules, for every verdict of the tree
 pub data PartsDecides (o : PartsOrder) (m : Matrix) (t : PlainTree) (report : Report) : Type 0 where
   parted : IsSoundFor m t → (kind : SumKind) (both : Arranged) → ArePartsOfRoot m (root_of t) kind both → report ≡ parts_report o (root_word (root_of t)) both → PartsDecides o m t report
   other_root : IsSoundFor m t → HasNoParts m (root_of t) → report ≡ other_root_report (root_word (root_of t)) → PartsDecides o m t report
@@ -131,7 +131,7 @@ pub data PartsDecides (o : PartsOrder) (m : Matrix) (t : PlainTree) (report : Re
 
 -- ---- the meaning
 
--- what `compose` reports on the texts of the two matrices with this sum: the matrix in its file
+-- the report of `compose` on the texts of the two matrices with this sum: the matrix in its file
 abbrev pub AreComposedTo : SumKind → Arranged → Matrix → Type 0
 AreComposedTo kind both sum = (o : ComposeOrder) → o.form ≡ Dense → o.sum ≡ kind → ComposeReports o (dense_text both.first) (dense_text both.second) (composed_report o.output sum)
 
@@ -143,7 +143,7 @@ PartsMean m t Refused = (IsSoundFor m t × HasNoParts m (root_of t)) ⊎ ((path 
 
 -- ---- the tool
 
--- on the texts of the matrix and of the tree: the faults of the matrix come first
+-- on the texts of the matrix and of the tree: a fault of the matrix has precedence
 abbrev pub PartsReports : PartsOrder → List ℕ → List ℕ → Report → Type 0
 PartsReports o matrix tree report = ReportsText faults.Matrix o.matrix (λ m. ReportsTree o.tree (PartsDecides o m) tree) (matrix_in o.form false matrix) report
 

@@ -1,4 +1,4 @@
--- The set of rows that a submatrix text of a matrix names. Its columns say nothing.
+-- The set of rows that a submatrix text of a matrix names. Its columns have no effect.
 use Rattle.std.specs.Prelude.{ℕ, List, Result}
 use Rattle.cmr_base.specs.declared.line_set.LineSet.{LineSet}
 use Rattle.cmr_base.specs.Matrix.{Matrix, height}

@@ -1,4 +1,4 @@
--- What the words of `sign` order, what it reports, and what its answers mean.
+-- The order of the arguments of `sign`, its reports, and the meaning of its answers.
 use Rattle.std.specs.Prelude.{◌≡◌, ◌+◌, ◌++◌, ℕ, ℤ, pos, negsuc, false, List, [], ◌∷◌, Option, Some, None, Ok, codes}
 use Rattle.std.specs.Fmt.{decimal}
 use Rattle.cmr_base.specs.declared.line_set.LineSet.{LineSet}
@@ -28,7 +28,7 @@ use Rattle.cmr_front.specs.Words.Parsing.{form_in, matches_in}
 use Rattle.cmr_front.specs.Words.ReadWords.{◌>>=◌}
 use Rattle.cmr_reach.specs.declared.tools.sign.SignOptions.{SignOptions}
 
--- ---- the words
+-- ---- the arguments
 
 -- the options of `sign`
 pub record SignOrder : Type 0 where
@@ -53,7 +53,7 @@ sign_order words = matches_in sign_app words >>= sign_order_in
 abbrev pub sign_order_of : SignOptions → SignOrder
 sign_order_of options = record { form = options.form; matrix = options.matrix.now; rows = options.rows.now }
 
--- ---- what is printed
+-- ---- the printed lines
 
 abbrev pub sign_mark : ℤ → List ℕ
 sign_mark (pos n) = codes " +\n"
@@ -108,12 +108,12 @@ pub record SignDecides (m : Matrix) (rows : List ℕ) (report : Report) : Type 0
 
 -- ---- the meaning
 
--- the signs to which the run comes are a signing of the rows
+-- the signs at the end of the run are a signing of the rows
 pub record IsSignedByRun (m : Matrix) (rows : List ℕ) (signs : List ℤ) (steps : List Pivot) : Type 0 where
   pub signing : IsSigning m rows signs
   pub run : IsEndOfRun m rows (Signed signs steps)
 
--- the lines to which the run comes are a violator with rows among these, so the matrix is not totally unimodular
+-- the lines at the end of the run are a violator with rows among these, so the matrix is not totally unimodular
 pub record IsViolatedByRun (m : Matrix) (rows : List ℕ) (lines : LineSet) : Type 0 where
   pub violator : IsViolatorAmong m rows lines.rows lines.columns
   pub run : IsEndOfRun m rows (Violated lines)
@@ -127,7 +127,7 @@ SignMeans m rows Refused = ⊥
 
 -- ---- the tool
 
--- on the texts of the matrix and of the rows: the faults of the first come first
+-- on the texts of the matrix and of the rows: a fault of the matrix has precedence
 abbrev pub SignReports : SignOrder → List ℕ → List ℕ → Report → Type 0
 SignReports o matrix rows report =
     ReportsText faults.Matrix o.matrix (λ m. ReportsText faults.Matrix o.rows (λ lines. SignDecides m lines.rows) (set_of_text m rows)) (matrix_in o.form false matrix) report

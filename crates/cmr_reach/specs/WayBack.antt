@@ -1,5 +1,5 @@
--- The inverse of parts: composed with the sum of their kind, the two files that `parts` writes give the matrix with its lines in the
--- order that it prints.
+-- The inverse of `parts`: `compose` with the sum of the printed kind makes from the two files that `parts` writes the matrix with its
+-- lines in the printed order.
 use Rattle.std.specs.Prelude.{◌≡◌, ◌≢◌, ℕ, false, List, [], ◌∷◌, Ok}
 use Rattle.cmr_base.specs.Matrix.{Matrix}
 use Rattle.cmr_base.specs.LineSets.{submatrix}
@@ -18,11 +18,11 @@ use Rattle.cmr_front.specs.Status.{answer_status}
 use Rattle.cmr_reach.specs.Compose.{compose_tool, composed_report, ComposeOrder}
 use Rattle.cmr_reach.specs.Parts.{ArePartsOfRoot, parts_lines, parts_tool, root_of, root_word, PartsOrder}
 
--- what `compose` is asked: the sum of this kind of the two files, into a file of this name
+-- the order of `compose`: the sum of this kind of the two files, into a file of this name
 abbrev pub back_order : PartsOrder → SumKind → List ℕ → ComposeOrder
 back_order o kind output = record { form = Dense; sum = kind; first = o.first; second = o.second; output = output }
 
--- The files that were read hold a matrix and a tree of it, the parts of its root are printed, and once they stand in their files
+-- The files that were read hold a matrix and a tree of it, and the parts of its root are printed. When they are in their files,
 -- `compose` writes their sum, which is the matrix with its lines in the printed order.
 pub record IsComposedBack (o : PartsOrder) (held : Held) (report : Report) : Type 0 where
   pub matrix_text : List ℕ

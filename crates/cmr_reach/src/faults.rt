@@ -1,4 +1,4 @@
-// What is decided by faults: a yes, a no that names one, or nothing.
+// Decisions by faults: a yes, a no that names one, or nothing.
 ghost use Rattle.std.specs.Prelude.{◌≡◌, ◌++◌, IfOk, OnOk, option_map};
 ghost use Rattle.cmr_base.specs.LineSets.{AllBelow};
 ghost use Rattle.cmr_base.specs.Matrix.{height};

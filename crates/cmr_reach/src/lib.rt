@@ -1,4 +1,4 @@
-//! Further tools of the program: what stands beside total unimodularity and its evidence.
+//! Further tools of the program, beyond total unimodularity and its evidence.
 #![tactic(auto)]
 
 mod faults;

@@ -58,7 +58,7 @@ graphs_give_back p o m report name is testable plain asked decides status =
     let written = is_written p o m report name plain asked decides status in
     (graph_text written.net, written.files, gives_matrix p written.net m is testable written.shows)
 
--- ---- once the text stands in its file
+-- ---- when the text is in its file
 
 one_read : (held : Held) (file : File) → length file.bytes ≤ 16777216 → given (with_files held (file ∷ [])) (matrix_file file.name ∷ []) ≡ texts (file.bytes ∷ [])
 one_read held file few =
@@ -81,12 +81,12 @@ graph_files_give_back p o m report name held is testable plain asked decides sta
 
 -- ---- from the text of the matrix
 
--- what was read is tested
+-- the matrix that was read is tested
 read_is_testable : (p : TestedProperty) (form : MatrixForm) (bytes : List ℕ) (m : Matrix) → matrix_in form (is_binary p) bytes ≡ Ok m → IsTestable p m
 read_is_testable Graphic form bytes m read = read_is_binary form bytes m read
 read_is_testable Network form bytes m read = tt
 
--- a yes comes of one text, which represents a matrix
+-- a yes comes from one text, which represents a matrix
 matrix_read : (p : TestedProperty) (o : TestOrder) (read : Given) (report : Report) → ReportsGiven (path_tool p o) read report → report.status ≡ answer_status Yes
     → (bytes : List ℕ) × (read ≡ texts (bytes ∷ [])) × (m : Matrix) × (matrix_in o.form (is_binary p) bytes ≡ Ok m) × TestDecides p o m report
 matrix_read p o (not_there name) report reports status = absurd reports

@@ -18,17 +18,17 @@ pub means_of : (command named : Command) (tells : Bool) (held : Held) (status : 
     → IsTrue tells → (answer : Answer) → status ≡ answer_status answer → Means (tool_of (order_of command)) held answer
 means_of command named tells held status is means = subst (λ it. IsTrue tells → (answer : Answer) → status ≡ answer_status answer → Means (tool_of (order_of it)) held answer) (sym is) means
 
--- a run of what the words order is one of the order that they give
+-- a run for the order of the arguments is a run of this order
 pub read_of : (words : Option Order) (standing : Standing) (before after : Devices) (status : ℕ) → Runs (ordered words) standing before after status
     → (o : Order) → words ≡ Some o → (answer : Answer) → status ≡ answer_status answer → MeansRead (work (tool_of o)) (between before.reads after.reads) answer
 read_of words standing before after status runs o is answer answered = subst (λ (it : Option Order). MeansRead (ordered it) (between before.reads after.reads) answer) is (runs.means answer answered)
 
--- what an answer means for what the words order, if they order anything
+-- the meaning of an answer for the order of the arguments, if there is one
 abbrev MeansFor : Option Order → Held → Answer → Type 0
 MeansFor None held answer = Unit {0}
 MeansFor (Some o) held answer = Means (tool_of o) held answer
 
--- what an answer means for the order that a command names, it means for the order that the words give
+-- an answer has the same meaning for the order of a command and for the order of the arguments
 pub means_for : (words : Option Order) (named : Order) (held : Held) (answer : Answer) → words ≡ Some named → Means (tool_of named) held answer
     → (o : Order) → words ≡ Some o → Means (tool_of o) held answer
 means_for words named held answer given means o is = subst (λ (it : Option Order). MeansFor it held answer) is (subst (λ (it : Option Order). MeansFor it held answer) (sym given) means)

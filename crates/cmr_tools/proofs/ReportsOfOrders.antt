@@ -1,4 +1,4 @@
--- What the words and the texts determine of a report, tool by tool.
+-- What the arguments and the texts determine of a report, tool by tool.
 use Rattle.std.proofs.Common.{◌≡◌, ℕ, true, inl, inr, refl, subst, sym}
 use Rattle.cmr_front.specs.Tool.{HasOneReport}
 use Rattle.cmr_unimodular.specs.AlikeReports.{HasAlikeReports}

@@ -1,4 +1,4 @@
--- Laws on what the tools report.
+-- Laws on the reports of the tools.
 use Rattle.std.specs.Prelude.{◌≡◌, ℕ, false, List, [], ◌∷◌, Some, Ok}
 use Rattle.cmr_base.specs.Matrix.{Matrix, IsMatrix}
 use Rattle.cmr_front.specs.declared.status.Answer.TheVariants.{Yes}
@@ -30,12 +30,12 @@ abbrev pub FileGivesMatrix : TestedProperty → List ℕ → Held → Matrix →
 FileGivesMatrix p name held m = ReportsHeld (graph_matrix_tool p name) held (graph_matrix_report m)
     × ((other : Report) → ReportsHeld (graph_matrix_tool p name) held other → other ≡ graph_matrix_report m)
 
--- the same of the names that hold the files, once the graph stands in its own
+-- the same for the names that hold the files, when the graph is in its file
 abbrev pub GraphFilesGiveBack : Type 0
 GraphFilesGiveBack = (p : TestedProperty) (o : TestOrder) (m : Matrix) (report : Report) (name : List ℕ) (held : Held) → IsMatrix m → IsTestable p m → o.transposed ≡ false → o.graph ≡ Some name
     → TestDecides p o m report → report.status ≡ answer_status Yes → FileGivesMatrix p name (with_files held report.files) m
 
--- The file that was read holds a matrix, and with `-c` the file of the graph, once it stands there, gives this matrix.
+-- The file that was read holds a matrix, and the file of the graph gives this matrix with `-c`.
 pub record IsGivenBack (p : TestedProperty) (o : TestOrder) (name : List ℕ) (held : Held) (report : Report) : Type 0 where
   pub matrix_text : List ℕ
   pub held_text : given held (matrix_file o.file ∷ []) ≡ texts (matrix_text ∷ [])
@@ -43,11 +43,11 @@ pub record IsGivenBack (p : TestedProperty) (o : TestOrder) (name : List ℕ) (h
   pub matrix_is : matrix_in o.form (is_binary p) matrix_text ≡ Ok matrix
   pub gives_back : FileGivesMatrix p name (with_files held report.files) matrix
 
--- the same from what the names hold before: whatever the tool reports there
+-- the same from the contents of the names before the run, for every report of the tool
 abbrev pub HeldGraphsGiveBack : Type 0
 HeldGraphsGiveBack = (p : TestedProperty) (o : TestOrder) (name : List ℕ) (held : Held) (report : Report) → o.from_graph ≡ false → o.transposed ≡ false → o.graph ≡ Some name
     → ReportsHeld (test_tool p o) held report → report.status ≡ answer_status Yes → IsGivenBack p o name held report
 
--- whatever texts a tool decides on, a report with the status of a text at fault is the line on a file that the tool reads
+-- for all texts, a report with the status of a text fault is the line on a file that the tool reads
 abbrev pub FaultsAreOfFiles : Type 0
 FaultsAreOfFiles = (order : Order) (bytes : List (List ℕ)) (report : Report) → (tool_of order).Reports bytes report → report.status ≡ failure_status Text → IsFaultOfFile (tool_of order).inputs report

@@ -1,15 +1,15 @@
--- What the words and the texts determine of a report, and what the workers do.
+-- What the arguments and the texts determine of a report, and what the workers change.
 use Rattle.std.specs.Prelude.{◌≡◌, ◌↔◌, ◌⊎◌, ℕ, List, None, true}
 use Rattle.cmr_front.specs.Report.{Report}
 use Rattle.cmr_front.specs.Tool.{HasOneReport, Tool}
 use Rattle.cmr_unimodular.specs.AlikeReports.{HasAlikeReports}
 use Rattle.cmr_tools.specs.ToolOrders.{Order, balanced, camion, check, compose, generate, parts, regular, series_parallel, sign, test, tool_of, tu, upgrade}
 
--- two reports on the same texts differ at most in which networks realise a matrix
+-- two reports on the same texts can differ only in which networks realise a matrix
 abbrev pub ReportsAreAlike : Type 0
 ReportsAreAlike = (order : Order) → HasAlikeReports (tool_of order)
 
--- no file that holds a tree or a graph is asked for of what is tested
+-- no file of a tree or a graph of the tested matrix is requested
 abbrev pub WritesNoNetwork : Order → Type 0
 WritesNoNetwork (tu o) = o.tree ≡ None
 WritesNoNetwork (regular o) = o.tree ≡ None
@@ -24,11 +24,11 @@ WritesNoNetwork (balanced o) = Unit {0}
 WritesNoNetwork (parts o) = Unit {0}
 WritesNoNetwork (compose o) = Unit {0}
 
--- and then the texts determine the whole report
+-- if no such file is requested, the texts determine the whole report
 abbrev pub ReportsAreOne : Type 0
 ReportsAreOne = (order : Order) → WritesNoNetwork order → HasOneReport (tool_of order)
 
--- the same order for a number of workers
+-- the same order with another number of workers
 abbrev pub with_workers : ℕ → Order → Order
 with_workers n (tu o) = tu (record { form = o.form; lines = o.lines; pivots = o.pivots; workers = n; tree = o.tree; fault = o.fault; file = o.file })
 with_workers n (regular o) = regular (record { form = o.form; lines = o.lines; pivots = o.pivots; workers = n; tree = o.tree; fault = o.fault; signed = o.signed; chain = o.chain; file = o.file })
@@ -43,7 +43,7 @@ with_workers n (balanced o) = balanced (record { form = o.form; lines = o.lines;
 with_workers n (parts o) = parts o
 with_workers n (compose o) = compose o
 
--- a number of workers read the same files and report the same
+-- two tools read the same files and have the same reports
 pub record AreReportedAlike (one other : Tool) : Type 0 where
   pub inputs : one.inputs ≡ other.inputs
   pub reports : (bytes : List (List ℕ)) (report : Report) → one.Reports bytes report ↔ other.Reports bytes report

@@ -1,4 +1,4 @@
--- What the words of the command line order: a tool with its options.
+-- The order of the arguments of the command line: a tool with its options.
 use Rattle.std.specs.Prelude.{ℕ, List, [], ◌∷◌, Option, Some, None, option_map, if◌then◌else◌, codes}
 use Rattle.std.specs.Str.{bytes_eq}
 use Rattle.cmr_tools.specs.declared.command.Command.{Command}
@@ -39,7 +39,7 @@ pub data Order : Type 0 where
   parts : PartsOrder → Order
   compose : ComposeOrder → Order
 
--- what it reads, reports and means
+-- what it reads and reports, and what its answers mean
 abbrev pub tool_of : Order → Tool
 tool_of (tu o) = tu_tool o
 tool_of (regular o) = regular_tool o
@@ -54,7 +54,7 @@ tool_of (balanced o) = balanced_tool o
 tool_of (parts o) = parts_tool o
 tool_of (compose o) = compose_tool o
 
--- the tool that a word names
+-- the tool that an argument names
 abbrev pub tool_named : List ℕ → Option ToolName
 tool_named word =
     if bytes_eq word (codes "tu") then Some tool.Tu
@@ -72,7 +72,7 @@ tool_named word =
     else if bytes_eq word (codes "compose") then Some tool.Compose
     else None
 
--- what a tool takes of the other words
+-- the order of the other arguments of a tool
 abbrev pub order_with : ToolName → List (List ℕ) → Option Order
 order_with tool.Tu words = option_map tu (tu_order words)
 order_with tool.Regular words = option_map regular (regular_order words)
@@ -87,12 +87,12 @@ order_with tool.Balanced words = option_map balanced (balanced_order words)
 order_with tool.Parts words = option_map parts (parts_order words)
 order_with tool.Compose words = option_map compose (compose_order words)
 
--- the first word names the tool, which takes the others; nothing where the words are refused
+-- the first argument names the tool, which parses the others; nothing if the arguments are refused
 abbrev pub order : List (List ℕ) → Option Order
 order [] = None
 order (word ∷ words) = tool_named word >>= λ name. order_with name words
 
--- what is ordered: nothing where the words are refused
+-- the order, or nothing if the arguments are refused
 abbrev pub ordered : Option Order → Ordered
 ordered None = nothing
 ordered (Some order) = work (tool_of order)
@@ -101,7 +101,7 @@ abbrev pub order_of : Command → Order
 order_of (command.Tu options) = tu (tu_order_of options)
 order_of (command.Regular options) = regular (regular_order_of options)
 order_of (command.SeriesParallel options) = series_parallel (series_parallel_order_of options)
-order_of (command.Test property options) = test property (test_order_of options)
+order_of (command.Test it) = test it.property (test_order_of it.options)
 order_of (command.Generate options) = generate (generate_order_of options)
 order_of (command.Check options) = check (check_order_of options)
 order_of (command.Upgrade options) = upgrade (upgrade_order_of options)

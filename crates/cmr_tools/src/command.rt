@@ -1,5 +1,5 @@
-//! A tool with its options: how it is read from the words of the command line, and how it is carried out. The first word
-//! names the tool, and `clap` reads the others, except for a last word `-`, which says that the tool reads standard input.
+//! A tool with its options: how it is read from the arguments of the command line, and how it runs. The first argument
+//! names the tool, and `clap` reads the others, except a last argument `-`, with which the tool reads standard input.
 ghost use Rattle.std.specs.Prelude.{◌≡◌, IfOk, IsTrue};
 ghost use Rattle.cmr_front.specs.Run.{Means, RunsOver, work};
 ghost use Rattle.cmr_front.specs.Status.{answer_status};
@@ -8,22 +8,21 @@ ghost use Rattle.cmr_front.specs.declared.status.Answer.{Answer};
 ghost use Rattle.cmr_tools.specs.ToolOrders.{order, order_of, order_with, tool_named, tool_of};
 
 use cmr_base::{Word, WordList};
+use cmr_front::tool::Tool;
 use cmr_front::words::WordsError;
 use cmr_io::{Shelf, Sink};
-use cmr_reach::tools::balanced::{BalancedOptions, balanced, read_balanced};
-use cmr_reach::tools::camion::{CamionOptions, camion, read_camion};
-use cmr_reach::tools::compose_tool::{ComposeOptions, compose, read_compose};
-use cmr_reach::tools::parts::{PartsOptions, parts, read_parts};
-use cmr_reach::tools::sign::{SignOptions, read_sign, sign_rows};
-use cmr_unimodular::tools::check::{CheckOptions, check, read_check};
-use cmr_unimodular::tools::generate_tool::{GenerateOptions, generate_and_run, read_generate};
-use cmr_unimodular::tools::graphic_network::{
-    TestOptions, TestedProperty, read_test, test_property,
-};
-use cmr_unimodular::tools::regular::{RegularOptions, read_regular, regular};
-use cmr_unimodular::tools::series_parallel::{SpOptions, read_series_parallel, series_parallel};
-use cmr_unimodular::tools::tu::{TuOptions, read_tu, tu};
-use cmr_unimodular::tools::upgrade::{UpgradeOptions, read_upgrade, upgrade};
+use cmr_reach::tools::balanced::{BalancedOptions, read_balanced};
+use cmr_reach::tools::camion::{CamionOptions, read_camion};
+use cmr_reach::tools::compose_tool::{ComposeOptions, read_compose};
+use cmr_reach::tools::parts::{PartsOptions, read_parts};
+use cmr_reach::tools::sign::{SignOptions, read_sign};
+use cmr_unimodular::tools::check::{CheckOptions, read_check};
+use cmr_unimodular::tools::generate_tool::{GenerateOptions, read_generate};
+use cmr_unimodular::tools::graphic_network::{PropertyTest, TestedProperty, read_test};
+use cmr_unimodular::tools::regular::{RegularOptions, read_regular};
+use cmr_unimodular::tools::series_parallel::{SpOptions, read_series_parallel};
+use cmr_unimodular::tools::tu::{TuOptions, read_tu};
+use cmr_unimodular::tools::upgrade::{UpgradeOptions, read_upgrade};
 use std::alloc::Global;
 use std::thread::Threads;
 
@@ -37,8 +36,8 @@ pub enum Command<'a> {
     /// Tests whether a matrix is series-parallel.
     SeriesParallel(SpOptions<'a>),
     /// Tests whether the columns of a matrix are paths of a tree.
-    Test(TestedProperty, TestOptions<'a>),
-    /// Makes a matrix from a number, and tests whether it is totally unimodular.
+    Test(PropertyTest<'a>),
+    /// Generates a matrix from a number, and tests whether it is totally unimodular.
     Generate(GenerateOptions<'a>),
     /// Checks evidence on a matrix.
     Check(CheckOptions<'a>),
@@ -56,7 +55,7 @@ pub enum Command<'a> {
     Compose(ComposeOptions<'a>),
 }
 
-/// What the first word may be. `graphic` and `network` are one tool, which tests a property.
+/// The names of the tools. `graphic` and `network` are one tool, which tests a property.
 #[derive(Clone, Copy)]
 enum ToolName {
     Tu,
@@ -73,7 +72,7 @@ enum ToolName {
     Compose,
 }
 
-/// The command that the words give.
+/// The command that the arguments give.
 pub fn read_words<'a>(alloc: Global, words: &'a WordList) -> Result<Command<'a>, WordsError>
     ensures value { Gives order_of result (order words.now) }
     ensures ranges { IfOk result (λ command. (tool_of (order_of command)).InRanges) }
@@ -104,7 +103,7 @@ fn read_options<'a>(
         }
         ToolName::Test(property) => {
             let options = read_test(alloc, property, words)?;
-            Ok(Command::Test(property, options))
+            Ok(Command::Test(PropertyTest { property, options }))
         }
         ToolName::Generate => read_generate(alloc, words).map(Command::Generate),
         ToolName::Check => read_check(alloc, words).map(Command::Check),
@@ -117,7 +116,7 @@ fn read_options<'a>(
     }
 }
 
-// The tool that a word names.
+// The tool that an argument names.
 fn tool_named(word: &str) -> Option<ToolName>
     ensures { result ≡ tool_named word.now }
 {
@@ -139,7 +138,7 @@ fn tool_named(word: &str) -> Option<ToolName>
     }
 }
 
-/// Carries out a command, and answers the status.
+/// Carries out a command, and returns the status.
 pub fn obey<R: Threads + Sync, S: Shelf, O: Sink, E: Sink>(
     rt: &R,
     alloc: Global,
@@ -156,19 +155,17 @@ pub fn obey<R: Threads + Sync, S: Shelf, O: Sink, E: Sink>(
         → Means (tool_of (order_of command.now)) (S.content shelf.old) answer }
 {
     match command {
-        Command::Tu(options) => tu(rt, alloc, options, shelf, out, err),
-        Command::Regular(options) => regular(rt, alloc, options, shelf, out, err),
-        Command::SeriesParallel(options) => series_parallel(rt, alloc, options, shelf, out, err),
-        Command::Test(property, options) => {
-            test_property(rt, alloc, *property, options, shelf, out, err)
-        }
-        Command::Generate(options) => generate_and_run(rt, alloc, options, shelf, out, err),
-        Command::Check(options) => check(rt, alloc, options, shelf, out, err),
-        Command::Upgrade(options) => upgrade(rt, alloc, options, shelf, out, err),
-        Command::Camion(options) => camion(rt, alloc, options, shelf, out, err),
-        Command::Sign(options) => sign_rows(rt, alloc, options, shelf, out, err),
-        Command::Balanced(options) => balanced(rt, alloc, options, shelf, out, err),
-        Command::Parts(options) => parts(rt, alloc, options, shelf, out, err),
-        Command::Compose(options) => compose(rt, alloc, options, shelf, out, err),
+        Command::Tu(options) => options.run(rt, alloc, shelf, out, err),
+        Command::Regular(options) => options.run(rt, alloc, shelf, out, err),
+        Command::SeriesParallel(options) => options.run(rt, alloc, shelf, out, err),
+        Command::Test(test) => test.run(rt, alloc, shelf, out, err),
+        Command::Generate(options) => options.run(rt, alloc, shelf, out, err),
+        Command::Check(options) => options.run(rt, alloc, shelf, out, err),
+        Command::Upgrade(options) => options.run(rt, alloc, shelf, out, err),
+        Command::Camion(options) => options.run(rt, alloc, shelf, out, err),
+        Command::Sign(options) => options.run(rt, alloc, shelf, out, err),
+        Command::Balanced(options) => options.run(rt, alloc, shelf, out, err),
+        Command::Parts(options) => options.run(rt, alloc, shelf, out, err),
+        Command::Compose(options) => options.run(rt, alloc, shelf, out, err),
     }
 }

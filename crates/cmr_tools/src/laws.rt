@@ -7,28 +7,28 @@ ghost use Rattle.cmr_tools.specs.Laws.{
 };
 ghost use Rattle.cmr_tools.specs.ReportLaws.{ReportsAreAlike, ReportsAreOne, WorkersChangeNothing};
 
-/// Where `graphic` or `network` says yes of a matrix and writes a graph, but not with `-t`, the same tool with `-c` writes
-/// from that graph the canonical dense text of the matrix, and can report nothing else. It does so from the text, and from
-/// the file once the text stands in it; there the matrix is the one whose text was held by the file that was read.
+/// If `graphic` or `network` without `-t` says yes for a matrix and writes a graph, the same tool with `-c` writes the
+/// canonical dense text of the matrix from that graph, and can report nothing else. This holds for the text, and for the
+/// file when the text is in it. For the file, the matrix is the matrix whose text was in the file that was read.
 pub fn graphs_give_back()
     ensures texts { GraphsGiveBack }
     ensures files { GraphFilesGiveBack }
     ensures held { HeldGraphsGiveBack }
 {}
 
-/// Whatever texts a tool decides on, a report with the status of a text at fault is the line on a file that the tool reads.
+/// For all texts, a report with the status of a text fault is the line on a file that the tool reads.
 pub fn faults_are_of_files()
     ensures { FaultsAreOfFiles }
 {}
 
-/// Two reports on the same texts have the same status and the same bytes of standard output, and their files differ at most in which
-/// networks realise a matrix. They are equal where no file is written that may hold a network: a tree of `tu` or `regular`, or a graph.
+/// Two reports on the same texts have the same status and the same bytes of standard output, and their files can differ only in which
+/// networks realise a matrix. They are equal if no file is written that can hold a network: a tree of `tu` or `regular`, or a graph.
 pub fn one_report()
     ensures alike { ReportsAreAlike }
     ensures one { ReportsAreOne }
 {}
 
-/// The number of workers changes nothing of a report.
+/// The number of workers does not affect a report.
 pub fn workers_change_nothing()
     ensures { WorkersChangeNothing }
 {}

@@ -15,9 +15,9 @@ use cmr_io::{Shelf, Sink};
 use std::alloc::Global;
 use std::thread::Threads;
 
-/// Does all that the program does, and answers its status. `words` are the arguments after the program's name. They are read
-/// first, then all files of the tool in the order of the words; then the texts are tested in the same order, the answer is
-/// decided, the files are written, and standard output is written last. The first step that fails ends the run.
+/// Does all that the program does, and returns its status. `words` are the arguments after the program's name. They are read
+/// first, and then all files of the tool, in the order of the arguments. Then the texts are tested in the same order, the
+/// answer is decided, the files are written, and standard output is written last. The first step that fails ends the run.
 pub fn run<R: Threads + Sync, S: Shelf, O: Sink, E: Sink>(
     rt: &R,
     alloc: Global,

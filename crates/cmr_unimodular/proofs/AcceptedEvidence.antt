@@ -1,4 +1,4 @@
--- The evidence that `tu` and `regular` write is accepted by `check`.
+-- `check` accepts the evidence that `tu` and `regular` write.
 use Rattle.std.proofs.Common.{◌≡◌, ◌∙◌, ℕ, true, false, List, [], ◌∷◌, Some, Ok, refl, sym, subst}
 use Rattle.std.specs.List.{AllByRecursion}
 use Rattle.std.proofs.lemmas.Bool.{false≢true}
@@ -50,7 +50,7 @@ use Rattle.cmr_unimodular.proofs.EvidenceKinds.{kind_of_chain, kind_of_lines, ki
 use Rattle.cmr_unimodular.proofs.OneCheck.{check_has_one_report}
 use Rattle.cmr_unimodular.proofs.RegularAnswers.{lines_in_matrix, sound}
 
--- ---- what `check` reports on two texts
+-- ---- the reports of `check` on two texts
 
 module _ (form : MatrixForm) (file evidence matrix_text : List ℕ) (m : Matrix) where
   tree_checked : IsMatrix m → matrix_in form false matrix_text ≡ Ok m → (budget pivots : ℕ) (t : SizedTree) → IsDecomposition budget pivots m t
@@ -100,7 +100,7 @@ chain_checked form file evidence matrix_text a signed steps fault read signing r
     (read_reported faults.Chain evidence (ChainDecides a) (chain (text_of (chain_text c))) c (irregular_report signed fault) again
     (accepted signed (shows_irregular a c signed is signing.binary good) refl)))
 
--- ---- what it reports on what the names hold
+-- ---- its reports on the contents of the names
 
 checks_to : (form : MatrixForm) (file evidence matrix_text bytes : List ℕ) (later : Held) (report : Report) → reading later (matrix_file file) ≡ whole matrix_text → HoldsEvidence later evidence bytes
     → CheckReports (check_of form file evidence) matrix_text bytes report → ChecksTo (check_of form file evidence) later report
@@ -113,7 +113,7 @@ checks_to form file evidence matrix_text bytes later report read holds reports =
       only = λ other h. check_has_one_report o (matrix_text ∷ bytes ∷ []) other report (subst (λ read. ReportsGiven (check_tool o) read other) both h) reports;
     }
 
--- an answer of a tool on a matrix is one on the matrix that its file holds
+-- an answer of a tool on a matrix is an answer on the matrix in its file
 pub matrix_found : (source : Source) (InRanges : Type 0) (Decides : Matrix → Report → Type 0) (Says : Matrix → Answer → Type 0) (read : Given) (report : Report) (answer : Answer)
     → ReportsGiven (matrix_tool source InRanges Decides Says) read report → report.status ≡ answer_status answer
     → (bytes : List ℕ) × (read ≡ texts (bytes ∷ [])) × (m : Matrix) × (matrix_in source.form source.binary bytes ≡ Ok m) × Decides m report

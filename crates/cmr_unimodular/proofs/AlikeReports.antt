@@ -1,4 +1,4 @@
--- The words and the texts determine what the tools of total unimodularity report, except which networks realise a matrix.
+-- The arguments and the texts determine the reports of the tools of total unimodularity, except which networks realise a matrix.
 use Rattle.std.proofs.Common.{◌≡◌, ◌∙◌, ◌++◌, ℕ, Bool, true, false, List, [], ◌∷◌, Option, Some, None, refl, ap, ap₂, sym, subst}
 use Rattle.std.specs.Prelude.{option_map}
 use Rattle.cmr_base.specs.Matrix.{Matrix}
@@ -87,7 +87,7 @@ module _ (budget pivots : ℕ) (m : Matrix) (t u : SizedTree) (is : IsDecomposit
     files = alike_append (tree_file o.tree t) (tree_file o.tree u) (fault_file o.fault m (verdict_in t)) (fault_file o.fault m (verdict_in u)) (tree_files_alike o.tree) (fault_files_alike o.fault);
   }
 
-  -- where no tree is written the reports are equal
+  -- if no tree is written, the reports are equal
   verdicts_equal : (o : VerdictOrder) → o.tree ≡ None → verdict_report o m t ≡ verdict_report o m u
   verdicts_equal o none =
       ap (report_with (verdict_in t) (verdict_output o.label m t)) (ap (λ name. tree_file name t) none)
@@ -200,7 +200,7 @@ module _ (p : TestedProperty) (o : TestOrder) (m : Matrix) where
   tested_alike r s (tests.no minimal lacks e) (tests.yes net is f) = absurd (lacks.lacks is.has)
   tested_alike r s (tests.no minimal lacks e) (tests.no minimal' lacks' f) = equal_reports r s (e ∙ ap (test_no p o m) (one_lacking minimal minimal' lacks lacks') ∙ sym f)
 
-  -- where no graph is written
+  -- if no graph is written
   one_yes : o.graph ≡ None → (net other : Net) → test_yes p o net ≡ test_yes p o other
   one_yes none net other = plain net ∙ sym (plain other)
     where

@@ -1,4 +1,4 @@
--- What the answers of `check` say of the matrix and of the evidence.
+-- The meaning of the answers of `check` for the matrix and the evidence.
 use Rattle.std.proofs.Common.{◌≡◌, ◌∙◌, ℕ, List, [], ◌∷◌, drop, sym, subst, refl, ap, inl, inr, arith, length}
 use Rattle.std.proofs.lemmas.List.FromFn.{length-range_with_len}
 use Rattle.text_fields.specs.TextWords.{text_of}
@@ -44,7 +44,7 @@ use Rattle.cmr_unimodular.specs.declared.tools.check.EvidenceKind.TheVariants as
 use Rattle.cmr_unimodular.specs.Check.{ChainDecides, ChainMeans, CheckMeans, CheckReports, EvidenceMeans, EvidenceReports, ShowsIrregular, TreeDecides, TreeMeans, ViolatorDecides, ViolatorMeans, accepted, refused, accepted_report, check_tool, evidence_kind, is_of_support, CheckOrder}
 use Rattle.cmr_unimodular.proofs.UnimodularAnswers.{unimodular, not_unimodular}
 
--- ---- what a verdict says
+-- ---- the meaning of a verdict
 
 -- lines that are a violator
 pub refuted_by : (m : Matrix) (lines : LineSet) → IsRowSet m lines.rows → IsColumnSet m lines.columns → IsViolator (entry m) lines.rows lines.columns → IsRefuted m lines
@@ -112,7 +112,7 @@ violator_says m lines r Refused (refused not e) is = not
 
 -- ---- chains
 
--- steps that keep their rules, and a violator that keeps its own, are not broken
+-- a chain is not broken if its steps and its violator keep their rules
 unbroken : (a s end : Matrix) (steps : List SignStep) (lines : LineSet) → LeadTo (KeepsRule a) s steps end → IsSignedViolator a end lines → Breaks a s steps lines → ⊥
 unbroken a s end [] lines e violator breaks = breaks (subst (λ x. IsSignedViolator a x lines) (sym e) violator)
 unbroken a s end (step ∷ steps) lines (sign, keeps, rest) violator breaks = breaks sign keeps
@@ -124,7 +124,7 @@ chain_unbroken a c signs step is sound broken = elim broken.broken [
       (lead_from a (signing.unsigned a) signs middle c.chain.steps broken.before is (unsigned_signs a) sound.steps lead) sound.violator breaks
 ]
 
--- where steps lead that keep their rules, there are signs of the matrix
+-- steps that keep their rules lead to signs of the matrix
 lead_signs : (a s end : Matrix) (steps : List SignStep) → IsMatrix a → AreSigns a s → LeadTo (KeepsRule a) s steps end → AreSigns a end
 lead_signs a s end [] is signs e = subst (AreSigns a) e signs
 lead_signs a s end (step ∷ steps) is signs (sign, keeps, rest) = lead_signs a (signed_by s step sign) end steps is (rule_signs a s step sign is signs keeps) rest
@@ -156,7 +156,7 @@ chain_says a c r No (refused step not e) is = let s = status_of r _ e in absurd 
 chain_says a c r Undecided (refused step not e) is = let s = status_of r _ e in absurd (omega arith)
 chain_says a c r Refused (refused step not e) is = (step, not)
 
--- ---- what is decided is an answer
+-- ---- a decision is an answer
 
 accepted_answers : (m : Matrix) (v : Verdict) (r : Report) → r ≡ accepted_report m v → IsAnswered r
 accepted_answers m verdicts.Yes r e = (Yes, status_of r _ e)

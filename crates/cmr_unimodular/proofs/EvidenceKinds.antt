@@ -1,4 +1,4 @@
--- By which word `check` knows what evidence is: a text that represents a tree, a chain or lines is taken for one.
+-- The first word of evidence shows `check` its kind: a text that represents a tree, a chain or lines is read as one.
 use Rattle.std.proofs.Common.{◌≡◌, ◌∙◌, ℕ, Bool, true, false, List, [], ◌∷◌, Result, Ok, Err, refl, ap, sym, subst}
 use Rattle.std.specs.Prelude.{codes, if◌then◌else◌}
 use Rattle.std.specs.Str.{bytes_eq}
@@ -30,7 +30,7 @@ first_word : {A B K : Type 0} (short : K) (parse : List ℕ → Result A K) (tex
     → (x : A) × (rest : Text) × Fielded parse text x rest
 first_word short parse text next y e = let first = bind_ok (field short parse text) next y e in (first.0.0, first.0.1, field_ok short parse text first.0.0 first.0.1 first.1)
 
--- it decides what the evidence is
+-- this word decides the kind of the evidence
 by_first : {A K : Type 0} (parse : List ℕ → Result A K) (bytes : List ℕ) (x : A) (rest : Text) (kind : EvidenceKind) → Fielded parse (text_of bytes) x rest → ((word : List ℕ) → parse word ≡ Ok x → kind_named word ≡ kind)
     → evidence_kind bytes ≡ kind
 by_first parse bytes x rest kind read named = ap kind_of_words read.words_are ∙ named read.word.1 read.parsed

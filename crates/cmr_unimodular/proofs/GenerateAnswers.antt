@@ -1,4 +1,4 @@
--- What the answers of `generate` say of the matrix that is made.
+-- The meaning of the answers of `generate` for the generated matrix.
 use Rattle.std.proofs.Common.{◌≡◌, ◌<◌, ◌≤◌, ◌∙◌, ℕ, Result, Ok, Err, sym, subst, arith, ◌^◌, List, Option, Some, None, refl, codes}
 use Rattle.std.specs.Prelude.{IfOk}
 use Rattle.cmr_base.specs.declared.limits.TheConstants.{MAX_LINES, MAX_ROWS}
@@ -27,7 +27,7 @@ use Rattle.cmr_front.specs.Words.ReadWords.{◌>>=◌}
 use Rattle.cmr_front.specs.Words.Parsing.{lines_in, matches_in, number_from, pivots_in, workers_in}
 use Rattle.cmr_front.proofs.Numbers.{lines_in-le, number_from-between, pivots_in-le, workers_in-between}
 
--- ---- one matrix is made
+-- ---- the generated matrix is unique
 
 -- a network reproduces one matrix
 same_entry : (net : Net) (m n : Matrix) → Reproduces net m → Reproduces net n → height m ≡ height n → m.width ≡ n.width → (row column : ℕ) → row < height m → column < m.width → entry m row column ≡ entry n row column
@@ -50,7 +50,7 @@ one_made o m n a b = one_generated o.what o.size o.number m n a.is_matrix b.is_m
 
 -- ---- its verdict
 
--- what is reported on it
+-- the report on it
 pub reported : (o : GenerateOrder) (m : Matrix) (told : Report) (r : Result Outcome Memory) → IsGenerated o.what o.size o.number m → Decides (generate_verdict o) m told
     → IfOk r (λ outcome. outcome_report outcome ≡ generate_report o m told) → IfOk r (λ outcome. IsMatrix m) → IfOk r (λ outcome. GenerateDecides o (outcome_report outcome))
 reported o m told (Ok outcome) generated verdict is shape = record { made = m; is_made = record { generated = generated; is_matrix = shape }; told = told; verdict = verdict; report_is = is }
@@ -82,7 +82,7 @@ answers o r d = (answer_of (verdict_in d.verdict.tree), status_of r _ d.report_i
 pub generate_lawful : (o : GenerateOrder) → IsLawful (generate_tool o)
 generate_lawful o = record { one_status = λ bytes. one_status o; means = λ bytes. says o; at_fault = λ bytes r d is. absurd (no_fault r (answers o r d) is) }
 
--- the numbers that words of `generate` name
+-- the numbers in the arguments of `generate`
 size_in-range : (what : MakeKind) (rows : List Row) (size : ℕ) → size_in what rows ≡ Some size → (1 ≤ size) × (size ≤ most_size what)
 size_in-range what rows size e = go (first_of (codes "size") rows) e
   where

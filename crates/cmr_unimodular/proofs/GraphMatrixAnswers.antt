@@ -1,5 +1,5 @@
--- What the answers of `graphic` and `network` say, with `-c` and without.
-use Rattle.std.proofs.Common.{◌≡◌, ◌∙◌, ℕ, Bool, IsTrue, true, false, List, Result, Ok, Err, ap, sym, subst, arith}
+-- The meaning of the answers of `graphic` and `network`, with `-c` and without.
+use Rattle.std.proofs.Common.{◌≡◌, ◌∙◌, ℕ, Bool, true, false, List, [], ◌∷◌, Result, Ok, Err, ap, refl, sym, subst, arith}
 use Rattle.std.specs.Prelude.{IfOk}
 use Rattle.cmr_base.specs.declared.memory.Memory.{Memory}
 use Rattle.cmr_base.specs.Matrix.{Matrix, height, IsMatrix}
@@ -7,11 +7,12 @@ use Rattle.graph_text.specs.declared.read.SizedNetwork.{SizedNetwork}
 use Rattle.graph_text.proofs.OneMatrix.{binary_matrices_are_one, matrices_are_one}
 use Rattle.cmr_front.specs.declared.status.Answer.{Answer}
 use Rattle.cmr_front.specs.declared.status.Answer.TheVariants.{Yes, No, Undecided, Refused}
-use Rattle.cmr_front.specs.Ending.{Devices, Standing}
-use Rattle.cmr_front.specs.Report.{Held, Report}
-use Rattle.cmr_front.specs.Run.{Means, Runs, work}
+use Rattle.cmr_front.specs.declared.outcome.Outcome.{Outcome}
+use Rattle.cmr_front.specs.declared.outcome.Stop.{Stop}
+use Rattle.cmr_front.specs.MatrixText.{matrix_file}
+use Rattle.cmr_front.specs.Report.{Report}
 use Rattle.cmr_front.specs.Status.{answer_status}
-use Rattle.cmr_front.specs.Tool.{HasOneReport, IsLawful}
+use Rattle.cmr_front.specs.Tool.{HasOneReport, IsDecision, IsLawful}
 use Rattle.cmr_front.proofs.GraphFile.{graph_lawful, one_report_of_graph}
 use Rattle.cmr_front.proofs.Statuses.{status_of}
 use Rattle.cmr_unimodular.specs.declared.tools.graphic_network.TestedProperty.{TestedProperty}
@@ -65,13 +66,20 @@ test_in_ranges p o = go o.from_graph
     go true = tt
     go false = tt
 
--- without `-c` a run is one of the test
-pub runs_test : (p : TestedProperty) (o : TestOrder) (standing : Standing) (before after : Devices) (status : ℕ) → o.from_graph ≡ false → Runs (work (path_tool p o)) standing before after status → Runs (work (test_tool p o)) standing before after status
-runs_test p o standing before after status plain runs =
-    subst (λ (b : Bool). Runs (work (either_tool b (graph_matrix_tool p o.file) (path_tool p o))) standing before after status) (sym plain) runs
+-- with `-c` and without, one file is read
+pub test_inputs : (p : TestedProperty) (o : TestOrder) → (test_tool p o).inputs ≡ matrix_file o.file ∷ []
+test_inputs p o = go o.from_graph
+  where
+    go : (b : Bool) → (either_tool b (graph_matrix_tool p o.file) (path_tool p o)).inputs ≡ matrix_file o.file ∷ []
+    go true = refl
+    go false = refl
 
--- and so is what its answer means
-pub means_test : (p : TestedProperty) (o : TestOrder) (held : Held) (tells : Bool) (status : ℕ) → o.from_graph ≡ false → (IsTrue tells → (answer : Answer) → status ≡ answer_status answer → Means (path_tool p o) held answer)
-    → IsTrue tells → (answer : Answer) → status ≡ answer_status answer → Means (test_tool p o) held answer
-means_test p o held tells status plain means =
-    subst (λ (b : Bool). IsTrue tells → (answer : Answer) → status ≡ answer_status answer → Means (either_tool b (graph_matrix_tool p o.file) (path_tool p o)) held answer) (sym plain) means
+-- with `-c` the tool decides on the graph
+pub decides_on_graph : (p : TestedProperty) (o : TestOrder) (bytes : List (List ℕ)) (ended : Result Outcome Stop) → o.from_graph ≡ true → IsDecision ((graph_matrix_tool p o.file).Reports bytes) ended → IsDecision ((test_tool p o).Reports bytes) ended
+decides_on_graph p o bytes ended graph decided =
+    subst (λ (b : Bool). IsDecision ((either_tool b (graph_matrix_tool p o.file) (path_tool p o)).Reports bytes) ended) (sym graph) decided
+
+-- without `-c` it decides on the matrix
+pub decides_on_matrix : (p : TestedProperty) (o : TestOrder) (bytes : List (List ℕ)) (ended : Result Outcome Stop) → o.from_graph ≡ false → IsDecision ((path_tool p o).Reports bytes) ended → IsDecision ((test_tool p o).Reports bytes) ended
+decides_on_matrix p o bytes ended plain decided =
+    subst (λ (b : Bool). IsDecision ((either_tool b (graph_matrix_tool p o.file) (path_tool p o)).Reports bytes) ended) (sym plain) decided

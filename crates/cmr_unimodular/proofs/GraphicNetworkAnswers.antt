@@ -1,4 +1,4 @@
--- What the answers of `graphic` and `network` say of the matrix.
+-- The meaning of the answers of `graphic` and `network` for the matrix.
 use Rattle.std.proofs.Common.{◌≡◌, ◌∙◌, ℕ, Bool, true, false, List, Option, Some, None, option_map, Result, Ok, Err, sym, subst, arith}
 use Rattle.std.specs.Prelude.{IfOk, IfSome, IsSomeAnd, MatchOption}
 use Rattle.cmr_base.specs.declared.line_set.LineSet.{LineSet}
@@ -34,24 +34,24 @@ pub has_shown : (p : TestedProperty) (m : Matrix) (net : Net) → IsTestable p m
 has_shown Graphic m net binary shows = (binary, (net, shows))
 has_shown Network m net testable shows = (net, shows)
 
--- a matrix whose support no tree has is not graphic
+-- a matrix is not graphic if no tree has its support
 pub graphic_found : (m : Matrix) (found : Option Net) → MatchOption found (¬ (HasGraphicSupport m)) (λ net. ReproducesSupport net m) → MatchOption found (¬ (IsGraphic m)) (λ net. ReproducesSupport net m)
 graphic_found m None none = λ graphic. none graphic.1
 graphic_found m (Some net) shows = shows
 
--- what shows a property of a matrix is a network of its sizes
+-- a network that shows a property of a matrix has the matrix's sizes
 pub shown_network : (p : TestedProperty) (net : Net) (m : Matrix) → Shows p net m → IsNetworkOf net (height m) m.width
 shown_network Graphic net m shows = shows.network
 shown_network Network net m shows = shows.network
 
--- what is found where a matrix lacks a property
+-- the minimal set that is found if a matrix lacks a property
 pub minimal_found : (P : Matrix → Type 0) (m : Matrix) (r : Result (Option LineSet) Memory) → ¬ (P m) → IfOk r (λ found. MatchOption found (P m) (λ lines. (¬ (P m)) × IsGreedySet P m lines.rows lines.columns))
     → IfOk r (λ found. IfSome found (λ lines. IsMinimalWithout P m lines.rows lines.columns)) → IfOk r (λ found. IsSomeAnd found (IsMinimalSet P m))
 minimal_found P m (Ok None) lacks found minimal = absurd (lacks found)
 minimal_found P m (Ok (Some lines)) lacks found minimal = record { greedy = found.1; minimal = minimal }
 minimal_found P m (Err memory) lacks found minimal = tt
 
--- ---- its lines are lines of the matrix that is given
+-- ---- its lines are lines of the given matrix
 
 lines_below : (p : TestedProperty) (transposed : Bool) (m : Matrix) (lines : LineSet) → IsMinimalSet (Has p) (tested_matrix transposed m) (tested_lines transposed lines)
     → AllBelow (height m) lines.rows × AllBelow m.width lines.columns

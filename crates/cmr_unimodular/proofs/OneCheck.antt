@@ -1,4 +1,4 @@
--- The texts determine what `check` reports.
+-- The texts determine the report of `check`.
 use Rattle.std.proofs.Common.{◌≡◌, ◌≤◌, ◌+◌, ◌∙◌, ℕ, zero, suc, List, [], ◌∷◌, length, take, drop, inl, inr, refl, ap, ap₂, sym, subst, arith}
 use Rattle.text_fields.specs.TextWords.{text_of}
 use Rattle.matrix_text.specs.Submatrix.{named_lines}
@@ -29,7 +29,7 @@ use Rattle.cmr_unimodular.proofs.CheckAnswers.{chain_unbroken}
 
 -- ---- one first broken part
 
--- of steps that lead on from some signs, one is the first that breaks its rule
+-- among steps that continue from some signs, the first step that breaks its rule is unique
 one_break : (a s x y : Matrix) (steps : List SignStep) (lines : LineSet) (n k : ℕ) → IsMatrix a → AreSigns a s → n ≤ length steps → k ≤ length steps
     → LeadTo (KeepsRule a) s (take n steps) x → Breaks a x (drop n steps) lines → LeadTo (KeepsRule a) s (take k steps) y → Breaks a y (drop k steps) lines → n ≡ k
 one_break a s x y [] lines n k is signs few few' lead breaks lead' breaks' = omega arith

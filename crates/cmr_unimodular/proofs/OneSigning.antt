@@ -1,4 +1,4 @@
--- A matrix has one signing by Camion.
+-- A matrix has a unique signing by Camion.
 use Rattle.std.proofs.Common.{◌≡◌, ◌∙◌, ◌+ℤ◌, ◌-ℤ◌, inl, inr, ℕ, ℤ, List, [], ◌∷◌, refl, ap, ap₂, sym, subst, arith}
 use Rattle.cmr_base.specs.Matrix.{Matrix, entry, IsMatrix}
 use Rattle.cmr_base.specs.Members.{IsIn}
@@ -120,7 +120,7 @@ module _ (a s : Matrix) where
 
 -- ---- one signing
 
--- where all ones have signs there is no next step
+-- if all ones have signs, there is no next step
 none_next : (a s m : Matrix) (step : SignStep) (v : ℤ) → s ≡ m → AllSigned a m → ¬ (IsNextSign a s step v)
 none_next a s m step v e all next =
     let here = next_one a s step v next in

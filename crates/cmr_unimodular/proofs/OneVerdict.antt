@@ -1,4 +1,4 @@
--- All decompositions of a matrix tell the same.
+-- All decompositions of a matrix have the same verdict.
 use Rattle.std.proofs.Common.{◌≡◌, ◌∙◌, ℕ, ap, sym, subst}
 use Rattle.cmr_base.specs.Matrix.{Matrix, height}
 use Rattle.tree_type.specs.Invariant.{IsTreeFor}

@@ -1,4 +1,4 @@
--- In a violator stands a square submatrix whose determinant is none of -1, 0 and 1.
+-- A violator has a square submatrix whose determinant is none of -1, 0 and 1.
 use Rattle.std.proofs.Common.{◌≡◌, ◌<◌, ◌≤◌, ◌⊎◌, inl, inr, ℕ, zero, suc, ℤ, pos, negsuc, List, [], ◌∷◌, length, refl, sym, subst, arith}
 use Rattle.std.proofs.lemmas.Bool.{cases_lt}
 use Rattle.cmr_base.specs.Matrix.{Matrix, height, entry, IsEntry}

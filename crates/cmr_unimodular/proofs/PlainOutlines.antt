@@ -1,4 +1,4 @@
--- The outline of a tree does not depend on what its networks say.
+-- The outline of a tree does not depend on its networks.
 use Rattle.std.proofs.Common.{◌≡◌, ◌∙◌, ◌+◌, ◌++◌, ℕ, refl, ap, ap₂, sym}
 use Rattle.cmr_base.specs.declared.line_set.LineSet.{LineSet}
 use Rattle.tree_type.specs.DecompositionTrees.{Finding, Empty, Cycle, Reduced, OneSum, Network, Conetwork, R10, TwoSum, ThreeSum, Enumerated, Violator, Undecided, Pivoted, Tree, Trees, Branch, NoTrees, MoreTrees}

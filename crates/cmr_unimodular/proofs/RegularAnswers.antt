@@ -1,4 +1,4 @@
--- What the answers of `regular` say of the matrix.
+-- The meaning of the answers of `regular` for the matrix.
 use Rattle.std.proofs.Common.{◌≡◌, ◌≤◌, ◌∙◌, ℕ, List, Result, Ok, Err, refl, sym, subst, arith, Option, Some, None, codes}
 use Rattle.std.specs.Prelude.{IfOk}
 use Rattle.cmr_base.specs.declared.memory.Memory.{Memory}
@@ -102,7 +102,7 @@ regular_lawful o = lawful (regular_source o) (RegularDecides o) (RegularMeans o)
 pub fault_lines : (rows columns : ℕ) (v : Verdict) (fault : LineSet) → v ≡ verdicts.No fault → HasLinesIn rows columns v → AreLinesIn rows columns fault
 fault_lines rows columns v fault e lines = subst (HasLinesIn rows columns) e lines
 
--- what is reported
+-- the report
 pub reported : (o : RegularOrder) (a signed : Matrix) (steps : List SignStep) (tree : SizedTree) (r : Result Outcome Memory) → IsSignedTo a steps signed → IsDecomposition o.lines o.pivots signed tree → IsTold o.lines signed (verdict_in tree)
     → IfOk r (λ outcome. outcome_report outcome ≡ regular_report o a steps signed tree) → IfOk r (λ outcome. RegularDecides o a (outcome_report outcome))
 reported o a signed steps tree (Ok outcome) signing decomposition told is = record { steps = steps; signed = signed; signing = signing; tree = tree; decomposition = decomposition; told = told; report_is = is }
@@ -113,7 +113,7 @@ pub chain_written : (a : Matrix) (steps : List SignStep) (violator fault : LineS
     → chain_text (record { chain = record { steps = steps; violator = violator }; rows = rows; columns = columns }) ≡ chain_text (chain_with a steps fault)
 chain_written a steps violator fault rows columns e f g = rw (e, f, g) refl
 
--- the numbers that words of `regular` name are in their ranges, and so are the pivots
+-- the numbers in the arguments of `regular` are in their ranges, the pivots included
 pub regular_order-ranges : (words : List Text) (o : RegularOrder) → regular_order words ≡ Some o → (regular_tool o).InRanges × (o.pivots ≤ 100)
 regular_order-ranges words o e = go (matches_with_input regular_app words) e
   where

@@ -1,4 +1,4 @@
--- What the answers of `series-parallel` say of the matrix.
+-- The meaning of the answers of `series-parallel` for the matrix.
 use Rattle.std.proofs.Common.{◌≡◌, ◌∙◌, ℕ, ℤ, Bool, zero, suc, List, Option, Some, None, ap, sym, arith, length}
 use Rattle.std.specs.Prelude.{◌+◌}
 use Rattle.cmr_base.specs.declared.line.Step.{Step}
@@ -23,7 +23,7 @@ record IsLeft (R C : List ℕ) (rows columns : List ℕ) : Type 0 where
   rows_in : IsWithin rows R
   columns_in : IsWithin columns C
 
--- what removals leave was there
+-- the lines that removals leave are lines of the matrix
 left : (binary : Bool) (M : ℕ → ℕ → ℤ) (n : ℕ) (R C : List ℕ) → IsLeft R C (removal_on binary M n R C).rows (removal_on binary M n R C).columns
 left binary M zero R C = record { rows_in = λ x h. h; columns_in = λ x h. h }
 left binary M (suc n) R C = go (λ rows columns. left binary M n rows columns) (first_step binary M R C (lines_of R C))
@@ -44,12 +44,12 @@ rest_rows_below binary m = below (height m) (removal binary m).rows (left binary
 pub rest_columns_below : (binary : Bool) (m : Matrix) → AllBelow m.width (removal binary m).columns
 rest_columns_below binary m = below m.width (removal binary m).columns (left binary (entry m) (height m + m.width) (first_lines (height m)) (first_lines m.width)).columns_in
 
--- a matrix of which no line is left is series-parallel
+-- a matrix is series-parallel if the reductions leave no line
 pub series_parallel_without_rest : (binary : Bool) (m : Matrix) (rows columns : List ℕ) → rows ≡ (removal binary m).rows → columns ≡ (removal binary m).columns
     → length rows ≡ 0 → length columns ≡ 0 → IsSeriesParallel binary m
 series_parallel_without_rest binary m rows columns r c e f = (any_order binary m).1 (sym r ∙ no_items rows e, sym c ∙ no_items columns f)
 
--- and of a series-parallel one no line is left
+-- the reductions of a series-parallel matrix leave no line
 pub rest_of_series_parallel : (binary : Bool) (m : Matrix) (rows columns : List ℕ) → rows ≡ (removal binary m).rows → columns ≡ (removal binary m).columns
     → IsSeriesParallel binary m → (length rows ≡ 0) × (length columns ≡ 0)
 rest_of_series_parallel binary m rows columns r c holds =

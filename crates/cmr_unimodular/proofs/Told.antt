@@ -1,4 +1,4 @@
--- What a decomposition tells is so.
+-- The verdict of a decomposition is right.
 use Rattle.std.proofs.Common.{◌≡◌, ◌∙◌, ℕ, length, Option, Some, None, refl, ap, sym, subst}
 use Rattle.std.proofs.lemmas.List.FromFn.{length-range_with_len}
 use Rattle.cmr_base.specs.declared.line_set.LineSet.{LineSet}

@@ -1,4 +1,4 @@
--- What the answers of `tu` say of the matrix.
+-- The meaning of the answers of `tu` for the matrix.
 use Rattle.std.proofs.Common.{◌≡◌, ◌≤◌, ◌∙◌, sym, ℕ, List, Option, Some, None, codes}
 use Rattle.cmr_base.specs.Matrix.{Matrix}
 use Rattle.cmr_front.specs.declared.status.Answer.{Answer}
@@ -23,7 +23,7 @@ says o m r answer d is = unimodular_means o.lines o.pivots m d.tree d.decomposit
 pub tu_lawful : (o : TuOrder) → IsLawful (tu_tool o)
 tu_lawful o = lawful (tu_source o) (Decides (tu_verdict o)) (TuMeans o) (says o) _ (one_verdict (tu_verdict o)) (λ m r d. (answer_of (verdict_in d.tree), status_of r _ d.report_is))
 
--- the numbers that words of `tu` name are in their ranges, and so are the pivots
+-- the numbers in the arguments of `tu` are in their ranges, the pivots included
 pub tu_order-ranges : (words : List Text) (o : TuOrder) → tu_order words ≡ Some o → (tu_tool o).InRanges × (o.pivots ≤ 100)
 tu_order-ranges words o e = go (matches_with_input tu_app words) e
   where

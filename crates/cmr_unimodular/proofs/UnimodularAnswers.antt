@@ -1,4 +1,4 @@
--- What the verdict of a decomposition says of the matrix.
+-- The meaning of the verdict of a decomposition for the matrix.
 use Rattle.std.proofs.Common.{◌≡◌, ℕ, subst, refl, arith}
 use Rattle.cmr_base.specs.Matrix.{Matrix}
 use Rattle.cmr_base.specs.Signing.{IsTotallyUnimodular}

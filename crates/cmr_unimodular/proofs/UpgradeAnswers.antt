@@ -1,4 +1,4 @@
--- What the answer of `upgrade` says of the tree.
+-- The meaning of the answer of `upgrade` for the tree.
 use Rattle.std.proofs.Common.{◌≡◌, ◌∙◌, ℕ, List, Ok, ap, sym, arith}
 use Rattle.text_fields.specs.TextWords.{text_of}
 use Rattle.tree_text.specs.TreeReading.{PlainTree, tree}

@@ -1,4 +1,4 @@
--- The number of workers changes nothing of what `regular` and `generate` report.
+-- The number of workers does not affect the reports of `regular` and `generate`.
 use Rattle.std.proofs.Common.{ℕ, List}
 use Rattle.cmr_base.specs.Matrix.{Matrix}
 use Rattle.cmr_front.specs.Report.{Report}

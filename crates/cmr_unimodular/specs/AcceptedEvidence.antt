@@ -1,4 +1,4 @@
--- What `tu` and `regular` write as evidence, `check` accepts with the same matrix.
+-- `check` accepts the evidence that `tu` and `regular` write, with the same matrix.
 use Rattle.std.specs.Prelude.{◌≡◌, ◌≤◌, ℕ, List, [], ◌∷◌, length, Some, Ok, true, false}
 use Rattle.cmr_base.specs.declared.limits.TheConstants.{MAX_EVIDENCE}
 use Rattle.cmr_base.specs.declared.line_set.LineSet.{LineSet}
@@ -22,16 +22,16 @@ use Rattle.cmr_unimodular.specs.Regular.{IsSignedTo, RegularOrder, chain_with, r
 use Rattle.cmr_unimodular.specs.Tu.{TuOrder, tu_tool, tu_verdict}
 use Rattle.cmr_unimodular.specs.Verdict.{IsDecomposition, verdict_in, verdict_report}
 
--- what `check` is asked: the evidence of one file, with the matrix of another
+-- the order of `check`: the evidence in one file, with the matrix in another
 abbrev pub check_of : MatrixForm → List ℕ → List ℕ → CheckOrder
 check_of form matrix evidence = record { form = form; matrix = matrix; evidence = evidence }
 
--- `check` gives this report on what the names hold, and no other
+-- `check` gives this report on the contents of the names, and no other
 pub record ChecksTo (o : CheckOrder) (held : Held) (report : Report) : Type 0 where
   pub reports : ReportsHeld (check_tool o) held report
   pub only : (other : Report) → ReportsHeld (check_tool o) held other → other ≡ report
 
--- a file holds this evidence, which is no longer than evidence may be
+-- a file holds this evidence, which is within the limit on evidence
 pub record HoldsEvidence (held : Held) (name bytes : List ℕ) : Type 0 where
   pub there : held name ≡ Some bytes
   pub within : length bytes ≤ MAX_EVIDENCE
@@ -39,8 +39,8 @@ pub record HoldsEvidence (held : Held) (name bytes : List ℕ) : Type 0 where
 abbrev pub tree_bytes : SizedTree → List ℕ
 tree_bytes tree = tree_text tree.rows tree.columns (tree_of tree.root)
 
--- The file that was read holds a matrix, and the report is that of a decomposition of it. Where this file is as it was and another one
--- holds the tree, `check` accepts the tree with that matrix and gives the same answer; and it accepts the violator of a no.
+-- The file that was read holds a matrix, and the report is a report of a decomposition of it. If this file has not changed and another
+-- file holds the tree, `check` accepts the tree with that matrix and gives the same answer. It also accepts the violator of a no.
 pub record IsAcceptedTest (o : TuOrder) (held : Held) (report : Report) : Type 0 where
   pub matrix_text : List ℕ
   pub held_text : given held (matrix_file o.file ∷ []) ≡ texts (matrix_text ∷ [])
@@ -57,8 +57,8 @@ pub record IsAcceptedTest (o : TuOrder) (held : Held) (report : Report) : Type 0
 abbrev pub TestsAreAccepted : Type 0
 TestsAreAccepted = (o : TuOrder) (held : Held) (report : Report) (answer : Answer) → ReportsHeld (tu_tool o) held report → report.status ≡ answer_status answer → IsAcceptedTest o held report
 
--- The file that was read holds a 0/1 matrix, and the report is that of its signing and of a decomposition of the signed matrix. Where a
--- file holds the signed matrix, `check` accepts the tree and the violator of a no with it. Where the file that was read is as it was,
+-- The file that was read holds a 0/1 matrix, and the report comes from its signing and a decomposition of the signed matrix. If a file
+-- holds the signed matrix, `check` accepts the tree and the violator of a no with it. If the file that was read has not changed,
 -- `check` accepts the chain of a no with the 0/1 matrix.
 pub record IsAcceptedSigning (o : RegularOrder) (held : Held) (report : Report) : Type 0 where
   pub matrix_text : List ℕ

@@ -1,4 +1,4 @@
--- What the words and the texts determine of a report: all of it, except which network realises a matrix.
+-- The arguments and the texts determine a report, except which network realises a matrix.
 use Rattle.std.specs.Prelude.{◌≡◌, ℕ, Bool, List, [], ◌∷◌}
 use Rattle.cmr_base.specs.Matrix.{Matrix}
 use Rattle.cmr_base.specs.declared.network.Network.{Network as Net}
@@ -10,23 +10,23 @@ use Rattle.cmr_front.specs.Tool.{Tool}
 use Rattle.cmr_unimodular.specs.declared.tools.graphic_network.TestedProperty.{TestedProperty}
 use Rattle.cmr_unimodular.specs.GraphicNetwork.{Shows, tested_matrix, written_graph}
 
--- Two files of one name: they are the same, or hold the texts of two trees that differ only in what their networks say, or the texts of
--- two networks that show the property of one matrix.
+-- Two files of one name are equal, or hold the texts of two trees that differ only in their networks, or hold the texts of two networks
+-- that show the property of one matrix.
 pub data HoldAlike (f g : File) : Type 0 where
   same : f ≡ g → HoldAlike f g
   trees : f.name ≡ g.name → (rows columns : ℕ) (tree other : Tree) → plain_tree tree ≡ plain_tree other → f.bytes ≡ tree_text rows columns tree → g.bytes ≡ tree_text rows columns other → HoldAlike f g
   networks : f.name ≡ g.name → (p : TestedProperty) (transposed : Bool) (m : Matrix) (net other : Net) → Shows p net (tested_matrix transposed m) → Shows p other (tested_matrix transposed m)
       → f.bytes ≡ written_graph transposed net → g.bytes ≡ written_graph transposed other → HoldAlike f g
 
--- the same of files in their order
+-- the same for files in their order
 abbrev pub AllAlike : List File → List File → Type 0
 AllAlike [] [] = Unit {0}
 AllAlike [] (g ∷ gs) = ⊥
 AllAlike (f ∷ fs) [] = ⊥
 AllAlike (f ∷ fs) (g ∷ gs) = HoldAlike f g × AllAlike fs gs
 
--- Two reports differ at most in which networks realise a matrix: their statuses, standard outputs and standard errors are equal, and so
--- are the names of their files.
+-- Two reports can differ only in which networks realise a matrix. Their statuses, standard outputs, standard errors and names of files
+-- are equal.
 pub record DifferInNetworks (r s : Report) : Type 0 where
   pub status : r.status ≡ s.status
   pub output : r.output ≡ s.output

@@ -1,4 +1,4 @@
--- What the words of `check` order, what it reports on evidence, and what its answers mean.
+-- The order of the arguments of `check`, its reports on evidence, and the meaning of its answers.
 use Rattle.std.specs.Prelude.{◌≡◌, ◌++◌, if◌then◌else◌, ℕ, Bool, true, false, List, [], ◌∷◌, Ok, bytes_eq, codes, Option, Some}
 use Rattle.std.specs.Fmt.{decimal}
 use Rattle.cmr_base.specs.Matrix.{Matrix, IsMatrix, IsTernary, entry, height}
@@ -39,7 +39,7 @@ use Rattle.cmr_front.specs.Words.Arguments.{form_rule, operand_rule, tool_app}
 use Rattle.cmr_front.specs.Words.Parsing.{form_in, matches_in}
 use Rattle.cmr_front.specs.Words.ReadWords.{◌>>=◌}
 
--- ---- the words
+-- ---- the arguments
 
 -- the options of `check`
 pub record CheckOrder : Type 0 where
@@ -64,7 +64,7 @@ check_order words = matches_in check_app words >>= check_order_in
 abbrev pub check_order_of : CheckOptions → CheckOrder
 check_order_of options = record { form = options.form; matrix = options.matrix.now; evidence = options.evidence.now }
 
--- ---- what the evidence is
+-- ---- the kind of the evidence
 
 abbrev pub kind_named : List ℕ → EvidenceKind
 kind_named word =
@@ -76,11 +76,11 @@ abbrev pub kind_of_words : List (ℕ × List ℕ) → EvidenceKind
 kind_of_words [] = kinds.Violator
 kind_of_words (word ∷ words) = kind_named word.1
 
--- by the first word, a tree or a chain; anything else is to name a violator
+-- by the first word, a tree or a chain; all other evidence is read as a violator
 abbrev pub evidence_kind : List ℕ → EvidenceKind
 evidence_kind bytes = kind_of_words (text_of bytes).words
 
--- the matrix is read as 0/1 where the evidence is a chain
+-- the matrix is read as 0/1 if the evidence is a chain
 abbrev pub is_of_support : EvidenceKind → Bool
 is_of_support kinds.Tree = false
 is_of_support kinds.Chain = true
@@ -95,7 +95,7 @@ said answer output = record { status = answer_status answer; output = output; er
 abbrev pub violator_in : Matrix → LineSet → List ℕ
 violator_in m lines = violator_line lines.rows lines.columns (submatrix_sum m lines.rows lines.columns)
 
--- what is said of evidence that keeps its rules: its verdict
+-- the report on evidence that keeps its rules: its verdict
 abbrev pub accepted_report : Matrix → Verdict → Report
 accepted_report m verdict = said (answer_of verdict) (codes "accepted" ++ answer_word verdict ++ named_line m verdict)
 
@@ -103,16 +103,16 @@ accepted_report m verdict = said (answer_of verdict) (codes "accepted" ++ answer
 abbrev pub refused_report : List ℕ → Rule → Report
 refused_report path broken = said Refused (refusal_line path broken)
 
--- the sum is that of the signs which the chain gives
+-- the sum is the sum of the signs that the chain gives
 abbrev pub irregular_report : Matrix → LineSet → Report
 irregular_report signs lines = said No (codes "accepted: not regular\n" ++ violator_in signs lines)
 
 abbrev pub refused_step_report : ℕ → Report
 refused_step_report step = said Refused (codes "refused: step " ++ decimal step ++ codes "\n")
 
--- ---- what is decided
+-- ---- the decisions
 
--- a tree is accepted where each node keeps all rules, and then its verdict is right
+-- a tree is accepted if each node keeps all rules, and its verdict is then right
 pub data TreeDecides (m : Matrix) (t : PlainTree) (report : Report) : Type 0 where
   accepted : IsSoundFor m t → Tells m (verdict_of t.root) → report ≡ accepted_report m (verdict_of t.root) → TreeDecides m t report
   refused : (path : List ℕ) (broken : Rule) → IsBrokenFor m t path broken → report ≡ refused_report path broken → TreeDecides m t report
@@ -133,7 +133,7 @@ pub data ChainDecides (a : Matrix) (c : SizedChain) (report : Report) : Type 0 w
   accepted : (signs : Matrix) → ShowsIrregular a c signs → report ≡ irregular_report signs c.chain.violator → ChainDecides a c report
   refused : (step : ℕ) → IsFirstBrokenPart a c step → report ≡ refused_step_report step → ChainDecides a c report
 
--- the evidence's own text is tested after that of the matrix
+-- the text of the evidence is tested after the text of the matrix
 abbrev pub EvidenceReports : List ℕ → EvidenceKind → Matrix → List ℕ → Report → Type 0
 EvidenceReports file kinds.Tree m bytes report = ReportsTree file (TreeDecides m) bytes report
 EvidenceReports file kinds.Chain m bytes report = ReportsText faults.Chain file (ChainDecides m) (chain (text_of bytes)) report
@@ -146,7 +146,7 @@ CheckReportsBy o kind matrix evidence report =
 abbrev pub CheckReports : CheckOrder → List ℕ → List ℕ → Report → Type 0
 CheckReports o matrix evidence report = CheckReportsBy o (evidence_kind evidence) matrix evidence report
 
--- ---- what the answers mean
+-- ---- the meaning of the answers
 
 abbrev pub TreeMeans : Matrix → PlainTree → Answer → Type 0
 TreeMeans m t Yes = IsSoundFor m t × (verdict_of t.root ≡ verdicts.Yes) × IsUnimodular m
@@ -166,7 +166,7 @@ ChainMeans a c No = (signs : Matrix) × ShowsIrregular a c signs
 ChainMeans a c Undecided = ⊥
 ChainMeans a c Refused = (step : ℕ) × IsFirstBrokenPart a c step
 
--- the evidence's text represents a tree, a chain or lines, of which the answer says so
+-- the text of the evidence represents a tree, a chain or lines that satisfy the meaning of the answer
 abbrev pub EvidenceMeans : EvidenceKind → Matrix → List ℕ → Answer → Type 0
 EvidenceMeans kinds.Tree m bytes answer = SaysOfTree (TreeMeans m) bytes answer
 EvidenceMeans kinds.Chain m bytes answer = (c : SizedChain) × (chain (text_of bytes) ≡ Ok c) × ChainMeans m c answer

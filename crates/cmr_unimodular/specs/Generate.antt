@@ -1,4 +1,4 @@
--- What the words of `generate` order, what it reports, and what its answers mean.
+-- The order of the arguments of `generate`, its reports, and the meaning of its answers.
 use Rattle.std.specs.Prelude.{◌≡◌, ◌≤◌, ◌<◌, ◌^◌, ◌++◌, ℕ, List, [], None, codes, ◌∷◌, Option, Some, if◌then◌else◌, option_map}
 use Rattle.std.specs.Fmt.{decimal}
 use Rattle.cmr_base.specs.declared.limits.TheConstants.{MAX_LINES, MAX_ROWS}
@@ -19,7 +19,7 @@ use Rattle.cmr_front.specs.Words.Arguments.{lines_rule, operand_rule, output_rul
 use Rattle.cmr_front.specs.Words.Parsing.{lines_in, matches_in, number_from, pivots_in, workers_in}
 use Rattle.cmr_front.specs.Words.ReadWords.{◌>>=◌}
 
--- ---- the words
+-- ---- the arguments
 
 -- the options of `generate`
 pub record GenerateOrder : Type 0 where
@@ -43,7 +43,7 @@ make_kind_named name = if bytes_eq name (codes "network") then Some Network
 abbrev pub make_kind_in : List Row → Option MakeKind
 make_kind_in rows = first_of (codes "kind") rows >>= make_kind_named
 
--- the greatest SIZE, with which the matrix has at most 1000 rows and columns
+-- the maximum SIZE: the matrix has at most 1000 rows and columns with it
 abbrev pub most_size : MakeKind → ℕ
 most_size Network = MAX_ROWS
 most_size TwoSum = 249
@@ -82,12 +82,12 @@ generate_order_of options = record {
 
 -- ---- the reports
 
--- the matrix that is made
+-- the generated matrix
 pub record IsMade (o : GenerateOrder) (m : Matrix) : Type 0 where
   pub generated : IsGenerated o.what o.size o.number m
   pub is_matrix : IsMatrix m
 
--- what `tu` does on it
+-- the verdict of `tu` on it
 abbrev pub generate_verdict : GenerateOrder → VerdictOrder
 generate_verdict o = record { label = codes "totally unimodular"; lines = o.lines; pivots = o.pivots; tree = None; fault = None }
 
@@ -101,7 +101,7 @@ summary_line what m =
     codes "generated " ++ kind_word what ++ codes " " ++ decimal (height m) ++ codes "x" ++ decimal m.width
     ++ codes " nonzeros " ++ decimal (nonzeros_of m.rows) ++ codes "\n"
 
--- the summary before what `tu` reports, and the matrix after its files
+-- the summary before the report of `tu`, and the matrix after its files
 abbrev pub generate_report : GenerateOrder → Matrix → Report → Report
 generate_report o m told = record {
   status = told.status;
@@ -117,7 +117,7 @@ pub record GenerateDecides (o : GenerateOrder) (report : Report) : Type 0 where
   pub verdict : Decides (generate_verdict o) made told
   pub report_is : report ≡ generate_report o made told
 
--- of the matrix that is made, what `tu` means
+-- the meaning of `tu` for the generated matrix
 abbrev pub GenerateMeans : GenerateOrder → Answer → Type 0
 GenerateMeans o answer = (made : Matrix) × IsMade o made × UnimodularMeans o.lines o.pivots made answer
 

@@ -1,4 +1,4 @@
--- What `graphic` and `network` report on a graph text, and what they do with `-c` and without.
+-- The reports of `graphic` and `network` on a graph text, and the tool with `-c` and without.
 use Rattle.std.specs.Prelude.{◌≡◌, ℕ, Bool, true, false, List, []}
 use Rattle.cmr_base.specs.Matrix.{Matrix, height, IsMatrix}
 use Rattle.graph_text.specs.declared.read.SizedNetwork.{SizedNetwork}

@@ -1,4 +1,4 @@
--- What the words of `graphic` and `network` order, what they report, and what their answers mean.
+-- The order of the arguments of `graphic` and `network`, their reports, and the meaning of their answers.
 use Rattle.std.specs.Prelude.{◌≡◌, ◌++◌, ℕ, Bool, true, false, List, [], Option, option_map, codes, ◌&&◌, ◌||◌, if◌then◌else◌, is_some, ◌∷◌, Some, None}
 use Rattle.cmr_base.specs.Matrix.{Matrix, transposed}
 use Rattle.cmr_base.specs.Trees.{IsBinary, IsGraphic, IsNetworkMatrix, Reproduces, ReproducesSupport}
@@ -21,7 +21,7 @@ use Rattle.cmr_front.specs.Words.Arguments.{file_rule, form_rule, from_graph_rul
 use Rattle.cmr_front.specs.Words.Parsing.{file_in, form_in, has_flag, matches_with_input}
 use Rattle.cmr_front.specs.Words.ReadWords.{◌>>=◌}
 
--- ---- the words
+-- ---- the arguments
 
 -- the options of `graphic` and of `network`
 pub record TestOrder : Type 0 where
@@ -41,12 +41,12 @@ tool_name Network = codes "network"
 abbrev pub test_app : TestedProperty → App
 test_app property = tool_app (tool_name property) (form_rule ∷ transposed_rule ∷ minimal_rule ∷ graph_rule ∷ from_graph_rule ∷ file_rule ∷ [])
 
--- an option stands there that says how a matrix is tested
+-- an option for the test of a matrix is given
 abbrev pub is_test_asked : List Row → Bool
 is_test_asked rows =
     is_some (first_of (codes "format") rows) || has_flag (codes "transposed") rows || is_some (first_of (codes "minimal") rows) || is_some (first_of (codes "graph") rows)
 
--- `-c` stands beside none of these options
+-- `-c` is given without any of these options
 abbrev pub test_order_in : List Row → Option TestOrder
 test_order_in rows = if has_flag (codes "from-graph") rows && is_test_asked rows
     then None
@@ -79,39 +79,39 @@ abbrev pub Has : TestedProperty → Matrix → Type 0
 Has Graphic m = IsGraphic m
 Has Network m = IsNetworkMatrix m
 
--- a network shows that it has
+-- a network shows that the matrix has the property
 abbrev pub Shows : TestedProperty → Net → Matrix → Type 0
 Shows Graphic net m = ReproducesSupport net m
 Shows Network net m = Reproduces net m
 
--- whether the property is one of 0/1 matrices
+-- whether the property is a property of 0/1 matrices
 abbrev pub is_binary : TestedProperty → Bool
 is_binary Graphic = true
 is_binary Network = false
 
--- a matrix for which the property is asked
+-- a matrix on which the property can be tested
 abbrev pub IsTestable : TestedProperty → Matrix → Type 0
 IsTestable Graphic m = IsBinary m
 IsTestable Network m = Unit {0}
 
--- the matrix that is tested
+-- the tested matrix
 abbrev pub tested_matrix : Bool → Matrix → Matrix
 tested_matrix true m = transposed m
 tested_matrix false m = m
 
--- lines of the matrix that is given as lines of the one that is tested
+-- lines of the given matrix as lines of the tested matrix
 abbrev pub tested_lines : Bool → LineSet → LineSet
 tested_lines true lines = record { rows = lines.columns; columns = lines.rows }
 tested_lines false lines = lines
 
--- what is said of the matrix that is given
+-- the name of the property of the given matrix
 abbrev pub property_name : TestedProperty → Bool → List ℕ
 property_name Graphic false = codes "graphic"
 property_name Graphic true = codes "cographic"
 property_name Network false = codes "network"
 property_name Network true = codes "conetwork"
 
--- the text of a network for the matrix that is given
+-- the text of a network for the given matrix
 abbrev pub written_graph : Bool → Net → List ℕ
 written_graph true net = transposed_graph_text net
 written_graph false net = graph_text net
@@ -132,17 +132,17 @@ test_no p o m minimal = record {
   files = minimal_file o.minimal m minimal;
 }
 
--- the network shows that the matrix that is tested has the property
+-- the network shows that the tested matrix has the property
 pub record IsShown (p : TestedProperty) (o : TestOrder) (m : Matrix) (net : Net) : Type 0 where
   pub has : Has p (tested_matrix o.transposed m)
   pub shows : Shows p net (tested_matrix o.transposed m)
 
--- the matrix that is tested has not the property, and where the file of a minimal submatrix is asked for, this is one
+-- the tested matrix does not have the property, and if the file of a minimal submatrix is requested, this is one
 pub record IsLacking (p : TestedProperty) (o : TestOrder) (m : Matrix) (minimal : Option LineSet) : Type 0 where
   pub lacks : ¬ (Has p (tested_matrix o.transposed m))
   pub asked : IsMinimalAsked (Has p) (tested_matrix o.transposed m) o.minimal (option_map (tested_lines o.transposed) minimal)
 
--- on a matrix: a yes with any network that shows it, and else a no, with the minimal submatrix where its file is asked for
+-- on a matrix: a yes with any network that shows it, and otherwise a no, with the minimal submatrix if its file is requested
 pub data TestDecides (p : TestedProperty) (o : TestOrder) (m : Matrix) (report : Report) : Type 0 where
   yes : (net : Net) → IsShown p o m net → report ≡ test_yes p o net → TestDecides p o m report
   no : (minimal : Option LineSet) → IsLacking p o m minimal → report ≡ test_no p o m minimal → TestDecides p o m report

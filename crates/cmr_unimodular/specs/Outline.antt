@@ -12,7 +12,7 @@ use Rattle.tree_text.specs.KindWords.{kind_of, word_of_kind}
 abbrev pub pivot_words : PlacedPivot → List ℕ
 pivot_words place = codes " row " ++ decimal (place.row + 1) ++ codes " column " ++ decimal (place.column + 1)
 
--- where the pivot of a node is made, if it is a pivoted one
+-- the position of the pivot of a node, if it is pivoted
 abbrev pub place_words : Finding → List ℕ
 place_words Empty = []
 place_words (Cycle fault) = []
@@ -28,11 +28,11 @@ place_words (Violator fault) = []
 place_words Undecided = []
 place_words (Pivoted place) = pivot_words place
 
--- the numbers of its rows and columns, and where its pivot is made, to the end of the line
+-- the numbers of its rows and columns and the position of its pivot, to the end of the line
 abbrev pub size_and_place : LineSet → Finding → List ℕ
 size_and_place lines finding = codes " " ++ decimal (length lines.rows) ++ codes "x" ++ decimal (length lines.columns) ++ place_words finding ++ codes "\n"
 
--- the depth of a node, its kind, its size and the place of its pivot
+-- the depth of a node, its kind, its size and the position of its pivot
 abbrev pub outline_line : ℕ → LineSet → Finding → List ℕ
 outline_line depth lines finding = decimal depth ++ codes " " ++ word_of_kind (kind_of finding) ++ size_and_place lines finding
 

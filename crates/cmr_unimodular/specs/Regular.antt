@@ -1,4 +1,4 @@
--- What the words of `regular` order, what it reports, and what its answers mean.
+-- The order of the arguments of `regular`, its reports, and the meaning of its answers.
 use Rattle.std.specs.Prelude.{◌≡◌, ◌≤◌, ◌++◌, ℕ, true, List, [], Option, codes, ◌∷◌, Some, option_map}
 use Rattle.cmr_base.specs.declared.limits.TheConstants.{MAX_LINES}
 use Rattle.cmr_base.specs.Matrix.{Matrix, height, IsMatrix, IsTernary}
@@ -30,7 +30,7 @@ use Rattle.cmr_front.specs.Words.Arguments.{chain_rule, fault_rule, file_rule, f
 use Rattle.cmr_front.specs.Words.Parsing.{fault_in, file_in, form_in, lines_in, matches_with_input, pivots_in, workers_in}
 use Rattle.cmr_front.specs.Words.ReadWords.{◌>>=◌}
 
--- ---- the words
+-- ---- the arguments
 
 -- the options of `regular`
 pub record RegularOrder : Type 0 where
@@ -90,7 +90,7 @@ regular_verdict o = record { label = codes "regular"; lines = o.lines; pivots = 
 abbrev pub regular_source : RegularOrder → Source
 regular_source o = source o.form true o.file
 
--- a 0/1 matrix and its signing by Camion, whose steps are those of a chain
+-- a 0/1 matrix and its signing by Camion, whose steps are the steps of a chain
 pub record IsSignedTo (a : Matrix) (steps : List SignStep) (signed : Matrix) : Type 0 where
   pub binary : IsBinary a
   pub matrix : IsMatrix a
@@ -108,7 +108,7 @@ chain_file name a steps verdicts.Yes = []
 chain_file name a steps (verdicts.No fault) = asked_file name (chain_text (chain_with a steps fault))
 chain_file name a steps (verdicts.Open lines) = []
 
--- the violator of a no is in this number of rows and columns
+-- the violator of a no is within this number of rows and columns
 abbrev pub HasLinesIn : ℕ → ℕ → Verdict → Type 0
 HasLinesIn rows columns verdicts.Yes = Unit {0}
 HasLinesIn rows columns (verdicts.No fault) = AreLinesIn rows columns fault
@@ -139,7 +139,7 @@ pub record HasGoodSigning (a signed : Matrix) : Type 0 where
   pub regular : IsRegular a
   pub unimodular : IsUnimodular signed
 
--- the fault is a violator of this signing, with which its steps are a sound chain, and each signing of the support has one
+-- the fault is a violator of this signing, its steps with this violator are a sound chain, and each signing of the support has one
 pub record HasNoGoodSigning (a : Matrix) (steps : List SignStep) (signed : Matrix) (fault : LineSet) : Type 0 where
   pub not_unimodular : IsNotUnimodular signed fault
   pub chain : IsSoundChain a (chain_with a steps fault) signed
@@ -152,8 +152,8 @@ RegularSays o a steps signed No = (tree : SizedTree) × IsDecomposition o.lines 
 RegularSays o a steps signed Undecided = (tree : SizedTree) × IsDecomposition o.lines o.pivots signed tree × (lines : LineSet) × (verdict_in tree ≡ verdicts.Open lines) × IsOpenPart o.lines signed lines
 RegularSays o a steps signed Refused = ⊥
 
--- of the signing by Camion: a yes comes with a tree that the checker accepts for the signed matrix; a no with a violator that
--- it names; undecided with a submatrix that is neither recognised nor separated, whose shorter side exceeds the budget
+-- For the signing by Camion: a yes has a tree that the checker accepts for the signed matrix; a no names a violator; undecided names
+-- a submatrix that is neither recognised nor separated and whose shorter side exceeds the budget.
 abbrev pub RegularMeans : RegularOrder → Matrix → Answer → Type 0
 RegularMeans o a answer = (steps : List SignStep) × (signed : Matrix) × IsSignedTo a steps signed × RegularSays o a steps signed answer
 

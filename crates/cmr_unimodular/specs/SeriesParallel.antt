@@ -1,4 +1,4 @@
--- What the words of `series-parallel` order, what it reports, and what its answers mean.
+-- The order of the arguments of `series-parallel`, its reports, and the meaning of its answers.
 use Rattle.std.specs.Prelude.{◌≡◌, ◌++◌, if◌then◌else◌, ℕ, Bool, List, [], Option, codes, ◌∷◌, Some, option_map}
 use Rattle.cmr_base.specs.Matrix.{Matrix, height}
 use Rattle.cmr_base.specs.Reductions.{IsSeriesParallel, removal}
@@ -20,7 +20,7 @@ use Rattle.cmr_front.specs.Words.Arguments.{binary_rule, file_rule, form_rule, m
 use Rattle.cmr_front.specs.Words.Parsing.{file_in, form_in, has_flag, matches_with_input}
 use Rattle.cmr_front.specs.Words.ReadWords.{◌>>=◌}
 
--- ---- the words
+-- ---- the arguments
 
 -- the options of `series-parallel`
 pub record SeriesParallelOrder : Type 0 where
@@ -62,21 +62,21 @@ series_parallel_order_of options = record {
 
 -- ---- the reports
 
--- what is tested
+-- the name of the tested property
 abbrev pub series_parallel_name : Bool → List ℕ
 series_parallel_name binary = if binary then codes "binary series-parallel" else codes "series-parallel"
 
--- what the reductions leave
+-- the lines that the reductions leave
 abbrev pub rest_of : Bool → Matrix → LineSet
 rest_of binary m = record { rows = (removal binary m).rows; columns = (removal binary m).columns }
 
--- the steps of the stated order, and what they leave
+-- the steps of the stated order, and the lines that they leave
 pub record IsReduced (binary : Bool) (m : Matrix) (reduction : Reduction) : Type 0 where
   pub steps : reduction.steps ≡ (removal binary m).steps
   pub rows : reduction.rest.rows ≡ (removal binary m).rows
   pub columns : reduction.rest.columns ≡ (removal binary m).columns
 
--- the files of the steps and of what they leave
+-- the files of the steps and of the lines that they leave
 abbrev pub reduction_files : SeriesParallelOrder → Matrix → List File
 reduction_files o m =
     asked_file o.steps (steps_text (removal o.binary m).steps)
@@ -101,12 +101,12 @@ series_parallel_no o m minimal = record {
   files = minimal_file o.minimal m minimal ++ reduction_files o m;
 }
 
--- it is not series-parallel, and where the file of a minimal submatrix is asked for, this is one
+-- it is not series-parallel, and if the file of a minimal submatrix is requested, this is one
 pub record IsNotSeriesParallel (o : SeriesParallelOrder) (m : Matrix) (minimal : Option LineSet) : Type 0 where
   pub lacks : ¬ IsSeriesParallel o.binary m
   pub asked : IsMinimalAsked (IsSeriesParallel o.binary) m o.minimal minimal
 
--- on a matrix: a yes where it is series-parallel, and else a no, with the minimal submatrix where its file is asked for
+-- on a matrix: a yes if it is series-parallel, and otherwise a no, with the minimal submatrix if its file is requested
 pub data SeriesParallelDecides (o : SeriesParallelOrder) (m : Matrix) (report : Report) : Type 0 where
   yes : IsSeriesParallel o.binary m → report ≡ series_parallel_yes o m → SeriesParallelDecides o m report
   no : (minimal : Option LineSet) → IsNotSeriesParallel o m minimal → report ≡ series_parallel_no o m minimal → SeriesParallelDecides o m report

@@ -1,4 +1,4 @@
--- What the words of `tu` order, what it reports, and what its answers mean.
+-- The order of the arguments of `tu`, its reports, and the meaning of its answers.
 use Rattle.std.specs.Prelude.{◌≡◌, ◌≤◌, ℕ, false, List, codes, length, [], ◌∷◌, Option, Some, option_map}
 use Rattle.cmr_base.specs.declared.limits.TheConstants.{MAX_LINES}
 use Rattle.cmr_base.specs.Matrix.{Matrix, entry, IsEntry}
@@ -22,7 +22,7 @@ use Rattle.cmr_front.specs.Words.Arguments.{fault_rule, file_rule, form_rule, li
 use Rattle.cmr_front.specs.Words.Parsing.{fault_in, file_in, form_in, lines_in, matches_with_input, pivots_in, workers_in}
 use Rattle.cmr_front.specs.Words.ReadWords.{◌>>=◌}
 
--- ---- the words
+-- ---- the arguments
 
 -- the options of `tu`
 pub record TuOrder : Type 0 where
@@ -89,8 +89,8 @@ pub record IsNotUnimodular (m : Matrix) (fault : LineSet) : Type 0 where
   pub refuted : IsRefuted m fault
   pub minor : HasOtherDeterminant m
 
--- A yes comes with a tree that the checker accepts; a no with a violator that it names; undecided with a submatrix that is
--- neither recognised nor separated, whose shorter side exceeds the budget.
+-- A yes has a tree that the checker accepts. A no names a violator. Undecided names a submatrix that is neither recognised nor
+-- separated and whose shorter side exceeds the budget.
 abbrev pub UnimodularMeans : ℕ → ℕ → Matrix → Answer → Type 0
 UnimodularMeans budget pivots m Yes = (tree : SizedTree) × IsDecomposition budget pivots m tree × (verdict_in tree ≡ verdicts.Yes) × IsUnimodular m
 UnimodularMeans budget pivots m No = (tree : SizedTree) × IsDecomposition budget pivots m tree × (fault : LineSet) × (verdict_in tree ≡ verdicts.No fault) × IsNotUnimodular m fault

@@ -1,4 +1,4 @@
--- What the words of `upgrade` order, what it reports on a tree text, and what its answer means.
+-- The order of the arguments of `upgrade`, its report on a tree text, and the meaning of its answer.
 use Rattle.std.specs.Prelude.{◌≡◌, ◌++◌, ℕ, List, [], ◌∷◌, Ok, codes, Option, Some}
 use Rattle.std.specs.Fmt.{decimal}
 use Rattle.text_fields.specs.TextWords.{text_of}
@@ -17,7 +17,7 @@ use Rattle.cmr_front.specs.Words.Arguments.{operand_rule, required, tool_app, tr
 use Rattle.cmr_front.specs.Words.Parsing.{matches_in}
 use Rattle.cmr_front.specs.Words.ReadWords.{◌>>=◌}
 
--- ---- the words
+-- ---- the arguments
 
 -- the options of `upgrade`
 pub record UpgradeOrder : Type 0 where
@@ -60,7 +60,7 @@ upgrade_report file t = record {
 abbrev pub UpgradeDecides : List ℕ → PlainTree → Report → Type 0
 UpgradeDecides file t report = report ≡ upgrade_report file t
 
--- the text that is written represents the tree that was read
+-- the written text represents the tree that was read
 abbrev pub UpgradeMeans : PlainTree → Answer → Type 0
 UpgradeMeans t Yes = tree (text_of (upgraded_text t)) ≡ Ok t
 UpgradeMeans t No = ⊥

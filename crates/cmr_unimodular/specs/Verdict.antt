@@ -1,4 +1,4 @@
--- What is reported on total unimodularity, under the label of a tool and within a budget of lines.
+-- The reports on total unimodularity, under the label of a tool and within a budget of lines.
 use Rattle.std.specs.Prelude.{◌≡◌, ◌<◌, ◌++◌, ℕ, false, min, List, [], length, Option, option_map, codes}
 use Rattle.cmr_base.specs.declared.line_set.LineSet.{LineSet}
 use Rattle.cmr_base.specs.Matrix.{Matrix, height, entry}
@@ -26,8 +26,8 @@ use Rattle.cmr_front.specs.Printed.{open_line, violator_line}
 use Rattle.cmr_front.specs.Report.{File, Report, asked_file}
 use Rattle.cmr_front.specs.Status.{answer_status}
 
--- The label of the verdict, the most lines on the shorter side of what is searched whole, the most pivots on the way to a node,
--- and the files of the tree and of a violator.
+-- The label of the verdict, the maximum number of lines on the shorter side of an exhaustive search, the maximum number of pivots on
+-- the path to a node, and the files of the tree and of a violator.
 pub record VerdictOrder : Type 0 where
   pub label : List ℕ
   pub lines : ℕ
@@ -57,11 +57,11 @@ pub record IsDecomposition (budget pivots : ℕ) (m : Matrix) (tree : SizedTree)
 abbrev pub verdict_in : SizedTree → Verdict
 verdict_in tree = verdict_of (tree_of tree.root)
 
--- it falls into no two parts
+-- it has one connected part
 abbrev pub IsConnected : Matrix → Type 0
 IsConnected m = (parts : List LineSet) → AreComponents m parts → length parts < 2
 
--- What a budget leaves open: a matrix that is neither recognised nor separated, whose shorter side has more lines.
+-- A matrix that a budget leaves open: it is neither recognised nor separated, and its shorter side has more lines.
 pub record IsLeftOpen (budget : ℕ) (m : Matrix) : Type 0 where
   pub no_fault : HasNoCycleFault (entry m)
   pub irreducible : HasNoReducibleLine false m
@@ -73,7 +73,7 @@ pub record IsLeftOpen (budget : ℕ) (m : Matrix) : Type 0 where
   pub no_three_separation : HasNoThreeSeparation m
   pub above : budget < min (height m) m.width
 
--- these lines of the matrix make a submatrix that is left open
+-- the submatrix with these lines is left open
 pub record IsOpenPart (budget : ℕ) (m : Matrix) (lines : LineSet) : Type 0 where
   pub are_lines : AreLines m lines
   pub left : IsLeftOpen budget (part m lines)
@@ -90,7 +90,7 @@ answer_word verdicts.Yes = codes ": yes\n"
 answer_word (verdicts.No fault) = codes ": no\n"
 answer_word (verdicts.Open lines) = codes ": undecided\n"
 
--- the violator that a no names, and the lines that are left open
+-- the violator that a no names, and the open lines
 abbrev pub named_line : Matrix → Verdict → List ℕ
 named_line m verdicts.Yes = []
 named_line m (verdicts.No fault) = violator_line fault.rows fault.columns (submatrix_sum m fault.rows fault.columns)
@@ -115,13 +115,13 @@ verdict_report o m tree = record {
   files = tree_file o.tree tree ++ fault_file o.fault m (verdict_in tree);
 }
 
--- what a verdict says of the matrix
+-- the meaning of a verdict for the matrix
 abbrev pub IsTold : ℕ → Matrix → Verdict → Type 0
 IsTold budget m verdicts.Yes = Tells m verdicts.Yes
 IsTold budget m (verdicts.No fault) = Tells m (verdicts.No fault)
 IsTold budget m (verdicts.Open lines) = IsOpenPart budget m lines
 
--- on a matrix: by a decomposition, of which there are several where networks are, since the nodes of a network have any numbers
+-- on a matrix: by a decomposition; there are several with networks, since the nodes of a network have any numbers
 pub record Decides (o : VerdictOrder) (m : Matrix) (report : Report) : Type 0 where
   pub tree : SizedTree
   pub decomposition : IsDecomposition o.lines o.pivots m tree

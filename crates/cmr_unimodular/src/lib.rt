@@ -1,4 +1,4 @@
-//! The tools of total unimodularity: the tests, with the evidence that they give, and what checks, rewrites or makes it.
+//! The tools of total unimodularity and its evidence: the tests, the checker, and the tools that rewrite and generate evidence.
 #![tactic(auto)]
 
 pub mod laws;

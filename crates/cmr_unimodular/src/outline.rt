@@ -9,8 +9,8 @@ use itoa::Buffer;
 use tree_text::{kind_of, word_of};
 use tree_type::{DecTree, Kind, Node};
 
-/// Appends the outline of a tree: a line for each node in preorder, with its depth, its kind, its size, and the place of its
-/// pivot where it has one.
+/// Appends the outline of a tree: a line for each node in preorder, with its depth, its kind, its size, and the position of
+/// its pivot if it has one.
 pub fn push_outline(text: &mut Vec<u8>, tree: &DecTree) -> Result<(), Memory>
     ensures { OnOk result (text.new.items
         ≡ text.old.items ++ outline_from 0 (tree_of tree.now.root)) }
@@ -76,7 +76,7 @@ fn push_size_and_place(text: &mut Vec<u8>, node: &Node) -> Result<(), Memory>
     push_place(text, node)
 }
 
-/// Appends a blank and how many rows and columns there are.
+/// Appends a blank and the numbers of rows and columns.
 pub fn push_size(text: &mut Vec<u8>, rows: usize, columns: usize) -> Result<(), Memory>
     ensures { OnOk result (text.new.items
         ≡ text.old.items ++ codes " " ++ decimal rows ++ codes "x" ++ decimal columns) }

@@ -1,4 +1,4 @@
-//! The tools, each with its options and its words.
+//! The tools, each with its options and its arguments.
 pub mod check;
 pub mod generate_tool;
 mod graph_matrix;

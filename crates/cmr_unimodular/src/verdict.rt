@@ -18,25 +18,25 @@ use std::thread::Threads;
 use tree_text::write_tree;
 use tree_type::{DecTree, VerdictOf, verdict};
 
-/// Under which label a verdict is given, within which budget and with how many pivots, and which files it has.
+/// The label of a verdict, its budget, its number of pivots, its workers and its files.
 #[derive(Clone, Copy, Debug)]
 pub struct VerdictOptions<'a> {
-    /// What is said of the matrix.
+    /// The label of the verdict.
     pub label: &'static [u8],
-    /// The most lines on the shorter side of what is searched whole, 0 to 24.
+    /// The maximum number of lines on the shorter side of an exhaustive search, 0 to 24.
     pub lines: u32,
-    /// The most pivots on the way to a node where nothing else decides it.
+    /// The maximum number of pivots on the path to a node that nothing else decides.
     pub pivots: u32,
-    /// How many workers share the searches, 1 to 64.
+    /// The number of workers that share the searches, 1 to 64.
     pub workers: u32,
     /// The file that gets the tree.
     pub tree: Option<&'a str>,
-    /// The file that gets the violator where there is one.
+    /// The file that gets the violator, if there is one.
     pub fault: Option<&'a str>,
 }
 
 /// Decides whether a matrix is totally unimodular, by its decomposition. A no names the fault of the first node in preorder
-/// that has one, and where there is none, undecided names the lines of the first undecided node.
+/// that has one. If no node has a fault, undecided names the lines of the first undecided node.
 pub fn give_verdict<'a, R: Threads + Sync>(
     rt: &R,
     alloc: Global,
@@ -103,7 +103,7 @@ pub fn report_tree<'a>(
     })
 }
 
-/// The answer that a verdict is.
+/// The answer for a verdict.
 pub fn answer_of(verdict: &VerdictOf<'_>) -> Answer
     ensures { result ≡ answer_of (verdict_shown verdict.now) }
 {
@@ -114,7 +114,7 @@ pub fn answer_of(verdict: &VerdictOf<'_>) -> Answer
     }
 }
 
-/// What follows the label: the answer in words.
+/// The answer in words, which follows the label.
 pub fn answer_word(verdict: &VerdictOf<'_>) -> &'static [u8]
     ensures { result.now ≡ answer_word (verdict_shown verdict.now) }
 {

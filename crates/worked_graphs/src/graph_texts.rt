@@ -5,7 +5,7 @@ use std::alloc::Global;
 use std::test::Fail;
 use worked_given::{bytes, dense, row_text};
 
-// The kind of the first fault, and its place.
+// The kind of the first fault, and its position.
 fn graph_fault(alloc: Global, text: &str) -> Result<Vec<u8>, Fail> {
     match read_graph(alloc, &bytes(alloc, text)?) {
         Err(GraphError::Fault { kind, place }) => row_text(
@@ -60,8 +60,8 @@ fn matrices_of_graph_texts(rt: HostRuntime) -> Result<(), Fail> {
     Ok(())
 }
 
-// A text that is no graph, and its first fault. The last three have a loop, two arcs between two nodes, and a cycle beside
-// a lone node.
+// A text that is not a graph, and its first fault. The last three have a loop, two arcs between two nodes, and a cycle and
+// an isolated node.
 const FAULTS: &str = "\
 0 1/; Short 4/
 0 x r1/; NotNumber 2/

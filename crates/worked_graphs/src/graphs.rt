@@ -35,11 +35,11 @@ fn are_tree(alloc: Global, arcs: Ends<'_>, rows: u32) -> Result<bool, Fail> {
 fn trees(rt: HostRuntime) -> Result<(), Fail> {
     let table: [(Ends<'_>, u32, bool); 8] = [
         (&[(0, 1)], 1, true),
-        // A path, a star and the lone node.
+        // A path, a star and the single node.
         (&[(2, 1), (0, 2), (1, 3)], 3, true),
         (&[(3, 1), (0, 3), (2, 3)], 3, true),
         (&[], 0, true),
-        // A cycle beside a lone node, a loop, an arc too few, and a node out of range.
+        // A cycle and an isolated node, a loop, an arc too few, and a node out of range.
         (&[(0, 1), (1, 2), (2, 0)], 3, false),
         (&[(0, 0)], 1, false),
         (&[(0, 1)], 2, false),

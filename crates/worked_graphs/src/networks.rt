@@ -10,7 +10,7 @@ use std::alloc::Global;
 use std::test::Fail;
 use worked_given::{binary, found_text, mark, matrix, zeros};
 
-// Whether there is a tree, whose paths are then the supports.
+// Whether there is a tree whose paths are the supports.
 fn is_graphic(alloc: Global, matrix: &Matrix) -> Result<bool, Fail> {
     match realise(alloc, matrix)? {
         Some(net) => Ok(reproduces_support(alloc, &net, matrix)?),
@@ -47,7 +47,7 @@ fn graphic(rt: HostRuntime) -> Result<(), Fail> {
             false,
             "0 1 2 3 4 5/0 1 2 3/",
         ),
-        // The Fano plane, alone and below a lone entry.
+        // The Fano plane, without further lines and below a single entry.
         ("3 4/0 1 1 1/1 0 1 1/1 1 0 1/", false, "0 1 2/0 1 2 3/"),
         (
             "4 5/1 0 0 0 0/1 0 1 1 1/0 1 0 1 1/0 1 1 0 1/",
@@ -62,7 +62,7 @@ fn graphic(rt: HostRuntime) -> Result<(), Fail> {
     Ok(())
 }
 
-// Signs do not count.
+// Signs have no effect.
 #[test]
 fn graphic_support(rt: HostRuntime) -> Result<(), Fail> {
     for (text, yes) in [
@@ -95,7 +95,7 @@ fn long_path(rt: HostRuntime) -> Result<(), Fail> {
     Ok(())
 }
 
-// Whether there is a directed tree, whose paths are then the columns.
+// Whether there is a directed tree whose paths are the columns.
 fn is_network(alloc: Global, matrix: &Matrix) -> Result<bool, Fail> {
     match orient(alloc, matrix)? {
         Some(net) => Ok(reproduces(alloc, &net, matrix)?),
@@ -112,14 +112,14 @@ fn network(rt: HostRuntime) -> Result<(), Fail> {
     for (text, yes, minimal) in [
         ("3 3/1 1 0/0 1 1/1 0 -1/", true, "none/"),
         ("2 4/1 0 -1 0/-1 0 1 1/", true, "none/"),
-        // Two groups of lines whose signs do not hang together.
+        // Two groups of lines whose signs are independent.
         ("3 4/-1 1 0 0/0 0 1 -1/0 0 0 1/", true, "none/"),
         ("3 0////", true, "none/"),
         ("0 2/", true, "none/"),
-        // The support has a tree, the star of three arcs, but no directions give these signs.
+        // The support has a tree, the star of three arcs, and no directions give these signs.
         ("3 3/1 1 0/0 1 1/1 0 1/", false, "0 1 2/0 1 2/"),
         ("2 2/1 1/1 -1/", false, "0 1/0 1/"),
-        // Between two lone entries stands a block whose support has no tree.
+        // Between two single entries there is a block whose support has no tree.
         (
             "6 6/1 0 0 0 0 0/0 1 1 0 0 0/0 1 0 1 0 0/0 1 0 0 1 0/0 1 1 1 1 0/0 0 0 0 0 1/",
             false,

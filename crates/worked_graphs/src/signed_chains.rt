@@ -1,4 +1,4 @@
-// Signings of 0/1 matrices, with the chains that leave no choice but the signs of whole lines.
+// Signings of 0/1 matrices, with the chains that force all signs up to the signs of lines.
 use crate::compared::{are_texts, is_text};
 use camion_sign::{cycle_fault, sign};
 use chains::{Chain, ChainError, chain_signs, check_chain, read_chain, write_chain};
@@ -58,12 +58,12 @@ fn chains_with_a_broken_part(rt: HostRuntime) -> Result<(), Fail> {
     let fano = binary(rt.alloc(), FANO)?;
     for (text, expected) in [
         (CHAIN, SIGNED_FANO),
-        // A sign is free that the ones before it force.
+        // A sign is called free, but the ones before it force it.
         (
             "cmr-chain 1/3 4 9/free 1 1/free 1 2/free 1 4/free 2 1/free 2 4/free 2 3/free 3 2/forced 3 3 3 3 1 2 3 1 2 3/forced 3 4 2 2 1 3 2 4/violator 2 2 2 3 3 4/",
             "broken 5/",
         ),
-        // The last step is missing, so one of the violator's ones is unsigned, and so is an entry where an earlier one is missing.
+        // The last step is missing, so one of the violator's ones is unsigned. If an earlier step is missing, its entry is unsigned.
         (
             "cmr-chain 1/3 4 8/free 1 1/free 1 2/free 1 4/free 2 1/forced 2 4 2 2 1 2 1 4/free 2 3/free 3 2/forced 3 3 3 3 1 2 3 1 2 3/violator 2 2 2 3 3 4/",
             "broken 9/",
@@ -72,7 +72,7 @@ fn chains_with_a_broken_part(rt: HostRuntime) -> Result<(), Fail> {
             "cmr-chain 1/3 4 8/free 1 1/free 1 4/free 2 1/forced 2 4 2 2 1 2 1 4/free 2 3/free 3 2/forced 3 3 3 3 1 2 3 1 2 3/forced 3 4 2 2 1 3 2 4/violator 2 2 2 3 3 4/",
             "broken 7/",
         ),
-        // A forced place outside its lines, lines that are another row's, and a violator that is none.
+        // A forced position outside its lines, the lines of another row, and a violator that is not one.
         (
             "cmr-chain 1/3 4 9/free 1 1/free 1 2/free 1 4/free 2 1/forced 2 3 2 2 1 2 1 4/free 2 3/free 3 2/forced 3 3 3 3 1 2 3 1 2 3/forced 3 4 2 2 1 3 2 4/violator 2 2 2 3 3 4/",
             "broken 5/",
@@ -106,7 +106,7 @@ fn chains_of_other_sizes_or_of_few_steps(rt: HostRuntime) -> Result<(), Fail> {
             "cmr-chain 1/3 4 1/free 2 3/violator 2 2 2 3 3 4/",
             "broken 2/",
         ),
-        // A place without a one, and a place that is signed already.
+        // A position without a one, and a position that is already signed.
         ("cmr-chain 1/3 4 1/free 1 3/violator 0 0/", "broken 1/"),
         (
             "cmr-chain 1/3 4 2/free 1 1/free 1 1/violator 0 0/",
@@ -118,7 +118,7 @@ fn chains_of_other_sizes_or_of_few_steps(rt: HostRuntime) -> Result<(), Fail> {
     Ok(())
 }
 
-// The kind of the first fault, and its place.
+// The kind of the first fault, and its position.
 fn chain_fault(alloc: Global, text: &str) -> Result<Vec<u8>, Fail> {
     match read_chain(alloc, &bytes(alloc, text)?) {
         Err(ChainError::Fault { kind, place }) => row_text(
@@ -145,7 +145,7 @@ fn cycle_faults(rt: HostRuntime) -> Result<(), Fail> {
     are_texts(&rt, CYCLE_FAULTS, fault_text)
 }
 
-// A text that is no chain, and its first fault.
+// A text that is not a chain, and its first fault.
 const FAULTS: &str = "\
 ; Short 0/
 cmr-tree 1/; WrongVersion 0/
@@ -161,10 +161,9 @@ cmr-chain 1/2 2 0/violator 2 0 2 1/; NotRising 33/
 cmr-chain 1/2 2 0/violator 0 0/x; Extra 31/
 cmr-chain 1/2 2 0/; Short 18/";
 
-// A matrix, and its first cycle fault. In the fifth one every cycle is good, though the whole matrix is a violator. Then
-// come four with several paths, of which the shortest is taken, and the least of these, and none that passes a column of
-// its row. In the next three the same lines stand in another order and so have other places, and then those of the
-// transposed matrix.
+// A matrix, and its first cycle fault. In the fifth matrix every cycle is good, and the whole matrix is a violator. The next
+// four have several paths: the fault has the least of the shortest paths that pass no column of its row. The next three have
+// the same lines in another order, and so at other positions. The last ones are their transposes.
 const CYCLE_FAULTS: &str = "\
 2 2/1 1/1 -1/; 0 1/0 1/
 3 3/1 1 0/0 1 1/1 0 1/; 0 1 2/0 1 2/

@@ -31,7 +31,7 @@ fn first(alloc: Global, matrix: &Matrix, rows: &[u32]) -> Result<Vec<u8>, Fail> 
     }
 }
 
-// What the run of pivots ends with: signs or a violator.
+// The result of the run of pivots: signs or a violator.
 fn end(alloc: Global, matrix: &Matrix, rows: &[u32]) -> Result<Vec<u8>, Fail> {
     let rows = indices(alloc, matrix.rows(), rows)?;
     match sign_or_violate(alloc, matrix, &rows)? {
@@ -57,7 +57,7 @@ fn pivots_text(alloc: Global, pivots: &[Pivot]) -> Result<Vec<u8>, Fail> {
     Ok(text.into_bytes())
 }
 
-// The steps that took each row away, or a violator.
+// The steps that removed each row, or a violator.
 fn steps(alloc: Global, matrix: &Matrix, rows: &[u32]) -> Result<Vec<u8>, Fail> {
     let rows = indices(alloc, matrix.rows(), rows)?;
     match sign_set(alloc, matrix, &rows)? {
@@ -66,7 +66,7 @@ fn steps(alloc: Global, matrix: &Matrix, rows: &[u32]) -> Result<Vec<u8>, Fail> 
     }
 }
 
-// Stops the test where the rows, of which there are at most four, have other signs or steps.
+// Stops the test if the rows, at most four, have other signs or steps.
 fn have_signs<R: Abort + AllocGlobal>(
     rt: &R,
     matrix: &Matrix,
@@ -111,7 +111,7 @@ fn signs_of_rows(rt: HostRuntime) -> Result<(), Fail> {
     Ok(())
 }
 
-// Of a set of rows that has a signing, though all rows have none.
+// Of a set of rows that has a signing. All rows together have none.
 #[test]
 fn signs_of_some_rows(rt: HostRuntime) -> Result<(), Fail> {
     let square = matrix(rt.alloc(), "2 2/1 1/1 -1/")?;

@@ -15,7 +15,7 @@ fn parts_text(alloc: Global, word: &str, row: u32, parts: &PartList) -> Result<V
     Ok(text)
 }
 
-// The sides are free but for those of parts that disagree, so the text has none.
+// The sides are free except the sides of parts that disagree, so the text has none.
 fn case_text(alloc: Global, case: &SplitCase) -> Result<Vec<u8>, Fail> {
     match case {
         SplitCase::Star => bytes(alloc, "star/"),
@@ -50,9 +50,9 @@ fn sides(rt: HostRuntime) -> Result<(), Fail> {
     Err(Fail::from("no row splits the others"))
 }
 
-// A spanning star of the complete graph on five nodes, and the transposed matrix, which is not graphic; a matrix of which
-// each of the rows below the first is a part, and the first two of them disagree; one whose second row is the first that
-// splits, and whose first and last row are one part; and one of three parts of which each two disagree.
+// A spanning star of the complete graph on five nodes. The transposed matrix, which is not graphic. A matrix of which each
+// row below the first is a part, and the first two of these disagree. A matrix whose second row is the first that splits,
+// and whose first and last row are one part. A matrix of three parts, of which each two disagree.
 const CASES: &str = "\
 4 6/1 1 1 0 0 0/1 0 0 1 1 0/0 1 0 1 0 1/0 0 1 0 1 1/; star/
 6 4/1 1 0 0/1 0 1 0/1 0 0 1/0 1 1 0/0 1 0 1/0 0 1 1/; all connected 0/

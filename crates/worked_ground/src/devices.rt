@@ -11,7 +11,7 @@ use std::test::Fail;
 use std::{env, fs, io, process};
 use worked_given::{bytes, row_text};
 
-// What was read, or how many bytes where they are many.
+// The bytes that were read, or their number if there are many.
 fn read_text(alloc: Global, read: Result<Vec<u8>, ReadError>) -> Result<Vec<u8>, Fail> {
     match read {
         Ok(found) if found.len() > 10 => {
@@ -95,7 +95,7 @@ fn full_sinks(rt: HostRuntime) -> Result<(), Fail> {
     is_text(&rt, sink.content(), "cmr-t")
 }
 
-// Whether the bytes are written to a name, and what it holds then.
+// Whether the bytes are written to a name, and its content after that.
 fn written(
     alloc: Global,
     shelf: &mut MemoryShelf,

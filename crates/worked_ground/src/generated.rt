@@ -1,4 +1,4 @@
-// Matrices that a number makes.
+// Matrices that are generated from a number.
 use crate::compared::is_text;
 use generate::{MakeKind, make};
 use std::test::Fail;

@@ -69,10 +69,10 @@ fn balance_faults(rt: HostRuntime) -> Result<(), Fail> {
         (triangle, 3, 3, "0 1 2/0 1 2/"),
         (triangle, 2, 1, "too many 3/"),
         ("4 4/1 1 0 0/1 0 1 0/1 0 0 1/1 1 1 1/", 4, 3, "clean/"),
-        // Of four columns on two rows the first two that are a fault, also where there are more rows than columns.
+        // Of four columns on two rows the first two that are a fault, also if there are more rows than columns.
         ("2 4/1 0 1 1/1 0 1 -1/", 2, 1, "0 1/0 3/"),
         ("4 2/1 1/0 0/1 1/1 -1/", 2, 3, "0 3/0 1/"),
-        // Of columns alike the least is taken.
+        // Of equal columns the least is taken.
         ("3 5/1 1 1 0 0/0 0 1 0 1/1 1 0 0 1/", 3, 1, "0 1 2/0 2 4/"),
         ("3 5/1 1 1 0 0/0 0 1 0 1/1 1 0 0 1/", 3, 3, "0 1 2/0 2 4/"),
     ] {
@@ -82,7 +82,7 @@ fn balance_faults(rt: HostRuntime) -> Result<(), Fail> {
     Ok(())
 }
 
-// Stops the test where one of the two searches finds something else.
+// Stops the test if one of the two searches finds something else.
 fn finds<R: Threads + Sync + Abort + AllocGlobal>(
     rt: &R,
     matrix: &Matrix,

@@ -1,4 +1,4 @@
-// Matrix and submatrix texts: bad ones with their first faults, and canonical ones, which come back as they are.
+// Matrix and submatrix texts: bad ones with their first faults, and canonical ones, which are written back unchanged.
 ghost use Rattle.std.specs.Prelude.{◌≤◌};
 
 use crate::compared::{are_texts, is_text};
@@ -9,7 +9,7 @@ use std::alloc::Global;
 use std::test::Fail;
 use worked_given::{bytes, dense, matrix, row_text, sparse};
 
-// The kind of the first fault, and its place.
+// The kind of the first fault, and its position.
 fn fault_text(alloc: Global, fault: Option<TextError>) -> Result<Vec<u8>, Fail> {
     match fault {
         Some(TextError::Fault { kind, place }) => row_text(
@@ -26,7 +26,7 @@ fn dense_fault(alloc: Global, text: &str) -> Result<Vec<u8>, Fail> {
     fault_text(alloc, read_dense(alloc, &bytes(alloc, text)?, false).err())
 }
 
-// Where entries are 0 or 1 alone.
+// For entries 0 and 1 only.
 fn binary_fault(alloc: Global, text: &str) -> Result<Vec<u8>, Fail> {
     fault_text(alloc, read_dense(alloc, &bytes(alloc, text)?, true).err())
 }
@@ -110,7 +110,7 @@ fn submatrix_texts(rt: HostRuntime) -> Result<(), Fail> {
     )
 }
 
-// A text that has no matrix, and its first fault.
+// A text that is not a matrix, and its first fault.
 const DENSE_FAULTS: &str = "\
 2 2/1 0/0 2/; BadEntry 10/
 2 2/; Short 4/

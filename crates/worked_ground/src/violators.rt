@@ -45,7 +45,7 @@ fn column_sets(rt: HostRuntime) -> Result<(), Fail> {
     let square = "2 2/1 1/1 -1/";
     is_text(&rt, &column_set(alloc, square, &[0, 1])?, "columns 0 1/")?;
     is_text(&rt, &column_set(alloc, square, &[0])?, "none/")?;
-    // Columns 3 and 4 make a violator too, and so do columns 1, 2 and 4.
+    // Columns 3 and 4 are also a violator, as are columns 1, 2 and 4.
     let wide = "2 4/1 0 1 1/1 0 1 -1/";
     is_text(&rt, &column_set(alloc, wide, &[0, 1])?, "columns 0 3/")
 }

@@ -1,4 +1,4 @@
-// The least number that holds, looked for by several workers.
+// The least number that satisfies a predicate, found by several workers.
 ghost use Rattle.std.specs.Prelude.{◌≡◌, ◌⊎◌};
 
 use cmr_base::Memory;
@@ -7,7 +7,7 @@ use std::alloc::Global;
 use std::sync::atomic::{AtomicU64, Ordering};
 use std::test::Fail;
 
-// Holds at two numbers.
+// True of two numbers.
 #[derive(Drop)]
 struct Pair {
     one: u64,
@@ -22,7 +22,7 @@ impl Probe for Pair {
     }
 }
 
-// Holds nowhere. Each of the first two numbers raises its flag and looks for the other's.
+// True of no number. Each of the first two numbers raises its flag and waits for the other's.
 #[derive(Drop)]
 struct Meeting {
     flags: [AtomicU64; 2],

@@ -1,10 +1,11 @@
-// What is to stand after a run, also where a call of a device failed in it.
+// The expected state after a run, including a run in which a call of a device failed.
 use crate::given::{Run, UNTOUCHED, add, bytes, heading};
 use std::alloc::Global;
 use std::test::Fail;
 
-/// Where a run stops: at a name that cannot be read; at a name that cannot be written, which then has got so many bytes, or
-/// is not begun; behind so many bytes on standard output; behind so many on standard error, which stops nothing else.
+/// Where a run stops: at a name that cannot be read; at a name that cannot be written, which has got a number of bytes, or
+/// is not begun; after a number of bytes on standard output; or after a number of bytes on standard error, which stops
+/// nothing else.
 #[derive(Clone, Copy)]
 pub enum Stop<'a> {
     Reading(&'a str),
@@ -53,7 +54,7 @@ fn due_line(
     Ok(line)
 }
 
-// Adds the files: those before the one that could not be written are whole, and those after it are not touched.
+// Adds the files: the files before the one that could not be written are whole, and the files after it are unchanged.
 fn add_due_files(
     alloc: Global,
     text: &mut Vec<u8>,
@@ -80,7 +81,7 @@ fn add_due_files(
     Ok(())
 }
 
-/// What stands after a run that stops there, as the text of `found_text`. Standard error has room for so many bytes.
+/// The state after a run that stops there, as the text of `found_text`. Standard error has room for `error_room` bytes.
 pub fn due_text(
     alloc: Global,
     run: &Run<'_>,

@@ -25,7 +25,7 @@ fn pieces(bytes: usize) -> usize {
     bytes.div_ceil(PIECE)
 }
 
-// Where the run stops whose call of this number fails, counted from 0, and `None` where it makes fewer calls. A file is
+// Where the run stops if its call of this number fails, counted from 0, and `None` if it makes fewer calls. A file is
 // begun, and read until a call gives nothing.
 fn stop_of_shelf<'a>(run: &Run<'a>, call: usize) -> Option<Stop<'a>> {
     let mut left = call;
@@ -65,7 +65,7 @@ fn bytes_before(call: usize) -> Option<usize> {
 }
 
 impl Failing {
-    // Standard error has got so many bytes in the run. In how many calls it gets its line is not laid down.
+    // The number of bytes that standard error has got in the run. The number of calls for its line is not fixed.
     fn stop<'a>(self, run: &Run<'a>, call: usize, told: usize) -> Option<Stop<'a>> {
         let bytes = call.saturating_mul(PIECE);
         match self {
@@ -90,7 +90,7 @@ impl Failing {
     }
 }
 
-// What stands after the run in which this call fails, and how many bytes standard error has got.
+// The state after the run in which this call fails, and the number of bytes that standard error has got.
 fn run_where_call_fails<R: Threads + Sync + AllocGlobal>(
     rt: &R,
     run: &Run<'_>,
@@ -125,7 +125,7 @@ fn sweep<R: Threads + Sync + Abort + AllocGlobal>(
     Err(Fail::from("a call failed in each of a thousand runs"))
 }
 
-// Standard error has room for each line, or for less than any.
+// Standard error has room for each line, or for less than any line.
 fn sweep_rows<R: Threads + Sync + Abort + AllocGlobal>(rt: &R, table: &str) -> Result<(), Fail> {
     for row in table.split('\n') {
         let run = run_of(row)?;
@@ -234,7 +234,7 @@ parts f t -A a -B b | f: 1 1/1/; t: cmr-tree 2/1 1/undecided 1 1 1 1/ | 7 | refu
 compose two f s -M m | f: 2 2/1 1/0 1/; s: 2 2/1 1/1 0/ | 0 | composed 3x3 nonzeros 6/ | m: 3 3/1 1 1/0 1 1/0 1 0/
 compose delta f s -M m | f: 2 2/1 1/0 0/; s: 2 2/1 1/1 0/ | 7 | refused: BadConnector/ | m: as before";
 
-// Runs that are stopped by a name that is not there, or that refuse their words or a text.
+// Runs that stop at a name that does not exist, or that refuse their arguments or a text.
 const STOPPED_RUNS: &str = "\
 tu -x -E e f | none | 2 | cmr: bad command line/ | e: as before
 tu -E e f | f: 2 2/1 1/1 -2/ | 3 | cmr: f: BadEntry at byte 10/ | e: as before

@@ -1,4 +1,4 @@
-// What the tables are made of. In all texts of the tables `/` stands for a line feed.
+// The values of the tables. In all texts of the tables `/` represents a line feed.
 use cmr_base::{Word, WordList};
 use cmr_io::{MemoryShelf, MemorySink, Shelf, Sink};
 use cmr_tools::run;
@@ -7,10 +7,10 @@ use std::process::Abort;
 use std::test::Fail;
 use std::thread::Threads;
 
-/// What a name holds before the run that may write it. It stays where the run does not write it.
+/// The content of a name before the run that may write it. It stays if the run does not write it.
 pub const UNTOUCHED: &str = "as before";
 
-/// The bytes of a text in which `/` stands for each line feed.
+/// The bytes of a text in which `/` represents each line feed.
 pub fn bytes(alloc: Global, text: &str) -> Result<Vec<u8>, Fail> {
     let mut bytes = Vec::new(alloc);
     for byte in text.as_bytes() {
@@ -19,7 +19,7 @@ pub fn bytes(alloc: Global, text: &str) -> Result<Vec<u8>, Fail> {
     Ok(bytes)
 }
 
-/// The words of a command line, with one blank between them. An empty word is written as two single quotes.
+/// The arguments of a command line, with one blank between them. An empty argument is written as two single quotes.
 pub fn words(alloc: Global, texts: &str) -> Result<WordList, Fail> {
     let mut words = WordList::new(alloc);
     for text in texts.split(' ') {
@@ -29,8 +29,8 @@ pub fn words(alloc: Global, texts: &str) -> Result<WordList, Fail> {
     Ok(words)
 }
 
-/// A run: its words, what names hold before it, its status, what it prints, and what the names hold then that it may
-/// write. What is printed goes to standard error where it begins with `cmr: `, and else to standard output.
+/// A run: its arguments, the contents of names before it, its status, its printed text, and the contents after it of the
+/// names that it may write. Printed text goes to standard error if it begins with `cmr: `, and otherwise to standard output.
 #[derive(Clone, Copy)]
 pub struct Run<'a> {
     pub words: &'a str,
@@ -41,7 +41,7 @@ pub struct Run<'a> {
 }
 
 /// The run of a row of a table: its parts with ` | ` between them. Files are written as `NAME: TEXT`, with `; ` between
-/// them, and `none` where there is no file.
+/// them, and as `none` if there is no file.
 pub fn run_of(row: &str) -> Result<Run<'_>, Fail> {
     let mut parts = row.split(" | ");
     Ok(Run {
@@ -54,7 +54,7 @@ pub fn run_of(row: &str) -> Result<Run<'_>, Fail> {
 }
 
 impl Run<'_> {
-    /// What standard output gets.
+    /// The text that standard output gets.
     pub fn output(&self) -> &str {
         if self.printed.starts_with("cmr: ") {
             ""
@@ -63,7 +63,7 @@ impl Run<'_> {
         }
     }
 
-    /// What standard error gets.
+    /// The text that standard error gets.
     pub fn error_line(&self) -> &str {
         if self.printed.starts_with("cmr: ") {
             self.printed
@@ -73,7 +73,7 @@ impl Run<'_> {
     }
 }
 
-/// What a run works on.
+/// The devices of a run.
 #[derive(Drop)]
 pub struct Devices {
     pub shelf: MemoryShelf,
@@ -82,7 +82,7 @@ pub struct Devices {
 }
 
 /// The devices before a run: each name that it may write holds other bytes and has room for a thousand, and standard
-/// error has room for so many bytes.
+/// error has room for `error_room` bytes.
 pub fn devices_before(alloc: Global, run: &Run<'_>, error_room: usize) -> Result<Devices, Fail> {
     let mut shelf = MemoryShelf::new(alloc)?;
     for file in run.after.split("; ") {
@@ -106,12 +106,12 @@ fn hold(alloc: Global, shelf: &mut MemoryShelf, files: &str) -> Result<(), Fail>
     Ok(())
 }
 
-/// Runs the program, and answers its status.
+/// Runs the program, and returns its status.
 pub fn run_on<R: Threads + Sync + AllocGlobal>(rt: &R, words: &WordList, on: &mut Devices) -> u8 {
     run_over(rt, words, &mut on.shelf, &mut on.out, &mut on.err)
 }
 
-// Says nothing of what is known of the call, so that the tests rest on what they see alone.
+// Has no clauses, so that the tests depend only on what they see of the call.
 fn run_over<R: Threads + Sync + AllocGlobal, S: Shelf, O: Sink, E: Sink>(
     rt: &R,
     words: &WordList,
@@ -125,7 +125,7 @@ fn run_over<R: Threads + Sync + AllocGlobal, S: Shelf, O: Sink, E: Sink>(
 // The room of standard output.
 const OUTPUT_ROOM: usize = 10_000;
 
-/// The run ends with this status, and what it prints begins with these lines.
+/// The run ends with this status, and its printed text begins with these lines.
 pub fn ends_so<R: Threads + Sync + Abort + AllocGlobal>(
     rt: &R,
     devices: &mut Devices,
@@ -141,8 +141,8 @@ pub fn ends_so<R: Threads + Sync + Abort + AllocGlobal>(
     Ok(())
 }
 
-/// What stands after a run, as one text: its status, what the standard streams have got, and the names that it may write
-/// with what they hold.
+/// The state after a run, as one text: its status, the texts that the standard streams have got, and the names that it may
+/// write with their contents.
 pub fn found_text(
     alloc: Global,
     run: &Run<'_>,

@@ -1,5 +1,5 @@
-//! Runs of the program over devices in memory, in tables: the words, what names hold before, the status, what is printed
-//! and what is written. The expected texts are worked out by hand or come from the literature.
+//! Runs of the program over devices in memory, in tables: the arguments, the contents of names before the run, the status,
+//! and the printed and written texts. The expected texts are worked out by hand or come from the literature.
 #![tactic(auto)]
 
 #[cfg(test)]

@@ -1,4 +1,4 @@
-// Runs that decide only where they make pivots. What they write is read by `check`.
+// Runs that decide only if they make pivots. `check` reads what they write.
 use crate::given::{Devices, ends_so};
 use cmr_io::{MemoryShelf, MemorySink};
 use std::alloc::AllocGlobal;
@@ -71,8 +71,8 @@ const TWO_GOODS: &str = "\
 0 0 0 0 0 1 0 0 0 0 0 1
 ";
 
-// What holds in a Latin square of order 3, with a column for each row, column and symbol: for each row and column there is one
-// symbol, for each row and symbol one column, and for each column and symbol one row.
+// The conditions of a Latin square of order 3, with a column for each row, column and symbol: for each row and column there is
+// one symbol, for each row and symbol one column, and for each column and symbol one row.
 const LATIN_SQUARES: &str = "\
 27 27
 1 1 1 0 0 0 0 0 0 0 0 0 0 0 0 0 0 0 0 0 0 0 0 0 0 0 0

@@ -1,4 +1,4 @@
-// Runs on devices that take and give all that they are asked for.
+// Runs on devices whose calls do not fail.
 use crate::endings::due_text;
 use crate::given::{devices_before, found_text, run_of, run_on, words};
 use std::alloc::AllocGlobal;
@@ -30,7 +30,7 @@ fn runs(rt: HostRuntime) -> Result<(), Fail> {
     Ok(())
 }
 
-// Words that are refused, of each tool.
+// Refused arguments of each tool.
 #[test]
 fn refused_words(rt: HostRuntime) -> Result<(), Fail> {
     for words in REFUSED_WORDS.split('\n') {

@@ -1,7 +1,7 @@
-// Tools that are called with options in place of words.
+// Tools that are called with options instead of arguments.
 use crate::given::bytes;
 use cmr_io::{MemoryShelf, MemorySink, Shelf, Sink};
-use cmr_tools::{MatrixForm, TestOptions, graphic, network};
+use cmr_tools::{MatrixForm, PropertyTest, TestOptions, TestedProperty, Tool};
 use std::alloc::AllocGlobal;
 use std::process::Abort;
 use std::test::Fail;
@@ -16,7 +16,7 @@ const OPTIONS: TestOptions<'static> = TestOptions {
     file: "f",
 };
 
-// Says nothing of what is known of the calls, so that the tests rest on what they see alone.
+// Has no clauses, so that the tests depend only on what they see of the calls.
 fn tested<R: Threads + Sync + AllocGlobal, S: Shelf, O: Sink, E: Sink>(
     rt: &R,
     asks_for_graphs: bool,
@@ -24,11 +24,15 @@ fn tested<R: Threads + Sync + AllocGlobal, S: Shelf, O: Sink, E: Sink>(
     out: &mut O,
     err: &mut E,
 ) -> u8 {
-    if asks_for_graphs {
-        graphic(rt, rt.alloc(), &OPTIONS, shelf, out, err)
-    } else {
-        network(rt, rt.alloc(), &OPTIONS, shelf, out, err)
-    }
+    let test = PropertyTest {
+        property: if asks_for_graphs {
+            TestedProperty::Graphic
+        } else {
+            TestedProperty::Network
+        },
+        options: OPTIONS,
+    };
+    test.run(rt, rt.alloc(), shelf, out, err)
 }
 
 fn answers<R: Threads + Sync + Abort + AllocGlobal>(

@@ -23,7 +23,7 @@ fn devices_with<R: AllocGlobal>(rt: &R, matrix: &str) -> Result<Devices, Fail> {
     })
 }
 
-// The tree that so many workers find, which says yes.
+// The tree that this number of workers finds, whose verdict is yes.
 fn tree_of<R: Threads + Sync + Abort + AllocGlobal>(
     rt: &R,
     on: &mut Devices,
@@ -46,8 +46,8 @@ fn has(text: &[u8], word: &str) -> bool {
     false
 }
 
-// The one-sum of matrices, each of which has another kind of tree. With a budget of no lines the last one has a tree behind a
-// pivot alone.
+// The one-sum of matrices, each of which has another kind of tree. With a budget of no lines the last matrix has a tree only
+// after a pivot.
 #[test]
 fn kinds_of_a_yes(rt: HostRuntime) -> Result<(), Fail> {
     let mut on = devices_with(&rt, "0 0/")?;
@@ -76,7 +76,7 @@ fn kinds_of_a_yes(rt: HostRuntime) -> Result<(), Fail> {
     Ok(())
 }
 
-// The words, the matrix, the status, and the node with a fault or with lines that are left open.
+// The arguments, the matrix, the status, and the node with a fault or with open lines.
 #[test]
 fn kinds_of_other_answers(rt: HostRuntime) -> Result<(), Fail> {
     for (words, matrix, status, kind) in [
@@ -119,8 +119,8 @@ const KINDS: [&str; 10] = [
     "\nconcentrated ",
 ];
 
-// A lone entry, a network, a transposed one, two matrices R10 with a two-sum, and a three-sum of each form. The last matrix is that
-// of two goods over six connections between three places.
+// A single entry, a network, a transposed network, a two-sum of two matrices R10, and a three-sum of each form. The last matrix is
+// the matrix of two goods over six connections between three places.
 const BLOCKS: &str = "\
 1 1/1/
 5 6/1 1 1 0 0 0/0 0 0 1 1 1/1 0 0 1 0 0/0 1 0 0 1 0/0 0 1 0 0 1/

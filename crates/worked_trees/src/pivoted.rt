@@ -1,4 +1,4 @@
-// Pivots at nonzeros of small matrices, and violators taken back through them.
+// Pivots at nonzeros of small matrices, and violators mapped back through them.
 use crate::compared::is_text;
 use cmr_base::Matrix;
 use pivots::{Pivoted, pivot, violator_before};
@@ -19,7 +19,7 @@ fn after(alloc: Global, matrix: &Matrix, row: u32, column: u32) -> Result<Vec<u8
     bytes(alloc, "none/")
 }
 
-// The lines before the pivot at the first place.
+// The lines before the pivot at the first position.
 fn before(alloc: Global, matrix: &Matrix, lines: &[u32]) -> Result<Vec<u8>, Fail> {
     if matrix.rows() > 0 && matrix.columns() > 0 {
         if matrix.entry(0, 0) != 0 {

@@ -19,8 +19,8 @@ fn tables(rt: HostRuntime) -> Result<(), Fail> {
     are_texts(&rt, TABLES, answer)
 }
 
-// The two tables, both with their lines in other orders, the first of these with one entry gone, zeros alone, and four of
-// the five rows.
+// The two tables, both with their lines in other orders, the first of these without one entry, a table of zeros, and four
+// of the five rows.
 const TABLES: &str = "\
 5 5/1 -1 0 0 -1/-1 1 -1 0 0/0 -1 1 -1 0/0 0 -1 1 -1/-1 0 0 -1 1/; yes/
 5 5/1 1 1 1 1/1 1 1 0 0/1 0 1 1 0/1 0 0 1 1/1 1 0 0 1/; yes/

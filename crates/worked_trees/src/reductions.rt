@@ -1,4 +1,4 @@
-// Series-parallel reductions: their steps, what they leave, and minimal submatrices that are not series-parallel.
+// Series-parallel reductions: their steps, the lines that they leave, and minimal submatrices that are not series-parallel.
 use crate::compared::{are_texts, is};
 use cmr_base::{Line, LineSet, Matrix, Memory, Reason, Step};
 use sp_reduce::{is_reducible_line, minimal_not_sp, reduce};
@@ -45,7 +45,7 @@ fn steps_text(alloc: Global, steps: &[Step]) -> Result<Vec<u8>, Fail> {
     Ok(text.into_bytes())
 }
 
-// The steps, the lines that are left, and those of a minimal submatrix that is not series-parallel.
+// The steps, the remaining lines, and the lines of a minimal submatrix that is not series-parallel.
 fn reduced(alloc: Global, text: &str, binary: bool) -> Result<Vec<u8>, Fail> {
     let matrix = matrix(alloc, text)?;
     let mut found = steps_and_rest(alloc, &matrix, binary)?;
@@ -101,7 +101,7 @@ fn lines(rt: HostRuntime) -> Result<(), Fail> {
     Ok(())
 }
 
-// The last one has two triangles, of which the later one stays.
+// The last matrix has two triangles, of which the later one remains.
 const WITH_SIGNS: &str = "\
 2 2/1 0/0 1/; row 0 unit column 0/row 1 unit column 1/column 0 zero/column 1 zero///none/
 2 3/1 1 1/-1 -1 -1/; row 0 negative row 1/column 0 unit row 1/column 1 unit row 1/row 1 unit column 2/column 2 zero///none/

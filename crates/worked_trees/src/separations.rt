@@ -1,4 +1,4 @@
-// Connected parts, two-separations, groups of lines that no cut parts, three-separations, and the lines of the children.
+// Connected parts, two-separations, groups of lines that no cut separates, three-separations, and the lines of the children.
 ghost use Rattle.std.specs.Prelude.{◌<◌, ◌+◌};
 ghost use Rattle.cmr_base.specs.Matrix.{height};
 ghost use Rattle.cuts.specs.LineCuts.{HasNames};
@@ -60,7 +60,7 @@ fn two_separations(rt: HostRuntime) -> Result<(), Fail> {
             "9 9/1 -1 0 0 -1 1 0 0 1/-1 1 -1 0 0 0 0 0 0/0 -1 1 -1 0 0 0 0 0/0 0 -1 1 -1 1 0 0 1/-1 0 0 -1 1 -1 0 0 -1/0 0 0 0 -1 1 -1 0 0/0 0 0 0 0 -1 1 -1 0/0 0 0 0 0 0 -1 1 -1/0 0 0 0 -1 0 0 -1 1/",
             "two 0 4/5 6 7 8/4 5 6 7 8/",
         ),
-        // The two-sum of three blocks can be parted at two places. The first seed parts it at the earlier one.
+        // The two-sum of three blocks can be separated at two positions. The first seed separates it at the earlier one.
         (
             "7 7/1 1 0 0 0 0 0/0 1 1 1 0 0 0/1 0 -1 -1 0 0 0/0 0 0 1 1 1 0/0 0 1 0 -1 -1 0/0 0 0 0 0 1 1/0 0 0 0 1 0 -1/",
             "two 1 2/3 4 5 6/2 3 4 5 6/",
@@ -103,7 +103,7 @@ fn groups_text(alloc: Global, text: &str) -> Result<Vec<u8>, Fail> {
 #[test]
 fn groups(rt: HostRuntime) -> Result<(), Fail> {
     for (text, expected) in [
-        // No set of its lines is a side of a cut: all were tried.
+        // No set of its lines is a side of a cut. All sets were tried.
         (
             "11 11/1 -1 0 -1 0 1 0 1 0 1 0/-1 1 0 -1 0 0 0 0 0 0 0/1 0 0 0 1 -1 -1 0 0 0 0/0 0 -1 0 0 0 0 0 1 0 1/-1 1 0 0 -1 0 -1 0 0 0 1/1 0 0 0 0 -1 0 0 -1 0 0/0 1 0 0 1 -1 0 -1 -1 1 0/0 0 1 0 0 0 1 0 0 0 1/1 -1 1 0 -1 1 1 0 0 -1 1/-1 1 -1 0 0 -1 0 1 1 0 -1/0 -1 1 -1 0 -1 1 0 1 -1 0/",
             "one 0 0 0 0 0 0 0 0 0 0 0 0 0 0 0 0 0 0 0 0 0 0/",
@@ -174,7 +174,7 @@ fn three_separations(rt: HostRuntime) -> Result<(), Fail> {
     Ok(())
 }
 
-// Two rows have the connectors; a path hangs at no line of theirs. Side one takes in all of it.
+// Two rows have the connectors, and a path meets none of their lines. Side one takes in the whole path.
 #[test]
 fn long_three_separation(rt: HostRuntime) -> Result<(), Fail> {
     let matrix = sparse(
@@ -189,8 +189,8 @@ fn long_three_separation(rt: HostRuntime) -> Result<(), Fail> {
     Ok(())
 }
 
-// A path beside the lines of the connectors, in a matrix with many lines of zeros. Side one takes in
-// all of the path, or a row of zeros where that comes first.
+// A path apart from the lines of the connectors, in a matrix with many lines of zeros. Side one takes in the
+// whole path, or a row of zeros if that comes first.
 #[test]
 fn paths_beside_connectors(rt: HostRuntime) -> Result<(), Fail> {
     for (text, expected) in [
@@ -204,7 +204,7 @@ fn paths_beside_connectors(rt: HostRuntime) -> Result<(), Fail> {
             "600 600 19/1 1 1/1 2 1/2 1 1/2 2 1/9 9 1/9 11 1/9 599 1/10 9 1/10 600 1/10 11 1/4 4 1/5 4 1/5 5 1/6 5 1/6 6 1/7 6 1/7 7 1/8 7 1/8 8 1/",
             "delta 8 8 599 9 10 598/0 1 8/0 1 8 599/",
         ),
-        // The first one transposed, and one whose second connector is tall. No seed of a form before is good.
+        // The first matrix transposed, and a matrix whose second connector is tall. No seed of an earlier form is good.
         (
             "600 600 15/1 1 1/3 1 1/599 1 1/1 2 1/600 2 1/3 2 1/4 3 1/4 4 1/5 4 1/5 5 1/6 5 1/6 6 1/7 6 1/7 7 1/8 7 1/",
             "y 0 0 599 2 1 598/0 1 599/0/",
@@ -222,7 +222,7 @@ fn paths_beside_connectors(rt: HostRuntime) -> Result<(), Fail> {
     Ok(())
 }
 
-// Of the concentrated form the first good row i is among the last rows, or there is none.
+// For the concentrated form the first good row i is among the last rows, or there is none.
 #[test]
 fn last_rows(rt: HostRuntime) -> Result<(), Fail> {
     for (text, expected) in [
@@ -243,7 +243,7 @@ fn last_rows(rt: HostRuntime) -> Result<(), Fail> {
     Ok(())
 }
 
-// A number below 8 for a place. Over the places of a matrix they look as if they were drawn.
+// A number below 8 for a position. Over the positions of a matrix these numbers look random.
 fn drawn(row: u32, column: u32) -> u32 {
     let place = row.wrapping_mul(1024).wrapping_add(column);
     let word = place.wrapping_mul(0x9E37_79B1);
@@ -251,8 +251,8 @@ fn drawn(row: u32, column: u32) -> u32 {
     (word ^ (word >> 13)) >> 29
 }
 
-// What stands at a place of a sum, by a number. The lines `from <= line < to` are one side, and what is between the sides
-// is a product, and 0 in rows before them.
+// The entry at a position of a sum, by a number. The lines `from <= line < to` are one side. The entries between the sides
+// are a product, and 0 in rows before the lines.
 fn drawn_sum(row: u32, column: u32, from: u32, to: u32) -> u32 {
     if (from <= row && row < to) == (from <= column && column < to) {
         return drawn(row, column);
@@ -263,7 +263,7 @@ fn drawn_sum(row: u32, column: u32, from: u32, to: u32) -> u32 {
     row.wrapping_mul(column) % 3
 }
 
-// Puts 1 in a place for 1, and -1 for 2.
+// Puts 1 at a position for 1, and -1 for 2.
 fn put(matrix: &mut Matrix, row: u32, column: u32, number: u32) {
     if row < matrix.rows() && column < matrix.columns() {
         match number {
@@ -289,8 +289,8 @@ fn sum(alloc: Global, zeros: &str, from: u32, to: u32) -> Result<Matrix, Fail> {
     Ok(matrix)
 }
 
-// Before the first good seed a hundred corners are refused, so groups of lines are looked for. The answers are those of a
-// slow program that grows all seeds in their order.
+// Before the first good seed a hundred corners are refused, so the search uses groups of lines. The answers are from a slow
+// program that grows all seeds in their order.
 #[test]
 fn late_three_separations(rt: HostRuntime) -> Result<(), Fail> {
     for (zeros, from, to, expected) in [
@@ -309,7 +309,7 @@ fn late_three_separations(rt: HostRuntime) -> Result<(), Fail> {
     Ok(())
 }
 
-// The lines of the first child, and those of the second.
+// The lines of the first child, and the lines of the second.
 fn pair_text(alloc: Global, pair: &LineSetPair) -> Result<Vec<u8>, Fail> {
     let mut text = lines_text(alloc, &pair.one)?;
     text.extend_from_slice(&lines_text(alloc, &pair.two)?)?;
@@ -337,7 +337,7 @@ fn three_children<R: Threads + Sync + AllocGlobal>(
     }
 }
 
-// Each child has its side, and of the other side the row or the column.
+// Each child has its side, and the row or the column of the other side.
 #[test]
 fn children_of_a_two_sum(rt: HostRuntime) -> Result<(), Fail> {
     let sum = matrix(rt.alloc(), "4 4/1 1 0 0/1 -1 0 0/0 1 1 1/0 1 1 -1/")?;
@@ -348,7 +348,7 @@ fn children_of_a_two_sum(rt: HostRuntime) -> Result<(), Fail> {
     )
 }
 
-// Each child has its side, and of the other side the connector.
+// Each child has its side, and the connector of the other side.
 #[test]
 fn children_of_three_sums(rt: HostRuntime) -> Result<(), Fail> {
     for (text, expected) in [

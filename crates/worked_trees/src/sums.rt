@@ -101,7 +101,7 @@ fn three_sums(rt: HostRuntime) -> Result<(), Fail> {
         (Sum::Delta, delta.0, delta.1, "2 2/1 1/1 0/"),
         (Sum::Y, tall.0, tall.1, "2 2/1 1/1 0/"),
         (Sum::Mixed, tall.0, delta.1, "2 2/1 1/1 0/"),
-        // Connecting lines alone.
+        // Only connecting lines.
         (Sum::Delta, "1 2/0 1/", "1 2/1 0/", "0 0/"),
         (Sum::Y, "2 1/0/-1/", "2 1/-1/0/", "0 0/"),
         (Sum::Mixed, "2 1/0/1/", "1 2/1 0/", "0 0/"),
@@ -109,7 +109,7 @@ fn three_sums(rt: HostRuntime) -> Result<(), Fail> {
         (Sum::Delta, delta.0, "2 3/-1 0 1/1 1 0/", "bad connector/"),
         (Sum::Y, tall.0, "3 2/-1 1/0 1/1 0/", "bad connector/"),
         (Sum::Mixed, tall.0, "2 3/-1 0 1/1 1 0/", "bad connector/"),
-        // Two lines that are to be equal but for the corner are not, a corner that is 0, and lines that are missing.
+        // Two lines differ that have to be equal except at the corner, a corner is 0, and lines are missing.
         (Sum::Y, "3 2/1 1/0 0/1 1/", tall.1, "bad connector/"),
         (Sum::Delta, "2 3/1 1 1/1 0 0/", delta.1, "bad connector/"),
         (Sum::Mixed, "2 2/1 1/1 0/", "1 3/1 0 1/", "bad connector/"),
@@ -127,7 +127,7 @@ fn concentrated_sums(rt: HostRuntime) -> Result<(), Fail> {
     let second = "3 4/1 1 0 0/1 0 1 1/0 1 -1 0/";
     for (first, second, expected) in [
         (first, second, "4 4/1 0 0 0/1 1 0 0/1 0 1 1/0 1 -1 0/"),
-        // Connecting lines alone.
+        // Only connecting lines.
         (
             "3 3/1 1 0/1 0 1/0 1 -1/",
             "3 3/1 1 0/1 0 1/0 1 -1/",
@@ -137,7 +137,7 @@ fn concentrated_sums(rt: HostRuntime) -> Result<(), Fail> {
         (first, "3 4/-1 1 0 0/1 0 1 1/0 1 -1 0/", "bad connector/"),
         (first, "3 4/1 1 0 1/1 0 1 1/0 1 -1 0/", "bad connector/"),
         ("4 3/1 0 1/1 1 0/1 0 1/0 1 -1/", second, "bad connector/"),
-        // The determinant 0, a corner that is 0, and lines that are missing.
+        // The determinant is 0, a corner is 0, and lines are missing.
         (
             "3 3/1 1 0/1 1 1/1 1 1/",
             "3 3/1 1 0/1 1 1/1 1 1/",

@@ -1,4 +1,4 @@
-// Texts of decomposition trees, and what the trees say.
+// Texts of decomposition trees, and the verdicts of the trees.
 use crate::compared::{are_texts, is_text};
 use std::alloc::Global;
 use std::process::Abort;
@@ -19,7 +19,7 @@ fn says_text(alloc: Global, tree: &DecTree) -> Result<Vec<u8>, Fail> {
     }
 }
 
-// Each text is read and comes back as it is.
+// Each text is read and written back unchanged.
 #[test]
 fn texts(rt: HostRuntime) -> Result<(), Fail> {
     for row in TEXTS.split('\n') {
@@ -34,7 +34,7 @@ fn is_read<R: Abort + AllocGlobal>(rt: &R, row: &str) -> Result<(), Fail> {
     is_tree(rt, &tree, text, says)
 }
 
-// Stops the test where the tree has another text, or says something else.
+// Stops the test if the tree has another text or another verdict.
 fn is_tree<R: Abort + AllocGlobal>(
     rt: &R,
     tree: &DecTree,
@@ -58,7 +58,7 @@ fn free_spelling(rt: HostRuntime) -> Result<(), Fail> {
     )
 }
 
-// The kind of the first fault, and its place.
+// The kind of the first fault, and its position.
 fn fault_text(alloc: Global, text: &[u8]) -> Result<Vec<u8>, Fail> {
     match read_tree(alloc, text) {
         Err(TreeError::Fault { kind, place }) => row_text(
@@ -90,7 +90,7 @@ fn chain(alloc: Global, levels: usize) -> Result<Vec<u8>, Fail> {
     Ok(text)
 }
 
-// Reading, writing and dropping a tree, and what it says, go down by the ordinary stack.
+// Reading, writing and dropping a tree, and its verdict, recurse on the ordinary stack.
 #[test]
 fn deep_trees(rt: HostRuntime) -> Result<(), Fail> {
     let text = chain(rt.alloc(), 2_000)?;
@@ -114,7 +114,7 @@ fn too_deep_trees(rt: HostRuntime) -> Result<(), Fail> {
     is_text(&rt, &fault_text(rt.alloc(), &text)?, "TooDeep 30030/")
 }
 
-// A tree, and what it says.
+// A tree, and its verdict.
 const TEXTS: &str = "\
 cmr-tree 2/2 2/reduced 2 2 1 2 1 2/4 r1 r2 c1 c2/empty 0 0/; yes/
 cmr-tree 2/9 9/twosum 9 9 1 2 3 4 5 6 7 8 9 1 2 3 4 5 6 7 8 9/1 5 4 5 6 7 8 9 5 6 7 8 9/r10 5 5 1 6 7 8 9 5 6 7 8 9/r10 5 5 1 2 3 4 5 1 2 3 4 5/; yes/
@@ -124,7 +124,7 @@ cmr-tree 2/2 2/violator 2 2 1 2 1 2/2 2 1 2 1 2/; no/0 1/0 1/
 cmr-tree 2/4 4/delta 4 4 1 2 3 4 1 2 3 4/1 1 2 3 3 4 2 2 1 2 1 2/undecided 4 3 1 2 3 4 1 2 3/empty 0 0/; undecided/0 1 2 3/0 1 2/
 cmr-tree 2/4 4/y 4 4 1 2 3 4 1 2 3 4/1 1 2 3 3 4 2 2 1 2 1 2/undecided 4 3 1 2 3 4 1 2 3/violator 1 0 2/1 0 2/; no/1//";
 
-// A text that is no tree, and its first fault.
+// A text that is not a tree, and its first fault.
 const FAULTS: &str = "\
 ; Short 0/
 cmr-tree 1/2 2/reduced 2 2 1; Short 28/

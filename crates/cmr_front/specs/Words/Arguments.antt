@@ -1,10 +1,10 @@
--- The arguments that the tools share, as `clap` sees them.
+-- The arguments that the tools share, as `clap` defines them.
 use Rattle.std.specs.Prelude.{ℕ, true, List, Some, codes}
 use Rattle.clap.specs.Words.{App, Rule, Text, new_app, new_rule}
 use Rattle.clap.specs.Simple.{on_top}
 use Rattle.clap.specs.declared.builder.action.ArgAction.TheVariants.{Set, SetTrue}
 
--- a command with these arguments; a name of the program, help and version are no words of it
+-- a command with these arguments, and without a name of the program, help and version
 abbrev pub tool_app : Text → List Rule → App
 tool_app name rules = on_top (λ s. record s {
   rules = rules;

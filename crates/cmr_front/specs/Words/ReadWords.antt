@@ -1,4 +1,4 @@
--- Results that come exactly where a definition has a value.
+-- Results that are a value if and only if a definition has one.
 use Rattle.std.specs.Prelude.{◌≡◌, Option, Some, None, option_and_then, Result, Ok, Err}
 use Rattle.cmr_front.specs.declared.words.WordsError.{WordsError}
 use Rattle.cmr_front.specs.declared.words.WordsError.TheVariants.{Refused, Memory}
@@ -7,7 +7,7 @@ infixl 10 ◌>>=◌
 abbrev pub ◌>>=◌ : {A B : Type 0} → Option A → (A → Option B) → Option B
 o >>= f = option_and_then f o
 
--- the result has the value that is defined, or refuses where none is; memory may run out
+-- the result is the defined value, or refuses if none is defined; an allocation may fail
 abbrev pub Gives : {X Y : Type 0} → (X → Y) → Result X WordsError → Option Y → Type 0
 Gives view (Ok x) defined = defined ≡ Some (view x)
 Gives view (Err Refused) defined = defined ≡ None

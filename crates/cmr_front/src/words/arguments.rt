@@ -1,4 +1,4 @@
-//! The arguments that the tools share, and the command of `clap` that takes them.
+//! The arguments that the tools share, and the command of `clap` that has them.
 ghost use Rattle.std.specs.Prelude.{◌≡◌, IfOk, [], false, map};
 ghost use Rattle.std.specs.List.{AllByRecursion};
 ghost use Rattle.clap.specs.Words.{app_of, rule_of};
@@ -216,7 +216,7 @@ pub fn file_operand<'a>(alloc: Global) -> Arg<'a>
     Arg::new(alloc, FILE)
 }
 
-/// The command of a tool, with these arguments in their order. A name of the program, help and version are no words of it.
+/// The command of a tool, with these arguments in their order, and without a name of the program, help and version.
 pub fn tool_command<'a>(
     alloc: Global,
     name: &'a str,

@@ -1,4 +1,4 @@
-//! What the command of a tool makes of its words, and the values of the arguments that tools share.
+//! How the command of a tool parses its arguments, and the values of the arguments that tools share.
 ghost use Rattle.std.specs.Prelude.{◌≡◌, true, option_map};
 ghost use Rattle.std.specs.List.{list_any};
 ghost use Rattle.clap.specs.Words.{app_of, first_of, found_of, is_simple_and_free, rows_of};
@@ -11,18 +11,18 @@ use crate::words::arguments::{FAULT, FILE, FORMAT, LINES, PIVOTS, WORKERS};
 use clap::{ArgMatches, Command};
 use cmr_base::{MAX_LINES, Word};
 
-// The word that represents standard input.
+// The argument that represents standard input.
 const DASH: &str = "-";
 
-// L where it is left out.
+// The default of L.
 const USUAL_LINES: u32 = 14;
 
-// K where it is left out, and the most that it may be.
+// The default of K, and its maximum.
 const USUAL_PIVOTS: u32 = 0;
 
 const MOST_PIVOTS: u32 = 100;
 
-// N where it is left out, and the most that it may be.
+// The default of N, and its maximum.
 const USUAL_WORKERS: u32 = 1;
 
 const MOST_WORKERS: u32 = 64;
@@ -39,7 +39,7 @@ fn has_dash(words: &[Word]) -> bool
     words.iter().any(|word| word.text() == DASH)
 }
 
-/// What the command makes of the words, none of which may be `-`.
+/// The matches of the arguments, none of which may be `-`.
 pub fn matches_in<'a>(command: Command<'a>, words: &'a [Word]) -> Result<ArgMatches<'a>, WordsError>
     requires { is_simple_and_free (app_of command) ≡ true }
     ensures { Gives (λ m. rows_of (found_of m)) result
@@ -65,8 +65,8 @@ pub fn operand_in<'a>(matches: &ArgMatches<'a>, id: &str) -> Result<&'a str, Wor
     value_in(matches, id).ok_or(WordsError::Refused)
 }
 
-/// What a command whose last argument is [FILE] makes of the words. A last word `-` is taken out, and
-/// then no FILE may stand beside it.
+/// The matches of the arguments for a command whose last argument is [FILE]. A last argument `-` is
+/// removed, and FILE is then not allowed.
 pub fn matches_with_input<'a>(
     command: Command<'a>,
     words: &'a [Word],
@@ -85,7 +85,7 @@ pub fn matches_with_input<'a>(
     }
 }
 
-/// The form that FORMAT names, dense where it is left out.
+/// The form that FORMAT names (default dense).
 pub fn form_in(matches: &ArgMatches<'_>) -> Result<MatrixForm, WordsError>
     ensures { Gives (λ form. form) result (parsing.form_in (rows_of (found_of matches.now))) }
 {
@@ -96,14 +96,14 @@ pub fn form_in(matches: &ArgMatches<'_>) -> Result<MatrixForm, WordsError>
     }
 }
 
-/// Whether a flag is among the words.
+/// Whether a flag is given.
 pub fn has_flag(matches: &ArgMatches<'_>, id: &str) -> bool
     ensures { result ≡ parsing.has_flag id.now (rows_of (found_of matches.now)) }
 {
     value_in(matches, id) == Some("true")
 }
 
-/// A number from `least` to `most`, as `clap` reads the numbers of a range: a sign may stand first.
+/// A number from `least` to `most`, as `clap` reads the numbers of a range: it may begin with a sign.
 pub fn number_from(least: u32, most: u32, text: &str) -> Option<u32>
     ensures { result ≡ parsing.number_from least most text.now }
 {
@@ -115,7 +115,7 @@ pub fn number_from(least: u32, most: u32, text: &str) -> Option<u32>
     }
 }
 
-/// The number L, 14 where it is left out.
+/// The number L (default 14).
 pub fn lines_in(matches: &ArgMatches<'_>) -> Result<u32, WordsError>
     ensures { Gives (λ lines. lines) result (parsing.lines_in (rows_of (found_of matches.now))) }
 {
@@ -125,7 +125,7 @@ pub fn lines_in(matches: &ArgMatches<'_>) -> Result<u32, WordsError>
     }
 }
 
-/// The number K of pivots, 0 where it is left out.
+/// The number K of pivots (default 0).
 pub fn pivots_in(matches: &ArgMatches<'_>) -> Result<u32, WordsError>
     ensures { Gives (λ pivots. pivots) result (parsing.pivots_in (rows_of (found_of matches.now))) }
 {
@@ -135,7 +135,7 @@ pub fn pivots_in(matches: &ArgMatches<'_>) -> Result<u32, WordsError>
     }
 }
 
-/// The number N of workers, 1 where it is left out.
+/// The number N of workers (default 1).
 pub fn workers_in(matches: &ArgMatches<'_>) -> Result<u32, WordsError>
     ensures { Gives (λ workers. workers) result
         (parsing.workers_in (rows_of (found_of matches.now))) }
@@ -154,7 +154,7 @@ pub fn fault_in<'a>(matches: &ArgMatches<'a>) -> Option<&'a str>
     value_in(matches, FAULT)
 }
 
-/// FILE, which is standard input where it is left out.
+/// FILE (default standard input).
 pub fn file_in<'a>(matches: &ArgMatches<'a>) -> &'a str
     ensures { result.now ≡ parsing.file_in (rows_of (found_of matches.now)) }
 {

@@ -2,7 +2,7 @@
 ghost use Rattle.balance.specs.BalanceFaults.{IsBalanced};
 ghost use Rattle.balance.specs.SearchedFaults.{HasSearchedFaults};
 ghost use Rattle.clap.specs.Words.{app_of, found_of, rows_of};
-ghost use Rattle.std.specs.Prelude.{◌≡◌, ◌≤◌, IfOk, IsTrue, false, true};
+ghost use Rattle.std.specs.Prelude.{◌≡◌, ◌≤◌, IfOk, false, true};
 ghost use Rattle.tree_type.specs.Invariant.{IsDecTree};
 ghost use Rattle.tree_type.specs.DecompositionTrees.{tree_of};
 ghost use Rattle.tree_type.specs.Verdicts as verdicts;
@@ -10,11 +10,7 @@ ghost use Rattle.tree_type.specs.Verdicts.{verdict_of};
 ghost use Rattle.cmr_base.specs.CyclePlaces.{HasNoCycleFault};
 ghost use Rattle.cmr_base.specs.Matrix.{IsMatrix, entry};
 ghost use Rattle.cmr_front.specs.Outcome.{outcome_report};
-ghost use Rattle.cmr_front.specs.Run.{Means, RunsOver, work};
-ghost use Rattle.cmr_front.specs.Status.{answer_status};
-ghost use Rattle.cmr_front.specs.Tool.{HasOneReport};
 ghost use Rattle.cmr_front.specs.Words.ReadWords.{Gives};
-ghost use Rattle.cmr_front.specs.declared.status.Answer.{Answer};
 ghost use Rattle.cmr_reach.specs.Balanced.{BalancedDecides, IsDecomposed, IsInRanges, IsUntold, balanced_app, balanced_order, balanced_order_in, balanced_order_of, balanced_tool, search_report};
 
 use crate::faults::{fault_outcome, open_outcome, yes_outcome};
@@ -25,30 +21,29 @@ use cmr_base::{MAX_ROWS, Matrix, Memory, Word};
 use cmr_front::input::{Input, Text};
 use cmr_front::matrix_file::{MatrixForm, matrix_input, read_matrix};
 use cmr_front::outcome::{Outcome, Stop};
-use cmr_front::tool::{Tool, run_tool};
+use cmr_front::tool::Tool;
 use cmr_front::words::parsing::{
     fault_in, file_in, form_in, lines_in, matches_with_input, pivots_in, workers_in,
 };
 use cmr_front::words::{WordsError, arguments};
-use cmr_io::{Shelf, Sink};
 use decomp_tree::decompose;
 use first_hit::Workers;
 use std::alloc::{AllocError, Global};
 use std::thread::Threads;
 use tree_type::{DecTree, VerdictOf, verdict};
 
-/// What `balanced` is asked to do. A file of the name `-` is standard input.
+/// The options of `balanced`. A file of the name `-` is standard input.
 #[derive(Clone, Copy, Debug, PartialEq, Eq)]
 pub struct BalancedOptions<'a> {
     /// The form of the matrix text.
     pub form: MatrixForm,
-    /// The most lines on the shorter side of what is searched whole, 0 to 24.
+    /// The maximum number of lines on the shorter side of an exhaustive search, 0 to 24.
     pub lines: u32,
-    /// The most pivots of the decomposition on the way to a node where nothing else decides it, 0 to 100.
+    /// The maximum number of pivots of the decomposition on the path to a node that nothing else decides, 0 to 100.
     pub pivots: u32,
-    /// How many workers share a search, 1 to 64. The answer does not depend on it.
+    /// The number of workers that share a search, 1 to 64. The answer does not depend on it.
     pub workers: u32,
-    /// The file that gets the fault where there is one.
+    /// The file that gets the fault, if there is one.
     pub fault: Option<&'a str>,
     /// The file that holds the matrix text.
     pub file: &'a str,
@@ -96,27 +91,6 @@ pub fn read_balanced<'a>(
     options_in(&matches)
 }
 
-/// Does what `run` does on the words of `balanced`, and answers the status.
-#[tactic(auto, using(crate::proofs::BalancedAnswers::balanced_lawful))]
-pub fn balanced<R: Threads + Sync, S: Shelf, O: Sink, E: Sink>(
-    rt: &R,
-    alloc: Global,
-    options: &BalancedOptions<'_>,
-    shelf: &mut S,
-    out: &mut O,
-    err: &mut E,
-) -> u8
-    requires { IsInRanges (balanced_order_of options.now) }
-    ensures runs { RunsOver S.Shelf O.Sink E.Sink
-        (work (balanced_tool (balanced_order_of options.now)))
-        shelf.old out.old err.old shelf.new out.new err.new result }
-    ensures means { IsTrue (S.tells shelf.old) → (answer : Answer) → result ≡ answer_status answer
-        → Means (balanced_tool (balanced_order_of options.now)) (S.content shelf.old) answer }
-    ensures one { HasOneReport (balanced_tool (balanced_order_of options.now)) }
-{
-    run_tool(rt, alloc, options, shelf, out, err)
-}
-
 impl<'a> Tool<'a> for BalancedOptions<'a> {
     ghost tool = { λ options. balanced_tool (balanced_order_of options) };
 
@@ -133,6 +107,8 @@ impl<'a> Tool<'a> for BalancedOptions<'a> {
         let matrix = read_matrix(alloc, self.file, self.form, false, &texts[0].bytes)?;
         Ok(test(rt, alloc, self, &matrix)?)
     }
+
+    fn lawful(&self) {}
 }
 
 fn test<'a, R: Threads + Sync>(
@@ -171,7 +147,7 @@ fn without_cycle_fault<'a, R: Threads + Sync>(
     }
 }
 
-// Whether the decomposition says that the matrix is totally unimodular.
+// Whether the decomposition has the verdict yes.
 fn is_decomposed<R: Threads + Sync>(
     rt: &R,
     alloc: Global,

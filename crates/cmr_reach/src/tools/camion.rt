@@ -1,12 +1,8 @@
 //! Camion's test: whether a matrix has no cycle fault.
 ghost use Rattle.clap.specs.Words.{app_of, found_of, rows_of};
-ghost use Rattle.std.specs.Prelude.{◌≡◌, IfOk, IsTrue};
+ghost use Rattle.std.specs.Prelude.{◌≡◌, IfOk};
 ghost use Rattle.cmr_front.specs.Outcome.{outcome_report};
-ghost use Rattle.cmr_front.specs.Run.{Means, RunsOver, work};
-ghost use Rattle.cmr_front.specs.Status.{answer_status};
-ghost use Rattle.cmr_front.specs.Tool.{HasOneReport};
 ghost use Rattle.cmr_front.specs.Words.ReadWords.{Gives};
-ghost use Rattle.cmr_front.specs.declared.status.Answer.{Answer};
 ghost use Rattle.cmr_reach.specs.Camion.{CamionDecides, camion_app, camion_order, camion_order_in, camion_order_of, camion_tool};
 
 use crate::faults::{fault_outcome, yes_outcome};
@@ -16,19 +12,18 @@ use cmr_base::{Matrix, Memory, Word};
 use cmr_front::input::{Input, Text};
 use cmr_front::matrix_file::{MatrixForm, matrix_input, read_matrix};
 use cmr_front::outcome::{Outcome, Stop};
-use cmr_front::tool::{Tool, run_tool};
+use cmr_front::tool::Tool;
 use cmr_front::words::parsing::{fault_in, file_in, form_in, matches_with_input};
 use cmr_front::words::{WordsError, arguments};
-use cmr_io::{Shelf, Sink};
 use std::alloc::{AllocError, Global};
 use std::thread::Threads;
 
-/// What `camion` is asked to do. A file of the name `-` is standard input.
+/// The options of `camion`. A file of the name `-` is standard input.
 #[derive(Clone, Copy, Debug, PartialEq, Eq)]
 pub struct CamionOptions<'a> {
     /// The form of the matrix text.
     pub form: MatrixForm,
-    /// The file that gets the cycle fault where there is one.
+    /// The file that gets the cycle fault, if there is one.
     pub fault: Option<&'a str>,
     /// The file that holds the matrix text.
     pub file: &'a str,
@@ -63,26 +58,6 @@ pub fn read_camion<'a>(alloc: Global, words: &'a [Word]) -> Result<CamionOptions
     options_in(&matches)
 }
 
-/// Does what `run` does on the words of `camion`, and answers the status.
-#[tactic(auto, using(crate::proofs::CamionAnswers::camion_lawful))]
-pub fn camion<R: Threads + Sync, S: Shelf, O: Sink, E: Sink>(
-    rt: &R,
-    alloc: Global,
-    options: &CamionOptions<'_>,
-    shelf: &mut S,
-    out: &mut O,
-    err: &mut E,
-) -> u8
-    ensures runs { RunsOver S.Shelf O.Sink E.Sink
-        (work (camion_tool (camion_order_of options.now)))
-        shelf.old out.old err.old shelf.new out.new err.new result }
-    ensures means { IsTrue (S.tells shelf.old) → (answer : Answer) → result ≡ answer_status answer
-        → Means (camion_tool (camion_order_of options.now)) (S.content shelf.old) answer }
-    ensures one { HasOneReport (camion_tool (camion_order_of options.now)) }
-{
-    run_tool(rt, alloc, options, shelf, out, err)
-}
-
 impl<'a> Tool<'a> for CamionOptions<'a> {
     ghost tool = { λ options. camion_tool (camion_order_of options) };
 
@@ -99,6 +74,8 @@ impl<'a> Tool<'a> for CamionOptions<'a> {
         let matrix = read_matrix(alloc, self.file, self.form, false, &texts[0].bytes)?;
         Ok(test(alloc, self, &matrix)?)
     }
+
+    fn lawful(&self) {}
 }
 
 fn test<'a>(

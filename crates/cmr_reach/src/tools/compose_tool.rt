@@ -1,13 +1,11 @@
 //! Sums of two matrices.
 ghost use Rattle.clap.specs.Words.{app_of, found_of, rows_of};
-ghost use Rattle.std.specs.Prelude.{◌≡◌, IfOk, IsTrue, false};
+ghost use Rattle.std.specs.Prelude.{◌≡◌, IfOk, false};
 ghost use Rattle.cmr_base.specs.Matrix.{IsMatrix};
 ghost use Rattle.cmr_front.specs.MatrixText.{matrix_in};
 ghost use Rattle.cmr_front.specs.Outcome.{outcome_report};
-ghost use Rattle.cmr_front.specs.Run.{Means, RunsOver, work};
-ghost use Rattle.cmr_front.specs.Status.{answer_status};
 ghost use Rattle.cmr_front.specs.Texts.{ReportsText};
-ghost use Rattle.cmr_front.specs.Tool.{HasOneReport, IsDecision};
+ghost use Rattle.cmr_front.specs.Tool.{IsDecision};
 ghost use Rattle.cmr_front.specs.Words.ReadWords.{Gives};
 ghost use Rattle.cmr_front.specs.declared.outcome.FaultKind.TheVariants as faults;
 ghost use Rattle.cmr_front.specs.declared.status.Answer.{Answer};
@@ -19,11 +17,10 @@ use cmr_front::input::{Input, InputKind, Text};
 use cmr_front::matrix_file::{MatrixForm, matrix_input, read_matrix};
 use cmr_front::outcome::{Outcome, OutputFile, Stop};
 use cmr_front::status::Answer;
-use cmr_front::tool::{Tool, run_tool};
+use cmr_front::tool::Tool;
 use cmr_front::words::arguments::OUTPUT;
 use cmr_front::words::parsing::{form_in, matches_in, operand_in, value_in};
 use cmr_front::words::{WordsError, arguments};
-use cmr_io::{Shelf, Sink};
 pub use compose::SumKind;
 use compose::{SumError, sum_of};
 use itoa::Buffer;
@@ -31,7 +28,7 @@ use matrix_text::write_dense;
 use std::alloc::{AllocError, Global};
 use std::thread::Threads;
 
-/// What `compose` is asked to do. A file of the name `-` is standard input where it is read.
+/// The options of `compose`. An input file of the name `-` is standard input.
 #[derive(Clone, Copy, Debug, PartialEq, Eq)]
 pub struct ComposeOptions<'a> {
     /// The form of both matrix texts.
@@ -113,25 +110,6 @@ pub fn read_compose<'a>(alloc: Global, words: &'a [Word]) -> Result<ComposeOptio
     options_in(&matches)
 }
 
-/// Does what `run` does on the words of `compose`, and answers the status.
-pub fn compose<R: Threads + Sync, S: Shelf, O: Sink, E: Sink>(
-    rt: &R,
-    alloc: Global,
-    options: &ComposeOptions<'_>,
-    shelf: &mut S,
-    out: &mut O,
-    err: &mut E,
-) -> u8
-    ensures runs { RunsOver S.Shelf O.Sink E.Sink
-        (work (compose_tool (compose_order_of options.now)))
-        shelf.old out.old err.old shelf.new out.new err.new result }
-    ensures means { IsTrue (S.tells shelf.old) → (answer : Answer) → result ≡ answer_status answer
-        → Means (compose_tool (compose_order_of options.now)) (S.content shelf.old) answer }
-    ensures one { HasOneReport (compose_tool (compose_order_of options.now)) }
-{
-    run_tool(rt, alloc, options, shelf, out, err)
-}
-
 impl<'a> Tool<'a> for ComposeOptions<'a> {
     ghost tool = { λ options. compose_tool (compose_order_of options) };
 
@@ -152,6 +130,8 @@ impl<'a> Tool<'a> for ComposeOptions<'a> {
     ) -> Result<Outcome<'a>, Stop<'a>> {
         decide_on(alloc, self, &texts[0].bytes, &texts[1].bytes)
     }
+
+    fn lawful(&self) {}
 }
 
 fn decide_on<'a>(
@@ -199,20 +179,20 @@ fn compose_matrices<'a>(
     }
 }
 
-/// Why two matrices are not composed.
+/// The cause why two matrices have no sum.
 #[derive(Clone, Copy, Debug, PartialEq, Eq)]
 pub enum Obstacle {
     /// The sum would have more rows than a matrix may have.
     TooManyRows,
-    /// It would have more columns.
+    /// The sum would have more columns than a matrix may have.
     TooManyColumns,
-    /// The matrices have not the connecting lines of the sum.
+    /// The matrices do not have the connecting lines of the sum.
     BadConnector,
     /// An entry of the sum is not -1, 0 or 1.
     BadEntry,
 }
 
-/// The sum of two matrices, or why there is none.
+/// The sum of two matrices, or the cause why there is none.
 #[derive(Debug, Drop)]
 pub enum Composition {
     Sum(Matrix),

@@ -1,6 +1,6 @@
 //! The two matrices of a decomposition tree whose root is a sum of them.
 ghost use Rattle.clap.specs.Words.{app_of, found_of, rows_of};
-ghost use Rattle.std.specs.Prelude.{◌++◌, ◌≡◌, IfOk, IsTrue, OnOk};
+ghost use Rattle.std.specs.Prelude.{◌++◌, ◌≡◌, IfOk, OnOk};
 ghost use Rattle.tree_text.specs.TreeReading.{plain_of};
 ghost use Rattle.tree_type.specs.Soundness.{IsSound};
 ghost use Rattle.cmr_base.specs.Matrix.{IsMatrix};
@@ -8,9 +8,7 @@ ghost use Rattle.cmr_front.specs.Evidence.{ReportsTree};
 ghost use Rattle.cmr_front.specs.Outcome.{outcome_report};
 ghost use Rattle.cmr_front.specs.Printed.{line_numbers};
 ghost use Rattle.cmr_front.specs.Refusals.{refusal_line};
-ghost use Rattle.cmr_front.specs.Run.{Means, RunsOver, work};
-ghost use Rattle.cmr_front.specs.Status.{answer_status};
-ghost use Rattle.cmr_front.specs.Tool.{HasOneReport, IsDecision};
+ghost use Rattle.cmr_front.specs.Tool.{IsDecision};
 ghost use Rattle.cmr_front.specs.Words.ReadWords.{Gives};
 ghost use Rattle.cmr_front.specs.declared.status.Answer.{Answer};
 ghost use Rattle.cmr_reach.specs.Parts.{IsArranged, PartsDecides, PartsReports, other_root_report, parts_app, parts_lines, parts_order, parts_order_in, parts_order_of, parts_report, parts_tool, root_of, root_word, said_refused};
@@ -24,11 +22,10 @@ use cmr_front::matrix_file::{MatrixForm, read_matrix};
 use cmr_front::outcome::{Outcome, OutputFile, Stop};
 use cmr_front::refusal_line::push_refusal_line;
 use cmr_front::status::Answer;
-use cmr_front::tool::{Tool, run_tool};
+use cmr_front::tool::Tool;
 use cmr_front::words::arguments::{MATRIX, TREE};
 use cmr_front::words::parsing::{form_in, matches_in, operand_in};
 use cmr_front::words::{WordsError, arguments};
-use cmr_io::{Shelf, Sink};
 use compose::{Arranged, arrange_three, arrange_two};
 use itoa::Buffer;
 use matrix_text::write_dense;
@@ -37,7 +34,7 @@ use std::thread::Threads;
 use tree_text::{kind_of, word_of};
 use tree_type::{DecTree, Kind, Rule};
 
-/// What `parts` is asked to do. A file of the name `-` is standard input where it is read.
+/// The options of `parts`. An input file of the name `-` is standard input.
 #[derive(Clone, Copy, Debug, PartialEq, Eq)]
 pub struct PartsOptions<'a> {
     /// The form of the matrix text.
@@ -106,25 +103,6 @@ pub fn read_parts<'a>(alloc: Global, words: &'a [Word]) -> Result<PartsOptions<'
     options_in(&matches)
 }
 
-/// Does what `run` does on the words of `parts`, and answers the status.
-pub fn parts<R: Threads + Sync, S: Shelf, O: Sink, E: Sink>(
-    rt: &R,
-    alloc: Global,
-    options: &PartsOptions<'_>,
-    shelf: &mut S,
-    out: &mut O,
-    err: &mut E,
-) -> u8
-    ensures runs { RunsOver S.Shelf O.Sink E.Sink
-        (work (parts_tool (parts_order_of options.now)))
-        shelf.old out.old err.old shelf.new out.new err.new result }
-    ensures means { IsTrue (S.tells shelf.old) → (answer : Answer) → result ≡ answer_status answer
-        → Means (parts_tool (parts_order_of options.now)) (S.content shelf.old) answer }
-    ensures one { HasOneReport (parts_tool (parts_order_of options.now)) }
-{
-    run_tool(rt, alloc, options, shelf, out, err)
-}
-
 impl<'a> Tool<'a> for PartsOptions<'a> {
     ghost tool = { λ options. parts_tool (parts_order_of options) };
 
@@ -140,6 +118,8 @@ impl<'a> Tool<'a> for PartsOptions<'a> {
     ) -> Result<Outcome<'a>, Stop<'a>> {
         decide_on(alloc, self, &texts[0].bytes, &texts[1].bytes)
     }
+
+    fn lawful(&self) {}
 }
 
 fn decide_on<'a>(
@@ -221,7 +201,7 @@ fn root_word(tree: &DecTree) -> &'static [u8]
     word_of(kind_of(tree.root()))
 }
 
-// The two matrices of the root, where it is a sum of two.
+// The two matrices of the root, if it is a sum of two.
 fn arrange_root(alloc: Global, matrix: &Matrix, tree: &DecTree) -> Result<Option<Arranged>, Memory>
     requires { IsSound matrix.now tree.now }
     ensures { IfOk result (IsArranged matrix.now (root_of (plain_of tree.now))) }

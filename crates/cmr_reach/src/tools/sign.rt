@@ -1,14 +1,12 @@
 //! Signing a given set of rows.
 ghost use Rattle.clap.specs.Words.{app_of, found_of, rows_of};
 ghost use Rattle.std.specs.Fmt.{decimal};
-ghost use Rattle.std.specs.Prelude.{◌++◌, ◌+◌, ◌≡◌, IfOk, IsTrue, OnOk, codes, length};
+ghost use Rattle.std.specs.Prelude.{◌++◌, ◌+◌, ◌≡◌, IfOk, OnOk, codes, length};
 ghost use Rattle.cmr_base.specs.LineSets.{AllBelow};
 ghost use Rattle.cmr_base.specs.Matrix.{height};
 ghost use Rattle.cmr_front.specs.Outcome.{outcome_report};
-ghost use Rattle.cmr_front.specs.Run.{Means, RunsOver, work};
-ghost use Rattle.cmr_front.specs.Status.{answer_status};
 ghost use Rattle.cmr_front.specs.Texts.{ReportsText};
-ghost use Rattle.cmr_front.specs.Tool.{HasOneReport, IsDecision};
+ghost use Rattle.cmr_front.specs.Tool.{IsDecision};
 ghost use Rattle.cmr_front.specs.Words.ReadWords.{Gives};
 ghost use Rattle.cmr_front.specs.declared.outcome.FaultKind.TheVariants as faults;
 ghost use Rattle.cmr_front.specs.declared.status.Answer.{Answer};
@@ -23,17 +21,16 @@ use cmr_front::matrix_file::{MatrixForm, matrix_input, read_matrix};
 use cmr_front::outcome::{Outcome, Stop};
 use cmr_front::printed::push_violator_line;
 use cmr_front::status::Answer;
-use cmr_front::tool::{Tool, run_tool};
+use cmr_front::tool::Tool;
 use cmr_front::words::arguments::{MATRIX, ROWS};
 use cmr_front::words::parsing::{form_in, matches_in, operand_in};
 use cmr_front::words::{WordsError, arguments};
-use cmr_io::{Shelf, Sink};
 use itoa::Buffer;
 use sign_tool::{Pivot, PivotList, SetSigning, sign_set};
 use std::alloc::{AllocError, Global};
 use std::thread::Threads;
 
-/// What `sign` is asked to do.
+/// The options of `sign`.
 #[derive(Clone, Copy, Debug, PartialEq, Eq)]
 pub struct SignOptions<'a> {
     /// The form of the matrix text.
@@ -77,25 +74,6 @@ pub fn read_sign<'a>(alloc: Global, words: &'a [Word]) -> Result<SignOptions<'a>
     options_in(&matches)
 }
 
-/// Does what `run` does on the words of `sign`, and answers the status.
-pub fn sign_rows<R: Threads + Sync, S: Shelf, O: Sink, E: Sink>(
-    rt: &R,
-    alloc: Global,
-    options: &SignOptions<'_>,
-    shelf: &mut S,
-    out: &mut O,
-    err: &mut E,
-) -> u8
-    ensures runs { RunsOver S.Shelf O.Sink E.Sink
-        (work (sign_tool (sign_order_of options.now)))
-        shelf.old out.old err.old shelf.new out.new err.new result }
-    ensures means { IsTrue (S.tells shelf.old) → (answer : Answer) → result ≡ answer_status answer
-        → Means (sign_tool (sign_order_of options.now)) (S.content shelf.old) answer }
-    ensures one { HasOneReport (sign_tool (sign_order_of options.now)) }
-{
-    run_tool(rt, alloc, options, shelf, out, err)
-}
-
 impl<'a> Tool<'a> for SignOptions<'a> {
     ghost tool = { λ options. sign_tool (sign_order_of options) };
 
@@ -116,6 +94,8 @@ impl<'a> Tool<'a> for SignOptions<'a> {
     ) -> Result<Outcome<'a>, Stop<'a>> {
         decide_on(alloc, self, &texts[0].bytes, &texts[1].bytes)
     }
+
+    fn lawful(&self) {}
 }
 
 fn decide_on<'a>(

@@ -10,9 +10,7 @@ ghost use Rattle.cmr_base.specs.LineSets.{AllBelow, IsColumnSet, IsRowSet};
 ghost use Rattle.cmr_base.specs.Matrix.{Matrix, height};
 ghost use Rattle.cmr_base.specs.Trees.{IsBinary};
 ghost use Rattle.cmr_front.specs.Outcome.{outcome_report};
-ghost use Rattle.cmr_front.specs.Run.{Means, RunsOver, work};
-ghost use Rattle.cmr_front.specs.Status.{answer_status};
-ghost use Rattle.cmr_front.specs.Tool.{HasOneReport, IsDecision};
+ghost use Rattle.cmr_front.specs.Tool.{IsDecision};
 ghost use Rattle.cmr_front.specs.Words.ReadWords.{Gives};
 ghost use Rattle.cmr_front.specs.declared.status.Answer.{Answer};
 ghost use Rattle.cmr_unimodular.specs.Check.{ChainDecides, CheckReportsBy, EvidenceReports, TreeDecides, ViolatorDecides, accepted_report, check_app, check_order, check_order_in, check_order_of, check_tool, evidence_kind, irregular_report, is_of_support, kind_named, refused_report, refused_step_report, said};
@@ -32,11 +30,10 @@ use cmr_front::outcome::{Outcome, Stop};
 use cmr_front::printed::push_violator_line;
 use cmr_front::refusal_line::push_refusal_line;
 use cmr_front::status::Answer;
-use cmr_front::tool::{Tool, run_tool};
+use cmr_front::tool::Tool;
 use cmr_front::words::arguments::{EVIDENCE, MATRIX};
 use cmr_front::words::parsing::{form_in, matches_in, operand_in};
 use cmr_front::words::{WordsError, arguments};
-use cmr_io::{Shelf, Sink};
 use itoa::Buffer;
 use parity::is_violator;
 use std::alloc::{AllocError, Global};
@@ -44,7 +41,7 @@ use std::thread::Threads;
 use text_fields::Words;
 use tree_type::{DecTree, Rule, VerdictOf, verdict};
 
-/// What `check` is asked to do. A file of the name `-` is standard input.
+/// The options of `check`. A file of the name `-` is standard input.
 #[derive(Clone, Copy, Debug, PartialEq, Eq)]
 pub struct CheckOptions<'a> {
     /// The form of the matrix text.
@@ -92,33 +89,14 @@ pub fn read_check<'a>(alloc: Global, words: &'a [Word]) -> Result<CheckOptions<'
     options_in(&matches)
 }
 
-/// Does what `run` does on the words of `check`, and answers the status.
-pub fn check<R: Threads + Sync, S: Shelf, O: Sink, E: Sink>(
-    rt: &R,
-    alloc: Global,
-    options: &CheckOptions<'_>,
-    shelf: &mut S,
-    out: &mut O,
-    err: &mut E,
-) -> u8
-    ensures runs { RunsOver S.Shelf O.Sink E.Sink
-        (work (check_tool (check_order_of options.now)))
-        shelf.old out.old err.old shelf.new out.new err.new result }
-    ensures means { IsTrue (S.tells shelf.old) → (answer : Answer) → result ≡ answer_status answer
-        → Means (check_tool (check_order_of options.now)) (S.content shelf.old) answer }
-    ensures one { HasOneReport (check_tool (check_order_of options.now)) }
-{
-    run_tool(rt, alloc, options, shelf, out, err)
-}
-
-/// What evidence is, by its first word.
+/// The kind of evidence, by its first word.
 #[derive(Clone, Copy, Debug, PartialEq, Eq)]
 pub enum EvidenceKind {
     /// A decomposition tree, with pivots or without.
     Tree,
     /// A chain of signs.
     Chain,
-    /// Lines that are to be a violator.
+    /// Lines that claim to be a violator.
     Violator,
 }
 
@@ -137,6 +115,8 @@ impl<'a> Tool<'a> for CheckOptions<'a> {
     ) -> Result<Outcome<'a>, Stop<'a>> {
         decide_on(alloc, self, &texts[0].bytes, &texts[1].bytes)
     }
+
+    fn lawful(&self) {}
 }
 
 fn decide_on<'a>(
@@ -331,7 +311,7 @@ fn accepted_chain<'a>(
     irregular(alloc, &signs, &chain.chain.violator)
 }
 
-// Evidence that keeps its rules, by its verdict.
+// The outcome for evidence that keeps its rules, by its verdict.
 fn accepted<'a>(
     alloc: Global,
     matrix: &Matrix,
@@ -355,7 +335,7 @@ fn refused<'a>(alloc: Global, path: &PathList, rule: Rule) -> Result<Outcome<'a>
     Ok(said(alloc, Answer::Refused, text))
 }
 
-// A chain that keeps its rules and gives these signs.
+// The outcome for a chain that keeps its rules and gives these signs.
 fn irregular<'a>(alloc: Global, signs: &Matrix, lines: &LineSet) -> Result<Outcome<'a>, Memory>
     requires rows { AllBelow (height signs.now) lines.now.rows }
     requires columns { AllBelow signs.now.width lines.now.columns }

@@ -1,13 +1,9 @@
-//! Making a matrix from a number, and testing total unimodularity on it.
+//! Generating a matrix from a number, and testing whether it is totally unimodular.
 ghost use Rattle.clap.specs.Words.{app_of, found_of, rows_of};
-ghost use Rattle.std.specs.Prelude.{◌≡◌, ◌≤◌, IfOk, IsTrue};
+ghost use Rattle.std.specs.Prelude.{◌≡◌, ◌≤◌, IfOk};
 ghost use Rattle.cmr_base.specs.Matrix.{IsMatrix};
 ghost use Rattle.cmr_front.specs.Outcome.{outcome_report};
-ghost use Rattle.cmr_front.specs.Run.{Means, RunsOver, work};
-ghost use Rattle.cmr_front.specs.Status.{answer_status};
-ghost use Rattle.cmr_front.specs.Tool.{HasOneReport};
 ghost use Rattle.cmr_front.specs.Words.ReadWords.{Gives};
-ghost use Rattle.cmr_front.specs.declared.status.Answer.{Answer};
 ghost use Rattle.cmr_unimodular.specs.Generate.{GenerateDecides, IsInRange, generate_app, generate_order, generate_order_in, generate_order_of, generate_report, generate_tool, generate_verdict, make_kind_in, kind_word, most_size, number_in, size_in, summary_line};
 ghost use Rattle.cmr_unimodular.specs.Verdict.{verdict_order_of};
 
@@ -18,33 +14,32 @@ use cmr_base::{MAX_ROWS, Matrix, Memory, Word};
 use cmr_front::asked::push_matrix;
 use cmr_front::input::{Input, Text};
 use cmr_front::outcome::{Outcome, Stop};
-use cmr_front::tool::{Tool, run_tool};
+use cmr_front::tool::Tool;
 use cmr_front::words::arguments::OUTPUT;
 use cmr_front::words::parsing::{
     lines_in, matches_in, number_from, pivots_in, value_in, workers_in,
 };
 use cmr_front::words::{WordsError, arguments};
-use cmr_io::{Shelf, Sink};
 pub use generate::MakeKind;
 use generate::make;
 use itoa::Buffer;
 use std::alloc::{AllocError, Global};
 use std::thread::Threads;
 
-/// What `generate` is asked to do.
+/// The options of `generate`.
 #[derive(Clone, Copy, Debug, PartialEq, Eq)]
 pub struct GenerateOptions<'a> {
-    /// What is made.
+    /// The kind of the generated matrix.
     pub what: MakeKind,
-    /// How many arcs the tree of a network has, 1 to 1000, or how many R10 matrices are summed, 1 to 249.
+    /// The number of arcs of the tree of a network, 1 to 1000, or the number of R10 matrices in the sum, 1 to 249.
     pub size: u32,
-    /// The number from which all others are drawn, below 2^31.
+    /// The number from which all other numbers are drawn, below 2^31.
     pub number: u32,
-    /// The most lines on the shorter side of a part that is searched whole where nothing else decides it, 0 to 24.
+    /// The maximum number of lines on the shorter side of a part for an exhaustive search, 0 to 24.
     pub lines: u32,
-    /// The most pivots on the way to a part where nothing else decides it, 0 to 100.
+    /// The maximum number of pivots on the path to a part that nothing else decides, 0 to 100.
     pub pivots: u32,
-    /// How many workers share the searches, 1 to 64. The answer is the same for each number.
+    /// The number of workers that share the searches, 1 to 64. The answer does not depend on it.
     pub workers: u32,
     /// The file that gets the matrix.
     pub output: Option<&'a str>,
@@ -84,7 +79,7 @@ fn kind_in(matches: &ArgMatches<'_>) -> Result<MakeKind, WordsError>
     }
 }
 
-// The greatest size, with which the matrix has at most 1000 rows and columns.
+// The maximum size: the matrix has at most 1000 rows and columns with it.
 fn most_size(what: MakeKind) -> u32
     ensures { result ≡ most_size what }
 {
@@ -140,26 +135,6 @@ pub fn read_generate<'a>(
     options_in(&matches)
 }
 
-/// Does what `run` does on the words of `generate`, and answers the status.
-pub fn generate_and_run<R: Threads + Sync, S: Shelf, O: Sink, E: Sink>(
-    rt: &R,
-    alloc: Global,
-    options: &GenerateOptions<'_>,
-    shelf: &mut S,
-    out: &mut O,
-    err: &mut E,
-) -> u8
-    requires { IsInRange (generate_order_of options.now) }
-    ensures runs { RunsOver S.Shelf O.Sink E.Sink
-        (work (generate_tool (generate_order_of options.now)))
-        shelf.old out.old err.old shelf.new out.new err.new result }
-    ensures means { (answer : Answer) → result ≡ answer_status answer
-        → Means (generate_tool (generate_order_of options.now)) (S.content shelf.old) answer }
-    ensures one { HasOneReport (generate_tool (generate_order_of options.now)) }
-{
-    run_tool(rt, alloc, options, shelf, out, err)
-}
-
 impl<'a> Tool<'a> for GenerateOptions<'a> {
     ghost tool = { λ options. generate_tool (generate_order_of options) };
 
@@ -175,6 +150,8 @@ impl<'a> Tool<'a> for GenerateOptions<'a> {
     ) -> Result<Outcome<'a>, Stop<'a>> {
         Ok(make_and_test(rt, alloc, self)?)
     }
+
+    fn lawful(&self) {}
 }
 
 fn make_and_test<'a, R: Threads + Sync>(
@@ -205,7 +182,7 @@ fn verdict_options<'a>(options: &GenerateOptions<'a>) -> VerdictOptions<'a>
     }
 }
 
-// The summary before what is told, and the matrix after its files.
+// The summary before the output of the verdict, and the matrix after its files.
 fn with_summary<'a>(
     alloc: Global,
     options: &GenerateOptions<'a>,

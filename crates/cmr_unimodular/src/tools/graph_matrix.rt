@@ -4,46 +4,19 @@ ghost use Rattle.cmr_base.specs.Trees.{IsNetworkOf};
 ghost use Rattle.cmr_front.specs.GraphText.{ReportsGraph};
 ghost use Rattle.cmr_front.specs.Outcome.{outcome_report};
 ghost use Rattle.cmr_front.specs.Tool.{IsDecision};
-ghost use Rattle.cmr_unimodular.specs.GraphMatrix.{GraphDecides, IsMatrixOf, graph_matrix_tool};
+ghost use Rattle.cmr_unimodular.specs.GraphMatrix.{GraphDecides, IsMatrixOf};
 
 use crate::tools::graphic_network::TestedProperty;
 use cmr_base::{MAX_COLUMNS, MAX_ROWS, Matrix, Memory};
 use cmr_front::graph_file::read_graph_file;
-use cmr_front::input::{Input, Text};
-use cmr_front::matrix_file::matrix_input;
 use cmr_front::outcome::{Outcome, Stop};
 use cmr_front::status::Answer;
-use cmr_front::tool::Tool;
 use graph_text::{SizedNetwork, matrix_of};
 use matrix_text::write_dense;
 use std::alloc::Global;
-use std::thread::Threads;
 
-/// A graph text, and the property that its graph is to show of the matrix that is written.
-#[derive(Clone, Copy, Debug)]
-pub struct GraphMatrix<'a> {
-    pub property: TestedProperty,
-    pub file: &'a str,
-}
-
-impl<'a> Tool<'a> for GraphMatrix<'a> {
-    ghost tool = { λ graph. graph_matrix_tool graph.property graph.file.now };
-
-    fn inputs(&self, alloc: Global) -> Result<Vec<Input<'a>>, Memory> {
-        matrix_input(alloc, self.file)
-    }
-
-    fn decide<R: Threads + Sync>(
-        &self,
-        _rt: &R,
-        alloc: Global,
-        texts: &[Text],
-    ) -> Result<Outcome<'a>, Stop<'a>> {
-        matrix_of_text(alloc, self.property, self.file, &texts[0].bytes)
-    }
-}
-
-fn matrix_of_text<'a>(
+/// The decision on a graph text: its matrix is written.
+pub fn matrix_of_text<'a>(
     alloc: Global,
     property: TestedProperty,
     file: &'a str,

@@ -1,22 +1,19 @@
-//! Testing whether the columns of a matrix are paths of a tree, with or without directions, and writing the matrix of such a
-//! tree.
+//! Testing whether the columns of a matrix are paths of a tree, with or without directions, and writing the matrix of such
+//! a tree.
 ghost use Rattle.clap.specs.Words.{app_of, found_of, rows_of};
-ghost use Rattle.std.specs.Prelude.{◌++◌, ◌≡◌, IfOk, IfSome, IsSomeAnd, IsTrue, MatchOption, OnOk, length, map, option_map};
+ghost use Rattle.std.specs.Prelude.{◌++◌, ◌≡◌, IfOk, IfSome, IsSomeAnd, MatchOption, OnOk, length, map, option_map};
 ghost use Rattle.cmr_base.specs.LineSets.{AllBelow};
 ghost use Rattle.cmr_base.specs.Matrix.{height};
 ghost use Rattle.cmr_front.specs.Minimal.{IsMinimalAsked, IsMinimalSet};
+ghost use Rattle.cmr_front.specs.Inputs.{bytes_of};
 ghost use Rattle.cmr_front.specs.Outcome.{file_of, outcome_report};
 ghost use Rattle.cmr_front.specs.Report.{asked_file};
-ghost use Rattle.cmr_front.specs.Run.{Means, RunsOver, work};
-ghost use Rattle.cmr_front.specs.Status.{answer_status};
-ghost use Rattle.cmr_unimodular.specs.AlikeReports.{HasAlikeReports};
+ghost use Rattle.cmr_front.specs.Tool.{IsDecision};
 ghost use Rattle.cmr_front.specs.Words.ReadWords.{Gives};
-ghost use Rattle.cmr_front.specs.declared.status.Answer.{Answer};
-ghost use Rattle.cmr_unimodular.specs.GraphMatrix.{test_tool};
+ghost use Rattle.cmr_unimodular.specs.GraphMatrix.{graph_matrix_tool, test_tool};
 ghost use Rattle.cmr_unimodular.specs.GraphicNetwork.{Has, IsTestable, Shows, TestDecides, is_binary, is_test_asked, path_tool, property_name, test_app, test_no, test_order, test_order_in, test_order_of, test_yes, tested_lines, tested_matrix, tool_name, written_graph};
-ghost use Rattle.cmr_unimodular.specs.declared.tools.graphic_network.TestedProperty.TheVariants as properties;
 
-use crate::tools::graph_matrix::GraphMatrix;
+use crate::tools::graph_matrix::matrix_of_text;
 use clap::{ArgMatches, Command};
 use cmr_base::{LineSet, Matrix, Memory, Network, Word};
 use cmr_front::asked::push_minimal;
@@ -25,18 +22,17 @@ use cmr_front::matrix_file::{MatrixForm, matrix_input, read_matrix};
 use cmr_front::outcome::{Outcome, OutputFile, Stop};
 use cmr_front::printed::push_minimal_line;
 use cmr_front::status::Answer;
-use cmr_front::tool::{Tool, run_tool};
+use cmr_front::tool::Tool;
 use cmr_front::words::arguments::{FORMAT, FROM_GRAPH, GRAPH, MINIMAL, TRANSPOSED};
 use cmr_front::words::parsing::{file_in, form_in, has_flag, matches_with_input, value_in};
 use cmr_front::words::{WordsError, arguments};
-use cmr_io::{Shelf, Sink};
 use graph_realise::{minimal_not_graphic, realise};
 use graph_text::{write_graph, write_transposed_graph};
 use network_orient::{minimal_not_network, orient};
 use std::alloc::{AllocError, Global};
 use std::thread::Threads;
 
-/// What `graphic` and `network` test.
+/// The properties that `graphic` and `network` test.
 #[derive(Clone, Copy, Debug, PartialEq, Eq)]
 pub enum TestedProperty {
     /// The matrix is 0/1, and its columns are paths of a tree.
@@ -45,18 +41,18 @@ pub enum TestedProperty {
     Network,
 }
 
-/// What `graphic` or `network` is asked to do. A file of the name `-` is standard input where it is read.
+/// The options of `graphic` and `network`. An input file of the name `-` is standard input.
 #[derive(Clone, Copy, Debug, PartialEq, Eq)]
 pub struct TestOptions<'a> {
-    /// The form of the matrix text, dense where a graph text is read.
+    /// The form of the matrix text, and dense for a graph text.
     pub form: MatrixForm,
     /// Whether the transposed matrix is tested.
     pub transposed: bool,
-    /// The file that gets a minimal submatrix without the property, where there is one.
+    /// The file that gets a minimal submatrix without the property, if there is one.
     pub minimal: Option<&'a str>,
-    /// The file that gets a graph that shows the property, where there is one.
+    /// The file that gets a graph that shows the property, if there is one.
     pub graph: Option<&'a str>,
-    /// Whether a graph text is read and its matrix written, and nothing tested. No other option then stands beside it.
+    /// Whether a graph text is read and its matrix written, and nothing is tested. Then no other option is given.
     pub from_graph: bool,
     /// The file that holds the matrix text or the graph text.
     pub file: &'a str,
@@ -85,7 +81,7 @@ fn test_command<'a>(alloc: Global, property: TestedProperty) -> Result<Command<'
     arguments::tool_command(alloc, tool_name(property), args)
 }
 
-// Whether an option of the test of a matrix stands among the words, be it with its default value.
+// Whether an option for the test of a matrix is given, including with its default value.
 fn is_test_asked(matches: &ArgMatches<'_>) -> bool
     ensures { result ≡ is_test_asked (rows_of (found_of matches.now)) }
 {
@@ -127,85 +123,17 @@ pub fn read_test<'a>(
     options_in(&matches)
 }
 
-/// Does what `run` does on the words of `graphic`, and answers the status.
-pub fn graphic<R: Threads + Sync, S: Shelf, O: Sink, E: Sink>(
-    rt: &R,
-    alloc: Global,
-    options: &TestOptions<'_>,
-    shelf: &mut S,
-    out: &mut O,
-    err: &mut E,
-) -> u8
-    ensures runs { RunsOver S.Shelf O.Sink E.Sink
-        (work (test_tool properties.Graphic (test_order_of options.now)))
-        shelf.old out.old err.old shelf.new out.new err.new result }
-    ensures means { IsTrue (S.tells shelf.old) → (answer : Answer) → result ≡ answer_status answer
-        → Means (test_tool properties.Graphic (test_order_of options.now)) (S.content shelf.old)
-        answer }
-{
-    test_property(rt, alloc, TestedProperty::Graphic, options, shelf, out, err)
-}
-
-/// Does what `run` does on the words of `network`, and answers the status.
-pub fn network<R: Threads + Sync, S: Shelf, O: Sink, E: Sink>(
-    rt: &R,
-    alloc: Global,
-    options: &TestOptions<'_>,
-    shelf: &mut S,
-    out: &mut O,
-    err: &mut E,
-) -> u8
-    ensures runs { RunsOver S.Shelf O.Sink E.Sink
-        (work (test_tool properties.Network (test_order_of options.now)))
-        shelf.old out.old err.old shelf.new out.new err.new result }
-    ensures means { IsTrue (S.tells shelf.old) → (answer : Answer) → result ≡ answer_status answer
-        → Means (test_tool properties.Network (test_order_of options.now)) (S.content shelf.old)
-        answer }
-{
-    test_property(rt, alloc, TestedProperty::Network, options, shelf, out, err)
-}
-
-/// Does what `run` does on the words of the tool that tests a property, and answers the status.
-pub fn test_property<R: Threads + Sync, S: Shelf, O: Sink, E: Sink>(
-    rt: &R,
-    alloc: Global,
-    property: TestedProperty,
-    options: &TestOptions<'_>,
-    shelf: &mut S,
-    out: &mut O,
-    err: &mut E,
-) -> u8
-    ensures runs { RunsOver S.Shelf O.Sink E.Sink
-        (work (test_tool property (test_order_of options.now)))
-        shelf.old out.old err.old shelf.new out.new err.new result }
-    ensures means { IsTrue (S.tells shelf.old) → (answer : Answer) → result ≡ answer_status answer
-        → Means (test_tool property (test_order_of options.now)) (S.content shelf.old) answer }
-    ensures alike { HasAlikeReports (test_tool property (test_order_of options.now)) }
-{
-    if options.from_graph {
-        let graph = GraphMatrix {
-            property,
-            file: options.file,
-        };
-        run_tool(rt, alloc, &graph, shelf, out, err)
-    } else {
-        let test = PathTest {
-            property,
-            options: *options,
-        };
-        run_tool(rt, alloc, &test, shelf, out, err)
-    }
-}
-
-// The test of a property.
+/// The test of a property, or with `from_graph` the matrix of a graph text.
 #[derive(Clone, Copy, Debug)]
-struct PathTest<'a> {
-    property: TestedProperty,
-    options: TestOptions<'a>,
+pub struct PropertyTest<'a> {
+    /// The property.
+    pub property: TestedProperty,
+    /// The options of its test.
+    pub options: TestOptions<'a>,
 }
 
-impl<'a> Tool<'a> for PathTest<'a> {
-    ghost tool = { λ test. path_tool test.property (test_order_of test.options) };
+impl<'a> Tool<'a> for PropertyTest<'a> {
+    ghost tool = { λ test. test_tool test.property (test_order_of test.options) };
 
     fn inputs(&self, alloc: Global) -> Result<Vec<Input<'a>>, Memory> {
         matrix_input(alloc, self.options.file)
@@ -217,11 +145,44 @@ impl<'a> Tool<'a> for PathTest<'a> {
         alloc: Global,
         texts: &[Text],
     ) -> Result<Outcome<'a>, Stop<'a>> {
-        let options = &self.options;
-        let binary = is_binary(self.property);
-        let matrix = read_matrix(alloc, options.file, options.form, binary, &texts[0].bytes)?;
-        Ok(test(alloc, self.property, options, &matrix)?)
+        if self.options.from_graph {
+            decide_on_graph(alloc, self.property, self.options.file, texts)
+        } else {
+            decide_on_matrix(alloc, self.property, &self.options, texts)
+        }
     }
+
+    fn lawful(&self) {}
+}
+
+fn decide_on_graph<'a>(
+    alloc: Global,
+    property: TestedProperty,
+    file: &'a str,
+    texts: &[Text],
+) -> Result<Outcome<'a>, Stop<'a>>
+    requires { length texts.now ≡ 1 }
+    ensures { IsDecision
+        ((graph_matrix_tool property file.entry.now).Reports (map bytes_of texts.now))
+        result }
+{
+    matrix_of_text(alloc, property, file, &texts[0].bytes)
+}
+
+fn decide_on_matrix<'a>(
+    alloc: Global,
+    property: TestedProperty,
+    options: &TestOptions<'a>,
+    texts: &[Text],
+) -> Result<Outcome<'a>, Stop<'a>>
+    requires { length texts.now ≡ 1 }
+    ensures { IsDecision
+        ((path_tool property (test_order_of options.now)).Reports (map bytes_of texts.now))
+        result }
+{
+    let binary = is_binary(property);
+    let matrix = read_matrix(alloc, options.file, options.form, binary, &texts[0].bytes)?;
+    Ok(test(alloc, property, options, &matrix)?)
 }
 
 fn is_binary(property: TestedProperty) -> bool
@@ -328,7 +289,7 @@ fn push_graph<'a>(
     Ok(())
 }
 
-// The text of a network for the matrix that is tested.
+// The text of a network for the tested matrix.
 fn write_tested(
     alloc: Global,
     transposed: bool,
@@ -370,7 +331,7 @@ fn no<'a>(
     })
 }
 
-// The lines of the matrix that is given which make a minimal submatrix without the property.
+// The lines of the given matrix that are a minimal submatrix without the property.
 fn asked_minimal(
     alloc: Global,
     property: TestedProperty,
@@ -407,7 +368,7 @@ fn find_minimal(
     }
 }
 
-// Lines of the matrix that is tested as lines of the one that is given.
+// Lines of the tested matrix as lines of the given matrix.
 fn given_lines(transposed: bool, lines: LineSet) -> LineSet
     ensures { tested_lines transposed result ≡ lines }
 {

@@ -3,17 +3,13 @@ ghost use Rattle.chains.specs.ChainTexts.{AreLinesIn, IsStepIn, chain_text};
 ghost use Rattle.tree_laws.specs.Laws.{Tells};
 ghost use Rattle.clap.specs.Words.{app_of, found_of, rows_of};
 ghost use Rattle.std.specs.List.{AllByRecursion};
-ghost use Rattle.std.specs.Prelude.{◌*◌, ◌++◌, ◌≡◌, ◌≤◌, IfOk, IsTrue, OnOk, length, map, option_map};
+ghost use Rattle.std.specs.Prelude.{◌*◌, ◌++◌, ◌≡◌, ◌≤◌, IfOk, OnOk, length, map, option_map};
 ghost use Rattle.tree_type.specs.Verdicts.{verdict_shown};
 ghost use Rattle.cmr_base.specs.Matrix.{height};
 ghost use Rattle.cmr_base.specs.Trees.{IsBinary};
 ghost use Rattle.cmr_front.specs.Outcome.{file_of, outcome_report};
 ghost use Rattle.cmr_front.specs.Report.{asked_file};
-ghost use Rattle.cmr_front.specs.Run.{Means, RunsOver, work};
-ghost use Rattle.cmr_front.specs.Status.{answer_status};
-ghost use Rattle.cmr_unimodular.specs.AlikeReports.{HasAlikeReports};
 ghost use Rattle.cmr_front.specs.Words.ReadWords.{Gives};
-ghost use Rattle.cmr_front.specs.declared.status.Answer.{Answer};
 ghost use Rattle.cmr_unimodular.specs.Regular.{HasLinesIn, IsSignedTo, RegularDecides, chain_file, chain_with, regular_app, regular_order, regular_order_in, regular_order_of, regular_report, regular_tool, regular_verdict};
 ghost use Rattle.cmr_unimodular.specs.Verdict.{verdict_in, verdict_order_of, verdict_report};
 
@@ -26,35 +22,34 @@ use cmr_front::asked::push_matrix;
 use cmr_front::input::{Input, Text};
 use cmr_front::matrix_file::{MatrixForm, matrix_input, read_matrix};
 use cmr_front::outcome::{Outcome, OutputFile, Stop};
-use cmr_front::tool::{Tool, run_tool};
+use cmr_front::tool::Tool;
 use cmr_front::words::arguments::{CHAIN, OUTPUT, TREE};
 use cmr_front::words::parsing::{
     fault_in, file_in, form_in, lines_in, matches_with_input, pivots_in, value_in, workers_in,
 };
 use cmr_front::words::{WordsError, arguments};
-use cmr_io::{Shelf, Sink};
 use std::alloc::{AllocError, Global};
 use std::thread::Threads;
 use tree_type::{DecTree, VerdictOf, verdict};
 
-/// What `regular` is asked to do. A file of the name `-` is standard input where it is read.
+/// The options of `regular`. An input file of the name `-` is standard input.
 #[derive(Clone, Copy, Debug, PartialEq, Eq)]
 pub struct RegularOptions<'a> {
     /// The form of the matrix text.
     pub form: MatrixForm,
-    /// The most lines on the shorter side of a part that is searched whole where nothing else decides it, 0 to 24.
+    /// The maximum number of lines on the shorter side of a part for an exhaustive search, 0 to 24.
     pub lines: u32,
-    /// The most pivots on the way to a part where nothing else decides it, 0 to 100.
+    /// The maximum number of pivots on the path to a part that nothing else decides, 0 to 100.
     pub pivots: u32,
-    /// How many workers share the searches, 1 to 64. The answer is the same for each number.
+    /// The number of workers that share the searches, 1 to 64. The answer does not depend on it.
     pub workers: u32,
     /// The file that gets the decomposition tree of the signed matrix.
     pub tree: Option<&'a str>,
-    /// The file that gets the violator of the signed matrix where there is one.
+    /// The file that gets the violator of the signed matrix, if there is one.
     pub fault: Option<&'a str>,
     /// The file that gets the signed matrix.
     pub signed: Option<&'a str>,
-    /// The file that gets the chain of signs with the violator, where there is one.
+    /// The file that gets the chain of signs with the violator, if there is one.
     pub chain: Option<&'a str>,
     /// The file that holds the matrix text.
     pub file: &'a str,
@@ -104,27 +99,6 @@ pub fn read_regular<'a>(alloc: Global, words: &'a [Word]) -> Result<RegularOptio
     options_in(&matches)
 }
 
-/// Does what `run` does on the words of `regular`, and answers the status.
-pub fn regular<R: Threads + Sync, S: Shelf, O: Sink, E: Sink>(
-    rt: &R,
-    alloc: Global,
-    options: &RegularOptions<'_>,
-    shelf: &mut S,
-    out: &mut O,
-    err: &mut E,
-) -> u8
-    requires lines { options.now.lines ≤ MAX_LINES }
-    requires workers { (1 ≤ options.now.workers) × (options.now.workers ≤ 64) }
-    ensures runs { RunsOver S.Shelf O.Sink E.Sink
-        (work (regular_tool (regular_order_of options.now)))
-        shelf.old out.old err.old shelf.new out.new err.new result }
-    ensures means { IsTrue (S.tells shelf.old) → (answer : Answer) → result ≡ answer_status answer
-        → Means (regular_tool (regular_order_of options.now)) (S.content shelf.old) answer }
-    ensures alike { HasAlikeReports (regular_tool (regular_order_of options.now)) }
-{
-    run_tool(rt, alloc, options, shelf, out, err)
-}
-
 impl<'a> Tool<'a> for RegularOptions<'a> {
     ghost tool = { λ options. regular_tool (regular_order_of options) };
 
@@ -141,6 +115,8 @@ impl<'a> Tool<'a> for RegularOptions<'a> {
         let matrix = read_matrix(alloc, self.file, self.form, true, &texts[0].bytes)?;
         Ok(sign_and_test(rt, alloc, self, &matrix)?)
     }
+
+    fn lawful(&self) {}
 }
 
 fn sign_and_test<'a, R: Threads + Sync>(
@@ -217,7 +193,7 @@ fn verdict_options<'a>(options: &RegularOptions<'a>) -> VerdictOptions<'a>
     }
 }
 
-// The files of the signed matrix and of the chain after those of the verdict.
+// The files of the signed matrix and of the chain, after the files of the verdict.
 fn with_signing<'a>(
     alloc: Global,
     options: &RegularOptions<'a>,
@@ -253,7 +229,7 @@ fn with_signing<'a>(
     })
 }
 
-// Appends the file of the chain, where the verdict is no.
+// Appends the file of the chain if the verdict is no.
 fn push_chain<'a>(
     alloc: Global,
     files: &mut Vec<OutputFile<'a>>,

@@ -1,14 +1,11 @@
 //! Testing whether a matrix is series-parallel.
 ghost use Rattle.clap.specs.Words.{app_of, found_of, rows_of};
-ghost use Rattle.std.specs.Prelude.{◌++◌, ◌≡◌, IfOk, IfSome, IsTrue, OnOk, map, option_map};
+ghost use Rattle.std.specs.Prelude.{◌++◌, ◌≡◌, IfOk, IfSome, OnOk, map, option_map};
 ghost use Rattle.cmr_base.specs.LineSets.{AllBelow};
 ghost use Rattle.cmr_base.specs.Matrix.{height};
 ghost use Rattle.cmr_base.specs.Reductions.{IsSeriesParallel};
 ghost use Rattle.cmr_front.specs.Minimal.{IsMinimalAsked};
 ghost use Rattle.cmr_front.specs.Outcome.{file_of, outcome_report};
-ghost use Rattle.cmr_front.specs.Run.{Means, RunsOver, work};
-ghost use Rattle.cmr_front.specs.Status.{answer_status};
-ghost use Rattle.cmr_front.specs.Tool.{HasOneReport};
 ghost use Rattle.cmr_front.specs.Words.ReadWords.{Gives};
 ghost use Rattle.cmr_front.specs.declared.status.Answer.{Answer};
 ghost use Rattle.cmr_unimodular.specs.SeriesParallel.{IsReduced, SeriesParallelDecides, no_output, series_parallel_name, reduction_files, series_parallel_app, series_parallel_no, series_parallel_order, series_parallel_order_in, series_parallel_order_of, series_parallel_tool, series_parallel_yes};
@@ -21,27 +18,26 @@ use cmr_front::matrix_file::{MatrixForm, matrix_input, read_matrix};
 use cmr_front::outcome::{Outcome, OutputFile, Stop};
 use cmr_front::printed::{push_line_set, push_minimal_line};
 use cmr_front::status::Answer;
-use cmr_front::tool::{Tool, run_tool};
+use cmr_front::tool::Tool;
 use cmr_front::words::arguments::{BINARY, MINIMAL, REST, STEPS};
 use cmr_front::words::parsing::{file_in, form_in, has_flag, matches_with_input, value_in};
 use cmr_front::words::{WordsError, arguments};
-use cmr_io::{Shelf, Sink};
 use sp_reduce::{Reduction, minimal_not_sp, reduce};
 use std::alloc::{AllocError, Global};
 use std::thread::Threads;
 
-/// What `series-parallel` is asked to do. A file of the name `-` is standard input where it is read.
+/// The options of `series-parallel`. An input file of the name `-` is standard input.
 #[derive(Clone, Copy, Debug, PartialEq, Eq)]
 pub struct SpOptions<'a> {
     /// The form of the matrix text.
     pub form: MatrixForm,
-    /// Whether the matrix is 0/1. A line is then not reducible as the negative of another.
+    /// Whether the matrix is 0/1. Then a line is not reducible as the negative of another line.
     pub binary: bool,
-    /// The file that gets a minimal submatrix that is not series-parallel, where there is one.
+    /// The file that gets a minimal submatrix that is not series-parallel, if there is one.
     pub minimal: Option<&'a str>,
     /// The file that gets the list of reductions.
     pub steps: Option<&'a str>,
-    /// The file that gets what the reductions leave.
+    /// The file that gets the lines that the reductions leave.
     pub rest: Option<&'a str>,
     /// The file that holds the matrix text.
     pub file: &'a str,
@@ -86,28 +82,6 @@ pub fn read_series_parallel<'a>(
     options_in(&matches)
 }
 
-/// Does what `run` does on the words of `series-parallel`, and answers the status.
-pub fn series_parallel<R: Threads + Sync, S: Shelf, O: Sink, E: Sink>(
-    rt: &R,
-    alloc: Global,
-    options: &SpOptions<'_>,
-    shelf: &mut S,
-    out: &mut O,
-    err: &mut E,
-) -> u8
-    ensures runs { RunsOver S.Shelf O.Sink E.Sink
-        (work (series_parallel_tool (series_parallel_order_of options.now)))
-        shelf.old out.old err.old shelf.new out.new err.new result }
-    ensures means { IsTrue (S.tells shelf.old) → (answer : Answer) → result ≡ answer_status answer
-        → Means
-        (series_parallel_tool (series_parallel_order_of options.now))
-        (S.content shelf.old)
-        answer }
-    ensures one { HasOneReport (series_parallel_tool (series_parallel_order_of options.now)) }
-{
-    run_tool(rt, alloc, options, shelf, out, err)
-}
-
 impl<'a> Tool<'a> for SpOptions<'a> {
     ghost tool = { λ options. series_parallel_tool (series_parallel_order_of options) };
 
@@ -124,6 +98,8 @@ impl<'a> Tool<'a> for SpOptions<'a> {
         let matrix = read_matrix(alloc, self.file, self.form, self.binary, &texts[0].bytes)?;
         Ok(test(alloc, self, &matrix)?)
     }
+
+    fn lawful(&self) {}
 }
 
 fn test<'a>(alloc: Global, options: &SpOptions<'a>, matrix: &Matrix) -> Result<Outcome<'a>, Memory>
@@ -233,7 +209,7 @@ fn no_text(
     Ok(text)
 }
 
-// Appends the files of the steps and of what they leave.
+// Appends the files of the steps and of the lines that they leave.
 fn push_reduction<'a>(
     alloc: Global,
     files: &mut Vec<OutputFile<'a>>,

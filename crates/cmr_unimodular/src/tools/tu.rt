@@ -1,44 +1,39 @@
 //! Testing total unimodularity.
 ghost use Rattle.clap.specs.Words.{app_of, found_of, rows_of};
-ghost use Rattle.std.specs.Prelude.{◌≡◌, ◌≤◌, IfOk, IsTrue};
-ghost use Rattle.cmr_front.specs.Run.{Means, RunsOver, work};
-ghost use Rattle.cmr_front.specs.Status.{answer_status};
-ghost use Rattle.cmr_unimodular.specs.AlikeReports.{HasAlikeReports};
+ghost use Rattle.std.specs.Prelude.{◌≡◌, ◌≤◌, IfOk};
 ghost use Rattle.cmr_front.specs.Words.ReadWords.{Gives};
-ghost use Rattle.cmr_front.specs.declared.status.Answer.{Answer};
 ghost use Rattle.cmr_unimodular.specs.Tu.{tu_app, tu_order, tu_order_in, tu_order_of, tu_tool, tu_verdict};
 ghost use Rattle.cmr_unimodular.specs.Verdict.{verdict_order_of};
 
 use crate::verdict::{VerdictOptions, give_verdict};
 use clap::{ArgMatches, Command};
-use cmr_base::{MAX_LINES, Memory, Word};
+use cmr_base::{Memory, Word};
 use cmr_front::input::{Input, Text};
 use cmr_front::matrix_file::{MatrixForm, matrix_input, read_matrix};
 use cmr_front::outcome::{Outcome, Stop};
-use cmr_front::tool::{Tool, run_tool};
+use cmr_front::tool::Tool;
 use cmr_front::words::arguments::TREE;
 use cmr_front::words::parsing::{
     fault_in, file_in, form_in, lines_in, matches_with_input, pivots_in, value_in, workers_in,
 };
 use cmr_front::words::{WordsError, arguments};
-use cmr_io::{Shelf, Sink};
 use std::alloc::{AllocError, Global};
 use std::thread::Threads;
 
-/// What `tu` is asked to do. A file of the name `-` is standard input.
+/// The options of `tu`. An input file of the name `-` is standard input.
 #[derive(Clone, Copy, Debug, PartialEq, Eq)]
 pub struct TuOptions<'a> {
     /// The form of the matrix text.
     pub form: MatrixForm,
-    /// The most lines on the shorter side of a part that is searched whole where nothing else decides it, 0 to 24.
+    /// The maximum number of lines on the shorter side of a part for an exhaustive search, 0 to 24.
     pub lines: u32,
-    /// The most pivots on the way to a part where nothing else decides it, 0 to 100.
+    /// The maximum number of pivots on the path to a part that nothing else decides, 0 to 100.
     pub pivots: u32,
-    /// How many workers share the searches, 1 to 64. The answer is the same for each number.
+    /// The number of workers that share the searches, 1 to 64. The answer does not depend on it.
     pub workers: u32,
     /// The file that gets the decomposition tree.
     pub tree: Option<&'a str>,
-    /// The file that gets the violator where there is one.
+    /// The file that gets the violator, if there is one.
     pub fault: Option<&'a str>,
     /// The file that holds the matrix text.
     pub file: &'a str,
@@ -84,27 +79,6 @@ pub fn read_tu<'a>(alloc: Global, words: &'a [Word]) -> Result<TuOptions<'a>, Wo
     options_in(&matches)
 }
 
-/// Does what `run` does on the words of `tu`, and answers the status.
-pub fn tu<R: Threads + Sync, S: Shelf, O: Sink, E: Sink>(
-    rt: &R,
-    alloc: Global,
-    options: &TuOptions<'_>,
-    shelf: &mut S,
-    out: &mut O,
-    err: &mut E,
-) -> u8
-    requires lines { options.now.lines ≤ MAX_LINES }
-    requires workers { (1 ≤ options.now.workers) × (options.now.workers ≤ 64) }
-    ensures runs { RunsOver S.Shelf O.Sink E.Sink
-        (work (tu_tool (tu_order_of options.now)))
-        shelf.old out.old err.old shelf.new out.new err.new result }
-    ensures means { IsTrue (S.tells shelf.old) → (answer : Answer) → result ≡ answer_status answer
-        → Means (tu_tool (tu_order_of options.now)) (S.content shelf.old) answer }
-    ensures alike { HasAlikeReports (tu_tool (tu_order_of options.now)) }
-{
-    run_tool(rt, alloc, options, shelf, out, err)
-}
-
 impl<'a> Tool<'a> for TuOptions<'a> {
     ghost tool = { λ options. tu_tool (tu_order_of options) };
 
@@ -121,6 +95,8 @@ impl<'a> Tool<'a> for TuOptions<'a> {
         let matrix = read_matrix(alloc, self.file, self.form, false, &texts[0].bytes)?;
         Ok(give_verdict(rt, alloc, &verdict_options(self), &matrix)?)
     }
+
+    fn lawful(&self) {}
 }
 
 fn verdict_options<'a>(options: &TuOptions<'a>) -> VerdictOptions<'a>

@@ -1,12 +1,10 @@
 //! Writing a decomposition tree again, in its canonical text.
 ghost use Rattle.clap.specs.Words.{app_of, found_of, rows_of};
-ghost use Rattle.std.specs.Prelude.{◌≡◌, IfOk, IsTrue};
+ghost use Rattle.std.specs.Prelude.{◌≡◌, IfOk};
 ghost use Rattle.tree_text.specs.TreeReading.{plain_of};
 ghost use Rattle.cmr_front.specs.Evidence.{ReportsTree};
 ghost use Rattle.cmr_front.specs.Outcome.{outcome_report};
-ghost use Rattle.cmr_front.specs.Run.{Means, RunsOver, work};
-ghost use Rattle.cmr_front.specs.Status.{answer_status};
-ghost use Rattle.cmr_front.specs.Tool.{HasOneReport, IsDecision};
+ghost use Rattle.cmr_front.specs.Tool.{IsDecision};
 ghost use Rattle.cmr_front.specs.Words.ReadWords.{Gives};
 ghost use Rattle.cmr_front.specs.declared.status.Answer.{Answer};
 ghost use Rattle.cmr_unimodular.specs.Upgrade.{UpgradeDecides, upgrade_app, upgrade_order, upgrade_order_in, upgrade_order_of, upgrade_report, upgrade_tool, upgraded_line};
@@ -17,18 +15,17 @@ use cmr_front::evidence_file::{evidence_input, read_tree_file};
 use cmr_front::input::{Input, Text};
 use cmr_front::outcome::{Outcome, OutputFile, Stop};
 use cmr_front::status::Answer;
-use cmr_front::tool::{Tool, run_tool};
+use cmr_front::tool::Tool;
 use cmr_front::words::arguments::{EVIDENCE, TREE};
 use cmr_front::words::parsing::{matches_in, operand_in};
 use cmr_front::words::{WordsError, arguments};
-use cmr_io::{Shelf, Sink};
 use itoa::Buffer;
 use std::alloc::{AllocError, Global};
 use std::thread::Threads;
 use tree_text::write_tree;
 use tree_type::{DecTree, count_nodes};
 
-/// What `upgrade` is asked to do. A file of the name `-` is standard input where it is read.
+/// The options of `upgrade`. An input file of the name `-` is standard input.
 #[derive(Clone, Copy, Debug, PartialEq, Eq)]
 pub struct UpgradeOptions<'a> {
     /// The file that holds the tree text, of any version.
@@ -68,25 +65,6 @@ pub fn read_upgrade<'a>(alloc: Global, words: &'a [Word]) -> Result<UpgradeOptio
     options_in(&matches)
 }
 
-/// Does what `run` does on the words of `upgrade`, and answers the status.
-pub fn upgrade<R: Threads + Sync, S: Shelf, O: Sink, E: Sink>(
-    rt: &R,
-    alloc: Global,
-    options: &UpgradeOptions<'_>,
-    shelf: &mut S,
-    out: &mut O,
-    err: &mut E,
-) -> u8
-    ensures runs { RunsOver S.Shelf O.Sink E.Sink
-        (work (upgrade_tool (upgrade_order_of options.now)))
-        shelf.old out.old err.old shelf.new out.new err.new result }
-    ensures means { IsTrue (S.tells shelf.old) → (answer : Answer) → result ≡ answer_status answer
-        → Means (upgrade_tool (upgrade_order_of options.now)) (S.content shelf.old) answer }
-    ensures one { HasOneReport (upgrade_tool (upgrade_order_of options.now)) }
-{
-    run_tool(rt, alloc, options, shelf, out, err)
-}
-
 impl<'a> Tool<'a> for UpgradeOptions<'a> {
     ghost tool = { λ options. upgrade_tool (upgrade_order_of options) };
 
@@ -102,6 +80,8 @@ impl<'a> Tool<'a> for UpgradeOptions<'a> {
     ) -> Result<Outcome<'a>, Stop<'a>> {
         upgrade_text(alloc, self, &texts[0].bytes)
     }
+
+    fn lawful(&self) {}
 }
 
 fn upgrade_text<'a>(

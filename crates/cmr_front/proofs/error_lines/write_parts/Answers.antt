@@ -5,11 +5,11 @@ use Rattle.cmr_io.specs.Causes.{Rose}
 use Rattle.cmr_io.specs.Whole.{AppendsPrefix}
 use Rattle.cmr_front.proofs.error_lines.write_parts.Goals as goal
 
--- a part more
+-- one more part
 put_on : (old mid new done part all : List ℕ) → new ≡ mid ++ part → mid ≡ old ++ done → done ++ part ≡ all → new ≡ old ++ all
 put_on old mid new done part all wrote before is = wrote ∙ ap (λ (xs : List ℕ). xs ++ part) before ∙ append_assoc old done part ∙ ap (λ (xs : List ℕ). old ++ xs) is
 
--- a prefix of a part, and then no more
+-- a prefix of a part, and nothing after it
 cut_on : (old mid new done part rest all : List ℕ) → AppendsPrefix mid new part → mid ≡ old ++ done → done ++ (part ++ rest) ≡ all → AppendsPrefix old new all
 cut_on old mid new done part rest all wrote before is =
     subst (AppendsPrefix old new) is (prefix old done part rest new (subst (λ (xs : List ℕ). AppendsPrefix xs new part) before wrote))

@@ -6,7 +6,7 @@ use Rattle.cmr_unimodular.proofs.outline.+push_node.Given as goal
 abbrev pub decreases-push_node : goal.decreases-push_node
 decreases-push_node l = goal.size-push_node l
 
--- the children that are left make the whole
+-- the written children and the remaining ones are all children
 abbrev pub invariant-loop-child : goal.invariant-loop-child
 invariant-loop-child l = record {
   whole : l.text.items ++ outline_below (l.depth + 1) (trees_from (map tree_of (drop l.child-index l.child-items))) ≡ l.fn.text.items ++ outline_from l.depth (tree_of l.node);
