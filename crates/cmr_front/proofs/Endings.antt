@@ -246,7 +246,7 @@ is_status (Err stops.Memory) = inr (failures.Memory, refl)
 -- ---- what an answer means of the texts that were read
 
 means_report : (tool : Tool) → IsLawful tool → (reads : Between) (report : Report) (answer : Answer) → IsReportOf tool reads report → report.status ≡ answer_status answer → MeansRead (work tool) reads answer
-means_report tool law reads report answer (gives_answer given s e bytes count d all gave) is = (bytes, count, gave, law.means bytes report answer d is)
+means_report tool law reads report answer (gives_answer given s e bytes count d all gave) is = (bytes, count, all, gave, law.means bytes report answer d is)
 means_report tool law reads report answer (names_fault name kind place same bytes count d all gave) is = absurd (answered_or_failed report.status answer failures.Text is (status_of report _ same))
 means_report tool law reads report answer (names_too_long place name at same all gave) is = absurd (answered_or_failed report.status answer failures.Text is (status_of report _ same))
 

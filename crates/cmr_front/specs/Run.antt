@@ -45,11 +45,11 @@ Reports (work tool) held report = ReportsHeld tool held report
 abbrev pub Means : Tool → Held → Answer → Type 0
 Means tool held answer = (bytes : List (List ℕ)) × (given held tool.inputs ≡ texts bytes) × tool.Means bytes answer
 
--- What an answer means whatever the shelf tells: a text was read of each file of the tool, in their order and each once, and
--- of these texts the answer says so.
+-- What an answer means over every shelf, also one that does not tell its bytes: the reads of all files of the tool were begun,
+-- in order and each once, and came to their ends; each file gave one text, and the answer means what the tool says of these texts.
 abbrev pub MeansRead : Ordered → Between → Answer → Type 0
 MeansRead nothing reads answer = ⊥
-MeansRead (work tool) reads answer = (bytes : List (List ℕ)) × (length bytes ≡ length tool.inputs) × HaveGiven tool.inputs bytes reads × tool.Means bytes answer
+MeansRead (work tool) reads answer = (bytes : List (List ℕ)) × (length bytes ≡ length tool.inputs) × AreAllRead tool.inputs reads × HaveGiven tool.inputs bytes reads × tool.Means bytes answer
 
 -- a file of the order could not be read, and those before it were
 abbrev pub CannotRead : Ordered → Held → Bool → Bool → Between → Bool → List ℕ → Type 0
