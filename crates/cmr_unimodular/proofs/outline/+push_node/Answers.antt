@@ -6,14 +6,14 @@ use Rattle.tree_type.specs.DecompositionTrees.{Finding, Tree, Branch, tree_of, t
 use Rattle.cert_check.proofs.Answering.{pivoted_is, reduced_is}
 use Rattle.cert_check.proofs.Children.{one_sum_is}
 use Rattle.cmr_unimodular.specs.Outline.{AreAtDepth, IsAtDepth, outline_from, outline_below, outline_line}
-use Rattle.cmr_unimodular.proofs.Outlines.{below, child_outlined, first_below, front_outlined, next_below, one_sum_below, others_below, rest_below, sum_is, two_outlined}
+use Rattle.cmr_unimodular.proofs.Outlines.{below, child_outlined, first_below, opening_outlined, next_below, one_sum_below, others_below, rest_below, sum_is, two_outlined}
 use Rattle.cmr_unimodular.proofs.outline.+push_node.Goals as goal
 
 -- the line of a node and the outline of its only child
 one_outlined : (depth : ℕ) (text begun : List ℕ) (node : Node) (finding : Finding) (child : Tree) → tree_of node ≡ Branch node.lines finding (one_tree child)
     → begun ≡ text ++ outline_line depth node.lines (finding_of (tree_of node)) → begun ++ outline_from (depth + 1) child ≡ text ++ outline_from depth (tree_of node)
 one_outlined depth text begun node finding child e written =
-    ap (λ (below : List ℕ). begun ++ below) (sym (append-nil (outline_from (depth + 1) child))) ∙ front_outlined depth text begun node finding (one_tree child) e written
+    ap (λ (below : List ℕ). begun ++ below) (sym (append-nil (outline_from (depth + 1) child))) ∙ opening_outlined depth text begun node finding (one_tree child) e written
 
 pub push_node-requires : goal.push_node-requires
 push_node-requires t c =
@@ -31,7 +31,7 @@ loop-child-init t c =
     let depth = c.args.depth in
     let nodes = nodes_in c.in-OneSum.children in record {
       whole = subst (λ ns. c.push_node_line.new.text.items ++ outline_below (depth + 1) (trees_from (map tree_of ns)) ≡ c.args.text.now.items ++ outline_from depth (tree_of node)) (sym c.as_slice-child-items.ensures.items)
-          (front_outlined depth c.args.text.now.items c.push_node_line.new.text.items node OneSum (trees_from (map tree_of nodes)) (one_sum_is node c.in-OneSum.children c.in-OneSum.is) c.in_ok-push_node_line.ensures);
+          (opening_outlined depth c.args.text.now.items c.push_node_line.new.text.items node OneSum (trees_from (map tree_of nodes)) (one_sum_is node c.in-OneSum.children c.in-OneSum.is) c.in_ok-push_node_line.ensures);
       left = subst (λ ns. AreAtDepth (depth + 1) (trees_from (map tree_of ns))) (sym c.as_slice-child-items.ensures.items) (one_sum_below depth node c.in-OneSum.children c.in-OneSum.is c.requires);
     }
 

@@ -9,4 +9,4 @@ push-requires c =
     let numbers = c.args.numbers.now in
     let i = c.loop-number.number-index in
     subst (λ (taken : List ℕ). IsAbove (get_or numbers i 0) taken) (sym c.loop-number.invariant)
-    (kept_below (is_outside c.args.before c.args.from c.args.count) numbers i c.requires.rising c.loop-number-test.true)
+    (kept_below (is_outside c.args.before c.args.from c.args.count) numbers i c.requires.increasing c.loop-number-test.true)

@@ -9,4 +9,4 @@ push-requires c =
     let lines = c.args.lines.now in
     let i = c.loop-line.line-index in
     let same = c.as_slice-line-items.ensures.items in
-    rw same (subst (λ (rest : List ℕ). IsAbove (get_or lines i 0) rest) (sym c.loop-line.invariant) (kept_below (λ line. not (is_among c.args.set.now line) || is_among c.args.more.now line) lines i c.as_slice-line-items.ensures.rising (omega (arith, ap length same))))
+    rw same (subst (λ (rest : List ℕ). IsAbove (get_or lines i 0) rest) (sym c.loop-line.invariant) (kept_below (λ line. not (is_among c.args.set.now line) || is_among c.args.more.now line) lines i c.as_slice-line-items.ensures.increasing (omega (arith, ap length same))))
