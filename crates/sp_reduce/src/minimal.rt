@@ -5,6 +5,7 @@ ghost use Rattle.cmr_base.specs.LineSets.{IsRowSet, IsColumnSet, submatrix};
 ghost use Rattle.cmr_base.specs.GreedySets.{IsGreedySet, IsMinimalWithout};
 ghost use Rattle.cmr_base.specs.Reductions.{IsSeriesParallel};
 
+use crate::needed::needs_all_lines;
 use crate::removal::reduce_lines;
 use cmr_base::{LineSet, Matrix, Memory};
 use minimal_sets::{Property, minimal_without};
@@ -25,6 +26,9 @@ pub fn minimal_not_sp(
     ensures minimal { IfOk result (λ found. IfSome found (λ lines.
         IsMinimalWithout (IsSeriesParallel binary) matrix.now lines.rows lines.columns)) }
 {
+    if needs_all_lines(alloc, matrix, binary)? {
+        return Ok(Some(LineSet::all(alloc, matrix.rows(), matrix.columns())?));
+    }
     minimal_without(alloc, matrix, &SeriesParallel { binary })
 }
 
@@ -44,7 +48,7 @@ impl Property for SeriesParallel {
     }
 }
 
-fn is_series_parallel(
+pub fn is_series_parallel(
     alloc: Global,
     matrix: &Matrix,
     lines: &LineSet,
