@@ -1,4 +1,4 @@
--- Where each line has two nonzeros and none is reducible, every line is needed as soon as one is.
+-- If each line has two nonzeros, no line is reducible and one line is needed, then every line is needed.
 use Rattle.std.proofs.Common.{◌≡◌, ◌≢◌, ◌<◌, ◌≤◌, ◌+◌, ◌&&◌, ◌∙◌, inl, inr, ℕ, zero, suc, Bool, true, false, cond, not, eqb, ltb, ℤ, pos, ◌*ℤ◌, List, [], ◌∷◌, length, filter, Option, Some, None, refl, ap, sym, subst, arith, eq-eqb}
 use Rattle.std.specs.List.Sorted.{IsStrictlyIncreasing}
 use Rattle.std.proofs.lemmas.Bool.{cases_lt, lt-ltb, eqb-false}
@@ -30,7 +30,7 @@ use Rattle.sp_reduce.proofs.Embeddings.{series_parallel-within}
 use Rattle.sp_reduce.proofs.Orders.{put_back, search_is, search_none, after_step, empty_from_length}
 use Rattle.sp_reduce.proofs.Submatrices.{submatrix_from_lines, lines_from_submatrix}
 
--- the list without what passes the test
+-- the items of the list that do not pass the test
 abbrev others : (ℕ → Bool) → List ℕ → List ℕ
 others p xs = filter (λ x. not (p x)) xs
 
@@ -65,7 +65,7 @@ module _ (binary : Bool) (M : ℕ → ℕ → ℤ) (R C : List ℕ) (p q : ℕ �
     | inr few ↦ absurd (irreducible (inl (thin_from_count (filter q C) (M i) few)))
   ]
 
-  -- what crosses a part in zeros alone is irreducible outside of it
+  -- a line outside of a part that has only zeros in the part is irreducible outside of it
   outside_irreducible : IsStrictlyIncreasing C → ((i : ℕ) → IsIn i (others p R) → IsZeroAt (M i) q C) → (i : ℕ) → IsIn i (others p R) → nonzeros_at C (M i) ≡ 2 → ¬ HasTwin binary M R C i
       → ¬ IsReducible binary M (others p R) (others q C) i
   outside_irreducible rises zeros i h two alone (inl thin) =
@@ -197,7 +197,7 @@ module _ (binary : Bool) (M : ℕ → ℕ → ℤ) (R C : List ℕ) (w : IsClose
   columns_rise : (s : Line → Bool) → IsStrictlyIncreasing (columns_of s C)
   columns_rise s = IsStrictlyIncreasing-filter (λ j. s (Column j)) C w.columns_increase
 
-  -- a set without the line is within what stays without it
+  -- a set without the line is part of the lines that remain without it
   lacking : (s : Line → Bool) → s one ≡ false → IsSeriesParallelOn binary M (rows_of s R) (columns_of s C)
   lacking s e =
       series_parallel-within binary M (rows_without R one) (columns_without C one) (rows_of s R) (columns_of s C) (rows_rise s) (columns_rise s)
@@ -266,7 +266,7 @@ module _ (binary : Bool) (M : ℕ → ℕ → ℤ) (R C : List ℕ) (w : IsClose
       (subst (λ (xs : List ℕ). IsSeriesParallelOn binary M (rows_of s R) xs) (sym columns)
       (any_lacking (length (rows_of s R) + length (columns_of s C)) s line there (goes (λ l. true) line) (omega arith)))
 
--- where lines remain and none is reducible, they can't all be removed
+-- some lines of which none is reducible cannot all be removed
 pub closed_lacks : (binary : Bool) (M : ℕ → ℕ → ℤ) (R C : List ℕ) → IsClosed binary M R C → (line : Line) → HasLine R C line → ¬ IsSeriesParallelOn binary M R C
 closed_lacks binary M R C w line there =
     no_line binary M R C (row_stuck binary M R C w.rows_increase w.columns_increase w.none) (column_stuck binary M R C w.rows_increase w.columns_increase w.none) line there

@@ -11,9 +11,9 @@ use cmr_base::{LineSet, Matrix, Memory};
 use minimal_sets::{Property, minimal_without};
 use std::alloc::Global;
 
-/// The lines of a minimal submatrix that is not series-parallel: all lines are gone through once, rows first, and each is
-/// left out where what then stays is still not series-parallel. `None` where the matrix is series-parallel. With `binary` a
-/// line is not reducible as the negative of another.
+/// The lines of a minimal submatrix that is not series-parallel: the search visits all lines once, rows first, and removes
+/// each line if the remaining submatrix is still not series-parallel. The result is `None` if and only if the matrix is
+/// series-parallel. With `binary` a line is not reducible as the negative of another line.
 pub fn minimal_not_sp(
     alloc: Global,
     matrix: &Matrix,
