@@ -1,4 +1,4 @@
--- What is known of two sides stays right when a line goes.
+-- The counts, sums and marks of two sides stay right when a line is removed.
 use Rattle.std.proofs.Common.{◌≡◌, ◌≢◌, ◌<◌, ◌≤◌, ◌+◌, ◌∙◌, ℕ, Bool, true, false, cond, List, length, get_or, refl, ap, sym, subst, arith}
 use Rattle.std.specs.List.Sorted.{IsStrictlyIncreasing}
 use Rattle.std.proofs.lemmas.List.Edits.{length-remove}

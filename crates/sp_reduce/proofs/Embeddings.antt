@@ -1,4 +1,4 @@
--- A matrix that lies in another, up to the order and the signs of lines, is series-parallel where the other is.
+-- A matrix that lies in another, up to the order and the signs of lines, is series-parallel if the other is.
 use Rattle.std.proofs.Common.{◌≡◌, ◌≢◌, ◌∙◌, ◌⊎◌, inl, inr, ℕ, Bool, cond, eqb, ℤ, pos, ◌*ℤ◌, List, [], ◌∷◌, eq-eqb, ne_eqb, refl, ap, sym, subst, arith}
 use Rattle.std.specs.List.Sorted.{IsStrictlyIncreasing}
 use Rattle.std.proofs.lemmas.Bool.{cases_eq}
@@ -81,7 +81,7 @@ module _ (binary : Bool) (N M : ℕ → ℕ → ℤ) (A B R C : List ℕ) (e : E
   }
 
   module _ (k : ℕ) (stays : IsIn k A) (lies : e.row k ≡ i) where
-    -- both are left out
+    -- both rows are removed
     smaller : Embeds binary N M (without A k) B (without R i) C
     smaller = record {
       row = e.row;
@@ -167,7 +167,7 @@ module _ (binary : Bool) (N M : ℕ → ℕ → ℤ) (A B R C : List ℕ) (e : E
           once x y h g (inr p) (inl q) s = absurd (none x h (sym (put_other k t.line e.row x p) ∙ s ∙ put_here k t.line e.row y q))
           once x y h g (inr p) (inr q) s = e.row_once x y h g (sym (put_other k t.line e.row x p) ∙ s ∙ put_other k t.line e.row y q)
 
-  -- what comes of the removal of row i
+  -- the embedding after the removal of row i
   abbrev pub After : Type 0
   After = Embeds binary N M A B (without R i) C ⊎ ((k : ℕ) × IsIn k A × IsReducible binary N A B k × Embeds binary N M (without A k) B (without R i) C)
 

@@ -16,3 +16,4 @@ pub mod Loops
 pub mod PlaceSums
 pub mod TallyLemmas
 pub mod UnlikeRows
+pub mod NeededLines

@@ -31,7 +31,7 @@ zero_counted xs f e x h = go (is_nonzero (f x)) refl
     go true t = absurd (counted_none xs f e x h (nonzero_is (f x) t))
     go false t = zero_is (f x) t
 
--- it has no nonzero, or it has a twin, or its only nonzero is where it crosses the line that the reason names
+-- it has no nonzero, or it has a twin, or its only nonzero is in the line that the reason names
 abbrev pub IsMeant : Bool → (ℕ → ℕ → ℤ) → (ℕ → Line) → List ℕ → List ℕ → ℕ → Reason → Type 0
 IsMeant binary M cross R C i reason =
     ((j : ℕ) → IsIn j C → M i j ≡ pos 0) ⊎ (HasTwin binary M R C i ⊎ ((c : ℕ) × (reason ≡ One (cross c)) × IsIn c C × ((j : ℕ) → IsIn j C → M i j ≢ pos 0 → j ≡ c)))

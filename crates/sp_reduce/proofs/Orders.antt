@@ -1,4 +1,4 @@
--- Any reducible line may go first, and the stated order leaves no line exactly where some order leaves none.
+-- Any reducible line may be removed first, and the stated order leaves no line if and only if some order leaves none.
 use Rattle.std.proofs.Common.{◌≡◌, ◌≤◌, ◌+◌, ◌∙◌, ◌⊎◌, inl, inr, ℕ, zero, suc, Bool, ℤ, List, [], ◌∷◌, length, Option, Some, None, is_some, IsSome, option_map, refl, ap, sym, subst, arith}
 use Rattle.std.specs.Option.{option_or}
 use Rattle.std.specs.List.Sorted.{IsStrictlyIncreasing}
@@ -20,7 +20,7 @@ pub put_back : (binary : Bool) (M : ℕ → ℕ → ℤ) (R C : List ℕ) (line 
     → IsSeriesParallelOn binary M (rows_without R line) (columns_without C line) → IsSeriesParallelOn binary M R C
 put_back binary M R C l stays some (order, ends) = (l ∷ order, (stays, some, ends))
 
--- what the search gives is reducible; where it gives none no line is
+-- the line that the search finds is reducible; if it finds none, no line is
 pub record IsFound (binary : Bool) (M : ℕ → ℕ → ℤ) (R C : List ℕ) (lines : List Line) (step : Step) : Type 0 where
   pub among : IsAmong step.line lines
   pub some : IsSome (line_reason binary M R C step.line)
@@ -49,7 +49,7 @@ search_none binary M R C (x ∷ ls) e l h some = go (line_reason binary M R C x)
     go None q e (inr h) k = k e h
     go (Some why) q e h k = true_is_false (ap is_some e)
 
--- what one step of the stated order comes to
+-- the removal after one step of the stated order
 abbrev pub after_step : Bool → (ℕ → ℕ → ℤ) → ℕ → List ℕ → List ℕ → Option Step → Removal
 after_step binary M n R C o = elim o as (λ _. Removal) [
   | None ↦ record { steps = []; rows = R; columns = C }
@@ -75,7 +75,7 @@ pub empty_from_length : (xs : List ℕ) → length xs ≤ 0 → xs ≡ []
 empty_from_length [] l = refl
 empty_from_length (x ∷ xs) l = absurd (omega arith)
 
--- and what is series-parallel has a rest with no lines
+-- and the rest of a series-parallel matrix has no lines
 pub rest_from_series_parallel : (binary : Bool) (M : ℕ → ℕ → ℤ) (n : ℕ) (R C : List ℕ) → length R + length C ≤ n → IsStrictlyIncreasing R → IsStrictlyIncreasing C → IsSeriesParallelOn binary M R C
     → ((removal_on binary M n R C).rows ≡ []) × ((removal_on binary M n R C).columns ≡ [])
 rest_from_series_parallel binary M zero R C l r c sp = (empty_from_length R (omega arith), empty_from_length C (omega arith))

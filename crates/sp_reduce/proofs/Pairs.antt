@@ -1,4 +1,4 @@
--- Two sides that cross, when a line of one of them goes.
+-- Two sides that cross, before and after a line of one of them is removed.
 use Rattle.std.proofs.Common.{◌≡◌, ◌<◌, ◌∙◌, ℕ, Bool, List, length, get_or, Some, ap, sym, subst}
 use Rattle.cmr_base.specs.declared.line.Reason.{Reason}
 use Rattle.cmr_base.specs.Matrix.{Matrix, entry}
@@ -42,7 +42,7 @@ paired_new binary m rows columns R C r c e f row_side column_side row_counted co
   across_settled = subst (λ (lines : List ℕ). IsSettled binary m columns lines) (sym e) column_settled;
 }
 
--- other lines are settled, and nothing else has changed
+-- only the marks have changed
 pub paired_marked : (binary : Bool) (m : Matrix) (own own' across : StayingLines) → ArePaired binary m own across → own' ≡ record own { settled = own'.settled }
     → length own'.settled.items ≡ length own.stays.items → IsSettled binary m own' across.stays.items → ArePaired binary m own' across
 paired_marked binary m own own' across p same long settled = record {

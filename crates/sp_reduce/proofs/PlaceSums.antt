@@ -1,4 +1,4 @@
--- Sums over places, and how they change where one place more passes a test.
+-- Sums over positions, and how they change if one more position passes a test.
 use Rattle.std.proofs.Common.{◌≡◌, ◌≢◌, ◌<◌, ◌≤◌, ◌+◌, ◌*◌, ◌&&◌, ◌∙◌, ◌↔◌, inl, inr, ℕ, suc, Bool, true, false, cond, List, [], ◌∷◌, ◌++◌, length, get_or, set, take, sum_by, refl, ap, sym, subst, arith}
 use Rattle.std.specs.List.Sorted.{IsStrictlyIncreasing}
 use Rattle.std.proofs.lemmas.Bool.{cases_eq}
@@ -51,7 +51,7 @@ sum_more f g place more xs distinct there here same =
     let rest = sum_same f g (without xs place) (λ x h. same x (without_in place x xs h).1) in
     omega (arith, e, e', rest, here)
 
--- places that count for nothing are left out
+-- positions with the value 0 can be removed
 sum_within : (f : ℕ → ℕ) (xs ys : List ℕ) → IsDistinct xs → IsStrictlyIncreasing ys → IsWithin xs ys → ((y : ℕ) → IsIn y ys → ¬ IsIn y xs → f y ≡ 0) → sum_by f ys ≡ sum_by f xs
 sum_within f [] ys distinct rises within none = sum_none f ys (λ y i. none y i (λ h. h))
 sum_within f (x ∷ xs) ys distinct rises within none =

@@ -1,4 +1,4 @@
--- A line stays irreducible when a crossing line goes, but where it gets few nonzeros, or its twin is the one line that changed.
+-- A line stays irreducible when a crossing line is removed, unless it gets few nonzeros or its twin is the line that changed.
 use Rattle.std.proofs.Common.{◌≡◌, ◌≢◌, ◌<◌, ◌&&◌, ◌||◌, ◌∙◌, inl, inr, ℕ, Bool, true, false, not, eqb, ℤ, pos, neg_ℤ, ◌*ℤ◌, List, ne_eqb, refl, ap, sym, subst, arith}
 use Rattle.std.specs.List.Sorted.{IsStrictlyIncreasing}
 use Rattle.std.proofs.lemmas.Bool.{cases_eq}

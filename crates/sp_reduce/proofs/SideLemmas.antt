@@ -59,7 +59,7 @@ module _ (binary : Bool) (M : ℕ → ℕ → ℤ) (kind : LineKind) (own across
       go None e k = k e
       go (Some r) e k = some_not_none e
 
--- a line is marked where it has no reason
+-- a line is marked if it has no reason
 pub settled_set : (binary : Bool) (m : Matrix) (side : StayingLines) (across : List ℕ) (place : ℕ) (mark : Bool) → place < length side.settled.items → IsSettled binary m side across
     → (mark ≡ true → reason_for binary (entry m) side.kind side.stays.items across (get_or side.stays.items place 0) ≡ None)
     → (at : ℕ) → at < length side.stays.items → get_or (set side.settled.items place mark) at false ≡ true → reason_for binary (entry m) side.kind side.stays.items across (get_or side.stays.items at 0) ≡ None

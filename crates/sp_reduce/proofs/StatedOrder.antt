@@ -33,7 +33,7 @@ columns_first binary M R C (x ∷ xs) =
     let here = option_map (λ reason. record { line = Column x; reason = reason }) (line_reason binary M R C (Column x)) in
     ap (λ (o : Option Step). option_or here o) (columns_first binary M R C xs)
 
--- the first reducible row, and where there is none the first reducible column
+-- the first reducible row, or the first reducible column if no row is reducible
 pub first_step-joined : (binary : Bool) (M : ℕ → ℕ → ℤ) (R C : List ℕ)
     → first_step binary M R C (lines_of R C) ≡ option_or (first_step_of binary M Rows R C R) (first_step_of binary M Columns C R C)
 first_step-joined binary M R C = rows_first binary M R C R (map Column C) ∙ ap (λ (o : Option Step). option_or (first_step_of binary M Rows R C R) o) (columns_first binary M R C C)
@@ -52,7 +52,7 @@ abbrev IsColumn : Line → Type 0
 IsColumn (Row n) = ⊥
 IsColumn (Column n) = Unit {0}
 
--- what a row leaves, and what a column leaves
+-- the lines that remain without a row, and without a column
 pub without_row : (R C R' C' : List ℕ) (line : Line) → line ≡ line_named Rows (index_of_line line) → R' ≡ without R (index_of_line line) → C' ≡ C → (R' ≡ rows_without R line) × (C' ≡ columns_without C line)
 without_row R C R' C' (Row n) e r c = (r, c)
 without_row R C R' C' (Column n) e r c = absurd (subst IsRow (sym e) tt)
@@ -64,7 +64,7 @@ without_column R C R' C' (Row n) e c r = absurd (subst IsColumn (sym e) tt)
 same_search : (binary : Bool) (M : ℕ → ℕ → ℤ) (kind : LineKind) (R C R₁ C₁ : List ℕ) → kind ≡ Columns → R₁ ≡ R → C₁ ≡ C → first_step_of binary M kind C₁ R₁ C₁ ≡ first_step_of binary M Columns C R C
 same_search binary M kind R C R₁ C₁ k r c = rw (k, r, c) refl
 
--- no row is reducible: the first reducible column goes
+-- no row is reducible: the first reducible column is removed
 pub columns_next : (binary : Bool) (M : ℕ → ℕ → ℤ) (kind : LineKind) (R C R₁ C₁ R₂ C₂ : List ℕ) (found : Option Step) → kind ≡ Columns → R₁ ≡ R → C₁ ≡ C → R₂ ≡ R₁
     → first_step_of binary M Rows R C R ≡ None → IfSome found (λ step. step.line ≡ line_named kind (index_of_line step.line))
     → MatchOption found ((first_step_of binary M kind C₁ R₁ C₁ ≡ None) × (C₂ ≡ C₁)) (λ step. (first_step_of binary M kind C₁ R₁ C₁ ≡ Some step) × (C₂ ≡ without C₁ (index_of_line step.line)))
@@ -76,7 +76,7 @@ columns_next binary M kind R C R₁ C₁ R₂ C₂ (Some step) k r c s e named (
     let gone = without_column R C R₂ C₂ step.line (subst (λ (x : LineKind). step.line ≡ line_named x (index_of_line step.line)) k named) (g ∙ ap (λ (lines : List ℕ). without lines (index_of_line step.line)) c) (s ∙ r) in
     (by_column binary M R C (Some step) e (sym (same_search binary M kind R C R₁ C₁ k r c) ∙ f), gone.0, gone.1)
 
--- ---- some steps are made, and what is left goes on to the same end
+-- ---- after some steps, the remaining lines lead to the same end
 
 pub record IsOnTheWay (binary : Bool) (M : ℕ → ℕ → ℤ) (end : Removal) (steps : List Step) (R C : List ℕ) : Type 0 where
   pub fuel : ℕ

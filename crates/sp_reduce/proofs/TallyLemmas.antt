@@ -1,4 +1,4 @@
--- The nonzeros of all lines of a kind, while the rows are gone through.
+-- The nonzeros of all lines of a kind, while the rows are visited.
 use Rattle.std.proofs.Common.{◌≡◌, ◌≢◌, ◌<◌, ◌≤◌, ◌+◌, ◌*◌, ◌^◌, ◌&&◌, ◌∙◌, inl, inr, ℕ, Bool, true, false, cond, ltb, eqb, List, length, get_or, set, sum_by, replicate, eq-eqb, ne_eqb, refl, ap, sym, subst, arith}
 use Rattle.std.proofs.lemmas.Bool.{cases_lt, cases_eq, lt-ltb, le-ltb}
 use Rattle.std.proofs.lemmas.List.{get_or-replicate, length-replicate, length-set}
@@ -20,7 +20,7 @@ use Rattle.sp_reduce.proofs.Weights.{weight_small}
 
 -- ---- places that were passed
 
--- from one nonzero of a row to behind the next
+-- from one nonzero of a row to after the next nonzero
 module _ (m : Matrix) (row from next : ℕ) (ordered : from ≤ next) (found : support m row next ≡ true) (none : (c : ℕ) → from ≤ c → c < next → support m row c ≡ false) where
   in_row : (j : ℕ) → j ≢ next → (ltb j from && support m row j) ≡ (ltb j (next + 1) && support m row j)
   in_row j d = elim (cases_lt j from) [
@@ -54,7 +54,7 @@ module _ (m : Matrix) (row from next : ℕ) (ordered : from ≤ next) (found : s
   pub now_passed : is_passed m row (next + 1) row next ≡ true
   now_passed = rw (le-ltb row row (omega arith), eq-eqb row row refl, lt-ltb next (next + 1) (omega arith)) found
 
--- behind the last nonzero of a row
+-- after the last nonzero of a row
 pub passed_row : (m : Matrix) (row from : ℕ) → ((c : ℕ) → from ≤ c → support m row c ≡ false) → (i j : ℕ) → is_passed m row from i j ≡ is_passed m (row + 1) 0 i j
 passed_row m row from none i j = elim (cases_lt i row) [
   | inl h ↦ rw (lt-ltb i row h, lt-ltb i (row + 1) (omega (arith, h))) refl
@@ -195,7 +195,7 @@ tallies_step m kind marks row from next t t' are h g ordered found none counts s
     long : (xs : List ℕ) (i x : ℕ) → length (set xs i x) ≡ length xs
     long xs i x = length-set xs i x
 
--- all rows were gone through, and these lines are marked
+-- all rows were visited, and these lines are marked
 module _ (m : Matrix) (kind : LineKind) (marks : List Bool) (across : List ℕ) (t : Tallies) (are : AreTallies m kind marks (height m) 0 t) (marked : AreMarks (cross_size m kind) across marks) (is : IsAcross m kind across) where
   inside : (k : ℕ) → IsIn k across → k < cross_size m kind
   inside k h = let p = place_is k across h in subst (λ (n : ℕ). n < cross_size m kind) p.there (is.in_range (place_of k across) p.in_range)
@@ -220,7 +220,7 @@ module _ (m : Matrix) (kind : LineKind) (marks : List Bool) (across : List ℕ) 
       are.sums l h ∙ tally_same weight marks (cross_size m kind) (by_kind (is_passed m (height m) 0) kind l) (by_kind (support m) kind l) (λ k g. by_kind_all m kind l k h g)
       ∙ tally_marked weight marks (cross_size m kind) across (by_kind (support m) kind l) marked is.increasing inside ∙ by_table l weight
 
-  -- and of some lines alone
+  -- and only of some lines
   pub tallies_of : (lines : List ℕ) (some : Tallies) → AllBelow (count_of_kind m kind) lines → AreTalliesAt lines (length lines) t some → AreTalliesOf m kind lines across some
   tallies_of lines some below at = record {
     many_counts = at.many_counts;

@@ -23,7 +23,7 @@ use Rattle.sp_reduce.proofs.SideLemmas.{none_is}
 use Rattle.sp_reduce.proofs.Views.{reason_of_twin}
 use Rattle.sp_reduce.proofs.Weights.{nonzero-neg}
 
--- ---- the words of a row are made of its support alone
+-- ---- the words of a row depend only on its support
 
 digits : List Bool → ℕ
 digits [] = 0

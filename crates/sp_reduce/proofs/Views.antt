@@ -1,4 +1,4 @@
--- A line is reducible where it has few nonzeros, and else exactly where it has a twin.
+-- A line is reducible if it has at most one nonzero; otherwise it is reducible if and only if it has a twin.
 use Rattle.std.proofs.Common.{◌≡◌, ◌<◌, ◌≤◌, ◌&&◌, ◌||◌, ◌∙◌, inl, inr, ℕ, Bool, true, false, cond, not, eqb, ℤ, neg_ℤ, List, [], ◌∷◌, find, Option, Some, None, is_some, option_map, refl, ap, sym, arith, ne_eqb, eq-eqb}
 use Rattle.std.specs.List.{list_any}
 use Rattle.std.specs.Option.{option_or}

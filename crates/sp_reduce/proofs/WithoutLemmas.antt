@@ -30,7 +30,7 @@ remove-without (x ∷ xs) (suc place) d h =
     let other : x ≢ get_or xs place 0 = λ e. d.0 (subst (λ (y : ℕ). IsIn y xs) (sym e) (in-get_or xs place (omega arith))) in
     rw (ne_eqb x (get_or xs place 0) other) (ap (λ (ys : List ℕ). x ∷ ys) (remove-without xs place d.1 (omega arith)))
 
--- where an item of a cut list stood before
+-- the position that an item of a list had before another item was removed
 pub record HasStood (size place at old : ℕ) : Type 0 where
   pub in_range : old < size
   pub number : (xs : List ℕ) → length xs ≡ size → get_or (remove xs place) at 0 ≡ get_or xs old 0

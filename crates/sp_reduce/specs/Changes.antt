@@ -9,7 +9,7 @@ use Rattle.sp_reduce.specs.declared.side.StayingLines.{StayingLines}
 use Rattle.sp_reduce.specs.LineKinds.{other_kind, table, reason_for, is_twin}
 use Rattle.sp_reduce.specs.StayingSides.{IsParallel, IsSide, IsAcross, AreNonzerosCounted, IsSettled, weight}
 
--- the line at a place is gone, and nothing else
+-- the line at a position is removed, and nothing else changes
 pub record IsRemovedAt (place : ℕ) (old new : StayingLines) : Type 0 where
   pub kind : new.kind ≡ old.kind
   pub stays : new.stays.items ≡ remove old.stays.items place
@@ -17,19 +17,19 @@ pub record IsRemovedAt (place : ℕ) (old new : StayingLines) : Type 0 where
   pub sums : new.sums.items ≡ remove old.sums.items place
   pub settled : new.settled.items ≡ remove old.settled.items place
 
--- where the line at a place crosses another one in a nonzero
+-- whether the line at a position has a nonzero in a crossing line
 abbrev pub crosses : Matrix → StayingLines → ℕ → ℕ → Bool
 crosses m side other at = is_nonzero (table (entry m) side.kind (slice_index side.stays.items at) other)
 
--- the line at a place has counted it, where it crosses it in a nonzero
+-- if the line at a position has a nonzero in the crossing line, its count and its sum include that nonzero
 abbrev pub IsHeldAt : Matrix → StayingLines → ℕ → ℕ → Type 0
 IsHeldAt m side gone at = crosses m side gone at ≡ true → (1 ≤ slice_index side.counts.items at) × (weight gone ≤ slice_index side.sums.items at)
 
--- each line has
+-- the same for each line
 abbrev pub IsHeld : Matrix → StayingLines → ℕ → Type 0
 IsHeld m side gone = (at : ℕ) → at < length side.stays.items → IsHeldAt m side gone at
 
--- the line at a place counts it no more, and is settled only where it was and two nonzeros are left
+-- the line at a position no longer counts the crossing line, and is settled only if it was settled and two nonzeros are left
 pub record HasForgotten (m : Matrix) (old new : StayingLines) (gone at : ℕ) : Type 0 where
   pub count : slice_index new.counts.items at + (if crosses m old gone at then 1 else 0) ≡ slice_index old.counts.items at
   pub sum : slice_index new.sums.items at + (if crosses m old gone at then weight gone else 0) ≡ slice_index old.sums.items at
@@ -41,20 +41,20 @@ pub record IsSameAt (old new : StayingLines) (at : ℕ) : Type 0 where
   pub sum : slice_index new.sums.items at ≡ slice_index old.sums.items at
   pub settled : slice_index_or new.settled.items at false ≡ slice_index_or old.settled.items at false
 
--- each line counts it no more
+-- no line counts the crossing line any longer
 pub record IsForgetting (m : Matrix) (old new : StayingLines) (gone : ℕ) : Type 0 where
   pub same : new ≡ record old { counts = new.counts; sums = new.sums; settled = new.settled }
   pub parallel : IsParallel new
   pub each : (at : ℕ) → at < length old.stays.items → HasForgotten m old new gone at
 
--- the line at a place is settled only where it was, and is neither the changed one nor a twin of it
+-- the line at a position is settled only if it was, and if it is neither the changed line nor a twin of the changed line
 pub record IsUnsettled (binary : Bool) (m : Matrix) (old new : StayingLines) (across : List ℕ) (changed at : ℕ) : Type 0 where
   pub was : slice_index_or new.settled.items at false ≡ true → slice_index_or old.settled.items at false ≡ true
   pub other : slice_index_or new.settled.items at false ≡ true → at ≡ changed → ⊥
   pub no_twin : slice_index_or new.settled.items at false ≡ true
       → is_twin binary (table (entry m) old.kind) across (slice_index old.stays.items changed) (slice_index old.stays.items at) ≡ false
 
--- What is known of a side was right for crossing lines with one more, which has just gone for this reason.
+-- The counts, sums and marks of a side were right before a crossing line was removed for this reason.
 pub record WasRightBefore (binary : Bool) (m : Matrix) (side : StayingLines) (across : List ℕ) (gone : ℕ) (reason : Reason) : Type 0 where
   pub before : List ℕ
   pub lines : IsAcross m side.kind before
@@ -64,7 +64,7 @@ pub record WasRightBefore (binary : Bool) (m : Matrix) (side : StayingLines) (ac
   pub settled : IsSettled binary m side before
   pub why : reason_for binary (entry m) (other_kind side.kind) before side.stays.items gone ≡ Some reason
 
--- two sides that cross, and what is known of them
+-- two sides that cross, with right counts, sums and marks
 pub record ArePaired (binary : Bool) (m : Matrix) (own across : StayingLines) : Type 0 where
   pub kinds : across.kind ≡ other_kind own.kind
   pub own_side : IsSide m own

@@ -10,7 +10,7 @@ abbrev pub SubmatricesAreSeriesParallel : Type 0
 SubmatricesAreSeriesParallel = (binary : Bool) (m : Matrix) (rows columns : List ℕ) → IsRowSet m rows → IsColumnSet m columns → IsSeriesParallel binary m
     → IsSeriesParallel binary (submatrix m rows columns)
 
--- series-parallel exactly where the stated order leaves no row and no column
+-- series-parallel if and only if the stated order leaves no row and no column
 abbrev pub RestDecides : Type 0
 RestDecides = (binary : Bool) (m : Matrix) → IsSeriesParallel binary m ↔ (((removal binary m).rows ≡ []) × ((removal binary m).columns ≡ []))
 

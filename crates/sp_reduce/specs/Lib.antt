@@ -4,3 +4,4 @@ pub mod StayingSides
 pub mod Tallies
 pub mod Changes
 pub mod RowDigests
+pub mod NeededLines

@@ -1,4 +1,4 @@
--- Numbers that tell the supports of rows apart, mostly, and matrices without reducible line.
+-- Digests of the supports of rows, and matrices without a reducible line.
 use Rattle.std.specs.Prelude.{◌≡◌, ◌≢◌, ◌<◌, Bool, ℕ, List, [], ◌∷◌, None}
 use Rattle.cmr_base.specs.declared.line.Line.{Line}
 use Rattle.cmr_base.specs.Matrix.{Matrix, height, row_of, entry, is_nonzero}
@@ -19,7 +19,7 @@ digest_of words = digest_from 0 words
 abbrev pub digest_at : Matrix → ℕ → ℕ
 digest_at m row = digest_of (words_of (words_for m.width) is_nonzero (row_of m row))
 
--- each row has two nonzeros or more, and no two rows have one digest
+-- each row has two nonzeros or more, and any two rows have different digests
 pub record AreUnlikeRows (m : Matrix) : Type 0 where
   pub many : (row : ℕ) → row < height m → 1 < nonzeros_at (first_lines m.width) (entry m row)
   pub unlike : (row other : ℕ) → row < height m → other < height m → row ≢ other → digest_at m row ≢ digest_at m other

@@ -1,4 +1,4 @@
--- The lines of one kind that stay, and what is known of each.
+-- The lines of one kind that remain, with the count, the sum and the mark of each.
 use Rattle.std.specs.Prelude.{◌≡◌, ◌<◌, ◌+◌, ◌^◌, ◌&&◌, ◌==◌, not, if◌then◌else◌, Bool, true, false, ℕ, ℤ, neg_ℤ, List, [], ◌∷◌, length, slice_index, slice_index_or, sum_by, find, Option, Some, None, option_map}
 use Rattle.std.specs.Option.{option_or}
 use Rattle.std.specs.List.Sorted.{IsStrictlyIncreasing}
@@ -13,15 +13,15 @@ use Rattle.sp_reduce.specs.declared.side.Found.{Found}
 use Rattle.sp_reduce.specs.declared.side.StayingLines.{StayingLines}
 use Rattle.sp_reduce.specs.LineKinds.{line_named, count_of_kind, cross_size, table, reason_for}
 
--- sums of these tell sets of lines apart, mostly
+-- different sets of lines usually have different sums of weights
 abbrev pub weight : ℕ → ℕ
 weight number = (number + 1) ^ 5
 
--- the weights of the nonzero places
+-- the sum of the weights of the positions of nonzeros
 abbrev pub weight_at : List ℕ → (ℕ → ℤ) → ℕ
 weight_at places f = sum_by (λ k. if is_nonzero (f k) then weight k else 0) places
 
--- each line that stays has a count, a sum and a mark
+-- each remaining line has a count, a sum and a mark
 pub record IsParallel (side : StayingLines) : Type 0 where
   pub counts : length side.counts.items ≡ length side.stays.items
   pub sums : length side.sums.items ≡ length side.stays.items
@@ -38,16 +38,16 @@ pub record IsAcross (m : Matrix) (kind : LineKind) (across : List ℕ) : Type 0 
   pub increasing : IsStrictlyIncreasing across
   pub in_range : AllBelow (cross_size m kind) across
 
--- the lines at two places are not one, and have one sum
+-- the lines at two positions differ and have the same sum
 abbrev pub may_be_twins : StayingLines → ℕ → ℕ → Bool
 may_be_twins side place other =
     slice_index side.sums.items other == slice_index side.sums.items place && not (slice_index side.stays.items other == slice_index side.stays.items place)
 
--- no other line has the sum of the line at a place
+-- no other line has the sum of the line at a position
 abbrev pub IsAlone : StayingLines → ℕ → Type 0
 IsAlone side place = (other : ℕ) → other < length side.stays.items → may_be_twins side place other ≡ false
 
--- the counts and sums are those of the nonzeros in these crossing lines
+-- the counts and sums of the nonzeros in these crossing lines are right
 pub record AreNonzerosCounted (m : Matrix) (side : StayingLines) (across : List ℕ) : Type 0 where
   pub counts : (at : ℕ) → at < length side.stays.items
       → slice_index side.counts.items at ≡ nonzeros_at across (table (entry m) side.kind (slice_index side.stays.items at))
@@ -80,7 +80,7 @@ twin_reason binary M kind own across line =
     option_or (option_map (λ twin. Copy (line_named kind twin)) (find (is_copy (table M kind) across line) own))
     (if binary then None else option_map (λ twin. Negative (line_named kind twin)) (find (is_negative (table M kind) across line) own))
 
--- a line was found at a place: it is the first that is reducible, for this reason
+-- the line at the position that was found is the first reducible line, for this reason
 pub record IsFirstReducible (binary : Bool) (m : Matrix) (side : StayingLines) (across : List ℕ) (found : Found) : Type 0 where
   pub in_range : found.place < length side.stays.items
   pub reason : reason_for binary (entry m) side.kind side.stays.items across (slice_index side.stays.items found.place) ≡ Some found.reason

@@ -11,17 +11,17 @@ use Rattle.sp_reduce.specs.declared.tallies.Tallies.{Tallies}
 use Rattle.sp_reduce.specs.LineKinds.{count_of_kind, cross_size, table}
 use Rattle.sp_reduce.specs.StayingSides.{weight, weight_at}
 
--- of so many lines, these are marked
+-- of `size` lines, exactly these are marked
 pub record AreMarks (size : ℕ) (lines : List ℕ) (marks : List Bool) : Type 0 where
   pub long : length marks ≡ size
   pub exact : (k : ℕ) → (slice_index_or marks k false ≡ true) ↔ IsIn k lines
 
--- the weight of each marked line, and 0 for the others
+-- the weight of each marked line, and 0 for the other lines
 pub record AreWeights (marks : List Bool) (weights : List ℕ) : Type 0 where
   pub long : length weights ≡ length marks
   pub exact : (k : ℕ) → k < length marks → slice_index weights k ≡ (if slice_index_or marks k false then weight k else 0)
 
--- a place above the row, or in it and before the column
+-- a position above the row, or in the row and before the column
 abbrev pub is_before : ℕ → ℕ → ℕ → ℕ → Bool
 is_before row column i j = nat_lt i row || (i == row && nat_lt j column)
 
@@ -34,11 +34,11 @@ abbrev pub by_kind : (ℕ → ℕ → Bool) → LineKind → ℕ → ℕ → Boo
 by_kind test Rows line other = test line other
 by_kind test Columns line other = test other line
 
--- the sum of the numbers of the marked places that pass the test
+-- the sum of the numbers of the marked positions that pass the test
 abbrev pub tally : (ℕ → ℕ) → List Bool → ℕ → (ℕ → Bool) → ℕ
 tally number marks size test = sum_by (λ k. if slice_index_or marks k false && test k then number k else 0) (first_lines size)
 
--- each line of the kind has the count and the weights of its nonzeros that were passed
+-- each line of the kind has the count and the weights of its nonzeros that were counted so far
 pub record AreTallies (m : Matrix) (kind : LineKind) (marks : List Bool) (row column : ℕ) (tallies : Tallies) : Type 0 where
   pub many_counts : length tallies.counts.items ≡ count_of_kind m kind
   pub many_sums : length tallies.sums.items ≡ count_of_kind m kind
@@ -47,7 +47,7 @@ pub record AreTallies (m : Matrix) (kind : LineKind) (marks : List Bool) (row co
   pub sums : (line : ℕ) → line < count_of_kind m kind
       → slice_index tallies.sums.items line ≡ tally weight marks (cross_size m kind) (by_kind (is_passed m row column) kind line)
 
--- the first of these lines have the tallies that they have among all
+-- the first `count` of these lines have their tallies among all lines
 pub record AreTalliesAt (lines : List ℕ) (count : ℕ) (all tallies : Tallies) : Type 0 where
   pub many_counts : length tallies.counts.items ≡ count
   pub many_sums : length tallies.sums.items ≡ count

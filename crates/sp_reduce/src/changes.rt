@@ -1,4 +1,4 @@
-// What the removal of a line changes on its own side and on the other one.
+// What the removal of a line changes on its own side and on the other side.
 ghost use Rattle.std.specs.Prelude.{◌≡◌, ◌<◌, ℕ, false, length, slice_index, slice_index_or, IfSome, IfNone};
 ghost use Rattle.std.specs.List.{remove};
 ghost use Rattle.cmr_base.specs.Matrix.{IsMatrix};
@@ -12,7 +12,7 @@ use crate::tallies::weight;
 use cmr_base::{Matrix, Reason};
 
 impl StayingLines {
-    // A crossing line is gone for this reason. These are left.
+    // Updates the side after a crossing line was removed for a reason. `across` are the crossing lines that remain.
     pub fn renew(
         &mut self,
         matrix: &Matrix,
@@ -47,7 +47,7 @@ impl StayingLines {
         self.stays.iter().position(|other| *other == line)
     }
 
-    // The line at a place goes.
+    // Removes the line at a position.
     pub fn remove(&mut self, place: usize) -> u32
         requires place { place < length self.old.stays.items }
         requires parallel { IsParallel self.old }
@@ -60,7 +60,7 @@ impl StayingLines {
         self.stays.remove(place)
     }
 
-    // A crossing line goes.
+    // Updates the counts and the sums for a crossing line that is removed.
     pub fn forget(&mut self, matrix: &Matrix, gone: u32)
         requires shape { IsMatrix matrix.now }
         requires side { IsSide matrix.now self.old }
@@ -97,7 +97,7 @@ impl StayingLines {
         }
     }
 
-    // The line at a place has changed: it and its twins are settled no more.
+    // The line at a position has changed: it and its twins are no longer settled.
     pub fn unsettle(&mut self, matrix: &Matrix, changed: usize, across: &[u32], binary: bool)
         requires side { IsSide matrix.now self.old }
         requires across { IsAcross matrix.now self.old.kind across.now }

@@ -34,7 +34,7 @@ impl LineKind {
         }
     }
 
-    // How many lines of this kind there are.
+    // The number of lines of this kind.
     pub fn size(self, matrix: &Matrix) -> u32
         ensures { result ≡ count_of_kind matrix.now self }
     {
@@ -44,7 +44,7 @@ impl LineKind {
         }
     }
 
-    // The line of this kind through a place.
+    // The line of this kind through a position.
     pub fn own(self, row: u32, column: u32) -> u32
         ensures { result ≡ own_line self row column }
     {
@@ -131,7 +131,7 @@ pub fn count_nonzeros(matrix: &Matrix, kind: LineKind, line: u32, across: &[u32]
     count
 }
 
-// Whether two lines are equal where they cross these lines.
+// Whether two lines have the same entries in these crossing lines.
 pub fn are_equal(matrix: &Matrix, kind: LineKind, line: u32, twin: u32, across: &[u32]) -> bool
     requires line { line < count_of_kind matrix.now kind }
     requires twin { twin < count_of_kind matrix.now kind }
@@ -147,7 +147,7 @@ pub fn are_equal(matrix: &Matrix, kind: LineKind, line: u32, twin: u32, across: 
     true
 }
 
-// Whether each of two lines is the negative of the other where they cross these lines.
+// Whether two lines have opposite entries in these crossing lines.
 pub fn are_opposite(matrix: &Matrix, kind: LineKind, line: u32, twin: u32, across: &[u32]) -> bool
     requires line { line < count_of_kind matrix.now kind }
     requires twin { twin < count_of_kind matrix.now kind }

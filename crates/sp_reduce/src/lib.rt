@@ -6,6 +6,7 @@ mod kind;
 pub mod laws;
 mod looking;
 mod minimal;
+mod needed;
 mod reducible;
 mod removal;
 mod side;

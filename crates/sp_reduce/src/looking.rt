@@ -1,4 +1,4 @@
-// A first look at the lines of a matrix, by which most matrices without reducible line are known.
+// A first look at the lines of a matrix, which recognises most matrices without a reducible line.
 ghost use Rattle.std.specs.Prelude.{◌≡◌, ◌<◌, Bool, true, false, IfOk};
 ghost use Rattle.cmr_base.specs.Matrix.{height, entry};
 ghost use Rattle.cmr_base.specs.LineSets.{first_lines};
@@ -9,18 +9,18 @@ use cmr_base::{Matrix, Memory, RowsAndColumns};
 use digests::{are_different, mixed};
 use std::alloc::Global;
 
-/// What a first look at the lines of a matrix tells.
+/// The result of a first look at the lines of a matrix.
 #[derive(Clone, Copy, Debug, PartialEq, Eq)]
 pub enum FirstLook {
     /// No line is reducible.
     Irreducible,
-    /// Some line may be reducible, or none.
+    /// The first look does not decide whether a line is reducible.
     Unclear,
 }
 
-/// A first look at all lines. Where each has two nonzeros or more, and digests of their supports tell those of one kind
-/// apart, no line is reducible: a copy or a negative has the same support. Equal digests tell nothing. No two lines are
-/// compared: it takes the time of a walk through the words and of two sorts.
+/// A first look at all lines. No line is reducible if each line has two nonzeros or more and the supports of any two rows,
+/// and of any two columns, have different digests: a copy or a negative has the same support. Equal digests show nothing.
+/// `first_look` compares no two lines. It reads each word once and sorts the digests twice.
 pub fn first_look(alloc: Global, both: &RowsAndColumns<'_>) -> Result<FirstLook, Memory>
     ensures { IfOk result (λ look. look ≡ FirstLook.Irreducible → (binary : Bool)
         → HasNoReducibleLine binary both.now) }
@@ -31,7 +31,7 @@ pub fn first_look(alloc: Global, both: &RowsAndColumns<'_>) -> Result<FirstLook,
     Ok(FirstLook::Unclear)
 }
 
-// Whether each row has two nonzeros or more, and no two rows have one digest.
+// Whether each row has two nonzeros or more, and any two rows have different digests.
 fn has_unlike_rows(alloc: Global, matrix: &Matrix) -> Result<bool, Memory>
     ensures { IfOk result (λ yes. yes ≡ true → AreUnlikeRows matrix.now) }
 {
@@ -57,7 +57,7 @@ fn has_few_nonzeros(matrix: &Matrix, row: u32) -> bool
     }
 }
 
-// One number for some words.
+// The digest of a list of words.
 fn digest_of(words: &[u64]) -> u64
     ensures { result ≡ digest_of words.now }
 {

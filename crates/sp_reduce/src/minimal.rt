@@ -5,14 +5,15 @@ ghost use Rattle.cmr_base.specs.LineSets.{IsRowSet, IsColumnSet, submatrix};
 ghost use Rattle.cmr_base.specs.GreedySets.{IsGreedySet, IsMinimalWithout};
 ghost use Rattle.cmr_base.specs.Reductions.{IsSeriesParallel};
 
+use crate::needed::needs_all_lines;
 use crate::removal::reduce_lines;
 use cmr_base::{LineSet, Matrix, Memory};
 use minimal_sets::{Property, minimal_without};
 use std::alloc::Global;
 
-/// The lines of a minimal submatrix that is not series-parallel: all lines are gone through once, rows first, and each is
-/// left out where what then stays is still not series-parallel. `None` where the matrix is series-parallel. With `binary` a
-/// line is not reducible as the negative of another.
+/// The lines of a minimal submatrix that is not series-parallel: the search visits all lines once, rows first, and removes
+/// each line if the remaining submatrix is still not series-parallel. The result is `None` if and only if the matrix is
+/// series-parallel. With `binary` a line is not reducible as the negative of another line.
 pub fn minimal_not_sp(
     alloc: Global,
     matrix: &Matrix,
@@ -25,6 +26,9 @@ pub fn minimal_not_sp(
     ensures minimal { IfOk result (λ found. IfSome found (λ lines.
         IsMinimalWithout (IsSeriesParallel binary) matrix.now lines.rows lines.columns)) }
 {
+    if needs_all_lines(alloc, matrix, binary)? {
+        return Ok(Some(LineSet::all(alloc, matrix.rows(), matrix.columns())?));
+    }
     minimal_without(alloc, matrix, &SeriesParallel { binary })
 }
 
@@ -44,7 +48,7 @@ impl Property for SeriesParallel {
     }
 }
 
-fn is_series_parallel(
+pub fn is_series_parallel(
     alloc: Global,
     matrix: &Matrix,
     lines: &LineSet,

@@ -9,8 +9,8 @@ ghost use Rattle.sp_reduce.specs.LineKinds.{count_of_kind, cross_size, table, re
 use crate::kind::{LineKind, are_equal, are_opposite, count_nonzeros};
 use cmr_base::{Line, LineSet, Matrix};
 
-/// Whether the line is reducible among these lines: where it crosses them it has at most one nonzero, or it equals
-/// another line of its kind, or it is the negative of one. With `binary` negatives do not count.
+/// Whether the line is reducible among these lines: it has at most one nonzero in the lines that it crosses, or it equals
+/// another line of its kind, or it is the negative of another line of its kind. With `binary` negatives do not count.
 pub fn is_reducible_line(matrix: &Matrix, lines: &LineSet, line: Line, binary: bool) -> bool
     requires rows { AllBelow (height matrix.now) lines.now.rows }
     requires columns { AllBelow matrix.now.width lines.now.columns }

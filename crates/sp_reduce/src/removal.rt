@@ -13,15 +13,15 @@ use crate::side::StayingLines;
 use cmr_base::{Indices, LineSet, Matrix, Memory, Step, StepList};
 use std::alloc::Global;
 
-/// Removals in the stated order, and the lines that are left.
+/// Removals in the stated order, and the remaining lines.
 #[derive(Debug, Drop)]
 pub struct Reduction {
     pub steps: StepList,
     pub rest: LineSet,
 }
 
-/// Removes the first reducible row as long as there is one, and where no row is reducible the first reducible column,
-/// until neither is. With `binary` a line is not reducible as the negative of another.
+/// Removes the first reducible row, or the first reducible column if no row is reducible, until no line is reducible. With
+/// `binary` a line is not reducible as the negative of another line.
 pub fn reduce(alloc: Global, matrix: &Matrix, binary: bool) -> Result<Reduction, Memory>
     ensures steps { IfOk result (λ reduction. reduction.steps ≡ (removal binary matrix.now).steps) }
     ensures rows { IfOk result (λ reduction. reduction.rest.rows
@@ -33,7 +33,7 @@ pub fn reduce(alloc: Global, matrix: &Matrix, binary: bool) -> Result<Reduction,
     reduce_lines(alloc, matrix, &lines, binary)
 }
 
-// The same from these lines on.
+// Removes lines in the same order, starting with these lines.
 pub fn reduce_lines(
     alloc: Global,
     matrix: &Matrix,
@@ -66,7 +66,7 @@ pub fn reduce_lines(
     reduce_sides(alloc, matrix, &mut rows, &mut columns, binary)
 }
 
-// The same from the lines of two sides on.
+// Removes lines in the same order, starting with the lines of two sides.
 fn reduce_sides(
     alloc: Global,
     matrix: &Matrix,
@@ -118,7 +118,7 @@ fn remove_all(
     Ok(steps)
 }
 
-// The next step of the stated order, which is made.
+// Makes the next step of the stated order.
 fn next_step(
     matrix: &Matrix,
     rows: &mut StayingLines,
@@ -148,7 +148,7 @@ fn next_step(
     }
 }
 
-// The first reducible line of one side goes.
+// Removes the first reducible line of one side.
 fn remove_first(
     matrix: &Matrix,
     own: &mut StayingLines,

@@ -1,4 +1,4 @@
-// The lines of one kind that stay, and what is known of each.
+// The lines of one kind that remain, with the count, the sum and the mark of each.
 ghost use Rattle.std.specs.Prelude.{IfOk, Bool, ℕ, false, ◌≡◌, ◌≢◌, ◌<◌, ◌≤◌, length, slice_index, find, Some, None, MatchOption};
 ghost use Rattle.std.specs.List.Sorted.{IsStrictlyIncreasing};
 ghost use Rattle.cmr_base.specs.Matrix.{entry, is_nonzero, IsMatrix};
@@ -11,8 +11,8 @@ use crate::tallies::Tallies;
 use cmr_base::{Matrix, Memory, Reason};
 use std::alloc::Global;
 
-// Each line that stays has the count of its nonzeros in the crossing lines that stay, and the sum of the weights of
-// these crossing lines: lines with different sums are no twins. A settled line is known not to be reducible.
+// Each remaining line has the count of its nonzeros in the remaining crossing lines, and the sum of the weights of these
+// crossing lines. Lines with different sums are no twins. A settled line is not reducible.
 #[derive(Debug, Drop)]
 pub struct StayingLines {
     pub kind: LineKind,
@@ -22,7 +22,7 @@ pub struct StayingLines {
     pub settled: Vec<bool>,
 }
 
-// The first reducible line, by its place among those that stay.
+// The first reducible line, by its position among the remaining lines.
 #[derive(Clone, Copy, Debug)]
 pub struct Found {
     pub place: usize,
@@ -59,7 +59,7 @@ impl StayingLines {
         })
     }
 
-    // The first reducible line. Lines that are found not to be reducible are settled.
+    // The first reducible line. Each line before it becomes settled.
     pub fn first_reducible(
         &mut self,
         matrix: &Matrix,
@@ -87,7 +87,7 @@ impl StayingLines {
         None
     }
 
-    // Why the line at a place is reducible. It is settled where it is not.
+    // Why the line at a position is reducible. It becomes settled if it is not.
     fn examine(
         &mut self,
         matrix: &Matrix,
@@ -153,7 +153,7 @@ impl StayingLines {
         }
     }
 
-    // Whether the line at another place has the same sum.
+    // Whether the line at another position has the same sum.
     fn shares_sum(&self, place: usize) -> bool
         requires parallel { IsParallel self.now }
         requires place { place < length self.now.stays.items }
@@ -243,7 +243,7 @@ impl StayingLines {
             || !binary && self.is_negative(matrix, place, other, across)
     }
 
-    // Whether the lines at two places are not one, and have one sum.
+    // Whether the lines at two positions differ and have the same sum.
     fn may_be_twins(&self, place: usize, other: usize) -> bool
         requires parallel { IsParallel self.now }
         requires place { place < length self.now.stays.items }
@@ -292,7 +292,7 @@ impl StayingLines {
     }
 }
 
-// Whether one of the sums from one place to before another is this.
+// Whether one of the sums from a position up to another position, which is excluded, is this sum.
 fn has_sum(sums: &[u64], from: usize, to: usize, sum: u64) -> bool
     requires { to ≤ length sums.now }
     ensures { result ≡ false → (place : ℕ) → from ≤ place → place < to

@@ -26,7 +26,7 @@ pub fn weight(number: u32) -> u64
     (u64::from(number) + 1).pow(5)
 }
 
-// For each of so many lines, whether it is one of these.
+// For each of `size` lines, whether it is one of `lines`.
 fn marks_of(alloc: Global, size: u32, lines: &[u32]) -> Result<Vec<bool>, Memory>
     requires { AllBelow size lines.now }
     ensures { IfOk result (λ marks. AreMarks size lines.now marks.items) }
@@ -39,7 +39,7 @@ fn marks_of(alloc: Global, size: u32, lines: &[u32]) -> Result<Vec<bool>, Memory
 }
 
 impl Tallies {
-    // Of some lines alone, in their order: their nonzeros in some crossing lines.
+    // The tallies of some lines, in their order, in some crossing lines.
     pub fn of_lines(
         alloc: Global,
         matrix: &Matrix,
@@ -73,7 +73,7 @@ impl Tallies {
         Ok(tallies)
     }
 
-    // Goes through the nonzeros of all rows.
+    // Counts the nonzeros of all rows.
     fn new(
         alloc: Global,
         matrix: &Matrix,
@@ -120,7 +120,7 @@ impl Tallies {
         }
     }
 
-    // A line has a nonzero in another line, which counts where this is marked, by its weight.
+    // Adds a nonzero in a crossing line to the tallies of a line. An unmarked crossing line does not count.
     fn add(&mut self, line: u32, is_marked: bool, weight: u64)
         requires in_counts { line < length self.old.counts.items }
         requires in_sums { line < length self.old.sums.items }

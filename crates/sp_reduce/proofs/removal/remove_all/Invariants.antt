@@ -5,7 +5,7 @@ use Rattle.sp_reduce.specs.Changes.{ArePaired, removal_from}
 use Rattle.sp_reduce.proofs.StatedOrder.{IsOnTheWay}
 use Rattle.sp_reduce.proofs.removal.remove_all.Given as goal
 
--- the steps so far are the first ones of the stated order, which goes on from the lines that stay
+-- the steps so far are the first steps of the stated order, which continues from the remaining lines
 abbrev pub invariant-steps : goal.invariant-steps
 invariant-steps l = record {
   kind : l.rows.kind ≡ Rows;

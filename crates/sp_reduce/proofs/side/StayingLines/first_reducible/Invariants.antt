@@ -3,7 +3,7 @@ use Rattle.cmr_base.specs.Matrix.{entry}
 use Rattle.sp_reduce.specs.StayingSides.{IsSettled, first_step_of}
 use Rattle.sp_reduce.proofs.side.StayingLines.first_reducible.Given as goal
 
--- no line so far is reducible, and marks alone have changed
+-- no line so far is reducible, and only the marks have changed
 abbrev pub invariant-places : goal.invariant-places
 invariant-places l =
     (l.self ≡ record l.fn.self { settled = l.self.settled }) × (length l.self.settled.items ≡ length l.fn.self.stays.items)
