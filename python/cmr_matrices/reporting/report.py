@@ -9,7 +9,7 @@ from dataclasses import dataclass, field
 from typing import Any, Literal, get_args
 
 from ..answers import Verdict
-from ..clock import Clock
+from ..clock import Clock, processor_seconds
 from ..errors import BadInput, TimeLimitReached, shown
 from ..given import one_of
 from ..given import whole as whole_number
@@ -20,7 +20,7 @@ from ..models import Model, read_model
 from ..mps import model_text
 from ..program import StrPath, find_program, unproved
 from ..trees import Tree
-from .asking import Asked, Asker, Cells, Limit, Tell, processor_seconds
+from .asking import Asked, Asker, Cells, Limit, Tell
 from .keeping import Budget, Kept, keep_blocks
 from .minimal import Minimal, minimal_violator
 from .reasons import Reason, reason_of, reason_of_tree
@@ -345,7 +345,7 @@ class _Work:
     def _reason_of(self, matrix: Matrix, tree: Tree) -> Reason:
         """The reason of one part. If there is no time to look for a graph, it is that of the tree."""
         try:
-            return reason_of(matrix, tree, self._asker.program, Clock(self._asker.time_left()))
+            return reason_of(matrix, tree, self._asker.program, self._asker.clock())
         except TimeLimitReached:
             self._asker.ended["why they are totally unimodular"] = "time"
             return reason_of_tree(tree)
