@@ -16,7 +16,7 @@ from pathlib import Path
 from cmr_matrices import BadInput, Matrix, ModelReport, model_report
 from cmr_matrices.constraints import Choice, Constraints
 from cmr_matrices.lines import Names
-from cmr_matrices.model_texts import NONLINEAR_OBJECTIVE, SEMICONTINUOUS
+from cmr_matrices.model_texts import NONLINEAR_OBJECTIVE, ORDERED_SETS, SEMICONTINUOUS
 from cmr_matrices.modellers import constraints_of_file
 from cmr_matrices.reporting.repeating import row_pattern
 from cmr_matrices.reporting.rows import said_rows
@@ -127,6 +127,16 @@ class Reports(ReportTest):
         self.assertIn("The model has semicontinuous variables", report.to_html())
         found = json.loads(report.to_json())
         self.assertEqual((found["left_out"], found["relax"]["solves_as_a_linear_program"]), ([*report.rows.model.left_out], False))
+
+    def test_ordered_sets_are_said(self) -> None:
+        lines = ["NAME", "ROWS", " N cost", " L a", "COLUMNS", " x cost 1 a 1", " y cost 1 a 1", "RHS", " RHS a 1"]
+        report = model_report(self.write("plain.mps", "\n".join([*lines, "ENDATA", ""])))
+        self.assertEqual(report.rows.model.left_out, ())
+        lines += ["SETS", " S1 set one", "    set x 1", "    set y 2", "ENDATA", ""]
+        report = model_report(self.write("sets.mps", "\n".join(lines)))
+        self.assertEqual((report.verdict, report.rows.model.left_out), ("yes", (ORDERED_SETS,)))
+        for text in (report.to_text(), report.to_html()):
+            self.assertIn("The model has special ordered sets in its section SETS, which a linear program does not have.", text)
 
     def test_a_no_claims_nothing_of_equations(self) -> None:
         """The equations have the determinant 1, so all their solutions are integral, though the matrix has a violator."""

@@ -4,7 +4,7 @@ from __future__ import annotations
 
 from collections.abc import Sequence
 
-from ..model_texts import NONLINEAR_OBJECTIVE, SEMICONTINUOUS
+from ..model_texts import NONLINEAR_OBJECTIVE, ORDERED_SETS, SEMICONTINUOUS
 from .report import FamilyLine, ModelReport
 
 __all__ = [
@@ -82,6 +82,8 @@ def of_left_out(report: ModelReport) -> list[str]:
         said.append("The model has an objective that is not linear, so an optimum need not be at a vertex.")
     if SEMICONTINUOUS in found:
         said.append("The model has semicontinuous variables, which a linear program does not have.")
+    if ORDERED_SETS in found:
+        said.append("The model has special ordered sets in its section SETS, which a linear program does not have.")
     return said
 
 
