@@ -15,7 +15,7 @@ __all__ = ["Clock", "ProcessorClock", "TimeLimit", "processor_seconds"]
 _LONGEST = 2_000_000
 
 # A run that gets a smaller part of a processor than 1 in this number is ended as well, for example a run that only waits.
-_WAITS = 20
+_WAITS = 50
 
 
 class Clock:
