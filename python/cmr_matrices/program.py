@@ -155,7 +155,7 @@ def run(
 
 
 def _ended(command: list[str], text: int, folder: str | None, clock: Clock) -> subprocess.CompletedProcess[bytes]:
-    """A run on a held text to its end. What ends the call ends the program, and waits for its end, so that the system keeps nothing of it."""
+    """A run on a held text to its end. What ends the call ends the program, and waits for its end: the system keeps nothing of it."""
     left = clock.left()
     with _begun(command, text, folder) as process:
         try:
