@@ -24,8 +24,9 @@ TOP = Path(__file__).resolve().parents[1]
 sys.path.insert(0, str(TOP / "python"))
 
 from cmr_matrices import CmrError  # noqa: E402
-from cmr_matrices.classifying.asking import ask, held_text  # noqa: E402
+from cmr_matrices.classifying.asking import ask  # noqa: E402
 from cmr_matrices.classifying.classes import CLASSES  # noqa: E402
+from cmr_matrices.held_texts import held_text  # noqa: E402
 
 COMMAND = TOP / "scripts" / "cmr-classify"
 

@@ -1,16 +1,21 @@
-"""The time that is left of a limit, over several runs of the program."""
+"""The time that is left of a limit, over several runs of the program: by a clock, or of the processors."""
 
 from __future__ import annotations
 
+import os
 import time
+from pathlib import Path
 from typing import Any
 
 from .errors import BadInput, TimeLimitReached
 
-__all__ = ["Clock", "TimeLimit"]
+__all__ = ["Clock", "ProcessorClock", "TimeLimit", "processor_seconds"]
 
 # The seconds for which all systems can wait at once. Some cannot wait much longer.
 _LONGEST = 2_000_000
+
+# A run that gets a smaller part of a processor than 1 in this number is ended as well, for example a run that only waits.
+_WAITS = 50
 
 
 class Clock:
@@ -18,25 +23,68 @@ class Clock:
 
     def __init__(self, limit: float | None) -> None:
         self.limit = None if limit is None else _seconds(limit)
-        self._end = None if self.limit is None else time.monotonic() + self.limit
+        self._start = time.monotonic()
 
     @classmethod
     def of(cls, limit: TimeLimit) -> Clock:
         """The clock of a limit that begins now, or the clock that is given. Raises `BadInput` if the limit is not a number in its range."""
         return limit if isinstance(limit, Clock) else cls(limit)
 
-    def left(self) -> float | None:
-        """The seconds that are left, or None if there is no limit. Raises `TimeLimitReached` if none are left."""
-        if self.limit is None or self._end is None:
+    def left(self, process: int | None = None) -> float | None:
+        """The seconds that are left, or None if there is no limit. Raises `TimeLimitReached` if none are left.
+
+        `process` is the number of a program that runs now, for a clock that counts its processor time.
+        """
+        if self.limit is None:
             return None
-        seconds = self._end - time.monotonic()
+        seconds = self._left(self.limit, process)
         if seconds <= 0:
             raise TimeLimitReached(self.limit)
         return seconds
 
+    def _left(self, limit: float, _process: int | None) -> float:
+        return limit - (time.monotonic() - self._start)
+
+
+class ProcessorClock(Clock):
+    """The processor seconds that are left of a limit, for this process and the programs that it runs.
+
+    So other work of the machine ends no run. If the system does not tell the processor time of a program, the clock counts all its time.
+    """
+
+    def __init__(self, limit: float | None) -> None:
+        super().__init__(limit)
+        self._used = processor_seconds()
+
+    def _left(self, limit: float, process: int | None) -> float:
+        used = processor_seconds() - self._used
+        if process is not None:
+            running = _used_by(process)
+            if running is None:
+                return super()._left(limit, process)
+            used += running
+        return min(limit - used, super()._left(_WAITS * limit, process))
+
 
 TimeLimit = float | Clock | None
 """A limit in seconds, or a clock that is already running."""
+
+
+def processor_seconds() -> float:
+    """The processor time of this process and of all programs that it has run to their ends."""
+    used = os.times()
+    return used.user + used.system + used.children_user + used.children_system
+
+
+def _used_by(process: int) -> float | None:
+    """The processor time of a running program. Linux tells it, other systems do not."""
+    try:
+        told = Path(f"/proc/{process}/stat").read_text("utf-8", "replace")
+    except OSError:
+        return None
+    # The name of the program is in parentheses, and may have any characters.
+    fields = told.rpartition(")")[2].split()
+    return (int(fields[11]) + int(fields[12])) / os.sysconf("SC_CLK_TCK")
 
 
 def _seconds(limit: Any) -> float:

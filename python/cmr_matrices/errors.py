@@ -227,9 +227,13 @@ class TextPlace:
             word[0].decode("utf-8", "replace") if word else "",
         )
 
+    @property
+    def shown(self) -> str:
+        """The word, or what it begins with if it is long."""
+        return self.word if len(self.word) <= 30 else f"{self.word[:30]}.."
+
     def __str__(self) -> str:
-        word = self.word if len(self.word) <= 30 else f"{self.word[:30]}.."
-        return f"line {self.line}, column {self.column}: " + (f"`{word}`" if word else "the text ends")
+        return f"line {self.line}, column {self.column}: " + (f"`{self.shown}`" if self.word else "the text ends")
 
 
 class BadText(ProgramFault, BadInput):

@@ -12,19 +12,20 @@ from pathlib import Path
 from .errors import BadInput
 from .explained.texts import guess
 
-__all__ = ["FORMATS", "NONLINEAR_OBJECTIVE", "SEMICONTINUOUS", "format_of", "left_out", "plain_text"]
+__all__ = ["FORMATS", "NONLINEAR_OBJECTIVE", "ORDERED_SETS", "SEMICONTINUOUS", "format_of", "left_out", "plain_text"]
 
 FORMATS = {".lp": "lp", ".mod": "mathprog", ".mps": "mps"}
 """The formats of models that are read, by the suffixes of their files."""
 
 NONLINEAR_OBJECTIVE, SEMICONTINUOUS = "an objective that is not linear", "semicontinuous variables"
+ORDERED_SETS = "special ordered sets"
 """What a model may have beside rows and columns with bounds, and what its matrix does not show."""
 
 _PACKED = (".gz", ".bz2")
 _MARK = b"\xef\xbb\xbf"
 # Sections of MPS that say nothing of rows and columns, and those with constraints that are no rows of a matrix.
 _BESIDE = ("OBJSENSE", "OBJNAME", "OBJECT", "BRANCH", "QUADOBJ", "QMATRIX", "QSECTION", "START", "SETS")
-_QUADRATIC_SECTIONS = ("QUADOBJ", "QMATRIX", "QSECTION")
+_LEFT_OUT = dict.fromkeys(("QUADOBJ", "QMATRIX", "QSECTION"), NONLINEAR_OBJECTIVE) | {"SETS": ORDERED_SETS}
 _SEMICONTINUOUS_BOUND = re.compile(r"\s+S[CI]\s")
 _LP_COMMENT = re.compile(r"\\.*")
 _OTHER = ("QCMATRIX", "CSECTION", "INDICATORS", "SOS", "SOS1", "SOS2", "GENCONS", "PWLOBJ")
@@ -71,7 +72,7 @@ def left_out(data: bytes, form: str) -> tuple[str, ...]:
     """What `plain_text` leaves out of a text, if it decides whether the model is a linear program with bounds."""
     text = _unpacked(data).removeprefix(_MARK).decode("utf-8", "surrogateescape")
     found = {"mps": _left_out_of_mps, "lp": _left_out_of_lp}.get(form, lambda _: frozenset())(text.splitlines())
-    return tuple(what for what in (NONLINEAR_OBJECTIVE, SEMICONTINUOUS) if what in found)
+    return tuple(what for what in (NONLINEAR_OBJECTIVE, SEMICONTINUOUS, ORDERED_SETS) if what in found)
 
 
 def _left_out_of_mps(lines: list[str]) -> frozenset[str]:
@@ -79,8 +80,8 @@ def _left_out_of_mps(lines: list[str]) -> frozenset[str]:
     for line in lines:
         if line[:1] not in ("", " ", "\t", "*"):
             section = line.split()[0].upper()
-        elif section in _QUADRATIC_SECTIONS and line.strip():
-            found.add(NONLINEAR_OBJECTIVE)
+        elif section in _LEFT_OUT and line.strip():
+            found.add(_LEFT_OUT[section])
         elif section == "BOUNDS" and _SEMICONTINUOUS_BOUND.match(line):
             found.add(SEMICONTINUOUS)
     return frozenset(found)

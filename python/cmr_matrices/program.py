@@ -25,10 +25,10 @@ from .errors import (
     ProgramFault,
     ProgramMissing,
     TextPlace,
-    TimeLimitReached,
     UnprovedProgram,
 )
 from .explained.texts import guess
+from .held_texts import held_text
 
 __all__ = [
     "NO",
@@ -49,6 +49,8 @@ StrPath = str | os.PathLike[str]
 YES, NO, UNDECIDED, REFUSED = 0, 1, 6, 7
 # The status by which a shell says that a file is no program.
 _NOT_RUN = 126
+# The least seconds after which a run is asked again how much processor time it has used.
+_MOMENT = 0.02
 
 # The `parent` of the root is the root. `parents` has no such entry.
 _CLONE = Path(__file__).resolve().parent.parent.parent
@@ -143,7 +145,8 @@ def run(
         folder = stack.enter_context(tempfile.TemporaryDirectory(prefix="cmr-")) if has_files else None
         for name, content in (inputs or {}).items():
             _write(Path(folder or "", name), content)
-        ran = _ended(command, _encoded(text), folder, clock)
+        held = stack.enter_context(held_text(_encoded(text)))
+        ran = _ended(command, held, folder, clock)
         if ran.returncode not in (YES, NO, UNDECIDED, REFUSED):
             line = ran.stderr.decode("utf-8", "surrogateescape").rstrip("\n")
             raise fault_of(ran.returncode, line, {"-": text} | dict(inputs or {}))
@@ -151,25 +154,36 @@ def run(
     return Ran(ran.returncode, tuple(ran.stdout.decode("ascii").splitlines()), files)
 
 
-def _ended(command: list[str], data: bytes, folder: str | None, clock: Clock) -> subprocess.CompletedProcess[bytes]:
-    """A run to its end. What ends the call ends the program, and waits for its end, so that the system keeps nothing of it."""
-    pipe = subprocess.PIPE
+def _ended(command: list[str], text: int, folder: str | None, clock: Clock) -> subprocess.CompletedProcess[bytes]:
+    """A run on a held text to its end. What ends the call ends the program, and waits for its end: the system keeps nothing of it."""
     left = clock.left()
+    with _begun(command, text, folder) as process:
+        try:
+            printed, said = _printed(process, clock, left)
+        except BaseException:
+            process.kill()
+            process.wait()
+            raise
+    return subprocess.CompletedProcess(command, process.returncode, printed, said)
+
+
+def _begun(command: list[str], text: int, folder: str | None) -> subprocess.Popen[bytes]:
+    pipe = subprocess.PIPE
     try:
-        with subprocess.Popen(command, stdin=pipe, stdout=pipe, stderr=pipe, cwd=folder) as process:
-            try:
-                printed, said = process.communicate(data, timeout=left)
-            except BaseException:
-                process.kill()
-                process.wait()
-                raise
-    except subprocess.TimeoutExpired:
-        raise TimeLimitReached(clock.limit or 0) from None
+        return subprocess.Popen(command, stdin=text, stdout=pipe, stderr=pipe, cwd=folder)
     except FileNotFoundError:
         raise ProgramMissing([command[0]]) from None
     except OSError as fault:
         raise ProgramFault(_NOT_RUN, f"{command[0]} cannot be run: {fault.strerror}") from fault
-    return subprocess.CompletedProcess(command, process.returncode, printed, said)
+
+
+def _printed(process: subprocess.Popen[bytes], clock: Clock, left: float | None) -> tuple[bytes, bytes]:
+    """What a run prints until its end. Raises `TimeLimitReached` if it does not end in time."""
+    while True:
+        try:
+            return process.communicate(timeout=left)
+        except subprocess.TimeoutExpired:
+            left = max(clock.left(process.pid) or 0, _MOMENT)
 
 
 def _write(path: Path, content: str) -> None:

@@ -25,6 +25,7 @@ from dataclasses import dataclass, field, replace
 
 from .answers import Answer
 from .calls import Call
+from .clock import TimeLimit
 from .errors import TimeLimitReached
 from .given import whole
 from .matrix import Matrix
@@ -58,7 +59,7 @@ def is_totally_unimodular(
     pivots: int = 20,
     tries: int = 0,
     seed: int = 0,
-    time_limit: float | None = None,
+    time_limit: TimeLimit = None,
     program: StrPath | None = None,
 ) -> Answer:
     """Whether every square submatrix has the determinant -1, 0 or 1.
@@ -87,7 +88,7 @@ def is_regular(
     pivots: int = 20,
     tries: int = 0,
     seed: int = 0,
-    time_limit: float | None = None,
+    time_limit: TimeLimit = None,
     program: StrPath | None = None,
 ) -> Answer:
     """Whether the ones of a 0/1 matrix can be signed so that it becomes totally unimodular.
@@ -108,7 +109,7 @@ def is_regular(
 
 
 def is_graphic(
-    matrix: MatrixLike, *, certificate: bool = False, time_limit: float | None = None, program: StrPath | None = None
+    matrix: MatrixLike, *, certificate: bool = False, time_limit: TimeLimit = None, program: StrPath | None = None
 ) -> Answer:
     """Whether a 0/1 matrix is the matrix of paths in a tree: each column has ones at the arcs of a path.
 
@@ -123,7 +124,7 @@ def is_graphic(
 
 
 def is_cographic(
-    matrix: MatrixLike, *, certificate: bool = False, time_limit: float | None = None, program: StrPath | None = None
+    matrix: MatrixLike, *, certificate: bool = False, time_limit: TimeLimit = None, program: StrPath | None = None
 ) -> Answer:
     """Whether the transpose of a 0/1 matrix is graphic. The arcs of the `graph` represent the columns; otherwise as `is_graphic`.
 
@@ -134,7 +135,7 @@ def is_cographic(
 
 
 def is_network(
-    matrix: MatrixLike, *, certificate: bool = False, time_limit: float | None = None, program: StrPath | None = None
+    matrix: MatrixLike, *, certificate: bool = False, time_limit: TimeLimit = None, program: StrPath | None = None
 ) -> Answer:
     """Whether a matrix is the matrix of paths in a directed tree: an entry is 1 if the path takes the arc forwards, -1 if backwards.
 
@@ -149,7 +150,7 @@ def is_network(
 
 
 def is_conetwork(
-    matrix: MatrixLike, *, certificate: bool = False, time_limit: float | None = None, program: StrPath | None = None
+    matrix: MatrixLike, *, certificate: bool = False, time_limit: TimeLimit = None, program: StrPath | None = None
 ) -> Answer:
     """Whether the transposed matrix is a network matrix. The arcs of the `graph` represent the columns; otherwise as `is_network`.
 
@@ -164,7 +165,7 @@ def is_series_parallel(
     *,
     binary: bool = False,
     certificate: bool = False,
-    time_limit: float | None = None,
+    time_limit: TimeLimit = None,
     program: StrPath | None = None,
 ) -> Answer:
     """Whether removing lines that are zero, have one nonzero, or equal another line or its negative leaves no lines.
@@ -190,7 +191,7 @@ def is_balanced(
     pivots: int = 20,
     tries: int = 0,
     seed: int = 0,
-    time_limit: float | None = None,
+    time_limit: TimeLimit = None,
     program: StrPath | None = None,
 ) -> Answer:
     """Whether no submatrix with exactly two nonzeros in each line has a sum of 2 modulo 4.
@@ -210,7 +211,7 @@ def is_balanced(
 
 
 def has_no_cycle_fault(
-    matrix: MatrixLike, *, time_limit: float | None = None, program: StrPath | None = None
+    matrix: MatrixLike, *, time_limit: TimeLimit = None, program: StrPath | None = None
 ) -> Answer:
     """Camion's test: whether there is no cycle fault. If some signs of these nonzeros are totally unimodular, these signs are then too.
 
@@ -275,7 +276,7 @@ class _Search:
 def _asked(
     question: Question,
     matrix: MatrixLike,
-    time_limit: float | None,
+    time_limit: TimeLimit,
     program: StrPath | None,
     *,
     is_binary: bool = False,

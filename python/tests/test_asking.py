@@ -22,7 +22,8 @@ from cmr_matrices import (
     ProgramFault,
     TimeLimitReached,
 )
-from cmr_matrices.classifying.asking import ask, held_text
+from cmr_matrices.classifying.asking import ask
+from cmr_matrices.held_texts import held_text
 from tests.support import is_gone, waits_until
 
 PIPE = 2**16

@@ -16,7 +16,7 @@ from pathlib import Path
 from cmr_matrices import BadInput, Matrix, ModelReport, model_report
 from cmr_matrices.constraints import Choice, Constraints
 from cmr_matrices.lines import Names
-from cmr_matrices.model_texts import NONLINEAR_OBJECTIVE, SEMICONTINUOUS
+from cmr_matrices.model_texts import NONLINEAR_OBJECTIVE, ORDERED_SETS, SEMICONTINUOUS
 from cmr_matrices.modellers import constraints_of_file
 from cmr_matrices.reporting.repeating import row_pattern
 from cmr_matrices.reporting.rows import said_rows
@@ -128,6 +128,16 @@ class Reports(ReportTest):
         found = json.loads(report.to_json())
         self.assertEqual((found["left_out"], found["relax"]["solves_as_a_linear_program"]), ([*report.rows.model.left_out], False))
 
+    def test_ordered_sets_are_said(self) -> None:
+        lines = ["NAME", "ROWS", " N cost", " L a", "COLUMNS", " x cost 1 a 1", " y cost 1 a 1", "RHS", " RHS a 1"]
+        report = model_report(self.write("plain.mps", "\n".join([*lines, "ENDATA", ""])))
+        self.assertEqual(report.rows.model.left_out, ())
+        lines += ["SETS", " S1 set one", "    set x 1", "    set y 2", "ENDATA", ""]
+        report = model_report(self.write("sets.mps", "\n".join(lines)))
+        self.assertEqual((report.verdict, report.rows.model.left_out), ("yes", (ORDERED_SETS,)))
+        for text in (report.to_text(), report.to_html()):
+            self.assertIn("The model has special ordered sets in its section SETS, which a linear program does not have.", text)
+
     def test_a_no_claims_nothing_of_equations(self) -> None:
         """The equations have the determinant 1, so all their solutions are integral, though the matrix has a violator."""
         rows = {"a": [1, 1, 0], "b": [1, -1, 1], "c": [0, 1, -1]}
@@ -187,8 +197,7 @@ class Reports(ReportTest):
     def test_a_limit_ends_the_search(self) -> None:
         report = model_report(EXAMPLES / "goods.mod", questions=1)
         self.assertEqual(report.verdict, "no")
-        assert report.within is not None
-        self.assertTrue(report.within.is_cut)
+        self.assertTrue(report.within["load[..]"].is_cut)
         self.assertEqual(report.ended["rows of load[..]"], "questions")
         self.assertIn("The limits on questions ended these steps: ", report.to_text())
         self.assertIn("A limit ended the search row by row before it found a row of load[..]", report.to_text())
@@ -211,6 +220,38 @@ class Reports(ReportTest):
         assert report.kept is not None
         self.assertEqual((report.kept.is_greedy, report.kept.is_cut, report.kept.is_largest), (True, True, False))
         self.assertIn("A limit ended the search, so another choice may keep more rows.", report.to_text())
+
+    def spoiled_families(self, letters: str) -> Path:
+        """The last family is kept. Of each other family one row makes a violator with it."""
+        rows: dict[str, list[int]] = {}
+        for number, letter in enumerate(letters):
+            before = [0] * (3 * number)
+            rows[f"{letter}(0)"] = [*before, 1, 0, 1]
+            rows |= {f"{letter}({at + 1})": [*before, *[0] * at, 1] for at in range(number + 1)}
+        width = 3 * len(letters)
+        pairs = [[0] * at + [1, 1] for at in range(width) if at % 3 < 2]
+        kept = pairs + [[0] * at + [1] for at in range(width)]
+        rows |= {f"p({at})": row for at, row in enumerate(kept)}
+        text = lp_text({name: [*row, *[0] * (width - len(row))] for name, row in rows.items()})
+        return self.write(f"{letters}.lp", text)
+
+    def test_the_rows_of_several_families_are_tried(self) -> None:
+        report = model_report(self.spoiled_families("bc"))
+        self.holds(report)
+        self.assertEqual(report.relax, ("b(0)", "c(0)"))
+        self.assertEqual({name: len(search.blocks) for name, search in report.within.items()}, {"b(..)": 1, "c(..)": 2})
+        self.assertIn("Row by row, 1 of 2 of b(0..1) and 2 of 3 of c(0..2) can be kept (the search was greedy, so", report.to_text())
+        self.assertEqual([family.state for family in report.families], ["partly", "partly", "kept"])
+
+    def test_families_share_the_questions(self) -> None:
+        report = model_report(self.spoiled_families("bc"), questions=2)
+        self.holds(report)
+        self.assertEqual(report.ended["rows of c(..)"], "questions")
+        self.assertIn("A limit ended the search row by row before it found a row of c(0..2) that can be kept.", report.to_text())
+        report = model_report(self.spoiled_families("bcd"), questions=2)
+        self.holds(report)
+        self.assertEqual(list(report.within), ["b(..)"])
+        self.assertEqual(report.ended["rows of 2 other families"], "questions")
 
     def test_a_part_that_is_too_large(self) -> None:
         """Rows i and i + 1 share a column, in a cycle of odd length with cycles that cross it: nothing is reducible."""

@@ -5,36 +5,17 @@ from __future__ import annotations
 import os
 import select
 import signal
-import tempfile
 import time
-from collections.abc import Iterator, Sequence
-from contextlib import contextmanager, suppress
+from collections.abc import Sequence
+from contextlib import suppress
 from functools import cache
 
 from ..errors import BadText, CmrError, ProgramFault, TimeLimitReached
 from ..program import NO, UNDECIDED, YES, fault_of
 
-__all__ = ["ask", "fault_words", "held_text"]
+__all__ = ["ask", "fault_words"]
 
 _VERDICTS = {YES: "yes", NO: "no", UNDECIDED: "undecided"}
-
-
-@contextmanager
-def held_text(text: bytes) -> Iterator[int]:
-    """An unnamed file with a text, as a descriptor that runs read from. It is removed at the end."""
-    if hasattr(os, "memfd_create"):
-        file = os.memfd_create("matrix")
-        try:
-            with open(file, "wb", closefd=False) as stream:
-                stream.write(text)
-            yield file
-        finally:
-            os.close(file)
-    else:
-        with tempfile.TemporaryFile() as stream:
-            stream.write(text)
-            stream.flush()
-            yield stream.fileno()
 
 
 def ask(program: str, words: Sequence[str], text: int, said: str, time_limit: float | None = None) -> str:

@@ -12,11 +12,12 @@ from pathlib import Path
 from ..answers import Answer
 from ..errors import BadInput, BadText, CmrError, ProgramFault, TimeLimitReached, Undecided
 from ..excluded import CLASSES as MINOR_CLASSES
+from ..held_texts import held_text
 from ..matrix import Matrix
 from ..minors import excluded_minor
 from ..modellers import from_model
 from ..questions import is_balanced, is_regular, is_totally_unimodular
-from .asking import ask, fault_words, held_text
+from .asking import ask, fault_words
 from .classes import CLASSES, MatrixClass, asking_order, contradictions, settle
 from .streams import Format, Item
 

@@ -4,15 +4,14 @@ from __future__ import annotations
 
 import re
 from collections.abc import Iterator, Mapping
-from dataclasses import dataclass
 
+from ..errors import TextPlace
 from ..words import LIMIT
 from .texts import Guess, guess, has_size
 from .words import Order
 
 __all__ = ["text_fault"]
 
-_WORD = re.compile(rb"[^\t-\r ]+")
 _MATRIX = ("dense", "sparse")
 _EVIDENCE = ("tree", "chain", "submatrix")
 _WANTED = {
@@ -33,28 +32,6 @@ _BINARY = {
 }
 
 
-@dataclass(frozen=True)
-class _Place:
-    """A word of a text: its line and its column, counted from 1, and the number of words before it."""
-
-    line: int
-    column: int
-    word: str
-    before: int
-
-    @classmethod
-    def at(cls, data: bytes, byte: int) -> _Place:
-        front = data[:byte]
-        start = front.rfind(b"\n") + 1
-        found = _WORD.match(data, byte)
-        return cls(
-            front.count(b"\n") + 1,
-            len(front[start:].decode("utf-8", "replace")) + 1,
-            _short(found[0].decode("utf-8", "replace")) if found else "",
-            sum(1 for _ in _WORD.finditer(front)),
-        )
-
-
 def text_fault(order: Order, name: str, texts: Mapping[str, bytes], kind: str, byte: int | None) -> list[str]:
     """What there is to say of a fault in the text of a file. `texts` has the bytes of all files that are read."""
     data = texts[name]
@@ -63,11 +40,11 @@ def text_fault(order: Order, name: str, texts: Mapping[str, bytes], kind: str, b
         limit = "256 MiB" if wanted in ("evidence", "tree") else "16 MiB"
         return [f"{name} has {len(data)} bytes, and {_WANTED[wanted]} may have {limit}"]
     seems = guess(data)
-    place = _Place.at(data, byte)
+    place = TextPlace.at(data, byte)
     said = []
     if data.strip():
         where = f"line {place.line}, column {place.column}" if place.word else "at its end"
-        said.append(f"{name}, {where}: {_why(order, wanted, data, kind, place)}")
+        said.append(f"{name}, {where}: {_why(order, wanted, data, kind, byte)}")
     if place.word.startswith(("#", "%", "//")) and seems.kind not in ("notes", "market"):
         said.append(f"{name} has a comment there, and a text for cmr has none")
     if seems.kind == "submatrix" and wanted in _MATRIX and has_size(data, wanted):
@@ -87,25 +64,26 @@ def _wanted(order: Order, name: str, data: bytes) -> str:
     return next((kind for kind in found if kind != guess(data).kind), found[0]) if found else matrix
 
 
-def _why(order: Order, wanted: str, data: bytes, kind: str, place: _Place) -> str:
-    word = f"`{place.word}`"
+def _why(order: Order, wanted: str, data: bytes, kind: str, byte: int) -> str:
+    place, before = TextPlace.at(data, byte), len(data[:byte].split())
+    word = f"`{place.shown}`"
     head = [int(found) for found in re.findall(rb"[^\t-\r ]+", data[:200])[:4] if found.isdigit() and len(found) < 6]
     match kind:
         case "NotNumber":
-            return _not_number(place.word)
+            return _not_number(place.shown)
         case "TooBig":
             return f"{word} is above 2147483647"
         case "TooManyRows" | "TooManyColumns":
             return f"{word}: a matrix has at most {LIMIT} {'rows' if kind == 'TooManyRows' else 'columns'}"
         case "Short" | "Extra":
-            return _counts(wanted, head, kind, place)
+            return _counts(wanted, head, kind, place, before)
         case "BadEntry" | "NotBinary":
             allowed = (
                 "-1, 0 and 1"
                 if kind == "BadEntry"
                 else f"0 and 1, as {order.tool.name} reads{_BINARY.get(order.tool.name, '')}"
             )
-            return f"{word}{_entry(wanted, head, place.before)} is none of {allowed}"
+            return f"{word}{_entry(wanted, head, before)} is none of {allowed}"
         case "RowOutOfRange" | "ColumnOutOfRange" | "OutOfRange":
             return _out_of_range(wanted, head, kind, place)
     return f"{word} {_KINDS[kind]}" if kind in _KINDS and place.word else _KINDS.get(kind, kind)
@@ -134,8 +112,8 @@ def _not_number(word: str) -> str:
     return f"{shown} is no number"
 
 
-def _counts(wanted: str, head: list[int], kind: str, place: _Place) -> str:
-    left = f"`{place.word}` is left" if kind == "Extra" else f"the text ends after {place.before} words"
+def _counts(wanted: str, head: list[int], kind: str, place: TextPlace, before: int) -> str:
+    left = f"`{place.shown}` is left" if kind == "Extra" else f"the text ends after {before} words"
     if wanted == "dense" and len(head) > 1:
         return f"{left}: the sizes {head[0]} {head[1]} in front are those of {head[0] * head[1]} entries"
     if wanted == "sparse" and len(head) > 2:
@@ -150,13 +128,13 @@ def _entry(wanted: str, head: list[int], before: int) -> str:
     return f" in row {(before - 2) // head[1] + 1}, column {(before - 2) % head[1] + 1} of the matrix"
 
 
-def _out_of_range(wanted: str, head: list[int], kind: str, place: _Place) -> str:
+def _out_of_range(wanted: str, head: list[int], kind: str, place: TextPlace) -> str:
     if place.word.lstrip("+0") == "" and wanted != "graph":
-        return f"`{place.word}`: rows and columns are counted from 1"
+        return f"`{place.shown}`: rows and columns are counted from 1"
     side = {"RowOutOfRange": 0, "ColumnOutOfRange": 1}.get(kind)
     if side is None or len(head) < 2:
-        return f"`{place.word}` is above the number of what there is"
-    return f"`{place.word}`: there are {head[side]} {('rows', 'columns')[side]}"
+        return f"`{place.shown}` is above the number of what there is"
+    return f"`{place.shown}`: there are {head[side]} {('rows', 'columns')[side]}"
 
 
 def _guessed(order: Order, wanted: str, kind: str, seems: Guess, other: Guess | None) -> Iterator[str]:
@@ -194,7 +172,3 @@ def _hint(order: Order, wanted: str, seems: Guess, other: Guess | None) -> str:
     if seems.kind in ("tree", "chain") and wanted in _MATRIX:
         return "`cmr check MATRIX EVIDENCE` reads it"
     return seems.help
-
-
-def _short(word: str) -> str:
-    return word if len(word) <= 30 else f"{word[:30]}.."

@@ -2,12 +2,12 @@
 
 from __future__ import annotations
 
-import os
 from collections.abc import Callable, Iterable
 from dataclasses import dataclass, field
 from typing import Literal
 
 from ..answers import Answer, Verdict
+from ..clock import ProcessorClock, processor_seconds
 from ..constraints import Constraints, matrix_of_constraints
 from ..errors import ProgramFault, TimeLimitReached
 from ..lines import Names
@@ -23,7 +23,7 @@ from ..words import LIMIT
 from .reducing import reduced_and_checked
 from .rows import ModelRows
 
-__all__ = ["OVER", "Asked", "Asker", "Cells", "Limit", "Piece", "Tell", "processor_seconds"]
+__all__ = ["OVER", "Asked", "Asker", "Cells", "Limit", "Piece", "Tell"]
 
 Tell = Callable[[str, int, int], None]
 """Is told the step of the work, how many questions it has put, and how many it may put, 0 for a step without questions."""
@@ -33,16 +33,6 @@ Limit = Literal["time", "questions"]
 
 OVER = "the time is over"
 """Why a question is open that was not answered in time."""
-
-# A run waits for processors that other work has, and so it may take longer than its processor time.
-_PATIENCE = 2.0
-
-
-def processor_seconds() -> float:
-    """The processor time of this process and of all programs that it has run to their ends."""
-    used = os.times()
-    return used.user + used.system + used.children_user + used.children_system
-
 
 @dataclass(frozen=True)
 class Cells:
@@ -146,12 +136,12 @@ class Asker:
         """The seconds that are left of the step."""
         return None if self._seconds is None else self._end - processor_seconds()
 
-    def time_left(self) -> float | None:
-        """The seconds that a run may take, of any processor. Raises `TimeLimitReached` if none is left."""
+    def clock(self) -> ProcessorClock:
+        """A clock of the processor seconds that are left of the step. Raises `TimeLimitReached` if none are left."""
         left = self.left()
         if left is not None and left <= 0:
             raise TimeLimitReached(self._seconds or 0.0)
-        return None if left is None else _PATIENCE * left
+        return ProcessorClock(left)
 
     def ask(self, rows: Iterable[int]) -> Asked:
         """Whether some rows with entries -1, 0 and 1 are totally unimodular, with the columns that are in them."""
@@ -183,7 +173,7 @@ class Asker:
                 parts=False,
                 lines=self.lines,
                 pivots=self.pivots,
-                time_limit=self.time_left(),
+                time_limit=self.clock(),
                 program=self.program,
             )
             self._must_hold(matrix, answer)
@@ -201,7 +191,7 @@ class Asker:
             evidence = answer.tree
         if evidence is None:
             raise ProgramFault(REFUSED, f"the answer {answer.verdict} has no evidence")
-        checked = check(matrix, evidence, program=self.program, time_limit=self.time_left())
+        checked = check(matrix, evidence, program=self.program, time_limit=self.clock())
         if not checked.accepted or checked.says != answer.verdict:
             raise ProgramFault(REFUSED, f"cmr check refuses the evidence: {checked.rule or checked.says}")
         self.checked += 1

@@ -51,7 +51,7 @@ def reason_of_tree(tree: Tree) -> Reason:
 
 def _is_shown(matrix: Matrix, *, is_turned: bool, program: StrPath | None, clock: Clock) -> bool:
     asked = is_conetwork if is_turned else is_network
-    answer = asked(matrix, certificate=True, program=program, time_limit=clock.left())
+    answer = asked(matrix, certificate=True, program=program, time_limit=clock)
     if answer.verdict != "yes":
         return False
     assert answer.graph is not None

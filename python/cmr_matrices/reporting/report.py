@@ -9,7 +9,7 @@ from dataclasses import dataclass, field
 from typing import Any, Literal, get_args
 
 from ..answers import Verdict
-from ..clock import Clock
+from ..clock import Clock, processor_seconds
 from ..errors import BadInput, TimeLimitReached, shown
 from ..given import one_of
 from ..given import whole as whole_number
@@ -20,11 +20,12 @@ from ..models import Model, read_model
 from ..mps import model_text
 from ..program import StrPath, find_program, unproved
 from ..trees import Tree
-from .asking import Asked, Asker, Cells, Limit, Tell, processor_seconds
+from .asking import Asked, Asker, Cells, Limit, Tell
 from .keeping import Budget, Kept, keep_blocks
 from .minimal import Minimal, minimal_violator
 from .reasons import Reason, reason_of, reason_of_tree
 from .reducing import Reduced, reduced_model
+from .row_by_row import kept_row_by_row
 from .rows import ModelRows, NotWhole, RowFamily, said_rows
 from .sampling import near_lines
 
@@ -82,9 +83,8 @@ class ModelReport:
     minimal: Minimal | None = field(repr=False)
     families: tuple[FamilyLine, ...] = field(repr=False)
     kept: Kept | None = field(repr=False)
-    inside: str | None = field(repr=False)
-    """The family within which single rows were tried."""
-    within: Kept | None = field(repr=False)
+    within: Mapping[str, Kept] = field(repr=False)
+    """What is kept of the families of which single rows were tried, in the order in which they were tried."""
     rest: Asked | None = field(repr=False)
     """The answer on the rows that are kept."""
     asked: int = field(repr=False)
@@ -251,8 +251,7 @@ class _Found:
     minimal: Minimal | None
     families: tuple[FamilyLine, ...]
     kept: Kept | None
-    inside: str | None
-    within: Kept | None
+    within: Mapping[str, Kept]
     rest: Asked | None
 
 
@@ -272,34 +271,27 @@ class _Work:
         whole = self._asker.ask(unit)
         reduced = reduced_model(self._rows.constraints(unit), *self._asker.reduced(unit))
         if whole.verdict == "yes":
-            return _Found(
-                whole, reduced, self._reason(whole), None, self._lines(None, None, None), None, None, None, whole
-            )
+            return _Found(whole, reduced, self._reason(whole), None, self._lines(None, {}), None, {}, whole)
         violator = whole.violator or self._near_violator(whole)
         minimal = minimal_violator(self._asker, violator, _SMALLER) if violator is not None else None
-        taken = [place for place, family in enumerate(self._families) if family.rows]
-        blocks = [self._families[place].rows for place in taken]
+        families = {number: family for number, family in enumerate(self._families) if family.rows}
         budget = Budget("families of rows", self._questions, _FAMILIES)
         known = [minimal.cells] if minimal is not None else []
+        blocks = [family.rows for family in families.values()]
         kept = keep_blocks(self._asker, (), blocks, budget, all_sets=True, known=known)
-        base = [row for at in kept.blocks for row in blocks[at]]
-        several = [at for at in kept.refused if len(blocks[at]) > 1]
-        smallest = min(several or kept.refused, key=lambda at: (len(blocks[at]), at))
-        within = None
-        if several:
-            budget = Budget(f"rows of {self._families[taken[smallest]].name}", self._questions, _ROWS)
-            single = [(row,) for row in blocks[smallest]]
-            within = keep_blocks(self._asker, base, single, budget, all_sets=False)
+        numbers = [list(families)[at] for at in kept.blocks]
+        within = kept_row_by_row(self._asker, families, numbers, self._questions, (_FAMILIES, _ROWS))
         # If the whole matrix is left open, a violator of some of its rows decides it.
-        others = [cells for search in (kept, within) if search is not None for _, cells in search.violators]
+        others = [cells for search in (kept, *within.values()) for _, cells in search.violators]
         if minimal is None and others:
             smaller = min(others, key=lambda cells: len(cells.rows) + len(cells.columns))
             minimal = minimal_violator(self._asker, smaller, _ALL)
-        rest = within.answer if within is not None and within.answer is not None else kept.answer
-        families = self._lines((taken, kept), taken[smallest], within)
-        inside = self._families[taken[smallest]].name if within is not None else None
+        answers = [search.answer for search in (kept, *within.values()) if search.answer is not None]
+        rest = answers[-1] if answers else None
         reason = self._reason(rest) if rest is not None else None
-        return _Found(whole, reduced, reason, minimal, families, kept, inside, within, rest)
+        lines = self._lines((list(families), kept), within)
+        named = {self._families[number].name: search for number, search in within.items()}
+        return _Found(whole, reduced, reason, minimal, lines, kept, named, rest)
 
     def _near_violator(self, whole: Asked) -> Cells | None:
         """A violator among near lines of the first part that is too large to be asked."""
@@ -345,17 +337,17 @@ class _Work:
     def _reason_of(self, matrix: Matrix, tree: Tree) -> Reason:
         """The reason of one part. If there is no time to look for a graph, it is that of the tree."""
         try:
-            return reason_of(matrix, tree, self._asker.program, Clock(self._asker.time_left()))
+            return reason_of(matrix, tree, self._asker.program, self._asker.clock())
         except TimeLimitReached:
             self._asker.ended["why they are totally unimodular"] = "time"
             return reason_of_tree(tree)
 
     def _lines(
-        self, chosen: tuple[Sequence[int], Kept] | None, inside: int | None, within: Kept | None
+        self, chosen: tuple[Sequence[int], Kept] | None, within: Mapping[int, Kept]
     ) -> tuple[FamilyLine, ...]:
         places = {place: at for at, place in enumerate(chosen[0])} if chosen else {}
         return tuple(
-            self._line(family, places.get(number), chosen[1] if chosen else None, within if number == inside else None)
+            self._line(family, places.get(number), chosen[1] if chosen else None, within.get(number))
             for number, family in enumerate(self._families)
         )
 

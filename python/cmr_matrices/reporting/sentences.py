@@ -4,7 +4,7 @@ from __future__ import annotations
 
 from collections.abc import Sequence
 
-from ..model_texts import NONLINEAR_OBJECTIVE, SEMICONTINUOUS
+from ..model_texts import NONLINEAR_OBJECTIVE, ORDERED_SETS, SEMICONTINUOUS
 from .report import FamilyLine, ModelReport
 
 __all__ = [
@@ -24,6 +24,7 @@ __all__ = [
 ]
 
 _SOME = 4
+_FAMILIES = 10
 
 
 def counted(count: int, one: str, several: str | None = None) -> str:
@@ -81,6 +82,8 @@ def of_left_out(report: ModelReport) -> list[str]:
         said.append("The model has an objective that is not linear, so an optimum need not be at a vertex.")
     if SEMICONTINUOUS in found:
         said.append("The model has semicontinuous variables, which a linear program does not have.")
+    if ORDERED_SETS in found:
+        said.append("The model has special ordered sets in its section SETS, which a linear program does not have.")
     return said
 
 
@@ -139,12 +142,12 @@ def of_relaxation(report: ModelReport) -> list[str]:
     if report.reason:
         said.append(report.reason.sentence)
     kept = report.kept
-    if kept is not None and not (report.within and report.within.blocks):
+    if kept is not None and not any(search.blocks for search in report.within.values()):
         said.append(_how(report))
     elif kept is not None:
         families = [family.said for family in report.families if family.violator is not None or family.is_open]
         said.append(f"By whole families: relax {listed(families)}. {_how(report)}")
-    said.append(of_within(report))
+    said += of_within(report)
     subject = "it" if len(report.relaxed) == 1 else "they"
     said.append(
         f"In a Lagrangian relaxation {subject} would move to the objective, and in a decomposition to the master problem. The bound is "
@@ -176,20 +179,25 @@ def _how(report: ModelReport) -> str:
     return f"The search was greedy: {added}, but another choice may keep more rows."
 
 
-def of_within(report: ModelReport) -> str:
-    """The result of trying single rows of one family."""
-    within = report.within
-    if within is None or report.inside is None:
-        return ""
-    count = len(within.refused) + len(within.blocks)
-    said = next(family.said for family in report.families if family.name == report.inside)
-    if not within.blocks and within.is_cut:
-        return f"A limit ended the search row by row before it found a row of {said} that can be kept."
-    if not within.blocks:
-        is_sure = all(violator is not None for violator in within.refused.values())
-        return f"Row by row, none of {said} {'can be kept' if is_sure else 'was found that can be kept'}."
-    end = ", and a limit ended the search" if within.is_cut else ""
-    return f"Row by row, {len(within.blocks)} of {count} of {said} can be kept (the search was greedy{end}, so it may be more)."
+def of_within(report: ModelReport) -> list[str]:
+    """The results of trying single rows of the families that are not kept."""
+    names = {family.name: family.said for family in report.families}
+    some, cut, none, unsure = list[str](), list[str](), list[str](), list[str]()
+    for name, search in report.within.items():
+        if search.blocks:
+            some.append(f"{len(search.blocks)} of {len(search.blocks) + len(search.refused)} of {names[name]}")
+        elif search.is_cut:
+            cut.append(names[name])
+        else:
+            (unsure if None in search.refused.values() else none).append(names[name])
+    end = ", and a limit ended the search" if any(it.is_cut and it.blocks for it in report.within.values()) else ""
+    said = {
+        f"Row by row, {listed(some, _FAMILIES)} can be kept (the search was greedy{end}, so it may be more).": some,
+        f"Row by row, none of {listed(none, _FAMILIES)} can be kept.": none,
+        f"Row by row, none of {listed(unsure, _FAMILIES)} was found that can be kept.": unsure,
+        f"A limit ended the search row by row before it found a row of {listed(cut, _FAMILIES)} that can be kept.": cut,
+    }
+    return [sentence for sentence, families in said.items() if families]
 
 
 def why_relaxed(report: ModelReport, family: FamilyLine) -> str:
