@@ -5,3 +5,4 @@ pub mod SideLemmas
 pub mod SeedForms
 pub mod HeldLemmas
 pub mod ConcentratedLemmas
+pub mod CutSeedLemmas

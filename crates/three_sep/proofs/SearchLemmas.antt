@@ -82,7 +82,7 @@ begins_shorter [] ys b h = tt
 begins_shorter (x ∷ xs) [] b h = absurd h
 begins_shorter (x ∷ xs) (y ∷ ys) b h = (h.0, begins_shorter xs ys b h.1)
 
-not_before : (prefix ys zs : List ℕ) (a b : ℕ) → BeginsWith (prefix ++ b ∷ []) ys → BeginsWith (prefix ++ a ∷ []) zs → a < b → ¬ (IsBefore ys zs)
+pub not_before : (prefix ys zs : List ℕ) (a b : ℕ) → BeginsWith (prefix ++ b ∷ []) ys → BeginsWith (prefix ++ a ∷ []) zs → a < b → ¬ (IsBefore ys zs)
 not_before [] [] zs a b hb ha l h = absurd hb
 not_before [] (y ∷ ys) [] a b hb ha l h = absurd ha
 not_before [] (y ∷ ys) (z ∷ zs) a b hb ha l (inl low) = let e = hb.0 in let f = ha.0 in omega arith
@@ -271,7 +271,7 @@ no_good_beside m form d place x lx number among s S h g0 =
 
 -- ---- what is found
 
-not_before_itself : (ys : List ℕ) → ¬ (IsBefore ys ys)
+pub not_before_itself : (ys : List ℕ) → ¬ (IsBefore ys ys)
 not_before_itself [] h = h
 not_before_itself (y ∷ ys) (inl l) = omega arith
 not_before_itself (y ∷ ys) (inr h) = not_before_itself ys h.1

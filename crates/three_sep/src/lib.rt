@@ -3,6 +3,7 @@
 
 mod concentrated;
 mod connectors;
+mod first_cuts;
 mod held;
 mod independent;
 mod others;
@@ -11,4 +12,5 @@ mod search;
 mod sides;
 
 pub use cmr_base::{Connector, Form, Three};
+pub use first_cuts::first_cut;
 pub use search::{three_separation, three_separation_of};

@@ -55,10 +55,10 @@ const EARLY: u32 = 100;
 /// looked for once some corners were tried in vain; until then each line is a group.
 #[derive(Drop)]
 pub struct Search {
-    side: GrowingSet,
-    grown: GrowingSet,
-    groups: Groups,
-    tries: u32,
+    pub side: GrowingSet,
+    pub grown: GrowingSet,
+    pub groups: Groups,
+    pub tries: u32,
     asked: bool,
 }
 
@@ -76,8 +76,8 @@ impl Search {
         })
     }
 
-    // Looks for groups where it is time.
-    fn ask(&mut self, alloc: Global, matrix: &RowsAndColumns<'_>) -> Result<(), Memory>
+    /// Computes groups once `EARLY` corners were tried.
+    pub fn ask(&mut self, alloc: Global, matrix: &RowsAndColumns<'_>) -> Result<(), Memory>
         requires search { IsSearchOf matrix.now self.old }
         ensures search { OnOk result (IsSearchOf matrix.now self.new) }
     {

@@ -67,8 +67,8 @@ fn leaves_with(
     Ok(yes)
 }
 
-// The same of a side that has grown, and one more line.
-fn leaves_beside(
+/// The same of a side that has grown, and one more line.
+pub fn leaves_beside(
     matrix: &RowsAndColumns<'_>,
     side: &GrowingSet,
     grown: &mut GrowingSet,
