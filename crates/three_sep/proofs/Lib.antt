@@ -6,3 +6,4 @@ pub mod SeedForms
 pub mod HeldLemmas
 pub mod ConcentratedLemmas
 pub mod CutSeedLemmas
+pub mod OneFirstCut

@@ -57,3 +57,7 @@ pub record IsFirstCutOn (m : Matrix) (rows columns : List ℕ) : Type 0 where
   pub column_set : IsColumnSet m columns
   pub first : IsFirstCut m (listed rows columns)
   pub cut : IsCut m (listed rows columns)
+
+-- all first cuts of a matrix have the same lines of the matrix as side one
+abbrev pub FirstCutsAgree : Type 0
+FirstCutsAgree = (m : Matrix) (S T : Lines) → IsFirstCut m S → IsFirstCut m T → (x : Line) → IsLine (height m) m.width x → S x ≡ T x

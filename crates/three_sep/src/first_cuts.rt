@@ -262,7 +262,8 @@ fn is_fourth(matrix: &RowsAndColumns<'_>, corners: &Corners, third: u32, line: u
 fn is_other(matrix: &RowsAndColumns<'_>, corners: &Corners, line: u32) -> bool
     requires corners { HasBlockCorners matrix.now corners.now }
     ensures yes { result ≡ true → IsOtherNumber matrix.now corners.now line }
-    ensures no { result ≡ false → (line ≡ corners.now.i) ⊎ (line ≡ height matrix.now + corners.now.p) }
+    ensures no { result ≡ false
+        → (line ≡ corners.now.i) ⊎ (line ≡ height matrix.now + corners.now.p) }
 {
     line != corners.i && line != matrix.rows() + corners.p
 }

@@ -6,6 +6,7 @@ mod connectors;
 mod first_cuts;
 mod held;
 mod independent;
+pub mod laws;
 mod others;
 mod pulled;
 mod search;
