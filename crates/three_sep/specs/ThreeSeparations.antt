@@ -14,7 +14,7 @@ ThreeSeparates m side form first second = IsThreeSeparation (entry m) (first_lin
 abbrev pub HasNoThreeSeparation : Matrix → Type 0
 HasNoThreeSeparation m = (form : Form) (first second : Connector) (side : Lines) → ¬ (ThreeSeparates m side form first second)
 
--- the separation of the first good three-seed
+-- the three-separation of the first good three-seed
 pub record IsFirstThreeSeparation (m : Matrix) (three : Three) : Type 0 where
   pub row_set : IsRowSet m three.side.rows
   pub column_set : IsColumnSet m three.side.columns

@@ -1,4 +1,4 @@
-//! The three-separations of a matrix.
+//! The first three-separation and the first cut of a matrix.
 #![tactic(auto)]
 
 mod concentrated;
