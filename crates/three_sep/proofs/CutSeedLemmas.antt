@@ -1,5 +1,5 @@
 -- Good seeds of cuts: each gives a cut, each cut has one, and the lines of the first one are the answer of the search.
-use Rattle.std.proofs.Common.{ℕ, ℤ, ◌+◌, ◌<◌, Bool, true, false, List, [], ◌∷◌, ◌++◌, ◌≡◌, ◌≢◌, ◌∙◌, sym, ap, refl, arith, subst, ◌⊎◌, inl, inr, length, get_or, pos, Option, Some, None}
+use Rattle.std.proofs.Common.{ℕ, ◌+◌, ◌<◌, Bool, true, false, List, [], ◌∷◌, ◌++◌, ◌≡◌, ◌≢◌, ◌∙◌, sym, ap, refl, arith, subst, ◌⊎◌, inl, inr, length, get_or, Option, Some, None}
 use Rattle.std.specs.List.{AllByRecursion}
 use Rattle.std.proofs.lemmas.Bool.{cases_lt}
 use Rattle.std.proofs.lemmas.Option.{MatchOption-at_none, MatchOption-at_some}
@@ -8,8 +8,8 @@ use Rattle.cmr_base.specs.declared.line.Line.TheVariants.{Row, Column}
 use Rattle.cmr_base.specs.declared.line_set.LineSet.{LineSet}
 use Rattle.cmr_base.specs.LineSets.{first_lines}
 use Rattle.cmr_base.specs.Matrix.{Matrix, height, entry}
-use Rattle.cmr_base.specs.Separations.{AreEnough, Lines, listed, opposite, product_at}
-use Rattle.cmr_base.specs.Seeds.{IsBefore, IsGood, IsGrown, IsLine, line_number}
+use Rattle.cmr_base.specs.Separations.{AreEnough, Lines, listed, product_at}
+use Rattle.cmr_base.specs.Seeds.{IsBefore, IsLine, line_number}
 use Rattle.cmr_base.proofs.Booleans.{not_both, same_test}
 use Rattle.cmr_base.proofs.LineCounts.{inside_is, one_beside, same_line}
 use Rattle.cmr_base.proofs.Lists.{all_both}
@@ -20,14 +20,14 @@ use Rattle.cmr_base.proofs.SeedLemmas.{enough_lines, good_seed, line_is, outside
 use Rattle.std.proofs.lemmas.Bool.{false≢true}
 use Rattle.cuts.specs.declared.corners.Corners.{Corners}
 use Rattle.cuts.specs.declared.groups.Groups.{Groups}
-use Rattle.cuts.specs.LineCuts.{AreInside, HasNames, HoldTogether, IsCut, IsCutAt, name_of}
+use Rattle.cuts.specs.LineCuts.{HasNames, HoldTogether, IsCut, IsCutAt, name_of}
 use Rattle.line_growth.specs.declared.growing_set.GrowingSet.{GrowingSet}
 use Rattle.line_growth.specs.declared.rule.GrowthRule.{GrowthRule}
 use Rattle.line_growth.specs.GrowingSets.{HasNoLeaving, IsGrowing, IsLeaving, TellsClosed}
 use Rattle.line_growth.specs.Rules.{lower_of, upper_of}
 use Rattle.three_sep.specs.Connectors.{HasNoneParting, rule_of}
 use Rattle.three_sep.specs.CutSeeds.{HasBlockCorners, HasNoCutSeed, HasNoCutSeedBelow, IsFirstCutWith, IsFoundCut, IsNoCutColumn, IsNoCutRow, IsNoThird, IsOtherNumber, cut_prefix}
-use Rattle.three_sep.specs.FirstCuts.{CutSeed, HasNoCut, IsFirstCut, IsFirstCutOn, IsGoodCut, cut_key, first_corner, second_corner}
+use Rattle.three_sep.specs.FirstCuts.{CutSeed, HasNoCut, IsFirstCutOn, IsGoodCut, cut_key, first_corner, second_corner}
 use Rattle.three_sep.specs.NumberedSeeds.{HasLines}
 use Rattle.three_sep.specs.Searches.{BeginsWith}
 use Rattle.three_sep.proofs.SearchLemmas.{begins_shorter, next_number, not_before, not_before_itself}

@@ -1,6 +1,6 @@
 use Rattle.std.proofs.Common.{[], ◌∷◌, ◌++◌, sym, arith, subst}
 use Rattle.line_growth.specs.declared.rule.GrowthRule.{GrowthRule}
-use Rattle.line_growth.specs.GrowingSets.{TellsClosed, set_of}
+use Rattle.line_growth.specs.GrowingSets.{set_of}
 use Rattle.line_growth.specs.Rules.{IsRuleOf}
 use Rattle.line_growth.proofs.SetSteps.{told_no, told_yes}
 use Rattle.three_sep.specs.declared.search.Search.{Search}

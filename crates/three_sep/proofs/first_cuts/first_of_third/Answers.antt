@@ -1,5 +1,4 @@
-use Rattle.std.proofs.Common.{◌∷◌, Bool, List, sym, subst}
-use Rattle.cmr_base.specs.declared.line.Line.{Line}
+use Rattle.std.proofs.Common.{◌∷◌, sym, subst}
 use Rattle.line_growth.specs.declared.rule.GrowthRule.{GrowthRule}
 use Rattle.line_growth.specs.GrowingSets.{IsGrowing, TellsClosed, set_of}
 use Rattle.line_growth.specs.Rules.{IsRuleOf, lower_of, upper_of}
