@@ -33,10 +33,10 @@ use Rattle.three_sep.specs.Concentrated.{AreCandidates, AreConcentratedCorners, 
 use Rattle.three_sep.proofs.SearchLemmas.{good_inside, level_found, no_second_corner, seed_at, seed_from_first, seed_from_second}
 use Rattle.three_sep.proofs.SpreadLemmas.{spread_parts, spread_same}
 
--- ---- what a good seed says
+-- ---- entries of a good seed
 
 module _ (m : Matrix) (a b : Connector) (x : Line) (S : Lines) (good : IsGoodThree (height m) m.width (entry m) Concentrated a b x S) where
-  -- the columns of a row in side one are there too, and the rows of a column in side two
+  -- side one has each column in which a row of side one is not 0, and side two each row in which a column of side two is not 0
   columns_one : (row column : ℕ) → row < height m → column < m.width → S (Row row) ≡ true → entry m row column ≢ pos 0 → S (Column column) ≡ true
   columns_one row column lr lc inside n = true_is (S (Column column)) (λ out. n (upper_at m good.1.grown.closed row column lr lc inside out))
 
@@ -109,31 +109,31 @@ module _ (m : Matrix) (a b : Connector) (x : Line) (S : Lines) (good : IsGoodThr
           enough = (three_separation_of_seed (height m) m.width (entry m) Concentrated a b x S good).enough;
         }
 
-    -- so there is a good seed with them
+    -- there is a good seed with these connectors
     some_elsewhere : HasNoGood m (all_prefix Concentrated d) → ⊥
     some_elsewhere none =
         let (y, T, other) = good_three_seed (height m) m.width (entry m) Concentrated d.first d.second S separation_elsewhere in
         none (seed_at Concentrated d y) T (refl, (refl, (refl, (refl, (refl, (refl, (refl, tt))))))) other
 
-    -- a column that a row of column j pulls in is in side two
+    -- a column that a row of column j pulls is in side two
     none_pulled : (rule : GrowthRule) (candidates : List ℕ) (row : ℕ) → lower_of m rule ≡ spread_at (entry m) d.first d.second → row < height m → entry m row d.second.column ≢ pos 0
         → (pulled : IsPulled m rule candidates row) → S (Column pulled.column) ≡ true → ⊥
     none_pulled rule candidates row lower inside nonzero pulled column_one =
         pulled.unlike (lower_at m closed_elsewhere row pulled.column inside pulled.inside (rows_two row d.second.column inside pair.second_lines.1.0 column_two nonzero) column_one
         ∙ sym (ap (λ (u : ℕ → ℕ → ℤ). u row pulled.column) lower))
 
--- ---- what is passed over
+-- ---- seeds that are not good
 
 module _ (m : Matrix) where
   concentrated_seed : (s : Seed) (S : Lines) → s.form ≡ Concentrated → IsGoodSeed m s S → IsGoodThree (height m) m.width (entry m) Concentrated s.pair.first s.pair.second s.line S
   concentrated_seed s S e g = subst (λ (f : Form). IsGoodThree (height m) m.width (entry m) f s.pair.first s.pair.second s.line S) e g
 
-  -- where two connectors are in no good seed, none has their row i in side one and their column j in side two
+  -- if two connectors are in no good seed, no good seed has their row i in side one and their column j in side two
   pub none_between : (d : Connectors) → IsConnectorPair (height m) m.width (entry m) Concentrated d.first d.second → HasNoGood m (all_prefix Concentrated d) → HasNoneBetween m d.first.row d.second.column
   none_between d pair none s S ef g row_one =
       true_is (S (Column d.second.column)) (λ out. some_elsewhere m s.pair.first s.pair.second s.line S (concentrated_seed s S ef g) d pair row_one out none)
 
-  -- a row of column j pulls in a column that is in side one with row i
+  -- a row of column j pulls a column that is in side one with row i
   pub none_past : (d : Connectors) (rule : GrowthRule) (candidates : List ℕ) (row : ℕ) → IsConnectorPair (height m) m.width (entry m) Concentrated d.first d.second → lower_of m rule ≡ spread_at (entry m) d.first d.second
       → AreCandidates m d.first.row candidates → row < height m → entry m row d.second.column ≢ pos 0 → IsPulled m rule candidates row → HasNoneBetween m d.first.row d.second.column
   none_past d rule candidates row pair lower are inside nonzero pulled s S ef g row_one =
@@ -224,7 +224,7 @@ one_less m i j before after are none size only = record {
   ];
 }
 
--- the columns before j were looked at, and column j is a candidate now
+-- the columns before j were tested, and column j is a candidate
 pub added_candidate : (m : Matrix) (i j : ℕ) (before after : ℕ → Bool) → ((x : ℕ) → before x ≡ true → after x ≡ true) → after j ≡ true → ((k : ℕ) → k < j → before k ≡ false → HasNoneBetween m i k)
     → (k : ℕ) → k < j + 1 → after k ≡ false → HasNoneBetween m i k
 added_candidate m i j before after kept here looked k l e = elim (same_or_not k j) [
@@ -232,14 +232,14 @@ added_candidate m i j before after kept here looked k l e = elim (same_or_not k 
   | inr n ↦ looked k (omega (arith, n)) (false_is (before k) (λ t. not_both (after k) (kept k t) e))
 ]
 
--- and it is none
+-- the columns before j were tested, and column j is no candidate
 pub held_candidate : (m : Matrix) (i j : ℕ) (set : ℕ → Bool) → IsHeldBy m i j → ((k : ℕ) → k < j → set k ≡ false → HasNoneBetween m i k) → (k : ℕ) → k < j + 1 → set k ≡ false → HasNoneBetween m i k
 held_candidate m i j set held looked k l e = elim (same_or_not k j) [
   | inl is ↦ subst (λ (z : ℕ). HasNoneBetween m i z) (sym is) (none_at_held m i j held)
   | inr n ↦ looked k (omega (arith, n)) e
 ]
 
--- a second column is a candidate in which row k is not 0
+-- the second columns are the candidates in which row k is not 0
 pub no_second : (m : Matrix) (i p k j : ℕ) (candidates : List ℕ) → AreCandidates m i candidates → (support m k j ≡ false) ⊎ (has_column candidates j ≡ false) → HasNoGood m (3 ∷ i ∷ p ∷ k ∷ j ∷ [])
 no_second m i p k j candidates are (inl e) = no_second_corner m 3 i p k j (zero_is (entry m k j) e)
 no_second m i p k j candidates are (inr e) = λ s S h g. none_of_seed m i j (are.others j (let l = (good_inside m s S g).column_two in let n = h.1.1.1.1.0 in omega arith) e) s S (sym (form_is Concentrated s.form h.0)) h.1.0 h.1.1.1.1.0 g

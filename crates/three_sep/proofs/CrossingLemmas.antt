@@ -1,4 +1,4 @@
--- Good seeds of the forms of which both blocks are products.
+-- Good seeds of the forms whose blocks are both products.
 use Rattle.std.proofs.Common.{ℕ, ℤ, ◌≡◌, refl, subst}
 use Rattle.cmr_base.specs.declared.separation.Connector.{Connector}
 use Rattle.cmr_base.specs.declared.separation.Form.{Form}

@@ -5,3 +5,5 @@ pub mod SideLemmas
 pub mod SeedForms
 pub mod HeldLemmas
 pub mod ConcentratedLemmas
+pub mod CutSeedLemmas
+pub mod OneFirstCut

@@ -25,7 +25,7 @@ use Rattle.three_sep.proofs.CrossingLemmas.{closed_crossing, crossing_from}
 
 -- ---- the lines of a connector
 
--- what each of them has, its row, its column and its other line have
+-- a property of all lines of a connector, for its row, its column and its other line
 pub of_connector : (P : Line → Type 0) (flat : Bool) (d : Connector) → AllByRecursion P (connector_lines flat d) → P (Row d.row) × P (Column d.column) × P (other_line flat d.other)
 of_connector P true d h = (h.0, h.1.0, h.1.1.0)
 of_connector P false d h = (h.0, h.1.0, h.1.1.0)
@@ -82,7 +82,7 @@ begins_shorter [] ys b h = tt
 begins_shorter (x ∷ xs) [] b h = absurd h
 begins_shorter (x ∷ xs) (y ∷ ys) b h = (h.0, begins_shorter xs ys b h.1)
 
-not_before : (prefix ys zs : List ℕ) (a b : ℕ) → BeginsWith (prefix ++ b ∷ []) ys → BeginsWith (prefix ++ a ∷ []) zs → a < b → ¬ (IsBefore ys zs)
+pub not_before : (prefix ys zs : List ℕ) (a b : ℕ) → BeginsWith (prefix ++ b ∷ []) ys → BeginsWith (prefix ++ a ∷ []) zs → a < b → ¬ (IsBefore ys zs)
 not_before [] [] zs a b hb ha l h = absurd hb
 not_before [] (y ∷ ys) [] a b hb ha l h = absurd ha
 not_before [] (y ∷ ys) (z ∷ zs) a b hb ha l (inl low) = let e = hb.0 in let f = ha.0 in omega arith
@@ -146,7 +146,7 @@ seed_from_all m form d place x s lx ls e h =
     seed_is s form d.first.row d.first.column d.second.row d.second.column d.first.other d.second.other x (form_is form s.form h.0) h.1.0 h.1.1.0 h.1.1.1.0 h.1.1.1.1.0 h.1.1.1.1.1.0 h.1.1.1.1.1.1.0
     (line_is (height m) m.width x s.line lx ls (e ∙ h.1.1.1.1.1.1.1.0))
 
--- ---- what is passed over
+-- ---- seeds that are not good
 
 pub no_good_corner : (m : Matrix) (kind i p : ℕ) → entry m i p ≡ pos 0 → HasNoGood m (kind ∷ i ∷ p ∷ [])
 no_good_corner m kind i p e s S h g = g.0.values.first_corner (rw (sym h.1.0, sym h.1.1.0) e)
@@ -170,7 +170,7 @@ module _ (m : Matrix) (form : Form) (crossing : IsCrossing form) where
       not_both (S (Row s.pair.first.row)) (first_has m s S g).0 (hold S (good_is_cut m s S g (is_crossing s h.0)) (Row s.pair.first.row) (Row s.pair.second.row) within.row_one within.row_two (one s.pair.first.row s.pair.second.row li lk) ∙ (second_out m s S g).0)
 
   module _ (groups : Groups) (hold : HoldTogether (IsCut m) m groups) where
-    -- the other line of a flat or tall connector and the corner that it is to be apart from
+    -- the other line of a connector is not in the group of a line of the other side
     first_apart : (s : Seed) (S : Lines) → form_number form ≡ form_number s.form → IsGoodSeed m s S → (y : Line) → S y ≡ false → IsLine (height m) m.width y
         → name_of m groups (other_line (first_is_flat s.form) s.pair.first.other) ≢ name_of m groups y
     first_apart s S e g y out ly same =
@@ -262,16 +262,16 @@ module _ (m : Matrix) (form : Form) (crossing : IsCrossing form) where
   pub no_good_second : (d : Connectors) → ¬ (IsTied (entry m) (second_is_flat form) d.second d.first.row d.first.column) → HasNoGood m (all_prefix form d)
   no_good_second d none s S h g = none (subst (λ (z : Seed). IsTied (entry m) (second_is_flat z.form) z.pair.second z.pair.first.row z.pair.first.column) (seed_from_second m form d s h) (ties s S h.0 g).second_tied)
 
--- a line of one of the connectors
+-- a line x that is in one of the connectors
 pub no_good_beside : (m : Matrix) (form : Form) (d : Connectors) (place : ℕ) (x : Line) → IsLine (height m) m.width x → line_number (height m) x ≡ place
     → ¬ (IsBeside (first_is_flat form) d.first x × IsBeside (second_is_flat form) d.second x) → HasNoGood m (all_prefix form d ++ place ∷ [])
 no_good_beside m form d place x lx number among s S h g0 =
     let g = subst (λ (z : Seed). IsGoodSeed m z S) (seed_from_all m form d place x s lx g0.1.line number h) g0 in
     among (g.1.not_first, g.1.not_second)
 
--- ---- what is found
+-- ---- first good seeds
 
-not_before_itself : (ys : List ℕ) → ¬ (IsBefore ys ys)
+pub not_before_itself : (ys : List ℕ) → ¬ (IsBefore ys ys)
 not_before_itself [] h = h
 not_before_itself (y ∷ ys) (inl l) = omega arith
 not_before_itself (y ∷ ys) (inr h) = not_before_itself ys h.1

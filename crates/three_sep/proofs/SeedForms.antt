@@ -17,7 +17,7 @@ use Rattle.cmr_base.proofs.Booleans.{same_test}
 use Rattle.three_sep.specs.Searches.{IsFirstOf, HasNoGood}
 use Rattle.three_sep.specs.ThreeSeparations.{IsFirstThreeSeparation}
 
--- ---- a set as lists
+-- ---- the side as two lists
 
 -- a good seed with the same lines of the matrix
 good_same : (m n : ℕ) (M : ℕ → ℕ → ℤ) (form : Form) (one two : Connector) (x : Line) (S T : Lines) → ((y : Line) → IsLine m n y → S y ≡ T y) → IsGoodThree m n M form one two x S → IsGoodThree m n M form one two x T

@@ -1,4 +1,4 @@
--- What a side tells that grows from the lines of one connector and is to leave those of another.
+-- Facts on a side that grows from the lines of one connector and leaves the lines of another.
 use Rattle.std.proofs.Common.{ℕ, ℤ, true, false, not, List, [], ◌∷◌, ◌++◌, ◌≡◌, sym, ap, subst, inl, inr, filter}
 use Rattle.std.proofs.lemmas.List.Kept.{IsStrictlyIncreasing-filter}
 use Rattle.cmr_base.specs.declared.line.Line.{Line}
@@ -70,7 +70,7 @@ module _ (m : Matrix) (form : Form) (rule : GrowthRule) (d : Connectors) (are : 
   pub no_good_parting : HasNoneParting m rule (firsts form d) (seconds form d) → HasNoGood m (all_prefix form d)
   no_good_parting refused s S h g = unless_parting s.line S (subst (λ (z : Seed). IsGoodSeed m z S) (seed_from_second m form d s h) g) refused
 
-  -- a side that leaves the second connector is that of a good seed
+  -- a side that leaves the second connector is the side of a good seed
   pub good_from_leaving : (x : Line) (S : Lines) → IsLine (height m) m.width x → IsBeside (first_is_flat form) d.first x → IsBeside (second_is_flat form) d.second x → IsLeaving m rule (x ∷ firsts form d) (seconds form d) 4 S → IsGoodSeed m (seed_at form d x) S
   good_from_leaving x S lx beside_first beside_second is = (
     are.pair,
@@ -85,7 +85,7 @@ module _ (m : Matrix) (form : Form) (rule : GrowthRule) (d : Connectors) (are : 
     },
   )
 
--- ---- the forms of which both blocks are products
+-- ---- the forms whose blocks are both products
 
 pub rule_inside : (m : Matrix) (c : Corners) → AreInside m c → IsRuleOf m (rule_of c)
 rule_inside m c inside = record { upper = (inside.row_one, inside.column_two); lower = (inside.row_two, inside.column_one) }
@@ -114,7 +114,7 @@ module _ (m : Matrix) (form : Form) (crossing : IsCrossing form) (c : Corners) w
       let g = subst (λ (z : Seed). IsGoodSeed m z S) (seed_from_first m form c q s h) g0 in
       refused S (crossing_closed q o s.line S g) g.1.grown.has.1 (record { none = corners_none q o s.line S g; enough = g.1.enough })
 
-  -- the first connector's closed side has the second's other line
+  -- the closure of the first connector has the other line of the second connector
   pub no_good_held : (q o : ℕ) (L : Lines) → IsGrown (height m) m.width (entry m) (product_at (entry m) c.i c.j) (product_at (entry m) c.k c.p) (held_lines form c q) L → IsLine (height m) m.width (other_line (second_is_flat form) o)
       → L (other_line (second_is_flat form) o) ≡ true → HasNoGood m (corner_prefix form c ++ q ∷ o ∷ [])
   no_good_held q o L least line held s S h g0 =

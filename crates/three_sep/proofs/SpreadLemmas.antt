@@ -1,5 +1,5 @@
--- The block of rank two that two columns and two rows make is also made by any other two columns and rows of its own whose determinant is
--- 1 or -1.
+-- Two columns and two rows define a block of rank two. Any two columns and two rows of the block whose determinant is 1 or -1 define the
+-- same block.
 use Rattle.std.proofs.Common.{ℤ, pos, negsuc, ◌≡◌, ◌+ℤ◌, ◌-ℤ◌, ◌*ℤ◌, ◌∙◌, sym, ap, arith, inl, inr}
 use Rattle.cmr_base.specs.Signing.{IsSign}
 use Rattle.cmr_base.specs.Separations.{spread}
@@ -58,7 +58,7 @@ module _ (u1 u2 x1 x2 y1 y2 a1 a2 b1 b2 e1 e2 : ℤ) where
       ∙ ap (λ (z : ℤ). z *ℤ here) (sign_square d sign)
       ∙ one-mul here
 
-  -- the same of entries that are these sums
+  -- the same for entries that are equal to these sums
   pub spread_same : (d x y z w row_first row_other column_first column_other value : ℤ) → IsSign d → d ≡ x *ℤ w -ℤ y *ℤ z → x ≡ b1 *ℤ x1 +ℤ b2 *ℤ x2 → y ≡ e1 *ℤ x1 +ℤ e2 *ℤ x2 → z ≡ b1 *ℤ y1 +ℤ b2 *ℤ y2
       → w ≡ e1 *ℤ y1 +ℤ e2 *ℤ y2 → row_first ≡ b1 *ℤ u1 +ℤ b2 *ℤ u2 → row_other ≡ e1 *ℤ u1 +ℤ e2 *ℤ u2 → column_first ≡ a1 *ℤ x1 +ℤ a2 *ℤ x2 → column_other ≡ a1 *ℤ y1 +ℤ a2 *ℤ y2 → value ≡ here
       → value ≡ spread d x y z w row_first row_other column_first column_other
@@ -66,14 +66,13 @@ module _ (u1 u2 x1 x2 y1 y2 a1 a2 b1 b2 e1 e2 : ℤ) where
       let minors : d ≡ rows_minor *ℤ columns_minor = ed ∙ rw (ex, ey, ez, ew) (minor x1 x2 y1 y2 b1 b2 e1 e2) in
       rw (ex, ey, ez, ew, erf, ero, ecf, eco) (ev ∙ sym (spread_elsewhere d sign minors))
 
--- ---- three rows that two rows make
+-- ---- three rows that are sums of multiples of two rows
 
 by_sign : (sign z : ℤ) → IsSign sign → sign *ℤ z ≡ pos 0 → z ≡ pos 0
 by_sign sign z (inl e) h = sym (one-mul z) ∙ ap (λ (s : ℤ). s *ℤ z) (sym e) ∙ h
 by_sign sign z (inr e) h = let k : negsuc 0 *ℤ z ≡ pos 0 = ap (λ (s : ℤ). s *ℤ z) (sym e) ∙ h in let l = minus_one-mul z in omega (arith, sums)
 
--- The rows a, b and c in the columns x, y and z: where c is 0 in the first two columns and not in the third, and b is 0 in the first and not
--- in the second, a is 0 in the first.
+-- The rows a, b and c in the columns x, y and z: if c is 0 in x and y and not in z, and b is 0 in x and not in y, then a is 0 in x.
 pub no_triangle : (a1 a2 b1 b2 e1 e2 x1 x2 y1 y2 z1 z2 : ℤ) → x1 *ℤ e1 +ℤ x2 *ℤ e2 ≡ pos 0 → y1 *ℤ e1 +ℤ y2 *ℤ e2 ≡ pos 0 → IsSign (z1 *ℤ e1 +ℤ z2 *ℤ e2)
     → x1 *ℤ b1 +ℤ x2 *ℤ b2 ≡ pos 0 → IsSign (y1 *ℤ b1 +ℤ y2 *ℤ b2) → x1 *ℤ a1 +ℤ x2 *ℤ a2 ≡ pos 0
 no_triangle a1 a2 b1 b2 e1 e2 x1 x2 y1 y2 z1 z2 xe ye ze xb yb =

@@ -21,7 +21,7 @@ pub record AreConcentratedCorners (M : ℕ → ℕ → ℤ) (c : Corners) : Type
   pub first : M c.i c.p ≢ pos 0
   pub second : M c.k c.j ≢ pos 0
 
--- what q is to be beside the corners, and what o is to be beside them and q
+-- q can be the other column of the first connector, and o the other row of the second connector
 pub record IsOtherColumn (M : ℕ → ℕ → ℤ) (c : Corners) (q : ℕ) : Type 0 where
   pub rises : c.p < q
   pub nonzero : M c.i q ≢ pos 0
@@ -31,13 +31,13 @@ pub record IsOtherRow (M : ℕ → ℕ → ℤ) (c : Corners) (q o : ℕ) : Type
   pub nonzero : M o c.j ≢ pos 0
   pub determinant : IsSign (core_determinant M (first_at c q) (second_at c o))
 
--- q is not right of p, or row i is 0 there, or row k is 0 in both columns
+-- q is not right of p, or row i is 0 in column q, or row k is 0 in both columns
 abbrev pub IsNoOtherColumn : (ℕ → ℕ → ℤ) → Corners → ℕ → Type 0
 IsNoOtherColumn M c q = (q ≤ c.p) ⊎ (M c.i q ≡ pos 0) ⊎ ((M c.k c.p ≡ pos 0) × (M c.k q ≡ pos 0))
 
--- ---- what comes first
+-- ---- first connectors
 
--- the first row o with which two corners and a column q have connectors
+-- o is the first row that gives connectors with two corners and a column q
 pub record IsFirstRow (m : Matrix) (c : Corners) (q o : ℕ) : Type 0 where
   pub inside : o < height m
   pub row : IsOtherRow (entry m) c q o
@@ -52,7 +52,7 @@ pub record IsFirstPair (m : Matrix) (c : Corners) (d : Connectors) : Type 0 wher
 
 -- ---- columns that may be in side two
 
--- for any two connectors of the form, each closed set with row i has the column
+-- each set with row i that is closed under the rule of two connectors of the form has the column
 abbrev pub IsHeldBy : Matrix → ℕ → ℕ → Type 0
 IsHeldBy m i column = (d : Connectors) (S : Lines) → IsClosedIn m zeros (spread_at (entry m) d.first d.second) S → S (Row i) ≡ true → S (Column column) ≡ true
 
@@ -68,7 +68,7 @@ pub record AreCandidates (m : Matrix) (i : ℕ) (candidates : List ℕ) : Type 0
   pub size : length candidates ≡ words_for m.width
   pub others : (j : ℕ) → j < m.width → has_column candidates j ≡ false → HasNoneBetween m i j
 
--- the row pulls in a column that is no candidate
+-- the row pulls a column that is no candidate
 pub record IsPulled (m : Matrix) (rule : GrowthRule) (candidates : List ℕ) (row : ℕ) : Type 0 where
   pub column : ℕ
   pub inside : column < m.width

@@ -1,4 +1,4 @@
--- Two connectors with the rule that they make.
+-- Two connectors and the rule that they define.
 use Rattle.std.specs.Prelude.{◌≡◌, ◌++◌, ℕ, List, [], ◌∷◌}
 use Rattle.std.specs.List.{AllByRecursion}
 use Rattle.cmr_base.specs.declared.line.Line.{Line}
@@ -16,7 +16,7 @@ use Rattle.line_growth.specs.Rules.{IsRuleOf, lower_of, upper_of}
 use Rattle.three_sep.specs.declared.connectors.Connectors.{Connectors}
 use Rattle.three_sep.specs.Searches.{corner_prefix, corners_of, first_at, second_at}
 
--- the connectors with some corners and other lines
+-- the connectors with two corners and the other lines q and o
 abbrev pub connectors_at : Corners → ℕ → ℕ → Connectors
 connectors_at c q o = record { first = first_at c q; second = second_at c o }
 
@@ -26,11 +26,11 @@ firsts form d = connector_lines (first_is_flat form) d.first
 abbrev pub seconds : Form → Connectors → List Line
 seconds form d = connector_lines (second_is_flat form) d.second
 
--- the rule of two products
+-- the rule whose blocks are the products at (i, j) and (k, p)
 abbrev pub rule_of : Corners → GrowthRule
 rule_of c = record { upper = Product (record { row = c.i; column = c.j }); lower = Product (record { row = c.k; column = c.p }) }
 
--- of the concentrated form: the lines are in the matrix
+-- the lines of two connectors of the concentrated form are in the matrix
 pub record ArePlaced (m : Matrix) (d : Connectors) : Type 0 where
   pub first : AllByRecursion (IsLine (height m) m.width) (firsts Concentrated d)
   pub second : AllByRecursion (IsLine (height m) m.width) (seconds Concentrated d)
@@ -45,6 +45,6 @@ pub record AreConnectorsOf (m : Matrix) (form : Form) (rule : GrowthRule) (d : C
 abbrev pub all_prefix : Form → Connectors → List ℕ
 all_prefix form d = corner_prefix form (corners_of d) ++ d.first.other ∷ d.second.other ∷ []
 
--- no set that is closed by the rule has some lines and none of others, with four lines or more on each side
+-- no set that is closed under the rule has all first lines and no second line, with four lines or more on each side
 abbrev pub HasNoneParting : Matrix → GrowthRule → (first second : List Line) → Type 0
 HasNoneParting m rule first second = (T : Lines) → IsClosedIn m (upper_of m rule) (lower_of m rule) T → HasAll T first → HasNone T second → ¬ (AreEnough (first_lines (height m)) (first_lines m.width) T 4)

@@ -15,11 +15,11 @@ pub record IsNewRow (m : Matrix) (j : ℕ) (set : ℕ → Bool) (row : ℕ) : Ty
 abbrev pub outside_one : Matrix → (ℕ → Bool) → ℕ → ℕ → Bool
 outside_one m set one column = set column && not (support m one column)
 
--- and another row too
+-- the columns of a set in which two rows are 0
 abbrev pub outside_two : Matrix → (ℕ → Bool) → ℕ → ℕ → ℕ → Bool
 outside_two m set one two column = outside_one m set one column && not (support m two column)
 
--- three rows that are not 0 in column j, each of them not 0 in a column of a set in which those before it are 0
+-- three rows that are not 0 in column j; each is not 0 in a column of a set in which the rows before it are 0
 pub record AreIndependent (m : Matrix) (set : ℕ → Bool) (j : ℕ) : Type 0 where
   pub one : ℕ
   pub two : ℕ

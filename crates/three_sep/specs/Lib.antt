@@ -4,3 +4,5 @@ pub mod Connectors
 pub mod Concentrated
 pub mod Independent
 pub mod Searches
+pub mod FirstCuts
+pub mod CutSeeds

@@ -1,4 +1,4 @@
--- Seeds of three-separations as the search goes through them, and lines by lists.
+-- Seeds of three-separations in the order of the search, and sets of lines as lists.
 use Rattle.std.specs.Prelude.{◌≡◌, ◌≢◌, ◌<◌, ◌↔◌, ℕ, Bool, true, List}
 use Rattle.std.specs.List.{AllByRecursion}
 use Rattle.std.specs.List.Sorted.{IsStrictlyIncreasing}
@@ -14,11 +14,11 @@ use Rattle.cmr_base.specs.Separations.{Lines, connector_lines}
 use Rattle.cmr_base.specs.Seeds.{IsGoodThree, three_key}
 use Rattle.three_sep.specs.declared.connectors.Connectors.{Connectors}
 
--- the line is none of the connector's
+-- the line is not in the connector
 abbrev pub IsBeside : Bool → Connector → Line → Type 0
 IsBeside flat connector line = AllByRecursion (λ other. line ≢ other) (connector_lines flat connector)
 
--- the forms of which both blocks are products
+-- the forms whose blocks are both products
 abbrev pub IsCrossing : Form → Type 0
 IsCrossing Delta = Unit {0}
 IsCrossing YForm = Unit {0}
@@ -39,7 +39,7 @@ IsGoodSeed m s S = IsGoodThree (height m) m.width (entry m) s.form s.pair.first 
 abbrev pub seed_key : Matrix → Seed → List ℕ
 seed_key m s = three_key (height m) s.form s.pair.first s.pair.second s.line
 
--- two increasing lists have the rows and the columns of a set
+-- two increasing lists consist of the rows and of the columns of a set
 pub record HasLines (m n : ℕ) (S : Lines) (rows columns : List ℕ) : Type 0 where
   pub rows_increasing : IsStrictlyIncreasing rows
   pub columns_increasing : IsStrictlyIncreasing columns

@@ -1,4 +1,4 @@
--- The search for the first good seed, by the numbers with which seeds begin.
+-- The search for the first good seed, by prefixes of the keys of seeds.
 use Rattle.std.specs.Prelude.{◌≡◌, ◌≢◌, ◌<◌, ◌++◌, ◌⊎◌, ℕ, pos, Bool, true, false, List, [], ◌∷◌}
 use Rattle.cmr_base.specs.declared.line.Line.{Line}
 use Rattle.cmr_base.specs.declared.line.Line.TheVariants.{Row, Column}
@@ -16,17 +16,17 @@ use Rattle.cmr_base.specs.Seeds.{IsLine, IsBefore, IsGrown, form_number}
 use Rattle.line_growth.specs.GrowingSets.{HasRoom, IsGrowing, set_of}
 use Rattle.three_sep.specs.NumberedSeeds.{Seed, IsGoodSeed, HasLines, seed_key, seed_of}
 
--- the list begins with these numbers
+-- the first list is a prefix of the second
 abbrev pub BeginsWith : List ℕ → List ℕ → Type 0
 BeginsWith [] ys = Unit {0}
 BeginsWith (x ∷ xs) [] = ⊥
 BeginsWith (x ∷ xs) (y ∷ ys) = (x ≡ y) × BeginsWith xs ys
 
--- no seed that begins so is good
+-- no seed whose key has this prefix is good
 abbrev pub HasNoGood : Matrix → List ℕ → Type 0
 HasNoGood m prefix = (s : Seed) (S : Lines) → BeginsWith prefix (seed_key m s) → ¬ (IsGoodSeed m s S)
 
--- the separation of the first good one of the seeds that begin so
+-- the three-separation of the first good seed whose key has this prefix
 pub record IsFirstOf (m : Matrix) (prefix : List ℕ) (three : Three) : Type 0 where
   pub x : Line
   pub side : Lines
@@ -35,11 +35,11 @@ pub record IsFirstOf (m : Matrix) (prefix : List ℕ) (three : Three) : Type 0 w
   pub first : (other : Seed) (T : Lines) → BeginsWith prefix (seed_key m other) → IsGoodSeed m other T → ¬ (IsBefore (seed_key m other) (seed_key m (seed_of three x)))
   pub lines : HasLines (height m) m.width side three.side.rows three.side.columns
 
--- no seed that begins so and goes on with a lesser number is good
+-- no seed whose key has this prefix, followed by a lesser number, is good
 abbrev pub HasNoneBelow : Matrix → List ℕ → ℕ → Type 0
 HasNoneBelow m prefix bound = (b : ℕ) → b < bound → HasNoGood m (prefix ++ b ∷ [])
 
--- the corners of two connectors, and the connectors with some corners and other lines q and o
+-- the corners of two connectors, and the connectors with two corners and the other lines q and o
 abbrev pub corners_of : Connectors → Corners
 corners_of d = record { i = d.first.row; p = d.first.column; k = d.second.row; j = d.second.column }
 
@@ -52,17 +52,17 @@ second_at c o = record { row = c.k; column = c.j; other = o }
 abbrev pub corner_prefix : Form → Corners → List ℕ
 corner_prefix form c = form_number form ∷ c.i ∷ c.p ∷ c.k ∷ c.j ∷ []
 
--- a connector's other line
+-- the other line of a connector: a column if the connector is flat
 abbrev pub other_line : Bool → ℕ → Line
 other_line true other = Column other
 other_line false other = Row other
 
--- how many columns, or rows
+-- the number of columns, or of rows
 abbrev pub line_count : Matrix → Bool → ℕ
 line_count m true = m.width
 line_count m false = height m
 
--- what always holds of a search: the sides have room for the lines of the matrix, and no cut parts a group
+-- the invariant of a search: the sides have room for the lines of the matrix, and no cut parts a group
 pub record IsSearchOf (m : Matrix) (search : Search) : Type 0 where
   pub side : HasRoom m search.side
   pub grown : HasRoom m search.grown
@@ -87,7 +87,7 @@ pub record HasCorners (m : Matrix) (c : Corners) : Type 0 where
 abbrev pub held_lines : Form → Corners → ℕ → List Line
 held_lines form c q = connector_lines (first_is_flat form) (first_at c q)
 
--- the side of the search is the closed one of the first connector with the other line q
+-- the side of the search is the closure of the first connector with the other line q
 pub record HoldsFirst (m : Matrix) (form : Form) (c : Corners) (q : ℕ) (search : Search) : Type 0 where
   pub kept : IsSearchOf m search
   pub line : IsLine (height m) m.width (other_line (first_is_flat form) q)
@@ -95,23 +95,23 @@ pub record HoldsFirst (m : Matrix) (form : Form) (c : Corners) (q : ℕ) (search
   pub growing : IsGrowing m (product_at (entry m) c.i c.j) (product_at (entry m) c.k c.p) (held_lines form c q) search.side
   pub least : IsGrown (height m) m.width (entry m) (product_at (entry m) c.i c.j) (product_at (entry m) c.k c.p) (held_lines form c q) (set_of search.side)
 
--- each column that is 0 in one row and not in another is in the group of the other one
+-- each column that is 0 in one row and not in another is in the group of the other row
 abbrev pub HasNoColumn : Matrix → Groups → ℕ → ℕ → Type 0
 HasNoColumn m groups own across = (c : ℕ) → c < m.width → entry m own c ≡ pos 0 → entry m across c ≢ pos 0 → name_of m groups (Column c) ≡ name_of m groups (Row across)
 
--- each row that is 0 in one column and not in another is in the group of the other one
+-- each row that is 0 in one column and not in another is in the group of the other column
 abbrev pub HasNoRow : Matrix → Groups → ℕ → ℕ → Type 0
 HasNoRow m groups own across = (r : ℕ) → r < height m → entry m r own ≡ pos 0 → entry m r across ≢ pos 0 → name_of m groups (Row r) ≡ name_of m groups (Column across)
 
--- a flat connector of the form has no other line beside rows i and k
+-- a flat connector of the form has no other line, if the corners are in rows i and k
 abbrev pub LacksColumn : Matrix → Groups → Form → ℕ → ℕ → Type 0
 LacksColumn m groups form i k = ((first_is_flat form ≡ true) × HasNoColumn m groups i k) ⊎ ((second_is_flat form ≡ true) × HasNoColumn m groups k i)
 
--- a tall connector of the form has no other line beside columns p and j
+-- a tall connector of the form has no other line, if the corners are in columns p and j
 abbrev pub LacksRow : Matrix → Groups → Form → ℕ → ℕ → Type 0
 LacksRow m groups form p j = ((first_is_flat form ≡ false) × HasNoRow m groups p j) ⊎ ((second_is_flat form ≡ false) × HasNoRow m groups j p)
 
--- row k is not in the lower block beside the corner (i, p), or a group holds it with one of its lines, or a connector lacks a column
+-- row k is 0 in column p, or is in a group with row i or column p, or a connector has no other column
 abbrev pub IsNoSecondRow : Matrix → Groups → Form → ℕ → ℕ → ℕ → Type 0
 IsNoSecondRow m groups form i p k = LacksColumn m groups form i k ⊎ (entry m k p ≡ pos 0) ⊎ (name_of m groups (Row i) ≡ name_of m groups (Row k)) ⊎ (name_of m groups (Column p) ≡ name_of m groups (Row k))
 

@@ -5,7 +5,7 @@ use Rattle.cmr_base.specs.LineSets.{IsRowSet, IsColumnSet}
 use Rattle.cmr_base.specs.Separations.{ThreeSeparates, listed}
 use Rattle.cmr_base.specs.Seeds.{IsFirstThree}
 
--- the separation of the first good three-seed
+-- the three-separation of the first good three-seed
 pub record IsFirstThreeSeparation (m : Matrix) (three : Three) : Type 0 where
   pub row_set : IsRowSet m three.side.rows
   pub column_set : IsColumnSet m three.side.columns

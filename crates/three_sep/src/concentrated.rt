@@ -1,4 +1,4 @@
-// The first good seed of the concentrated form.
+// The search for the first good seed of the concentrated form.
 ghost use Rattle.std.specs.Prelude.{◌≡◌, ◌≢◌, ◌<◌, ◌≤◌, ◌+◌, ◌++◌, ◌∷◌, [], ◌↔◌, ◌⊎◌, ℕ, length, pos, true, false, IsTrue, IfOk, OnOk, IfSome, IfNone, MatchOption};
 ghost use Rattle.cmr_base.specs.declared.separation.Form.TheVariants.{Concentrated};
 ghost use Rattle.cmr_base.specs.ColumnSets.{has_column};
@@ -27,7 +27,8 @@ use cuts::Corners;
 use line_growth::GrowingSet;
 use std::alloc::Global;
 
-/// The separation of the first good seed of the form: the rows i.
+/// Gives the three-separation of the first good seed of the form, and `None` if and only if no seed of the form is good. The loop visits
+/// the rows i.
 pub fn first_concentrated(
     alloc: Global,
     matrix: &RowsAndColumns<'_>,
@@ -45,7 +46,7 @@ pub fn first_concentrated(
     Ok(None)
 }
 
-// The columns p.
+// The same with row i. The loop visits the columns p.
 fn first_of_row(alloc: Global, matrix: &RowsAndColumns<'_>, i: u32) -> Result<Option<Three>, Memory>
     requires row { i < height matrix.now }
     ensures first { IfOk result (λ answer.
@@ -64,7 +65,7 @@ fn first_of_row(alloc: Global, matrix: &RowsAndColumns<'_>, i: u32) -> Result<Op
     Ok(None)
 }
 
-// The columns that may be in side two of a good seed with row i.
+// The columns that may be in side two of a good seed with row i: all columns except the columns held by row i.
 fn candidates_for(alloc: Global, matrix: &RowsAndColumns<'_>, i: u32) -> Result<Vec<u64>, Memory>
     requires row { i < height matrix.now }
     ensures { IfOk result (λ set. AreCandidates matrix.now i set.items) }
@@ -79,7 +80,7 @@ fn candidates_for(alloc: Global, matrix: &RowsAndColumns<'_>, i: u32) -> Result<
     Ok(candidates)
 }
 
-// The rows k.
+// The same with the corner (i, p). The loop visits the rows k.
 fn first_of_corner(
     alloc: Global,
     matrix: &RowsAndColumns<'_>,
@@ -107,7 +108,7 @@ fn first_of_corner(
     Ok(None)
 }
 
-// The columns j.
+// The same with row k in side two. The loop visits the candidates j in which row k is not 0.
 fn first_of_second_row(
     alloc: Global,
     matrix: &RowsAndColumns<'_>,
@@ -141,7 +142,7 @@ fn first_of_second_row(
     Ok(None)
 }
 
-// The candidates in which row k is not 0.
+// The set of candidates in which row k is not 0.
 fn second_columns(
     alloc: Global,
     matrix: &RowsAndColumns<'_>,
@@ -161,8 +162,9 @@ fn second_columns(
     Ok(columns)
 }
 
-// The first connectors with two corners. Where no seed with them is good, none has row i in side one and column j in side
-// two: its side would have the columns of row i and not the rows of column j, and be closed by these connectors too.
+// The same with two corners, by the first connectors with these corners. If no seed with these connectors is good, no good seed has row i
+// in side one and column j in side two: its side would have the columns of row i and not the rows of column j, and would be closed under
+// the rule of these connectors.
 fn first_of_corners(
     alloc: Global,
     matrix: &RowsAndColumns<'_>,
@@ -190,7 +192,7 @@ fn first_of_corners(
     Ok(None)
 }
 
-// The lines x, unless column j is seen to be in side one with row i.
+// The same with two connectors. If `is_in_side_one` shows that column j is in side one with row i, no lines x are visited.
 fn first_of_pair(
     alloc: Global,
     matrix: &RowsAndColumns<'_>,
@@ -211,7 +213,7 @@ fn first_of_pair(
     first_of_connectors(alloc, matrix, connectors)
 }
 
-// The first column q, of those in which row i is not 0, and with it the first row o.
+// The first connectors with two corners: the first column q in which row i is not 0, with the first row o.
 fn first_connectors(matrix: &RowsAndColumns<'_>, corners: &Corners) -> Option<Connectors>
     requires inside { AreInside matrix.now corners.now }
     requires corners { AreConcentratedCorners (entry matrix.now) corners.now }
@@ -232,7 +234,7 @@ fn first_connectors(matrix: &RowsAndColumns<'_>, corners: &Corners) -> Option<Co
     None
 }
 
-// The first row o.
+// The first row o for a column q.
 fn first_other_row(matrix: &RowsAndColumns<'_>, corners: &Corners, q: u32) -> Option<u32>
     requires inside { AreInside matrix.now corners.now }
     requires column { q < matrix.now.width }
@@ -251,7 +253,7 @@ fn first_other_row(matrix: &RowsAndColumns<'_>, corners: &Corners, q: u32) -> Op
     None
 }
 
-// The lines x.
+// The same with two connectors. `first_of_lines` visits the lines x.
 fn first_of_connectors(
     alloc: Global,
     matrix: &RowsAndColumns<'_>,
@@ -291,7 +293,7 @@ fn first_of_connectors(
     )
 }
 
-// The first column from one on in which a row is not 0.
+// The first column in which a row is not 0, from a given column on.
 fn next_nonzero(matrix: &RowsAndColumns<'_>, row: u32, from: u32) -> Option<u32>
     requires row { row < height matrix.now }
     requires from { from ≤ MAX_COLUMNS }
@@ -305,7 +307,7 @@ fn next_nonzero(matrix: &RowsAndColumns<'_>, row: u32, from: u32) -> Option<u32>
     matrix.by_rows().next_nonzero(row, from)
 }
 
-// Whether q is right of p, row i not 0 there, and row k not 0 in both columns.
+// Decides whether q is right of p, row i is not 0 in column q, and row k is not 0 in both columns.
 fn is_right_column(matrix: &RowsAndColumns<'_>, corners: &Corners, q: u32) -> bool
     requires inside { AreInside matrix.now corners.now }
     requires column { q < matrix.now.width }
@@ -318,7 +320,7 @@ fn is_right_column(matrix: &RowsAndColumns<'_>, corners: &Corners, q: u32) -> bo
     matrix.is_nonzero(corners.k, corners.p) || matrix.is_nonzero(corners.k, q)
 }
 
-// Whether the determinant of the four entries where rows k and o cross columns p and q is 1 or -1.
+// Decides whether the determinant of rows k and o and columns p and q is 1 or -1.
 fn has_sign(matrix: &RowsAndColumns<'_>, corners: &Corners, q: u32, o: u32) -> bool
     requires inside { AreInside matrix.now corners.now }
     requires column { q < matrix.now.width }
@@ -331,7 +333,7 @@ fn has_sign(matrix: &RowsAndColumns<'_>, corners: &Corners, q: u32, o: u32) -> b
     is_sign(core.determinant())
 }
 
-// Whether a number is 1 or -1.
+// Decides whether a number is 1 or -1.
 fn is_sign(number: i8) -> bool
     requires { IsBounded 2 number }
     ensures { IsTrue result ↔ IsSign number }

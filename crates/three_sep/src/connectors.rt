@@ -1,4 +1,4 @@
-// Two connectors of a seed.
+// The two connectors of a seed and their rules.
 ghost use Rattle.std.specs.Prelude.{◌≡◌};
 ghost use Rattle.cmr_base.specs.Matrix.{entry};
 ghost use Rattle.cmr_base.specs.Separations.{spread_at, zeros};
@@ -9,7 +9,7 @@ use cmr_base::{Connector, RowsAndColumns};
 use cuts::Corners;
 use line_growth::{Block, GrowthRule, Place, SpreadLines};
 
-/// Two connectors.
+/// The connectors of side one and of side two.
 #[derive(Clone, Copy)]
 pub struct Connectors {
     pub first: Connector,
@@ -36,7 +36,7 @@ impl Connectors {
         }
     }
 
-    /// The rule of the concentrated form: nothing above, and below what the columns p and q and the rows k and o make.
+    /// The rule of the concentrated form: the upper block is 0, and columns p and q and rows k and o define the lower block.
     pub fn spread_rule(&self, matrix: &RowsAndColumns<'_>) -> GrowthRule
         requires { ArePlaced matrix.now self.now }
         ensures rule { IsRuleOf matrix.now result }

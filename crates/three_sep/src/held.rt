@@ -1,4 +1,4 @@
-// Columns that are in side one with a row, in each good seed of the concentrated form.
+// Columns that each good seed of the concentrated form with a given row in side one has in side one.
 ghost use Rattle.std.specs.Prelude.{◌≡◌, ◌<◌, ℕ, true, false, length, IfOk};
 ghost use Rattle.cmr_base.specs.ColumnSets.{has_column};
 ghost use Rattle.cmr_base.specs.Matrix.{height};
@@ -10,8 +10,8 @@ use cmr_base::columns::{add_column, add_set, empty_set, has_column};
 use cmr_base::{Memory, RowsAndColumns};
 use std::alloc::Global;
 
-/// Columns that are in side one of each good seed of the form with row i: those in which row i is not 0, and each column
-/// three rows of which are independent in the columns that are known so far, until none is added.
+/// Gives columns that are in side one of each good seed of the form with row i in side one. It begins with the columns in which row i is
+/// not 0, and adds each column that has three rows that are independent in the columns added before, until no column is added.
 pub fn held_columns(alloc: Global, matrix: &RowsAndColumns<'_>, i: u32) -> Result<Vec<u64>, Memory>
     requires row { i < height matrix.now }
     ensures size { IfOk result (λ set. length set.items ≡ words_for matrix.now.width) }
@@ -29,7 +29,7 @@ pub fn held_columns(alloc: Global, matrix: &RowsAndColumns<'_>, i: u32) -> Resul
     Ok(held)
 }
 
-// Adds each column three rows of which are independent in the columns that are known, and says whether there is one.
+// Adds each column that has three rows that are independent in the held columns, and says whether it added any.
 fn add_forced(
     matrix: &RowsAndColumns<'_>,
     held: &mut Vec<u64>,

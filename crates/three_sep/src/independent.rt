@@ -1,4 +1,4 @@
-// Rows that no two others make, among those that a column is not 0 in.
+// Three independent rows among the rows in which a column is not 0.
 ghost use Rattle.std.specs.Prelude.{◌≡◌, ◌<◌, ◌≤◌, ◌&&◌, not, ℕ, true, length, IfSome, MatchOption};
 ghost use Rattle.cmr_base.specs.ColumnSets.{has_column};
 ghost use Rattle.cmr_base.specs.Matrix.{height};
@@ -9,10 +9,9 @@ ghost use Rattle.three_sep.specs.Independent.{AreIndependent, IsNewRow};
 use cmr_base::columns::{add_outside, clear_set, meets};
 use cmr_base::{MAX_ROWS, RowsAndColumns};
 
-/// Whether three rows are shown to be independent that are not 0 in column j, in the columns of a set: each is not 0 in
-/// one of them in which those before it are 0. A side with these columns and without column j would have none of these
-/// rows, and two rows would make all three. The rows are taken as they come, so that most columns are settled by three
-/// rows. `left` and `last` are room for columns.
+/// Searches for three rows that are not 0 in column j and are independent in the columns of a set: each row is not 0 in one of these columns
+/// in which the rows before it are 0. A side with these columns and without column j would have none of these rows, and two rows would make
+/// all three. Each row is the first that fits, so three rows settle most columns. `left` and `last` are buffers for columns.
 pub fn are_three_independent(
     matrix: &RowsAndColumns<'_>,
     set: &[u64],
@@ -42,7 +41,7 @@ pub fn are_three_independent(
     }
 }
 
-// The first row from one on that is not 0 in column j and in some column of a set.
+// The first row that is not 0 in column j and in some column of a set, from a given row on.
 fn new_row(matrix: &RowsAndColumns<'_>, set: &[u64], j: u32, from: u32) -> Option<u32>
     requires column { j < matrix.now.width }
     requires set { length set.now ≡ words_for matrix.now.width }
@@ -69,7 +68,7 @@ pub fn columns_of<'b>(matrix: &'b RowsAndColumns<'_>, row: u32) -> &'b [u64]
     matrix.by_rows().support_words(row)
 }
 
-// Makes a set of the columns that are in one set and not in another.
+// Makes a set equal to the columns of one set that are not in another.
 fn put_outside(set: &mut Vec<u64>, one: &[u64], other: &[u64])
     requires one { length one.now ≡ length set.old.items }
     requires other { length other.now ≡ length set.old.items }

@@ -1,14 +1,17 @@
-//! The three-separations of a matrix.
+//! The first three-separation and the first cut of a matrix.
 #![tactic(auto)]
 
 mod concentrated;
 mod connectors;
+mod first_cuts;
 mod held;
 mod independent;
+pub mod laws;
 mod others;
 mod pulled;
 mod search;
 mod sides;
 
 pub use cmr_base::{Connector, Form, Three};
+pub use first_cuts::first_cut;
 pub use search::{three_separation, three_separation_of};

@@ -1,4 +1,4 @@
-// The lines of connectors.
+// The other lines of connectors.
 ghost use Rattle.std.specs.Prelude.{◌≡◌, ◌≢◌, ◌<◌, ◌↔◌, pos, true, false, IsTrue};
 ghost use Rattle.cmr_base.specs.Matrix.{height, entry, IsMatrix};
 ghost use Rattle.cmr_base.specs.declared.line.Line.TheVariants.{Row, Column};
@@ -12,7 +12,7 @@ use crate::connectors::Connectors;
 use cmr_base::{Connector, Form, Line, RowsAndColumns};
 use cuts::{Corners, Groups};
 
-/// How many columns, or rows.
+/// The number of columns, or of rows.
 pub fn count_of(matrix: &RowsAndColumns<'_>, flat: bool) -> u32
     ensures count { result ≡ line_count matrix.now flat }
     ensures shape { IsMatrix matrix.now }
@@ -24,7 +24,7 @@ pub fn count_of(matrix: &RowsAndColumns<'_>, flat: bool) -> u32
     }
 }
 
-/// The column, or row, of a number.
+/// The column, or the row, with a number.
 pub fn line_of(flat: bool, other: u32) -> Line
     ensures { result ≡ other_line flat other }
 {
@@ -35,7 +35,7 @@ pub fn line_of(flat: bool, other: u32) -> Line
     }
 }
 
-/// Whether q can be the first connector's other line.
+/// Decides whether q can be the other line of the first connector.
 pub fn is_first_other(matrix: &RowsAndColumns<'_>, form: Form, corners: &Corners, q: u32) -> bool
     requires inside { AreInside matrix.now corners.now }
     requires line { IsLine (height matrix.now) matrix.now.width
@@ -54,7 +54,7 @@ pub fn is_first_other(matrix: &RowsAndColumns<'_>, form: Form, corners: &Corners
     }
 }
 
-/// Whether o can be the second connector's other line.
+/// Decides whether o can be the other line of the second connector.
 pub fn is_second_other(matrix: &RowsAndColumns<'_>, form: Form, corners: &Corners, o: u32) -> bool
     requires inside { AreInside matrix.now corners.now }
     requires line { IsLine (height matrix.now) matrix.now.width
@@ -73,7 +73,7 @@ pub fn is_second_other(matrix: &RowsAndColumns<'_>, form: Form, corners: &Corner
     }
 }
 
-// Whether a column is 0 in one row and not in another.
+// Decides whether a column is 0 in one row and not in another.
 fn is_flat_other(matrix: &RowsAndColumns<'_>, own: u32, across: u32, other: u32) -> bool
     requires own { own < height matrix.now }
     requires across { across < height matrix.now }
@@ -89,7 +89,7 @@ fn is_flat_other(matrix: &RowsAndColumns<'_>, own: u32, across: u32, other: u32)
     matrix.is_nonzero(across, other)
 }
 
-// Whether a row is 0 in one column and not in another.
+// Decides whether a row is 0 in one column and not in another.
 fn is_tall_other(matrix: &RowsAndColumns<'_>, own: u32, across: u32, other: u32) -> bool
     requires own { own < matrix.now.width }
     requires across { across < matrix.now.width }
@@ -105,7 +105,7 @@ fn is_tall_other(matrix: &RowsAndColumns<'_>, own: u32, across: u32, other: u32)
     matrix.is_nonzero(other, across)
 }
 
-/// Whether the flat connectors of the form may have other lines beside rows i and k.
+/// Decides whether the flat connectors of the form may have other lines, if the corners are in rows i and k.
 pub fn may_have_columns(
     matrix: &RowsAndColumns<'_>,
     groups: &Groups,
@@ -129,7 +129,7 @@ pub fn may_have_columns(
     true
 }
 
-/// Whether the tall connectors of the form may have other lines beside columns p and j.
+/// Decides whether the tall connectors of the form may have other lines, if the corners are in columns p and j.
 pub fn may_have_rows(
     matrix: &RowsAndColumns<'_>,
     groups: &Groups,
@@ -153,7 +153,7 @@ pub fn may_have_rows(
     true
 }
 
-// Whether a column is 0 in one row and not in another, and apart from the group of that one.
+// Decides whether some column is 0 in one row, not 0 in another, and not in the group of the other row.
 fn has_column(matrix: &RowsAndColumns<'_>, groups: &Groups, own: u32, across: u32) -> bool
     requires names { HasNames matrix.now groups.now }
     requires own { own < height matrix.now }
@@ -168,7 +168,7 @@ fn has_column(matrix: &RowsAndColumns<'_>, groups: &Groups, own: u32, across: u3
     false
 }
 
-// Whether this column is.
+// Decides the same of a given column.
 fn is_column_apart(
     matrix: &RowsAndColumns<'_>,
     groups: &Groups,
@@ -191,7 +191,7 @@ fn is_column_apart(
     !groups.are_one(matrix.rows() + column, across)
 }
 
-// Whether a row is 0 in one column and not in another, and apart from the group of that one.
+// Decides whether some row is 0 in one column, not 0 in another, and not in the group of the other column.
 fn has_row(matrix: &RowsAndColumns<'_>, groups: &Groups, own: u32, across: u32) -> bool
     requires names { HasNames matrix.now groups.now }
     requires own { own < matrix.now.width }
@@ -206,7 +206,7 @@ fn has_row(matrix: &RowsAndColumns<'_>, groups: &Groups, own: u32, across: u32) 
     false
 }
 
-// Whether this row is.
+// Decides the same of a given row.
 fn is_row_apart(
     matrix: &RowsAndColumns<'_>,
     groups: &Groups,
@@ -228,7 +228,7 @@ fn is_row_apart(
     !groups.are_one(row, matrix.rows() + across)
 }
 
-/// Whether a line is in neither connector.
+/// Decides whether a line is in neither connector.
 pub fn is_beside(form: Form, connectors: &Connectors, line: Line) -> bool
     ensures { IsTrue result ↔ (IsBeside (first_is_flat form) connectors.now.first line
         × IsBeside (second_is_flat form) connectors.now.second line) }

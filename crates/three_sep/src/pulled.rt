@@ -1,4 +1,4 @@
-// Columns that are pulled into side two by the rows of column j, and are in side one with row i.
+// Columns that the rows of column j pull into side two, although they are in side one with row i.
 ghost use Rattle.std.specs.Prelude.{◌≡◌, ◌<◌, true, length};
 ghost use Rattle.cmr_base.specs.declared.separation.Form.TheVariants.{Concentrated};
 ghost use Rattle.cmr_base.specs.Matrix.{height, entry};
@@ -12,8 +12,8 @@ use cmr_base::RowsAndColumns;
 use cmr_base::columns::has_column;
 use line_growth::GrowthRule;
 
-/// Whether column j is shown to be in side one with row i, by two connectors that have these: a row that is not 0 in it pulls a
-/// column into side two that is no candidate.
+/// Searches for a proof that column j is in side one with row i, by two connectors with this row and column: a row that is not 0 in column j
+/// pulls a column that is no candidate into side two.
 pub fn is_in_side_one(
     matrix: &RowsAndColumns<'_>,
     candidates: &[u64],
@@ -39,7 +39,7 @@ pub fn is_in_side_one(
     false
 }
 
-// Whether a row pulls in a column in which it is not 0, and which is no candidate.
+// Searches for a column that a row pulls, in which the row is not 0, and which is no candidate.
 fn pulls_other(matrix: &RowsAndColumns<'_>, rule: GrowthRule, candidates: &[u64], row: u32) -> bool
     requires rule { IsRuleOf matrix.now rule }
     requires candidates { length candidates.now ≡ words_for matrix.now.width }

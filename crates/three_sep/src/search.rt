@@ -1,4 +1,4 @@
-// The first good seed.
+// The search for the first good seed.
 ghost use Rattle.std.specs.Prelude.{◌≡◌, ◌≢◌, ◌<◌, ◌≤◌, ◌++◌, ◌∷◌, [], pos, true, false, IfOk, OnOk, IfSome, IfNone, MatchOption};
 ghost use Rattle.cmr_base.specs.Matrix.{height, entry};
 ghost use Rattle.cmr_base.specs.Separations.{HasNoThreeSeparation, IsTied, first_is_flat, second_is_flat};
@@ -20,9 +20,9 @@ use line_growth::GrowingSet;
 use std::alloc::Global;
 use std::thread::Threads;
 
-/// The three-separation of the first good seed, in the order of the forms, corners, other lines and lines of seeds; `None` where
-/// the matrix has no three-separation. One worker makes the search: since groups of lines are found by halving, nothing that is left is
-/// worth sharing.
+/// Gives the three-separation of the first good seed, in the order of forms, corners, other lines and lines of seeds, and `None` if and only
+/// if the matrix has no three-separation. The search uses one worker: since groups of lines are found by halving, the rest is too short to
+/// share.
 pub fn three_separation<R: Threads + Sync>(
     rt: &R,
     alloc: Global,
@@ -37,7 +37,7 @@ pub fn three_separation<R: Threads + Sync>(
     three_separation_of(alloc, &RowsAndColumns::of(matrix, &columns))
 }
 
-/// The same, of a matrix by its rows and its columns.
+/// Gives the same for a matrix whose columns are available.
 pub fn three_separation_of(
     alloc: Global,
     matrix: &RowsAndColumns<'_>,
@@ -48,17 +48,17 @@ pub fn three_separation_of(
     Search::new(alloc, matrix)?.first(alloc, matrix)
 }
 
-/// How many corners are tried before groups are looked for, so that an early find does not pay for them.
+/// The number of corners that the search refuses before it computes groups, so that an early find does not pay for groups.
 const EARLY: u32 = 100;
 
-/// The search: the side of the first connector, and that side with one more line. Groups of lines that no cut parts are
-/// looked for once some corners were tried in vain; until then each line is a group.
+/// The state of a search: the side of the first connector, that side with one more line, and groups of lines that no cut parts. The search
+/// computes groups after `EARLY` corners; before that each line is a group.
 #[derive(Drop)]
 pub struct Search {
-    side: GrowingSet,
-    grown: GrowingSet,
-    groups: Groups,
-    tries: u32,
+    pub side: GrowingSet,
+    pub grown: GrowingSet,
+    pub groups: Groups,
+    pub tries: u32,
     asked: bool,
 }
 
@@ -76,8 +76,8 @@ impl Search {
         })
     }
 
-    // Looks for groups where it is time.
-    fn ask(&mut self, alloc: Global, matrix: &RowsAndColumns<'_>) -> Result<(), Memory>
+    /// Computes groups, unless they are computed already or fewer than `EARLY` corners were tried.
+    pub fn ask(&mut self, alloc: Global, matrix: &RowsAndColumns<'_>) -> Result<(), Memory>
         requires search { IsSearchOf matrix.now self.old }
         ensures search { OnOk result (IsSearchOf matrix.now self.new) }
     {
@@ -89,7 +89,7 @@ impl Search {
         Ok(())
     }
 
-    // The forms in their order.
+    // Gives the three-separation of the first good seed, and `None` if and only if no seed is good. The forms are visited in their order.
     fn first(&mut self, alloc: Global, matrix: &RowsAndColumns<'_>) -> Result<Option<Three>, Memory>
         requires search { IsSearchOf matrix.now self.old }
         ensures first { IfOk result (λ answer. IfSome answer (IsFirstOf matrix.now [])) }
@@ -107,7 +107,7 @@ impl Search {
         first_concentrated(alloc, matrix)
     }
 
-    // The rows i.
+    // The same for one form. The loop visits the rows i.
     fn first_of_form(
         &mut self,
         alloc: Global,
@@ -130,7 +130,7 @@ impl Search {
         Ok(None)
     }
 
-    // The columns p.
+    // The same with row i. The loop visits the columns p.
     fn first_of_row(
         &mut self,
         alloc: Global,
@@ -160,7 +160,7 @@ impl Search {
         Ok(None)
     }
 
-    // The rows k.
+    // The same with the corner (i, p). The loop visits the rows k.
     fn first_of_corner(
         &mut self,
         alloc: Global,
@@ -188,7 +188,7 @@ impl Search {
         Ok(None)
     }
 
-    // The columns j.
+    // The same with row k. The loop visits the columns j.
     fn first_of_second_row(
         &mut self,
         alloc: Global,
@@ -224,7 +224,7 @@ impl Search {
         Ok(None)
     }
 
-    // The lines q.
+    // The same with two corners. The loop visits the lines q.
     fn first_of_corners(
         &mut self,
         alloc: Global,
@@ -258,8 +258,8 @@ impl Search {
         Ok(None)
     }
 
-    // Closes the side of the first connector with the other line q, where it can be that and the side leaves the second
-    // corner.
+    // Decides whether q can be the other line of the first connector, and the closure of the first connector leaves the second corner. If so,
+    // the side of the search is this closure.
     fn hold_first(
         &mut self,
         matrix: &RowsAndColumns<'_>,
@@ -293,7 +293,7 @@ impl Search {
         Ok(held)
     }
 
-    // The lines o.
+    // The same with the line q. The loop visits the lines o.
     fn first_of_connector(
         &mut self,
         alloc: Global,
@@ -319,7 +319,7 @@ impl Search {
         Ok(None)
     }
 
-    // The separation of the first good seed with these corners and other lines, by the closed side of the first connector.
+    // The same with the line o, by the closure of the first connector.
     fn first_of_other(
         &mut self,
         alloc: Global,
@@ -349,7 +349,7 @@ impl Search {
         self.first_of_connectors(alloc, matrix, form, corners, q, o)
     }
 
-    // The lines x.
+    // The same with two connectors. `first_of_lines` visits the lines x.
     fn first_of_connectors(
         &mut self,
         alloc: Global,
@@ -386,7 +386,7 @@ impl Search {
     }
 }
 
-// Whether row k can be in the second corner, beside the first one (i, p).
+// Decides whether row k can be in the second corner, if (i, p) is the first corner.
 fn is_second_row(
     matrix: &RowsAndColumns<'_>,
     groups: &Groups,
@@ -411,7 +411,7 @@ fn is_second_row(
     may_have_columns(matrix, groups, form, i, k)
 }
 
-// Whether column j can be in the second corner with row k.
+// Decides whether column j can be in the second corner with row k, if (i, p) is the first corner.
 fn is_second_column(
     matrix: &RowsAndColumns<'_>,
     groups: &Groups,

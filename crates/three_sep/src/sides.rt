@@ -1,4 +1,4 @@
-// Sides that grow from the lines of one connector and leave those of another.
+// Sides that grow from the lines of one connector and leave the lines of another.
 ghost use Rattle.std.specs.Prelude.{◌≡◌, ◌∷◌, true, false, List, IfOk, IfSome, IfNone, OnOk};
 ghost use Rattle.std.specs.List.{AllByRecursion};
 ghost use Rattle.cmr_base.specs.declared.line.Line.{Line};
@@ -17,10 +17,10 @@ use cuts::LEAST_SIDE;
 use line_growth::{GrowingSet, GrowthRule, line_at};
 use std::alloc::Global;
 
-/// How many rows are tried.
+/// The number of rows that `may_part` tries.
 const TRIES: u32 = 3;
 
-/// Whether what some lines grow to leaves others, and enough lines for a side.
+/// Decides whether the closure of the first lines has no second line and leaves enough lines for a side.
 pub fn leaves(
     matrix: &RowsAndColumns<'_>,
     side: &mut GrowingSet,
@@ -43,7 +43,7 @@ pub fn leaves(
     Ok(yes)
 }
 
-// The same of some lines and one more.
+// Decides the same for the first lines with one more line.
 fn leaves_with(
     matrix: &RowsAndColumns<'_>,
     side: &mut GrowingSet,
@@ -67,8 +67,8 @@ fn leaves_with(
     Ok(yes)
 }
 
-// The same of a side that has grown, and one more line.
-fn leaves_beside(
+/// Decides the same for a side that has grown from the first lines, with one more line.
+pub fn leaves_beside(
     matrix: &RowsAndColumns<'_>,
     side: &GrowingSet,
     grown: &mut GrowingSet,
@@ -92,8 +92,8 @@ fn leaves_beside(
     Ok(yes)
 }
 
-/// Whether a separation may have some lines in side one and others in side two. Some other rows are tried: where a row can
-/// be on neither side, there is none.
+/// Decides whether a separation may have the first lines in side one and the second lines in side two. It tries some other rows: if one of
+/// them can be on neither side, there is no such separation.
 pub fn may_part(
     matrix: &RowsAndColumns<'_>,
     side: &mut GrowingSet,
@@ -124,7 +124,7 @@ pub fn may_part(
     Ok(true)
 }
 
-// Whether a row is among some lines.
+// Decides whether a row is among some lines.
 fn has_row(lines: &[Line], row: u32) -> bool {
     for line in lines {
         if let Line::Row(other) = *line {
@@ -136,7 +136,7 @@ fn has_row(lines: &[Line], row: u32) -> bool {
     false
 }
 
-// Whether a line can be on neither side.
+// Decides whether a line can be on neither side.
 fn is_refused(
     matrix: &RowsAndColumns<'_>,
     side: &mut GrowingSet,
@@ -163,8 +163,8 @@ fn is_refused(
     Ok(true)
 }
 
-/// The separation of the first good seed with two connectors: of the lines x beside the side of the first one, the rows
-/// first.
+/// Gives the three-separation of the first good seed with two connectors, and `None` if and only if no such seed is good. The loop visits the
+/// lines x, rows before columns.
 pub fn first_of_lines(
     alloc: Global,
     matrix: &RowsAndColumns<'_>,
@@ -197,7 +197,7 @@ pub fn first_of_lines(
     Ok(None)
 }
 
-// The separation of a side.
+// The three-separation whose side one is a given side.
 fn separation_of(
     alloc: Global,
     matrix: &RowsAndColumns<'_>,

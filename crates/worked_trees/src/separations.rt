@@ -11,9 +11,9 @@ use std::process::Abort;
 use std::test::Fail;
 use std::thread::Threads;
 use sum_ops::{three_parts, two_parts};
-use three_sep::{Form, three_separation};
+use three_sep::{Form, first_cut, three_separation};
 use two_sep::{components, two_separation};
-use worked_given::{bytes, lines_text, matrix, named_lines_text, row_text, sparse};
+use worked_given::{bytes, found_text, lines_text, matrix, named_lines_text, row_text, sparse};
 
 // The parts, one below the other.
 fn parts_text(alloc: Global, text: &str) -> Result<Vec<u8>, Fail> {
@@ -305,6 +305,38 @@ fn late_three_separations(rt: HostRuntime) -> Result<(), Fail> {
     ] {
         let matrix = sum(rt.alloc(), zeros, from, to)?;
         is_text(&rt, &three_of(&rt, &matrix, 1)?, expected)?;
+    }
+    Ok(())
+}
+
+// Side one of the first cut.
+fn first_cut_text(alloc: Global, matrix: &Matrix) -> Result<Vec<u8>, Fail> {
+    let columns = matrix.transposed(alloc)?;
+    let found = first_cut(alloc, &RowsAndColumns::of(matrix, &columns))?;
+    found_text(alloc, &found)
+}
+
+// Each of the matrices with a cut has several. A slow program that grows all seeds in their order gave the answers.
+#[test]
+fn first_cuts(rt: HostRuntime) -> Result<(), Fail> {
+    for (text, expected) in [
+        (
+            "7 7/1 1 1 0 1 1 0/0 0 0 -1 1 1 0/1 0 1 1 0 0 0/0 0 0 0 1 0 1/0 1 1 0 1 0 0/0 1 1 0 1 0 1/0 0 0 0 0 -1 1/",
+            "0 1 2/0 1 2 3/",
+        ),
+        ("4 4/1 1 0 0/1 0 0 0/1 0 1 1/0 1 -1 0/", "0 1/0 3/"),
+        ("3 5/-1 1 0 0 0/1 1 1 0 0/1 1 0 1 -1/", "0 1/0 2/"),
+        (
+            "5 5/0 0 0 0 1/-1 1 0 -1 0/0 1 -1 -1 -1/1 0 -1 0 0/0 0 0 0 -1/",
+            "0 4/1 3/",
+        ),
+        (CIRCULANT, "none/"),
+    ] {
+        is_text(
+            &rt,
+            &first_cut_text(rt.alloc(), &matrix(rt.alloc(), text)?)?,
+            expected,
+        )?;
     }
     Ok(())
 }

@@ -3,7 +3,7 @@ use Rattle.cmr_base.specs.Matrix.{Matrix}
 use Rattle.cmr_base.specs.Trees.{support}
 use Rattle.three_sep.proofs.concentrated.next_nonzero.Goals as goal
 
--- less is said
+-- a weaker form of the result of `next_nonzero`
 less : (A : Type 0) (P Q : A → Type 0) (N : Type 0) (o : Option A) → ((x : A) → P x → Q x) → MatchOption o N P → MatchOption o N Q
 less A P Q N (Some x) f h = f x h
 less A P Q N None f h = h

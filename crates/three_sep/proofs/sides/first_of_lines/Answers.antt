@@ -15,7 +15,7 @@ use Rattle.three_sep.proofs.SideLemmas.{good_from_leaving, no_good_line}
 use Rattle.three_sep.proofs.sides.first_of_lines.Goals as goal
 use Rattle.three_sep.proofs.sides.first_of_lines.Goals.{else-is_beside-via-then-is_beside+in_ok-leaves_beside+else-branch, else-is_beside-via-else-is_beside}
 
--- the lines that are to stay out are those of the second connector
+-- the lines that stay out are the lines of the second connector
 second_is : (flat known : Bool) (second : Connector) (lines : List Line) → known ≡ flat → lines ≡ connector_lines known second → lines ≡ connector_lines flat second
 second_is flat known second lines e is = is ∙ ap (λ (z : Bool). connector_lines z second) e
 

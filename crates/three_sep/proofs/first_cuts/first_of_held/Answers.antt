@@ -1,0 +1,63 @@
+use Rattle.std.proofs.Common.{[], ◌∷◌, ◌++◌, sym, arith, subst}
+use Rattle.line_growth.specs.declared.rule.GrowthRule.{GrowthRule}
+use Rattle.line_growth.specs.GrowingSets.{set_of}
+use Rattle.line_growth.specs.Rules.{IsRuleOf}
+use Rattle.line_growth.proofs.SetSteps.{told_no, told_yes}
+use Rattle.three_sep.specs.declared.search.Search.{Search}
+use Rattle.three_sep.specs.Connectors.{rule_of}
+use Rattle.three_sep.specs.CutSeeds.{HoldsThird, cut_prefix}
+use Rattle.three_sep.specs.FirstCuts.{first_corner, second_corner}
+use Rattle.three_sep.proofs.CutSeedLemmas.{cut_level_ends, cut_level_found, found_cut_here, fourth_below, no_cut_below_more, no_fourth, no_seed_with_both, told_with}
+use Rattle.three_sep.proofs.SideLemmas.{rule_inside}
+use Rattle.three_sep.proofs.first_cuts.first_of_held.Goals as goal
+use Rattle.three_sep.proofs.first_cuts.first_of_held.Goals.{else-is_fourth-via-then-is_fourth+in_ok-leaves_beside+else-branch, else-is_fourth-via-else-is_fourth}
+
+pub leaves_beside-requires-clause-rule : goal.leaves_beside-requires-clause-rule
+leaves_beside-requires-clause-rule c = subst (λ (r : GrowthRule). IsRuleOf c.args.matrix.now r) (sym c.rule_at-rule.ensures) (rule_inside c.args.matrix.now c.args.corners.now c.requires.corners.inside)
+
+pub returns-then-branch-clause-found : goal.returns-then-branch-clause-found
+returns-then-branch-clause-found c =
+    let m = c.args.matrix.now in
+    let d = c.args.corners.now in
+    let held = c.loop-fourth.invariant.0 in
+    let x = held.line in
+    let y = c.line_at-line.result in
+    let S = set_of c.leaves_beside.new.grown in
+    let told = told_with m d x y c.rule_at-rule.result c.rule_at-rule.ensures c.loop-fourth.search.side c.in_ok-leaves_beside.field-0 S held.growing c.in_ok-leaves_beside.ensures.told in
+    let leaving = told_yes m (rule_of d) (y ∷ x ∷ first_corner d) (second_corner d) 4 c.in_ok-leaves_beside.field-0 S told c.if-branch.true in
+    cut_level_found m (cut_prefix d ++ c.args.third ∷ []) c.loop-fourth.fourth c.in_ok-lines_of.field-0 (omega arith) c.loop-fourth.invariant.1
+    (found_cut_here m d c.args.third c.loop-fourth.fourth x y held.inside c.line_at-line.ensures.line held.number c.line_at-line.ensures.number
+    c.requires.corners c.requires.third (c.is_fourth.ensures.other c.if-is_fourth.true) (c.is_fourth.ensures.different c.if-is_fourth.true) S leaving c.in_ok-lines_of.field-0 c.in_ok-lines_of.ensures)
+
+pub loop-fourth-preserved : goal.loop-fourth-preserved
+loop-fourth-preserved c =
+    let m = c.args.matrix.now in
+    let d = c.args.corners.now in
+    let prefix = cut_prefix d ++ c.args.third ∷ [] in
+    let held = c.loop-fourth.invariant.0 in
+    let x = held.line in
+    let y = c.line_at-line.result in
+    elim c.else-is_fourth.branch [
+      | else-is_fourth-via-then-is_fourth+in_ok-leaves_beside+else-branch w ↦ (
+        subst (λ (s : Search). HoldsThird m d c.args.third s) (sym w.search-is) (record {
+          kept = record { side = held.kept.side; grown = w.in_ok-leaves_beside.ensures.room; names = held.kept.names; together = held.kept.together };
+          line = x;
+          inside = held.inside;
+          number = held.number;
+          growing = held.growing;
+        }),
+        no_cut_below_more m prefix c.loop-fourth.fourth c.loop-fourth.invariant.1
+            (no_seed_with_both m d c.args.third c.loop-fourth.fourth x y held.inside c.line_at-line.ensures.line held.number c.line_at-line.ensures.number
+            (told_no m (rule_of d) (y ∷ x ∷ first_corner d) (second_corner d) 4 w.in_ok-leaves_beside.field-0 (set_of w.leaves_beside.new.grown)
+            (told_with m d x y c.rule_at-rule.result c.rule_at-rule.ensures c.loop-fourth.search.side w.in_ok-leaves_beside.field-0 (set_of w.leaves_beside.new.grown) held.growing w.in_ok-leaves_beside.ensures.told) w.if-branch.false)),
+      )
+      | else-is_fourth-via-else-is_fourth w ↦ (
+        subst (λ (s : Search). HoldsThird m d c.args.third s) (sym w.search-is) held,
+        no_cut_below_more m prefix c.loop-fourth.fourth c.loop-fourth.invariant.1
+            (no_fourth m d c.args.third c.loop-fourth.fourth x y held.inside c.line_at-line.ensures.line held.number c.line_at-line.ensures.number (c.is_fourth.ensures.no w.if-is_fourth.false)),
+      )
+    ]
+
+pub returns-clause-found : goal.returns-clause-found
+returns-clause-found c = cut_level_ends c.args.matrix.now (cut_prefix c.args.corners.now ++ c.args.third ∷ []) c.loop-fourth.fourth (omega arith) c.loop-fourth.invariant.1
+    (λ s S b g h. let k = fourth_below c.args.matrix.now c.args.corners.now c.args.third c.rows.result c.columns.result c.rows.ensures.rows c.columns.ensures.columns s S b g h in let l = c.loop-fourth-test.false in omega arith)
