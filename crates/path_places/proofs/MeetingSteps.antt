@@ -41,7 +41,7 @@ module _ (m : Matrix) (rows columns : List ℕ) where
       → AreRowsMet m rows columns new (row + 1)
   row_met old new row so meets size only here kept = record {
     size = size ∙ so.size;
-    only = λ r e. elim (only r e) [ | inl is ↦ subst (λ (x : ℕ). IsMeetingRow m rows columns x) (sym is) meets | inr h ↦ so.only r h ];
+    only = λ r e. elim (only r e) [ inl is ↦ subst (λ (x : ℕ). IsMeetingRow m rows columns x) (sym is) meets | inr h ↦ so.only r h ];
     all = λ r l h. below_next (λ x. has_column new x ≡ true) r row l (λ low. kept r (so.all r low h)) here;
   }
 

@@ -25,22 +25,6 @@ listed_lines m lines words rows_in columns_in rows columns = record {
   columns = λ c. (λ e. (members_below m.width lines.columns columns_in c (in_from_listed c lines.columns (sym (columns c) ∙ e)), sym (columns c) ∙ e), λ h. columns c ∙ h.1);
 }
 
--- the words of the other lines
-pub other_lines : (m : Matrix) (side : Lines) (words others : LineWords) → AreSideLines m side words
-    → ((r : ℕ) → has_column others.rows.items r ≡ true → (r < height m) × (has_column words.rows.items r ≡ false)) → ((r : ℕ) → r < height m → has_column words.rows.items r ≡ false → has_column others.rows.items r ≡ true)
-    → ((c : ℕ) → has_column others.columns.items c ≡ true → (c < m.width) × (has_column words.columns.items c ≡ false)) → ((c : ℕ) → c < m.width → has_column words.columns.items c ≡ false → has_column others.columns.items c ≡ true)
-    → AreSideLines m (opposite side) others
-other_lines m side words others are rows rows_all columns columns_all = record {
-  rows = λ r. (
-    (λ e. let h = rows r e in (h.0, is_not (side (Row r)) (false_is (side (Row r)) (λ on. not_both (has_column words.rows.items r) ((are.rows r).1 (h.0, on)) h.1)))),
-    (λ h. rows_all r h.0 (false_is (has_column words.rows.items r) (λ e. not_both (side (Row r)) ((are.rows r).0 e).1 (not_is (side (Row r)) h.1))))
-  );
-  columns = λ c. (
-    (λ e. let h = columns c e in (h.0, is_not (side (Column c)) (false_is (side (Column c)) (λ on. not_both (has_column words.columns.items c) ((are.columns c).1 (h.0, on)) h.1)))),
-    (λ h. columns_all c h.0 (false_is (has_column words.columns.items c) (λ e. not_both (side (Column c)) ((are.columns c).0 e).1 (not_is (side (Column c)) h.1))))
-  );
-}
-
 -- the other lines of the other lines
 pub lines_twice : (m : Matrix) (side : Lines) (words : LineWords) → AreSideLines m side words → AreSideLines m (opposite (opposite side)) words
 lines_twice m side words are = record {
@@ -68,11 +52,11 @@ side_between m lines own other side are others rows rows_all columns columns_all
   end_columns = λ c. (column_end c, end_column c);
   inner_rows = λ r. (
     (λ e. let h = inside_is own.rows.items side.ends.rows.items side.inner.rows.items inner_rows r e in ((are.rows r).0 h.0, λ end. not_both (has_column side.ends.rows.items r) (end_row r end) h.1)),
-    (λ h. is_inside own.rows.items side.ends.rows.items side.inner.rows.items inner_rows r ((are.rows r).1 h.0) (λ e. h.1 (row_end r e)))
+    (λ h. is_inside own.rows.items side.ends.rows.items side.inner.rows.items inner_rows r ((are.rows r).1 h.0) (λ e. h.1 (row_end r e))),
   );
   inner_columns = λ c. (
     (λ e. let h = inside_is own.columns.items side.ends.columns.items side.inner.columns.items inner_columns c e in ((are.columns c).0 h.0, λ end. not_both (has_column side.ends.columns.items c) (end_column c end) h.1)),
-    (λ h. is_inside own.columns.items side.ends.columns.items side.inner.columns.items inner_columns c ((are.columns c).1 h.0) (λ e. h.1 (column_end c e)))
+    (λ h. is_inside own.columns.items side.ends.columns.items side.inner.columns.items inner_columns c ((are.columns c).1 h.0) (λ e. h.1 (column_end c e))),
   );
 }
   where

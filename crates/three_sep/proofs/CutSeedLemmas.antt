@@ -119,9 +119,6 @@ cut_some m prefix a o lines short before e h = cut_level_found m prefix a lines 
 pub cut_none : (m : Matrix) (prefix : List ℕ) (a : ℕ) (o : Option LineSet) → HasNoCutSeedBelow m prefix a → o ≡ None → IsFoundCut m (prefix ++ a ∷ []) o → HasNoCutSeedBelow m prefix (a + 1)
 cut_none m prefix a o before e h = no_cut_below_more m prefix a before (MatchOption-at_none (HasNoCutSeed m (prefix ++ a ∷ [])) (IsFirstCutWith m (prefix ++ a ∷ [])) e h)
 
-pub no_cut_below_zero : (m : Matrix) (prefix : List ℕ) → HasNoCutSeedBelow m prefix 0
-no_cut_below_zero m prefix b l = absurd (omega arith)
-
 -- ---- seeds by their prefixes
 
 abbrev pub cut_seed_at : Corners → Line → Line → CutSeed
