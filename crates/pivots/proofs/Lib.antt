@@ -1,6 +1,5 @@
 pub mod ChosenLines
 pub mod LinesBefore
-pub mod DrawnPlaces
 pub mod MultipliedRows
 pub mod MadePivots
 pub mod PivotEntries

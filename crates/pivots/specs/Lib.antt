@@ -1,5 +1,4 @@
 pub mod ChosenLines
-pub mod DrawnPlaces
 pub mod PartLaws
 pub mod Pivoted
 pub mod PivotedParts

@@ -1,5 +1,6 @@
-// Matrices that are generated from a number.
+// Matrices that are generated from a number, and the numbers that are drawn for them.
 use crate::compared::is_text;
+use cmr_base::{DrawnNumber, draw_below};
 use generate::{MakeKind, make};
 use std::test::Fail;
 use worked_given::dense;
@@ -20,4 +21,18 @@ fn from_seven(rt: HostRuntime) -> Result<(), Fail> {
         &dense(rt.alloc(), &sum)?,
         "9 9/-1 1 0 0 1 -1 0 0 -1/1 -1 1 0 0 0 0 0 0/0 -1 1 -1 0 0 0 0 0/0 0 1 -1 1 -1 0 0 -1/-1 0 0 -1 1 -1 0 0 -1/0 0 0 0 1 -1 1 0 0/0 0 0 0 0 -1 1 -1 0/0 0 0 0 0 0 -1 1 -1/0 0 0 0 1 0 0 1 -1/",
     )
+}
+
+#[test]
+fn drawn_numbers(rt: HostRuntime) {
+    let first = DrawnNumber {
+        number: 7,
+        state: 1_282_168_116,
+    };
+    assert_eq!(rt; draw_below(10, 7), first);
+    let second = DrawnNumber {
+        number: 0,
+        state: 642_666_333,
+    };
+    assert_eq!(rt; draw_below(3, 1_282_168_116), second);
 }
