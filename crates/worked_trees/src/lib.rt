@@ -6,6 +6,8 @@
 #[cfg(test)]
 mod compared;
 #[cfg(test)]
+mod cut_places;
+#[cfg(test)]
 mod pivoted;
 #[cfg(test)]
 mod r10;

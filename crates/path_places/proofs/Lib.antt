@@ -1,0 +1,5 @@
+pub mod ListedWords
+pub mod MeetingSteps
+pub mod SideLemmas
+pub mod ReachedSteps
+pub mod UniquePlaces

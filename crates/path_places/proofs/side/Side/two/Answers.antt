@@ -1,0 +1,11 @@
+use Rattle.std.proofs.lemmas.Result.{IfOk-weaker}
+use Rattle.cmr_base.specs.Separations.{opposite}
+use Rattle.path_places.specs.SideWords.{side_of}
+use Rattle.path_places.proofs.SideLemmas.{lines_twice}
+use Rattle.path_places.proofs.side.Side.two.Goals as goal
+
+pub returns-clause-side : goal.returns-clause-side
+returns-clause-side c =
+    let side = side_of c.args.lines.now in
+    let one = c.in_ok-one.ensures.lines in
+    IfOk-weaker c.between.result _ _ (λ found h. h (opposite side) (c.in_ok-two.ensures.lines side one) (lines_twice c.args.matrix.now side c.in_ok-one.one one)) c.between.ensures.side

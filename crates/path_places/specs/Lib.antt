@@ -1,0 +1,4 @@
+pub mod Laws
+pub mod PathPlaces
+pub mod ReachedColumns
+pub mod SideWords

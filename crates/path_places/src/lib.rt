@@ -1,0 +1,12 @@
+//! Positions of pivots: the first edge of a shortest path between the ends of a side of a cut.
+#![tactic(auto)]
+
+pub mod laws;
+mod line_words;
+mod meeting;
+mod path_place;
+mod side;
+
+pub use cmr_base::PlacedPivot;
+pub use path_place::cut_place;
+pub use side::Side;
