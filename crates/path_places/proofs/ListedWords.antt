@@ -1,5 +1,5 @@
 -- The set of the numbers of a list.
-use Rattle.std.proofs.Common.{◌≡◌, ◌<◌, ◌≤◌, ◌+◌, ◌⊎◌, ◌∙◌, inl, inr, nat_eq, ℕ, Bool, true, false, List, length, get_or, sym, subst, refl, arith}
+use Rattle.std.proofs.Common.{◌≡◌, ◌<◌, ◌≤◌, ◌+◌, ◌⊎◌, ◌∙◌, inl, inr, nat_eq, ℕ, true, false, List, length, get_or, sym, subst, arith}
 use Rattle.std.specs.List.{list_any}
 use Rattle.cmr_base.specs.ColumnSets.{has_column}
 use Rattle.cmr_base.specs.Members.{IsIn}

@@ -1,18 +1,17 @@
 -- Columns that are reached from the ends of a side, by one more row at a time.
-use Rattle.std.proofs.Common.{◌≡◌, ◌≢◌, ◌<◌, ◌≤◌, ◌+◌, ◌||◌, ◌⊎◌, ◌∙◌, inl, inr, not, cond, ℕ, zero, suc, Bool, true, false, List, [], ◌∷◌, length, ap, sym, subst, refl, arith}
-use Rattle.std.proofs.lemmas.Bool.{cases_lt, false≢true}
+use Rattle.std.proofs.Common.{◌≡◌, ◌<◌, ◌≤◌, ◌||◌, ◌⊎◌, ◌∙◌, inl, inr, not, cond, ℕ, zero, suc, Bool, true, false, List, length, sym, subst, refl, arith}
+use Rattle.std.proofs.lemmas.Bool.{cases_lt}
 use Rattle.cmr_base.specs.ColumnSets.{has_column, IsWithin}
-use Rattle.cmr_base.specs.Matrix.{Matrix, height, entry, IsMatrix}
+use Rattle.cmr_base.specs.Matrix.{Matrix, entry, IsMatrix}
 use Rattle.cmr_base.specs.Planes.{words_for}
-use Rattle.cmr_base.specs.Seeds.{IsBefore, count}
+use Rattle.cmr_base.specs.Seeds.{count}
 use Rattle.cmr_base.specs.Separations.{Lines}
-use Rattle.cmr_base.specs.Trees.{support}
 use Rattle.cmr_base.proofs.Booleans.{is_nonzero_is, is_not, nonzero_is, not_both, not_is, not_false, or_is, or_left, or_right, two_cases}
 use Rattle.cmr_base.proofs.NextNonzeros.{column_in}
 use Rattle.path_places.specs.declared.side.Side.{Side}
 use Rattle.path_places.specs.PathPlaces.{HasNoPath, HasWalk, IsFirstEdge, IsPathPlace}
 use Rattle.path_places.specs.ReachedColumns.{IsNext}
-use Rattle.path_places.specs.SideWords.{IsNonzeroAmong, IsFirstNonzero, IsSideOf}
+use Rattle.path_places.specs.SideWords.{IsFirstNonzero, IsMeetingColumn, IsMeetingRow, IsNonzeroAmong, IsSideOf}
 
 -- The reached columns are the columns with a walk of at most `steps` rows. No first edge has such a walk.
 pub record IsAtStep (m : Matrix) (lines : Lines) (reached : List ℕ) : Type 0 where
@@ -28,6 +27,16 @@ pub record AreReached (m : Matrix) (side : Side) (reached more : List ℕ) : Typ
   pub only : (c : ℕ) → has_column more c ≡ true → IsNext m side reached c
   pub all : (c : ℕ) → IsNext m side reached c → has_column more c ≡ true
   pub step : (lines : Lines) → IsSideOf m lines side → IsAtStep m lines reached
+
+-- The columns that are next are the inner columns that meet the inner rows that meet the reached columns.
+module _ (m : Matrix) (side : Side) (reached rows : List ℕ) where
+  pub next_from : ((r : ℕ) → has_column rows r ≡ true → IsMeetingRow m side.inner.rows.items reached r) → (c : ℕ) → IsMeetingColumn m rows side.inner.columns.items c → IsNext m side reached c
+  next_from only c (column, r, inside, in_rows, here) =
+      let (_, row_inner, before, is_reached, there) = only r in_rows in
+      record { column = column; row = r; row_in = inside; row_inner = row_inner; here = here; before = before; is_reached = is_reached; there = there }
+
+  pub next_meets : ((r : ℕ) → IsMeetingRow m side.inner.rows.items reached r → has_column rows r ≡ true) → (c : ℕ) → IsNext m side reached c → IsMeetingColumn m rows side.inner.columns.items c
+  next_meets all c next = (next.column, next.row, next.row_in, all next.row (next.row_in, next.row_inner, next.before, next.is_reached, next.there), next.here)
 
 module _ (m : Matrix) (lines : Lines) (side : Side) (is : IsSideOf m lines side) where
   -- at first the ends are reached
@@ -52,7 +61,7 @@ module _ (m : Matrix) (lines : Lines) (side : Side) (is : IsSideOf m lines side)
     pub next_walk : (c : ℕ) → IsNext m side reached c → (n : ℕ) × (n ≤ now.steps) × HasWalk m lines (suc n) c
     next_walk c next =
         let (n, l, walk) = now.only next.before next.is_reached in
-        (n, l, (is.inner_columns c).0 next.column, next.row, next.before, (is.inner_rows next.row).0 next.row_inner, nonzero_is (entry m next.row c) next.here, nonzero_is (entry m next.row next.before) next.there, walk)
+        (n, l, ((is.inner_columns c).0 next.column, next.row, next.before, (is.inner_rows next.row).0 next.row_inner, nonzero_is (entry m next.row c) next.here, nonzero_is (entry m next.row next.before) next.there, walk))
 
     pub walk_next : (n c : ℕ) → n ≤ now.steps → HasWalk m lines (suc n) c → IsNext m side reached c
     walk_next n c l (inner, r, d, row_inner, here, there, walk) = record {

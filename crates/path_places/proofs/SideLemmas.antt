@@ -1,5 +1,5 @@
 -- Sides of cuts as words.
-use Rattle.std.proofs.Common.{◌≡◌, ◌≢◌, ◌<◌, ◌≤◌, ◌+◌, ◌&&◌, ◌⊎◌, ◌∙◌, ◌↔◌, inl, inr, not, nat_eq, pos, ℕ, ℤ, Bool, true, false, List, [], ◌∷◌, length, ap, sym, subst, refl, arith}
+use Rattle.std.proofs.Common.{◌≡◌, ◌<◌, ◌&&◌, ◌∙◌, not, nat_eq, ℕ, true, false, List, sym}
 use Rattle.std.specs.List.{list_any}
 use Rattle.cmr_base.specs.declared.line.Line.TheVariants.{Row, Column}
 use Rattle.cmr_base.specs.declared.line_set.LineSet.{LineSet}
@@ -7,14 +7,13 @@ use Rattle.cmr_base.specs.ColumnSets.{has_column}
 use Rattle.cmr_base.specs.LineSets.{AllBelow}
 use Rattle.cmr_base.specs.Matrix.{Matrix, height, entry}
 use Rattle.cmr_base.specs.Separations.{Lines, opposite}
-use Rattle.cmr_base.specs.Trees.{support}
 use Rattle.cmr_base.proofs.Booleans.{and_is, false_is, is_and, is_not, is_nonzero_is, nonzero_is, not_both, not_is, not_not}
 use Rattle.cmr_base.proofs.ListedLines.{in_from_listed}
 use Rattle.cmr_base.proofs.Places.{members_below}
 use Rattle.path_places.specs.declared.line_words.LineWords.{LineWords}
 use Rattle.path_places.specs.declared.side.Side.{Side}
-use Rattle.path_places.specs.PathPlaces.{HasNonzero, HasZero, IsColumnOn, IsEndColumn, IsEndRow, IsFit, IsInnerColumn, IsInnerRow, IsRowOn}
-use Rattle.path_places.specs.SideWords.{AreSideLines, IsNonzeroAmong, IsFirstNonzero, IsMeetingColumn, IsMeetingRow, IsSideOf, IsZeroAmong, side_of}
+use Rattle.path_places.specs.PathPlaces.{HasNonzero, HasZero, IsEndColumn, IsEndRow}
+use Rattle.path_places.specs.SideWords.{AreSideLines, IsNonzeroAmong, IsMeetingColumn, IsMeetingRow, IsSideOf, IsZeroAmong, side_of}
 
 -- the words of listed lines
 pub listed_lines : (m : Matrix) (lines : LineSet) (words : LineWords) → AllBelow (height m) lines.rows → AllBelow m.width lines.columns

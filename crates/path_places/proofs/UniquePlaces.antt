@@ -1,8 +1,7 @@
 -- A side, and a cut, has one position at most.
-use Rattle.std.proofs.Common.{◌≡◌, ◌<◌, ◌⊎◌, inl, inr, ℕ, [], ◌∷◌, sym, subst, Option, Some, None}
+use Rattle.std.proofs.Common.{◌≡◌, inl, inr, ℕ, sym, subst, Option, Some, None}
 use Rattle.std.specs.Option.{MatchOption}
 use Rattle.cmr_base.specs.Matrix.{Matrix}
-use Rattle.cmr_base.specs.Seeds.{IsBefore}
 use Rattle.cmr_base.specs.Separations.{Lines, opposite}
 use Rattle.cmr_base.proofs.Booleans.{neither}
 use Rattle.path_places.specs.PathPlaces.{HasNoCutPlace, HasNoPath, IsCutPlace, IsFirstEdge, IsFit, IsPathPlace}

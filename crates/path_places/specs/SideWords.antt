@@ -5,7 +5,7 @@ use Rattle.cmr_base.specs.ColumnSets.{has_column}
 use Rattle.cmr_base.specs.Matrix.{Matrix, height, entry}
 use Rattle.cmr_base.specs.Planes.{words_for}
 use Rattle.cmr_base.specs.Seeds.{IsBefore}
-use Rattle.cmr_base.specs.Separations.{Lines, listed, opposite}
+use Rattle.cmr_base.specs.Separations.{Lines, listed}
 use Rattle.cmr_base.specs.Trees.{support}
 use Rattle.path_places.specs.declared.line_words.LineWords.{LineWords}
 use Rattle.path_places.specs.declared.side.Side.{Side}

@@ -1,4 +1,4 @@
-use Rattle.std.proofs.Common.{ℕ, ◌<◌, ◌≡◌, length}
+use Rattle.std.proofs.Common.{◌≡◌, length}
 use Rattle.cmr_base.specs.Planes.{words_for}
 use Rattle.path_places.proofs.ListedWords.{AreListed}
 use Rattle.path_places.proofs.line_words.listed.Given as goal

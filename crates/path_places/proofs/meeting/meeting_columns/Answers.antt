@@ -1,4 +1,4 @@
-use Rattle.std.proofs.Common.{◌≡◌, ◌∙◌, ap, ℕ, arith, true, false, sym}
+use Rattle.std.proofs.Common.{◌∙◌, ap, arith, sym}
 use Rattle.cmr_base.specs.Planes.{words_for}
 use Rattle.path_places.proofs.MeetingSteps.{columns_met, columns_passed, no_columns_met}
 use Rattle.path_places.proofs.meeting.meeting_columns.Goals as goal

@@ -1,4 +1,4 @@
-use Rattle.std.proofs.Common.{◌≡◌, ◌∙◌, ap, refl, arith}
+use Rattle.std.proofs.Common.{◌∙◌, ap, refl, arith}
 use Rattle.std.proofs.lemmas.Bool.{false≢true}
 use Rattle.cmr_base.specs.Planes.{words_for}
 use Rattle.path_places.proofs.MeetingSteps.{no_rows_met, row_met, row_passed}

@@ -1,4 +1,4 @@
-use Rattle.std.proofs.Common.{◌≡◌, ◌||◌, ◌&&◌, ◌∙◌, not, Bool, false, ap, sym, ℕ, List}
+use Rattle.std.proofs.Common.{◌||◌, ◌&&◌, ◌∙◌, not, Bool, ap, sym}
 use Rattle.cmr_base.specs.ColumnSets.{has_column}
 use Rattle.path_places.proofs.side.outside.Goals as goal
 

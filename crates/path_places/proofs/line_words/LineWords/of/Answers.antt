@@ -1,4 +1,4 @@
-use Rattle.std.proofs.Common.{◌≡◌, ◌∙◌, nat_eq, ℕ, List, ap}
+use Rattle.std.proofs.Common.{◌∙◌, nat_eq, ℕ, List, ap}
 use Rattle.std.specs.List.{list_any}
 use Rattle.path_places.proofs.SideLemmas.{listed_lines}
 use Rattle.path_places.proofs.line_words.LineWords.of.Goals as goal

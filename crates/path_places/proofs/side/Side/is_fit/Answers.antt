@@ -1,4 +1,4 @@
-use Rattle.std.proofs.Common.{◌≡◌, ◌∙◌, true, false, sym, refl}
+use Rattle.std.proofs.Common.{refl}
 use Rattle.std.proofs.lemmas.Bool.{false≢true}
 use Rattle.cmr_base.proofs.Booleans.{not_both}
 use Rattle.path_places.proofs.SideLemmas.{in_nonzero, in_zero, nonzero_in, zero_in}
