@@ -54,8 +54,18 @@ fn sides_of_cuts(rt: HostRuntime) -> Result<(), Fail> {
 #[test]
 fn positions_of_cuts(rt: HostRuntime) -> Result<(), Fail> {
     for (text, rows, columns, expected) in [
-        ("3 3/0 -1 -1/1 0 -1/-1 1 -1/", &[1, 2][..], &[0, 2][..], "cut 2 0/"),
-        ("3 4/-1 1 -1 1/0 -1 0 -1/0 1 1 0/", &[1][..], &[0, 3][..], "cut 0 2/"),
+        (
+            "3 3/0 -1 -1/1 0 -1/-1 1 -1/",
+            &[1, 2][..],
+            &[0, 2][..],
+            "cut 2 0/",
+        ),
+        (
+            "3 4/-1 1 -1 1/0 -1 0 -1/0 1 1 0/",
+            &[1][..],
+            &[0, 3][..],
+            "cut 0 2/",
+        ),
         ("3 3/-1 0 -1/1 -1 0/0 -1 0/", &[0, 2][..], &[0][..], "cut/"),
         ("3 3/0 0 0/-1 0 0/0 0 0/", &[1][..], &[0, 1, 2][..], "cut/"),
     ] {
@@ -71,5 +81,9 @@ fn shortest_and_first(rt: HostRuntime) -> Result<(), Fail> {
     let lines = [0, 1, 2, 3, 4];
     is_text(&rt, &cut_text(alloc, long, (&lines, &lines))?, "cut 3 2/")?;
     let ties = "4 5/0 0 1 1 1/0 1 0 0 1/1 1 1 1 0/1 0 0 0 1/";
-    is_text(&rt, &cut_text(alloc, ties, (&lines[..3], &lines[..4]))?, "cut 0 2/")
+    is_text(
+        &rt,
+        &cut_text(alloc, ties, (&lines[..3], &lines[..4]))?,
+        "cut 0 2/",
+    )
 }
