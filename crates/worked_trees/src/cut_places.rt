@@ -1,5 +1,4 @@
 // Positions of pivots on shortest paths inside the sides of cuts.
-ghost use Rattle.std.specs.Prelude.{◌<◌};
 ghost use Rattle.path_places.specs.SideWords.{IsSideSized};
 
 use crate::compared::is_text;
