@@ -1,5 +1,5 @@
 -- There is one separation of the first good seed.
-use Rattle.std.proofs.Common.{◌≡◌, ◌∙◌, ℕ, ℤ, refl, ap, sym, subst}
+use Rattle.std.proofs.Common.{◌≡◌, ◌∙◌, inl, inr, ℕ, ℤ, List, [], ◌∷◌, length, refl, ap, sym, subst, arith}
 use Rattle.cmr_base.specs.declared.line.Line.{Line}
 use Rattle.cmr_base.specs.declared.line_set.LineSet.{LineSet}
 use Rattle.cmr_base.specs.declared.separation.Connector.{Connector}
@@ -8,12 +8,20 @@ use Rattle.cmr_base.specs.declared.separation.Two.{Two}
 use Rattle.cmr_base.specs.declared.separation.Three.{Three}
 use Rattle.cmr_base.specs.Matrix.{Matrix, height, entry}
 use Rattle.cmr_base.specs.Separations.{Lines}
-use Rattle.cmr_base.specs.Seeds.{IsGoodTwo, IsGoodThree, form_number, line_number, two_key, three_key}
+use Rattle.cmr_base.specs.Seeds.{IsBefore, IsGoodTwo, IsGoodThree, form_number, line_number, two_key, three_key}
+use Rattle.cmr_base.proofs.Booleans.{neither}
 use Rattle.cmr_base.proofs.SeedLemmas.{line_is, form_is}
 use Rattle.two_sep.specs.FirstSeeds.{IsFirstTwoSeparation}
 use Rattle.three_sep.specs.ThreeSeparations.{IsFirstThreeSeparation}
-use Rattle.separating_places.proofs.SameSets.{HasAllOf, lines_in, same_sets}
-use Rattle.separating_places.proofs.SeparatingPlaces.{same_keys}
+use Rattle.decomp_tree.proofs.SameSets.{HasAllOf, lines_in, same_sets}
+
+same_keys : (xs ys : List ℕ) → length xs ≡ length ys → ¬ (IsBefore xs ys) → ¬ (IsBefore ys xs) → xs ≡ ys
+same_keys [] [] e a b = refl
+same_keys [] (y ∷ ys) e a b = absurd (omega arith)
+same_keys (x ∷ xs) [] e a b = absurd (omega arith)
+same_keys (x ∷ xs) (y ∷ ys) e a b =
+    let first : x ≡ y = neither x y (λ l. a (inl l)) (λ l. b (inl l)) in
+    ap (λ (n : ℕ). n ∷ xs) first ∙ ap (λ (ns : List ℕ). y ∷ ns) (same_keys xs ys (omega arith) (λ h. a (inr (first, h))) (λ h. b (inr (sym first, h))))
 
 -- ---- two-separations
 

@@ -1,50 +1,50 @@
 -- What pivots find, by cases: no place, a 2, and the tree of the submatrix after the pivot.
-use Rattle.std.proofs.Common.{◌≡◌, ◌≢◌, ◌+◌, ◌-◌, inl, inr, ℕ, suc, sym, subst, arith}
+use Rattle.std.proofs.Common.{◌≡◌, ◌≢◌, ◌+◌, ◌-◌, inl, inr, ℕ, suc, Some, None, sym, subst, arith}
 use Rattle.cmr_base.specs.declared.line_set.LineSet.{LineSet}
 use Rattle.cmr_base.specs.Matrix.{Matrix, IsMatrix}
-use Rattle.cmr_base.specs.declared.placed_pivot.PlacedPivot.{PlacedPivot}
+use Rattle.pivots.specs.declared.drawn.DrawnPlace.{DrawnPlace}
+use Rattle.pivots.specs.DrawnPlaces.{drawn_place}
 use Rattle.pivots.specs.PivotedParts.{IsMadePart, ShowsFirstTwoIn}
 use Rattle.tree_type.specs.DecompositionTrees.{Tree, Branch, NoTrees, Violator}
 use Rattle.tree_type.specs.Invariant.{AreLines, size_of}
 use Rattle.tree_type.specs.Verdicts.{verdict_of}
 use Rattle.tree_laws.proofs.PivotedMatrices.{lines_pivoted}
 use Rattle.decomp_tree.specs.Refined.{Refines}
-use Rattle.separating_places.specs.SeparatingPlaces.{HasNoSeparatingPlace, IsSeparatingPlace}
 use Rattle.decomp_tree.specs.Shapes.{IsShapeOn}
-use Rattle.decomp_tree.specs.PivotedShapes.{HasFaultAmong, IsDrawnTo, IsFoundAt, IsFoundTo, IsToldBeforePivot, undecided}
-use Rattle.decomp_tree.proofs.Ends.{AreLawful}
+use Rattle.decomp_tree.specs.PivotedShapes.{HasFaultAmong, IsDrawnWith, IsFound, IsFoundAt, IsToldBeforePivot, undecided}
 use Rattle.decomp_tree.proofs.FaultLines.{fault_among, lines_themselves}
 use Rattle.decomp_tree.proofs.FoundTrees.{drawn_with_lines, drawn_with_within}
 
-module _ (IsEnd : ℕ → Matrix → LineSet → Tree → Type 0) (limit pivots : ℕ) (m : Matrix) (lines : LineSet) where
-  one_less : pivots ≢ 0 → suc (pivots - 1) ≡ pivots
-  one_less some = omega (arith, some)
+module _ (limit pivots state : ℕ) (m : Matrix) (lines : LineSet) where
+  -- some pivot may be made
+  found_at : (some : pivots ≢ 0) (tree : Tree) → IsFoundAt (λ next after found. (shape : Tree) × IsShapeOn limit after lines shape × Refines (IsFound limit (pivots - 1) next after) shape found) m lines (drawn_place m lines state) tree
+      → IsFound limit pivots state m lines tree
+  found_at some tree found = subst (λ k. IsFound limit k state m lines tree) (let more : suc (pivots - 1) ≡ pivots = omega (arith, some) in more) found
 
-  pub found_none : (tree : Tree) → pivots ≡ 0 → tree ≡ undecided lines → IsFoundTo IsEnd limit pivots m lines tree
-  found_none tree none e = subst (λ k. IsFoundTo IsEnd limit k m lines tree) (sym none) e
+  pub found_none : (tree : Tree) → pivots ≡ 0 → tree ≡ undecided lines → IsFound limit pivots state m lines tree
+  found_none tree none e = subst (λ k. IsFound limit k state m lines tree) (sym none) e
 
-  pub found_no_place : (tree : Tree) → pivots ≢ 0 → HasNoSeparatingPlace m lines → IsEnd pivots m lines tree → IsFoundTo IsEnd limit pivots m lines tree
-  found_no_place tree some none end =
-      subst (λ k. IsFoundTo IsEnd limit k m lines tree) (one_less some) (inl (none, subst (λ k. IsEnd k m lines tree) (sym (one_less some)) end))
+  pub found_no_place : (tree : Tree) → pivots ≢ 0 → drawn_place m lines state ≡ None → tree ≡ undecided lines → IsFound limit pivots state m lines tree
+  found_no_place tree some none e = found_at some tree (subst (λ o. IsFoundAt (λ next after found. (shape : Tree) × IsShapeOn limit after lines shape × Refines (IsFound limit (pivots - 1) next after) shape found) m lines o tree) (sym none) e)
 
-  module _ (place : PlacedPivot) (at : IsSeparatingPlace m lines place) where
-    found_there : (tree : Tree) → pivots ≢ 0 → IsFoundAt (λ after found. (shape : Tree) × IsShapeOn limit after lines shape × Refines (IsFoundTo IsEnd limit (pivots - 1) after) shape found) m lines place tree → IsFoundTo IsEnd limit pivots m lines tree
-    found_there tree some found = subst (λ k. IsFoundTo IsEnd limit k m lines tree) (one_less some) (inr (place, at, found))
+  module _ (drawn : DrawnPlace) (is_drawn : drawn_place m lines state ≡ Some drawn) where
+    found_there : (tree : Tree) → pivots ≢ 0 → IsFoundAt (λ next after found. (shape : Tree) × IsShapeOn limit after lines shape × Refines (IsFound limit (pivots - 1) next after) shape found) m lines (Some drawn) tree → IsFound limit pivots state m lines tree
+    found_there tree some found = found_at some tree (subst (λ o. IsFoundAt (λ next after t. (shape : Tree) × IsShapeOn limit after lines shape × Refines (IsFound limit (pivots - 1) next after) shape t) m lines o tree) (sym is_drawn) found)
 
-    pub found_two : (tree : Tree) (fault : LineSet) → pivots ≢ 0 → ShowsFirstTwoIn m lines place fault.rows fault.columns → tree ≡ Branch lines (Violator fault) NoTrees → IsFoundTo IsEnd limit pivots m lines tree
+    pub found_two : (tree : Tree) (fault : LineSet) → pivots ≢ 0 → ShowsFirstTwoIn m lines drawn.place fault.rows fault.columns → tree ≡ Branch lines (Violator fault) NoTrees → IsFound limit pivots state m lines tree
     found_two tree fault some shows e = found_there tree some (inl (fault, shows, e))
 
-    pub found_after : (tree found : Tree) (after : Matrix) → pivots ≢ 0 → IsMadePart m lines place after → IsDrawnTo IsEnd limit (pivots - 1) after lines found → IsToldBeforePivot m lines place found (verdict_of found) tree → IsFoundTo IsEnd limit pivots m lines tree
+    pub found_after : (tree found : Tree) (after : Matrix) → pivots ≢ 0 → IsMadePart m lines drawn.place after → IsDrawnWith limit (pivots - 1) drawn.state after lines found → IsToldBeforePivot m lines drawn.place found (verdict_of found) tree → IsFound limit pivots state m lines tree
     found_after tree found after some made d told =
-        let there = subst (λ n. IsDrawnTo IsEnd limit (pivots - 1) n lines found) made.is d in
+        let there = subst (λ n. IsDrawnWith limit (pivots - 1) drawn.state n lines found) made.is d in
         found_there tree some (inr (made.ternary, found, (there.shape, there.drawn, there.refines), told))
 
--- the lines are lines of the matrix after the pivot
-pub lines_made : (m : Matrix) (lines : LineSet) (place : PlacedPivot) (after : Matrix) → IsMadePart m lines place after → AreLines m lines → AreLines after lines
-lines_made m lines place after made are = subst (λ n. AreLines n lines) (sym made.is) (lines_pivoted m lines place lines are)
+    -- the lines are lines of the matrix after the pivot
+    pub lines_made : (after : Matrix) → IsMadePart m lines drawn.place after → AreLines m lines → AreLines after lines
+    lines_made after made are = subst (λ n. AreLines n lines) (sym made.is) (lines_pivoted m lines drawn.place lines are)
 
 -- a fault of a decomposition has lines of its root
-pub fault_drawn : (IsEnd : ℕ → Matrix → LineSet → Tree → Type 0) (limit : ℕ) (ends : AreLawful limit IsEnd) (pivots : ℕ) (m : Matrix) (lines : LineSet) (tree : Tree) → IsMatrix m → AreLines m lines → IsDrawnTo IsEnd limit pivots m lines tree → HasFaultAmong lines (verdict_of tree)
-fault_drawn IsEnd limit ends pivots m lines tree is are d =
-    subst (λ (some : LineSet). HasFaultAmong some (verdict_of tree)) (drawn_with_lines IsEnd limit ends pivots m lines tree d)
-    (fault_among lines (suc (size_of lines + pivots)) tree (drawn_with_within IsEnd limit ends pivots m lines tree lines (suc (size_of lines + pivots)) is d are (lines_themselves m lines are) (omega arith)))
+pub fault_drawn : (limit pivots state : ℕ) (m : Matrix) (lines : LineSet) (tree : Tree) → IsMatrix m → AreLines m lines → IsDrawnWith limit pivots state m lines tree → HasFaultAmong lines (verdict_of tree)
+fault_drawn limit pivots state m lines tree is are d =
+    subst (λ (some : LineSet). HasFaultAmong some (verdict_of tree)) (drawn_with_lines limit pivots state m lines tree d)
+    (fault_among lines (suc (size_of lines + pivots)) tree (drawn_with_within limit pivots state m lines tree lines (suc (size_of lines + pivots)) is d are (lines_themselves m lines are) (omega arith)))

@@ -1,12 +1,15 @@
 -- What pivots find in the place of an undecided node: its lines and its levels.
-use Rattle.std.proofs.Common.{◌≡◌, ◌<◌, ◌≤◌, ◌+◌, ◌-◌, ◌∙◌, inl, inr, ℕ, zero, suc, [], Contains, refl, ap, sym, subst, arith}
+use Rattle.std.proofs.Common.{◌≡◌, ◌<◌, ◌≤◌, ◌+◌, ◌-◌, ◌∙◌, inl, inr, ℕ, zero, suc, [], Contains, Option, Some, None, IfSome, refl, ap, sym, subst, arith}
 use Rattle.cmr_base.specs.declared.line_set.LineSet.{LineSet}
 use Rattle.cmr_base.specs.Matrix.{Matrix, IsMatrix}
 use Rattle.cmr_base.specs.LineSets.{IsRowSet, IsColumnSet}
 use Rattle.cmr_base.proofs.Lists.{all_contained}
+use Rattle.pivots.specs.declared.drawn.DrawnPlace.{DrawnPlace}
 use Rattle.cmr_base.specs.declared.placed_pivot.PlacedPivot.{PlacedPivot}
+use Rattle.pivots.specs.DrawnPlaces.{drawn_place}
 use Rattle.cmr_base.specs.PlacedPivots.{IsPlaceIn, IsTernaryPivot, pivoted_part}
 use Rattle.pivots.specs.PivotedParts.{AreAmong}
+use Rattle.pivots.proofs.DrawnPlaces.{drawn_in}
 use Rattle.pivots.proofs.PartLaws.{lines_before_among}
 use Rattle.tree_type.specs.DecompositionTrees.{Finding, Empty, Cycle, Reduced, OneSum, Network, Conetwork, R10, TwoSum, ThreeSum, Enumerated, Violator, Undecided, Pivoted, Tree, Trees, Branch, NoTrees, MoreTrees, count_trees, lines_at_root}
 use Rattle.tree_type.specs.Invariant.{AreLines, AreLinesOf, size_of, FitsLines, HasChildren, IsTreeWithin, AreTreesWithin}
@@ -16,12 +19,10 @@ use Rattle.tree_type.proofs.PlacedLines.{lines_within}
 use Rattle.tree_laws.proofs.PivotedMatrices.{lines_pivoted, pivoted_is_matrix}
 use Rattle.decomp_tree.specs.Shapes.{IsShapeOn}
 use Rattle.decomp_tree.specs.Refined.{Refines, AllRefine}
-use Rattle.decomp_tree.specs.PivotedShapes.{IsToldBeforePivot, IsFoundAt, IsFoundTo, IsDrawnTo, HasFaultAmong, undecided}
-use Rattle.decomp_tree.proofs.Ends.{AreLawful, IsEndLeaf, end_lines}
+use Rattle.decomp_tree.specs.PivotedShapes.{IsToldBeforePivot, IsFoundAt, IsFound, IsDrawnWith, HasFaultAmong, undecided}
 use Rattle.decomp_tree.proofs.FaultLines.{fault_among, lines_of_lines_of}
 use Rattle.decomp_tree.proofs.RefinedTrees.{RefinedNode, replaced, kept, refined_node, count_refined, refined_lines}
 use Rattle.decomp_tree.proofs.ShapeTrees.{shape_lines}
-use Rattle.separating_places.proofs.SeparatingPlaces.{separating_place_in}
 use Rattle.decomp_tree.proofs.ShapedNodes.{IsFalling, AreFalling, shape_falls, shape_within}
 
 -- ---- lines
@@ -31,20 +32,23 @@ told_lines m lines place after Yes tree e = ap lines_at_root e
 told_lines m lines place after (No fault) tree told = ap lines_at_root told.2
 told_lines m lines place after (Open left) tree e = ap lines_at_root e
 
-found_at_lines : (IsTree : Matrix → Tree → Type 0) (m : Matrix) (lines : LineSet) (place : PlacedPivot) (tree : Tree) → IsFoundAt IsTree m lines place tree → lines_at_root tree ≡ lines
-found_at_lines IsTree m lines place tree (inl shown) = ap lines_at_root shown.2
-found_at_lines IsTree m lines place tree (inr made) = told_lines m lines place made.1 (verdict_of made.1) tree made.3
+found_at_lines : (IsTree : ℕ → Matrix → Tree → Type 0) (m : Matrix) (lines : LineSet) (drawn : Option DrawnPlace) (tree : Tree) → IsFoundAt IsTree m lines drawn tree → lines_at_root tree ≡ lines
+found_at_lines IsTree m lines None tree e = ap lines_at_root e
+found_at_lines IsTree m lines (Some drawn) tree (inl shown) = ap lines_at_root shown.2
+found_at_lines IsTree m lines (Some drawn) tree (inr made) = told_lines m lines drawn.place made.1 (verdict_of made.1) tree made.3
 
-module _ (IsEnd : ℕ → Matrix → LineSet → Tree → Type 0) (limit : ℕ) (ends : AreLawful limit IsEnd) where
-  -- what replaces a node is on the lines of the node
-  pub found_lines : (pivots : ℕ) (m : Matrix) (lines : LineSet) (tree : Tree) → IsFoundTo IsEnd limit pivots m lines tree → lines_at_root tree ≡ lines
-  found_lines zero m lines tree e = ap lines_at_root e
-  found_lines (suc pivots) m lines tree (inl (none, end)) = end_lines lines tree (ends.leaf (suc pivots) m lines tree end)
-  found_lines (suc pivots) m lines tree (inr (place, at, found)) = found_at_lines (λ after found. (shape : Tree) × IsShapeOn limit after lines shape × Refines (IsFoundTo IsEnd limit pivots after) shape found) m lines place tree found
+-- what is found stands on the lines of the node
+pub found_lines : (limit pivots state : ℕ) (m : Matrix) (lines : LineSet) (tree : Tree) → IsFound limit pivots state m lines tree → lines_at_root tree ≡ lines
+found_lines limit zero state m lines tree e = ap lines_at_root e
+found_lines limit (suc pivots) state m lines tree found = found_at_lines (λ next after found. (shape : Tree) × IsShapeOn limit after lines shape × Refines (IsFound limit pivots next after) shape found) m lines (drawn_place m lines state) tree found
 
-  -- and so is the decomposition with what replaces its nodes
-  pub drawn_with_lines : (pivots : ℕ) (m : Matrix) (lines : LineSet) (tree : Tree) → IsDrawnTo IsEnd limit pivots m lines tree → lines_at_root tree ≡ lines
-  drawn_with_lines pivots m lines tree d = refined_lines (IsFoundTo IsEnd limit pivots m) (found_lines pivots m) d.shape tree d.refines ∙ shape_lines limit m lines d.shape d.drawn
+-- and so does the decomposition with what is found
+pub drawn_with_lines : (limit pivots state : ℕ) (m : Matrix) (lines : LineSet) (tree : Tree) → IsDrawnWith limit pivots state m lines tree → lines_at_root tree ≡ lines
+drawn_with_lines limit pivots state m lines tree d = refined_lines (IsFound limit pivots state m) (found_lines limit pivots state m) d.shape tree d.refines ∙ shape_lines limit m lines d.shape d.drawn
+
+-- a place that is drawn is one of the submatrix
+pub place_drawn : (m : Matrix) (lines : LineSet) (state : ℕ) (drawn : DrawnPlace) → drawn_place m lines state ≡ Some drawn → IsPlaceIn m lines drawn.place
+place_drawn m lines state drawn e = subst (λ o. IfSome o (λ (found : DrawnPlace). IsPlaceIn m lines found.place)) e (drawn_in m lines state)
 
 -- ---- levels
 
@@ -104,30 +108,30 @@ lines_among m lines fault rows columns among = record {
   columns = λ column h. all_contained (Contains lines.columns) fault.columns column among.columns h;
 }
 
-module _ (IsEnd : ℕ → Matrix → LineSet → Tree → Type 0) (limit : ℕ) (ends : AreLawful limit IsEnd) where
+module _ (limit : ℕ) where
   abbrev IsWithin : ℕ → Type 0
-  IsWithin pivots = (m : Matrix) (lines : LineSet) (tree : Tree) (parent : LineSet) (levels : ℕ) → IsMatrix m → IsFoundTo IsEnd limit pivots m lines tree → AreLines m parent → AreLinesOf lines parent → size_of lines + pivots < levels → IsTreeWithin parent levels tree
+  IsWithin pivots = (state : ℕ) (m : Matrix) (lines : LineSet) (tree : Tree) (parent : LineSet) (levels : ℕ) → IsMatrix m → IsFound limit pivots state m lines tree → AreLines m parent → AreLinesOf lines parent → size_of lines + pivots < levels → IsTreeWithin parent levels tree
 
   -- a decomposition with what is found
-  drawn_within : (pivots : ℕ) → IsWithin pivots → (m : Matrix) (lines : LineSet) (tree : Tree) (parent : LineSet) (levels : ℕ) → IsMatrix m → IsDrawnTo IsEnd limit pivots m lines tree → AreLines m parent → AreLinesOf lines parent → size_of lines + pivots < levels → IsTreeWithin parent levels tree
-  drawn_within pivots found m lines tree parent levels is d parent_are are l =
+  drawn_within : (pivots : ℕ) → IsWithin pivots → (state : ℕ) (m : Matrix) (lines : LineSet) (tree : Tree) (parent : LineSet) (levels : ℕ) → IsMatrix m → IsDrawnWith limit pivots state m lines tree → AreLines m parent → AreLinesOf lines parent → size_of lines + pivots < levels → IsTreeWithin parent levels tree
+  drawn_within pivots found state m lines tree parent levels is d parent_are are l =
       let root = shape_lines limit m lines d.shape d.drawn in
       let among = subst (λ some. AreLinesOf some parent) (sym root) are in
-      within_refined m (IsFoundTo IsEnd limit pivots m) pivots (λ some one over n. found m some one over n is) d.shape tree parent (suc (size_of (lines_at_root d.shape))) levels d.refines
+      within_refined m (IsFound limit pivots state m) pivots (λ some one over n. found state m some one over n is) d.shape tree parent (suc (size_of (lines_at_root d.shape))) levels d.refines
       (shape_falls limit m is [] (These lines) parent d.shape d.drawn parent_are among) parent_are
       (shape_within limit m is [] (These lines) parent (suc (size_of (lines_at_root d.shape))) d.shape d.drawn parent_are among (omega arith))
       (subst (λ some. size_of some + pivots < levels) (sym root) l)
 
   module _ (pivots : ℕ) (below : IsWithin pivots) (m : Matrix) (lines parent : LineSet) (levels : ℕ) (is : IsMatrix m) (parent_are : AreLines m parent) (are : AreLinesOf lines parent) (l : size_of lines + suc pivots < levels) where
-    told_within : (place : PlacedPivot) (at : IsPlaceIn m lines place) (ternary : IsTernaryPivot m lines place) (after : Tree) → IsDrawnTo IsEnd limit pivots (pivoted_part m lines place) lines after → (tree : Tree) → IsToldBeforePivot m lines place after (verdict_of after) tree → IsTreeWithin parent levels tree
-    told_within place at ternary after d tree told = go (verdict_of after) among told
+    told_within : (next : ℕ) (place : PlacedPivot) (at : IsPlaceIn m lines place) (ternary : IsTernaryPivot m lines place) (after : Tree) → IsDrawnWith limit pivots next (pivoted_part m lines place) lines after → (tree : Tree) → IsToldBeforePivot m lines place after (verdict_of after) tree → IsTreeWithin parent levels tree
+    told_within next place at ternary after d tree told = go (verdict_of after) among told
       where
         after_within : IsTreeWithin lines (levels - 1) after
-        after_within = drawn_within pivots below (pivoted_part m lines place) lines after lines (levels - 1) (pivoted_is_matrix m lines place is ternary) d
+        after_within = drawn_within pivots below next (pivoted_part m lines place) lines after lines (levels - 1) (pivoted_is_matrix m lines place is ternary) d
             (lines_pivoted m lines place lines (lines_within m lines parent are parent_are)) (lines_of_lines_of lines parent are) (omega (arith, l))
 
         among : HasFaultAmong lines (verdict_of after)
-        among = subst (λ some. HasFaultAmong some (verdict_of after)) (drawn_with_lines IsEnd limit ends pivots (pivoted_part m lines place) lines after d) (fault_among lines (levels - 1) after after_within)
+        among = subst (λ some. HasFaultAmong some (verdict_of after)) (drawn_with_lines limit pivots next (pivoted_part m lines place) lines after d) (fault_among lines (levels - 1) after after_within)
 
         go : (v : Verdict) → HasFaultAmong lines v → IsToldBeforePivot m lines place after v tree → IsTreeWithin parent levels tree
         go Yes h e = subst (IsTreeWithin parent levels) (sym e) (omega (arith, l), are, (at.row, at.column), refl, (after_within, tt))
@@ -135,28 +139,19 @@ module _ (IsEnd : ℕ → Matrix → LineSet → Tree → Type 0) (limit : ℕ) 
             (violator_within lines before parent levels are (lines_among m lines before is.row_set is.column_set (lines_before_among m lines place fault.rows fault.columns before.rows before.columns at h is.lines)) (omega (arith, l)))
         go (Open left) h e = subst (IsTreeWithin parent levels) (sym e) (undecided_within lines parent levels are (omega (arith, l)))
 
-    found_at_within : (place : PlacedPivot) → IsPlaceIn m lines place → (tree : Tree)
-        → IsFoundAt (λ after found. (shape : Tree) × IsShapeOn limit after lines shape × Refines (IsFoundTo IsEnd limit pivots after) shape found) m lines place tree → IsTreeWithin parent levels tree
-    found_at_within place at tree (inl (fault, shows, e)) = subst (IsTreeWithin parent levels) (sym e)
+    found_at_within : (drawn : Option DrawnPlace) → ((some : DrawnPlace) → drawn ≡ Some some → IsPlaceIn m lines some.place) → (tree : Tree)
+        → IsFoundAt (λ next after found. (shape : Tree) × IsShapeOn limit after lines shape × Refines (IsFound limit pivots next after) shape found) m lines drawn tree → IsTreeWithin parent levels tree
+    found_at_within None at tree e = subst (IsTreeWithin parent levels) (sym e) (undecided_within lines parent levels are (omega (arith, l)))
+    found_at_within (Some drawn) at tree (inl (fault, shows, e)) = subst (IsTreeWithin parent levels) (sym e)
         (violator_within lines fault parent levels are (lines_among m lines fault shows.row_set shows.column_set shows.among) (omega (arith, l)))
-    found_at_within place at tree (inr (ternary, after, (shape, is, refines), told)) =
-        told_within place at ternary after (record { shape = shape; drawn = is; refines = refines }) tree told
-
-    end_within : (tree : Tree) → IsEnd (suc pivots) m lines tree → IsTreeWithin parent levels tree
-    end_within tree end = go (ends.leaf (suc pivots) m lines tree end)
-      where
-        go : IsEndLeaf lines tree → IsTreeWithin parent levels tree
-        go (inl e) = subst (IsTreeWithin parent levels) (sym e) (undecided_within lines parent levels are (omega (arith, l)))
-        go (inr (fault, e)) =
-            let fits = ends.among (suc pivots) m lines tree fault is (lines_within m lines parent are parent_are) end e in
-            subst (IsTreeWithin parent levels) (sym e) (violator_within lines fault parent levels are fits (omega (arith, l)))
+    found_at_within (Some drawn) at tree (inr (ternary, after, (shape, is, refines), told)) =
+        told_within drawn.state drawn.place (at drawn refl) ternary after (record { shape = shape; drawn = is; refines = refines }) tree told
 
   pub found_within : (pivots : ℕ) → IsWithin pivots
-  found_within zero m lines tree parent levels is e parent_are are l = subst (IsTreeWithin parent levels) (sym e) (undecided_within lines parent levels are (omega (arith, l)))
-  found_within (suc pivots) m lines tree parent levels is (inl (none, end)) parent_are are l = end_within pivots (found_within pivots) m lines parent levels is parent_are are l tree end
-  found_within (suc pivots) m lines tree parent levels is (inr (place, at, found)) parent_are are l =
-      found_at_within pivots (found_within pivots) m lines parent levels is parent_are are l place (separating_place_in m lines place at) tree found
+  found_within zero state m lines tree parent levels is e parent_are are l = subst (IsTreeWithin parent levels) (sym e) (undecided_within lines parent levels are (omega (arith, l)))
+  found_within (suc pivots) state m lines tree parent levels is found parent_are are l =
+      found_at_within pivots (found_within pivots) m lines parent levels is parent_are are l (drawn_place m lines state) (place_drawn m lines state) tree found
 
   -- the tree has at most as many levels as lines, pivots and one more
-  pub drawn_with_within : (pivots : ℕ) (m : Matrix) (lines : LineSet) (tree : Tree) (parent : LineSet) (levels : ℕ) → IsMatrix m → IsDrawnTo IsEnd limit pivots m lines tree → AreLines m parent → AreLinesOf lines parent → size_of lines + pivots < levels → IsTreeWithin parent levels tree
+  pub drawn_with_within : (pivots state : ℕ) (m : Matrix) (lines : LineSet) (tree : Tree) (parent : LineSet) (levels : ℕ) → IsMatrix m → IsDrawnWith limit pivots state m lines tree → AreLines m parent → AreLinesOf lines parent → size_of lines + pivots < levels → IsTreeWithin parent levels tree
   drawn_with_within pivots = drawn_within pivots (found_within pivots)

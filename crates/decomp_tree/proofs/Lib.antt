@@ -17,6 +17,7 @@ pub mod NoFaults
 pub mod FreeNodes
 pub mod DraftLemmas
 pub mod Settled
+pub mod SameSets
 pub mod FirstSeeds
 pub mod Components
 pub mod OneCycleFault
@@ -28,7 +29,6 @@ pub mod OneVerdict
 pub mod NoNetworks
 pub mod RefinedTrees
 pub mod FaultLines
-pub mod Ends
 pub mod FoundTrees
 pub mod YesTrees
 pub mod PivotNodes

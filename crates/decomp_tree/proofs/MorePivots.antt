@@ -7,7 +7,9 @@ use Rattle.cmr_base.specs.Matrix.{Matrix, height}
 use Rattle.cmr_base.proofs.Booleans.{true_is_false}
 use Rattle.cmr_base.proofs.Options.{some_or}
 use Rattle.tree_laws.proofs.SoundTrees.{none_or}
+use Rattle.pivots.specs.declared.drawn.DrawnPlace.{DrawnPlace}
 use Rattle.cmr_base.specs.declared.placed_pivot.PlacedPivot.{PlacedPivot}
+use Rattle.pivots.specs.DrawnPlaces.{drawn_place}
 use Rattle.cmr_base.specs.PlacedPivots.{pivoted_part}
 use Rattle.tree_type.specs.DecompositionTrees.{Finding, Violator, Tree, Trees, Branch, NoTrees, MoreTrees}
 use Rattle.tree_type.specs.Verdicts.{Yes, first_in, first_among, fault_at, open_at, verdict_from, verdict_of}
@@ -15,11 +17,10 @@ use Rattle.decomp_tree.specs.PlainTrees.{plain_finding, plain_tree, plain_trees}
 use Rattle.decomp_tree.specs.Shapes.{IsShapeOn}
 use Rattle.decomp_tree.specs.Refined.{is_undecided, Refines, AllRefine}
 use Rattle.decomp_tree.specs.PivotedLaws.{KeepsAnswer, MorePivotsKeepAnswers}
-use Rattle.decomp_tree.specs.PivotedShapes.{IsToldBeforePivot, IsFoundAt, IsFoundTo, IsDrawnTo, IsOpenEnd, all_lines, pivots_within, undecided}
+use Rattle.decomp_tree.specs.PivotedShapes.{IsToldBeforePivot, IsFoundAt, IsFound, IsDrawnWith, all_lines, pivots_within, undecided}
 use Rattle.decomp_tree.proofs.OnePivoted.{shape_same, told_same, undecided_same}
 use Rattle.decomp_tree.proofs.PlainVerdicts.{fault_plain, verdict_plain}
 use Rattle.decomp_tree.proofs.RefinedTrees.{RefinedNode, replaced, kept, refined_node}
-use Rattle.separating_places.proofs.SeparatingPlaces.{one_separating_place}
 
 -- where no fault and nothing open is in the one tree the other is the same, and where a fault is one is in the other
 record Keeps (tree other : Tree) : Type 0 where
@@ -139,46 +140,33 @@ told_keeps m lines place after after' k None (Some left) fault' left' e u e' u' 
 told_keeps m lines place after after' k (Some fault) left None left' e u e' u' tree tree' told told' = none_is_some (k.no fault e).0 (sym e' ∙ (k.no fault e).1)
 told_keeps m lines place after after' k (Some fault) left (Some named) left' e u e' u' tree tree' (before, b, is) (before', b', is') = violators_keep lines before before' tree tree' is is'
 
--- ---- what replaces undecided nodes
+-- ---- what pivots find
 
--- what replaces a node without a place if more pivots may be made
-abbrev EndsKeep : (ℕ → Matrix → LineSet → Tree → Type 0) → Type 0
-EndsKeep IsEnd = (pivots more : ℕ) → pivots ≤ more → (m : Matrix) (lines : LineSet) (tree other : Tree) → IsEnd pivots m lines tree → IsEnd more m lines other → Keeps tree other
-
-open_ends_keep : EndsKeep IsOpenEnd
-open_ends_keep pivots more few m lines tree other end end' = undecided_keeps lines tree other end
-
-module _ (IsEnd : ℕ → Matrix → LineSet → Tree → Type 0) (limit : ℕ) (ends_keep : EndsKeep IsEnd) where
-  abbrev IsTreeAfter : ℕ → LineSet → Matrix → Tree → Type 0
-  IsTreeAfter pivots lines after found = (shape : Tree) × IsShapeOn limit after lines shape × Refines (IsFoundTo IsEnd limit pivots after) shape found
-
+module _ (limit : ℕ) where
   abbrev Keep : ℕ → ℕ → Type 0
-  Keep pivots more = (m : Matrix) (lines : LineSet) (tree tree' : Tree) → IsFoundTo IsEnd limit pivots m lines tree → IsFoundTo IsEnd limit more m lines tree' → Keeps tree tree'
+  Keep pivots more = (state : ℕ) (m : Matrix) (lines : LineSet) (tree tree' : Tree) → IsFound limit pivots state m lines tree → IsFound limit more state m lines tree' → Keeps tree tree'
 
-  drawn_keeps : (pivots more : ℕ) → Keep pivots more → (m : Matrix) (lines : LineSet) (tree tree' : Tree) → IsDrawnTo IsEnd limit pivots m lines tree → IsDrawnTo IsEnd limit more m lines tree' → Keeps tree tree'
-  drawn_keeps pivots more keep m lines tree tree' d d' =
-      refined_keeps (IsFoundTo IsEnd limit pivots m) (IsFoundTo IsEnd limit more m) (λ some t t' f f'. keep m some t t' f f') d.shape d'.shape tree tree'
+  drawn_keeps : (pivots more : ℕ) → Keep pivots more → (state : ℕ) (m : Matrix) (lines : LineSet) (tree tree' : Tree) → IsDrawnWith limit pivots state m lines tree → IsDrawnWith limit more state m lines tree' → Keeps tree tree'
+  drawn_keeps pivots more keep state m lines tree tree' d d' =
+      refined_keeps (IsFound limit pivots state m) (IsFound limit more state m) (λ some t t' f f'. keep state m some t t' f f') d.shape d'.shape tree tree'
       (shape_same limit m lines d.shape d'.shape d.drawn d'.drawn) d.refines d'.refines
 
-  found_at_keeps : (pivots more : ℕ) → Keep pivots more → (m : Matrix) (lines : LineSet) (place : PlacedPivot) (tree tree' : Tree)
-      → IsFoundAt (IsTreeAfter pivots lines) m lines place tree → IsFoundAt (IsTreeAfter more lines) m lines place tree' → Keeps tree tree'
-  found_at_keeps pivots more keep m lines place tree tree' (inl (fault, shows, e)) (inl (fault', shows', e')) = violators_keep lines fault fault' tree tree' e e'
-  found_at_keeps pivots more keep m lines place tree tree' (inl (fault, shows, e)) (inr (ternary, after', is', told')) = absurd (shows.two (ternary shows.other_row shows.other_column shows.row_in shows.column_in))
-  found_at_keeps pivots more keep m lines place tree tree' (inr (ternary, after, is, told)) (inl (fault', shows', e')) = absurd (shows'.two (ternary shows'.other_row shows'.other_column shows'.row_in shows'.column_in))
-  found_at_keeps pivots more keep m lines place tree tree' (inr (ternary, after, (shape, is, refines), told)) (inr (ternary', after', (shape', is', refines'), told')) =
-      told_keeps m lines place after after'
-      (drawn_keeps pivots more keep (pivoted_part m lines place) lines after after' (record { shape = shape; drawn = is; refines = refines }) (record { shape = shape'; drawn = is'; refines = refines' }))
+  found_at_keeps : (pivots more : ℕ) → Keep pivots more → (m : Matrix) (lines : LineSet) (drawn : Option DrawnPlace) (tree tree' : Tree)
+      → IsFoundAt (λ next after found. (shape : Tree) × IsShapeOn limit after lines shape × Refines (IsFound limit pivots next after) shape found) m lines drawn tree
+      → IsFoundAt (λ next after found. (shape : Tree) × IsShapeOn limit after lines shape × Refines (IsFound limit more next after) shape found) m lines drawn tree' → Keeps tree tree'
+  found_at_keeps pivots more keep m lines None tree tree' e e' = undecided_keeps lines tree tree' e
+  found_at_keeps pivots more keep m lines (Some drawn) tree tree' (inl (fault, shows, e)) (inl (fault', shows', e')) = violators_keep lines fault fault' tree tree' e e'
+  found_at_keeps pivots more keep m lines (Some drawn) tree tree' (inl (fault, shows, e)) (inr (ternary, after', is', told')) = absurd (shows.two (ternary shows.other_row shows.other_column shows.row_in shows.column_in))
+  found_at_keeps pivots more keep m lines (Some drawn) tree tree' (inr (ternary, after, is, told)) (inl (fault', shows', e')) = absurd (shows'.two (ternary shows'.other_row shows'.other_column shows'.row_in shows'.column_in))
+  found_at_keeps pivots more keep m lines (Some drawn) tree tree' (inr (ternary, after, (shape, is, refines), told)) (inr (ternary', after', (shape', is', refines'), told')) =
+      told_keeps m lines drawn.place after after'
+      (drawn_keeps pivots more keep drawn.state (pivoted_part m lines drawn.place) lines after after' (record { shape = shape; drawn = is; refines = refines }) (record { shape = shape'; drawn = is'; refines = refines' }))
       (first_in fault_at after) (first_in open_at after) (first_in fault_at after') (first_in open_at after') refl refl refl refl tree tree' told told'
 
   found_keeps : (pivots more : ℕ) → pivots ≤ more → Keep pivots more
-  found_keeps zero more few m lines tree tree' e f' = undecided_keeps lines tree tree' e
-  found_keeps (suc pivots) zero few m lines tree tree' f f' = absurd (omega (arith, few))
-  found_keeps (suc pivots) (suc more) few m lines tree tree' (inl (none, end)) (inl (none', end')) = ends_keep (suc pivots) (suc more) few m lines tree tree' end end'
-  found_keeps (suc pivots) (suc more) few m lines tree tree' (inl (none, end)) (inr (place, at, found)) = absurd (none place at)
-  found_keeps (suc pivots) (suc more) few m lines tree tree' (inr (place, at, found)) (inl (none, end)) = absurd (none place at)
-  found_keeps (suc pivots) (suc more) few m lines tree tree' (inr (place, at, found)) (inr (place', at', found')) =
-      let one = one_separating_place m lines place' place at' at in
-      found_at_keeps pivots more (found_keeps pivots more (omega (arith, few))) m lines place tree tree' found (subst (λ (p : PlacedPivot). IsFoundAt (IsTreeAfter more lines) m lines p tree') one found')
+  found_keeps zero more few state m lines tree tree' e f' = undecided_keeps lines tree tree' e
+  found_keeps (suc pivots) zero few state m lines tree tree' f f' = absurd (omega (arith, few))
+  found_keeps (suc pivots) (suc more) few state m lines tree tree' f f' = found_at_keeps pivots more (found_keeps pivots more (omega (arith, few))) m lines (drawn_place m lines state) tree tree' f f'
 
 answer_kept : (tree other : Tree) → Keeps tree other → (fault left : Option LineSet) → first_in fault_at tree ≡ fault → first_in open_at tree ≡ left → KeepsAnswer (verdict_from fault left) tree other
 answer_kept tree other k None None e u = k.yes e u
@@ -190,7 +178,6 @@ within_more pivots more n few = le-min (let a = min-le_left pivots n in omega (a
 
 pub more_pivots_keep_answers : MorePivotsKeepAnswers
 more_pivots_keep_answers limit pivots more m tree other few d d' =
-    let fewer = within_more pivots more (2000 - (height m + m.width)) few in
     answer_kept tree other
-    (drawn_keeps IsOpenEnd limit open_ends_keep (pivots_within m pivots) (pivots_within m more) (found_keeps IsOpenEnd limit open_ends_keep (pivots_within m pivots) (pivots_within m more) fewer) m (all_lines m) tree other d d')
+    (drawn_keeps limit (pivots_within m pivots) (pivots_within m more) (found_keeps limit (pivots_within m pivots) (pivots_within m more) (within_more pivots more (2000 - (height m + m.width)) few)) 1 m (all_lines m) tree other d d')
     (first_in fault_at tree) (first_in open_at tree) refl refl

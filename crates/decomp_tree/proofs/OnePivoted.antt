@@ -1,13 +1,14 @@
--- A matrix has one decomposition with pivots, except for its networks.
-use Rattle.std.proofs.Common.{◌≡◌, ◌<◌, ◌-◌, ◌∙◌, inl, inr, ℕ, zero, suc, List, [], Contains, refl, ap, ap₂, sym, subst}
+-- There is one decomposition of a matrix with what pivots find, but for what its networks say.
+use Rattle.std.proofs.Common.{◌≡◌, ◌<◌, ◌-◌, ◌∙◌, inl, inr, ℕ, zero, suc, List, [], Contains, Option, Some, None, refl, ap, ap₂, sym, subst}
 use Rattle.cmr_base.specs.declared.line_set.LineSet.{LineSet}
 use Rattle.cmr_base.specs.Matrix.{Matrix, entry, IsEntry}
-use Rattle.cmr_base.specs.PlacedPivots.{pivot_entry}
+use Rattle.cmr_base.specs.PlacedPivots.{pivot_entry, pivoted_part}
 use Rattle.cmr_base.specs.Members.{IsIn}
 use Rattle.cmr_base.proofs.Booleans.{neither, same_or_not, true_is_false}
 use Rattle.cmr_base.proofs.Places.{increasing_same}
+use Rattle.pivots.specs.declared.drawn.DrawnPlace.{DrawnPlace}
 use Rattle.cmr_base.specs.declared.placed_pivot.PlacedPivot.{PlacedPivot}
-use Rattle.cmr_base.specs.PlacedPivots.{pivoted_part}
+use Rattle.pivots.specs.DrawnPlaces.{drawn_place}
 use Rattle.pivots.specs.PivotedParts.{ShowsFirstTwoIn}
 use Rattle.pivots.specs.ChosenLines.{two_lines}
 use Rattle.tree_type.specs.DecompositionTrees.{Finding, Empty, Cycle, Reduced, OneSum, Network, Conetwork, R10, TwoSum, ThreeSum, Enumerated, Violator, Undecided, Pivoted, Tree, Trees, Branch, NoTrees, MoreTrees}
@@ -17,12 +18,10 @@ use Rattle.decomp_tree.specs.PlainTrees.{plain_finding, plain_tree, plain_trees}
 use Rattle.decomp_tree.specs.Shapes.{IsShapeOn}
 use Rattle.decomp_tree.specs.Refined.{is_undecided, Refines, AllRefine}
 use Rattle.decomp_tree.specs.PivotedLaws.{OnePivotedShape}
-use Rattle.decomp_tree.specs.PivotedShapes.{AreBefore, IsToldBeforePivot, IsFoundAt, IsFoundTo, IsDrawnTo, IsOpenEnd, all_lines, pivots_within}
-use Rattle.decomp_tree.proofs.Ends.{AreLawful, open_ends}
+use Rattle.decomp_tree.specs.PivotedShapes.{AreBefore, IsToldBeforePivot, IsFoundAt, IsFound, IsDrawnWith, all_lines, pivots_within}
 use Rattle.decomp_tree.proofs.OneTree.{one_tree}
 use Rattle.decomp_tree.proofs.PlainVerdicts.{verdict_plain}
 use Rattle.decomp_tree.proofs.RefinedTrees.{RefinedNode, replaced, kept, refined_node}
-use Rattle.separating_places.proofs.SeparatingPlaces.{one_separating_place}
 use Rattle.decomp_tree.proofs.ShapeTrees.{shape_lines}
 
 -- ---- trees that others replace
@@ -122,45 +121,39 @@ told_same m lines place after after' same (No fault) tree tree' (before, b, e) (
     ap plain_tree e ∙ ap (λ (f : LineSet). Branch lines (Violator f) NoTrees) (before_same m place fault before before' b b') ∙ sym (ap plain_tree e')
 told_same m lines place after after' same (Open left) tree tree' e e' = ap plain_tree (e ∙ sym e')
 
--- ---- what replaces undecided nodes
+-- ---- what pivots find
 
-pub shape_same : (limit : ℕ) (m : Matrix) (lines : LineSet) (shape shape' : Tree) → IsShapeOn limit m lines shape → IsShapeOn limit m lines shape' → plain_tree shape ≡ plain_tree shape'
-shape_same limit m lines shape shape' d d' = one_tree limit m [] [] [] [] (These lines) (These lines) shape shape' (shape_lines limit m lines shape d ∙ sym (shape_lines limit m lines shape' d')) d d'
-
-module _ (IsEnd : ℕ → Matrix → LineSet → Tree → Type 0) (limit : ℕ) (ends : AreLawful limit IsEnd) where
-  abbrev IsTreeAfter : ℕ → LineSet → Matrix → Tree → Type 0
-  IsTreeAfter pivots lines after found = (shape : Tree) × IsShapeOn limit after lines shape × Refines (IsFoundTo IsEnd limit pivots after) shape found
-
+module _ (limit : ℕ) where
   abbrev IsOne : ℕ → Type 0
-  IsOne pivots = (m : Matrix) (lines : LineSet) (tree tree' : Tree) → IsFoundTo IsEnd limit pivots m lines tree → IsFoundTo IsEnd limit pivots m lines tree' → plain_tree tree ≡ plain_tree tree'
+  IsOne pivots = (state : ℕ) (m : Matrix) (lines : LineSet) (tree tree' : Tree) → IsFound limit pivots state m lines tree → IsFound limit pivots state m lines tree' → plain_tree tree ≡ plain_tree tree'
 
-  drawn_same : (pivots : ℕ) → IsOne pivots → (m : Matrix) (lines : LineSet) (tree tree' : Tree) → IsDrawnTo IsEnd limit pivots m lines tree → IsDrawnTo IsEnd limit pivots m lines tree' → plain_tree tree ≡ plain_tree tree'
-  drawn_same pivots one m lines tree tree' d d' =
-      refined_same (IsFoundTo IsEnd limit pivots m) (λ some t t' f f'. one m some t t' f f') d.shape d'.shape tree tree' (shape_same limit m lines d.shape d'.shape d.drawn d'.drawn) d.refines d'.refines
+  pub shape_same : (m : Matrix) (lines : LineSet) (shape shape' : Tree) → IsShapeOn limit m lines shape → IsShapeOn limit m lines shape' → plain_tree shape ≡ plain_tree shape'
+  shape_same m lines shape shape' d d' = one_tree limit m [] [] [] [] (These lines) (These lines) shape shape' (shape_lines limit m lines shape d ∙ sym (shape_lines limit m lines shape' d')) d d'
 
-  found_at_same : (pivots : ℕ) → IsOne pivots → (m : Matrix) (lines : LineSet) (place : PlacedPivot) (tree tree' : Tree)
-      → IsFoundAt (IsTreeAfter pivots lines) m lines place tree → IsFoundAt (IsTreeAfter pivots lines) m lines place tree' → plain_tree tree ≡ plain_tree tree'
-  found_at_same pivots one m lines place tree tree' (inl (fault, shows, e)) (inl (fault', shows', e')) =
-      ap plain_tree e ∙ ap (λ (f : LineSet). Branch lines (Violator f) NoTrees) (one_two m lines place fault fault' shows shows') ∙ sym (ap plain_tree e')
-  found_at_same pivots one m lines place tree tree' (inl (fault, shows, e)) (inr (ternary, after', is', told')) = absurd (shows.two (ternary shows.other_row shows.other_column shows.row_in shows.column_in))
-  found_at_same pivots one m lines place tree tree' (inr (ternary, after, is, told)) (inl (fault', shows', e')) = absurd (shows'.two (ternary shows'.other_row shows'.other_column shows'.row_in shows'.column_in))
-  found_at_same pivots one m lines place tree tree' (inr (ternary, after, (shape, is, refines), told)) (inr (ternary', after', (shape', is', refines'), told')) =
-      let same = drawn_same pivots one (pivoted_part m lines place) lines after after' (record { shape = shape; drawn = is; refines = refines }) (record { shape = shape'; drawn = is'; refines = refines' }) in
-      told_same m lines place after after' same (verdict_of after) tree tree' told
-      (subst (λ v. IsToldBeforePivot m lines place after' v tree') (verdict_plain after' ∙ ap verdict_of (sym same) ∙ sym (verdict_plain after)) told')
+  drawn_same : (pivots : ℕ) → IsOne pivots → (state : ℕ) (m : Matrix) (lines : LineSet) (tree tree' : Tree) → IsDrawnWith limit pivots state m lines tree → IsDrawnWith limit pivots state m lines tree' → plain_tree tree ≡ plain_tree tree'
+  drawn_same pivots one state m lines tree tree' d d' =
+      refined_same (IsFound limit pivots state m) (λ some t t' f f'. one state m some t t' f f') d.shape d'.shape tree tree' (shape_same m lines d.shape d'.shape d.drawn d'.drawn) d.refines d'.refines
+
+  found_at_same : (pivots : ℕ) → IsOne pivots → (m : Matrix) (lines : LineSet) (drawn : Option DrawnPlace) (tree tree' : Tree)
+      → IsFoundAt (λ next after found. (shape : Tree) × IsShapeOn limit after lines shape × Refines (IsFound limit pivots next after) shape found) m lines drawn tree
+      → IsFoundAt (λ next after found. (shape : Tree) × IsShapeOn limit after lines shape × Refines (IsFound limit pivots next after) shape found) m lines drawn tree' → plain_tree tree ≡ plain_tree tree'
+  found_at_same pivots one m lines None tree tree' e e' = ap plain_tree (e ∙ sym e')
+  found_at_same pivots one m lines (Some drawn) tree tree' (inl (fault, shows, e)) (inl (fault', shows', e')) =
+      ap plain_tree e ∙ ap (λ (f : LineSet). Branch lines (Violator f) NoTrees) (one_two m lines drawn.place fault fault' shows shows') ∙ sym (ap plain_tree e')
+  found_at_same pivots one m lines (Some drawn) tree tree' (inl (fault, shows, e)) (inr (ternary, after', is', told')) = absurd (shows.two (ternary shows.other_row shows.other_column shows.row_in shows.column_in))
+  found_at_same pivots one m lines (Some drawn) tree tree' (inr (ternary, after, is, told)) (inl (fault', shows', e')) = absurd (shows'.two (ternary shows'.other_row shows'.other_column shows'.row_in shows'.column_in))
+  found_at_same pivots one m lines (Some drawn) tree tree' (inr (ternary, after, (shape, is, refines), told)) (inr (ternary', after', (shape', is', refines'), told')) =
+      let same = drawn_same pivots one drawn.state (pivoted_part m lines drawn.place) lines after after' (record { shape = shape; drawn = is; refines = refines }) (record { shape = shape'; drawn = is'; refines = refines' }) in
+      told_same m lines drawn.place after after' same (verdict_of after) tree tree' told
+      (subst (λ v. IsToldBeforePivot m lines drawn.place after' v tree') (verdict_plain after' ∙ ap verdict_of (sym same) ∙ sym (verdict_plain after)) told')
 
   found_same : (pivots : ℕ) → IsOne pivots
-  found_same zero m lines tree tree' e e' = ap plain_tree (e ∙ sym e')
-  found_same (suc pivots) m lines tree tree' (inl (none, end)) (inl (none', end')) = ends.one (suc pivots) m lines tree tree' end end'
-  found_same (suc pivots) m lines tree tree' (inl (none, end)) (inr (place, at, found)) = absurd (none place at)
-  found_same (suc pivots) m lines tree tree' (inr (place, at, found)) (inl (none, end)) = absurd (none place at)
-  found_same (suc pivots) m lines tree tree' (inr (place, at, found)) (inr (place', at', found')) =
-      let one = one_separating_place m lines place' place at' at in
-      found_at_same pivots (found_same pivots) m lines place tree tree' found (subst (λ (p : PlacedPivot). IsFoundAt (IsTreeAfter pivots lines) m lines p tree') one found')
+  found_same zero state m lines tree tree' e e' = ap plain_tree (e ∙ sym e')
+  found_same (suc pivots) state m lines tree tree' f f' = found_at_same pivots (found_same pivots) m lines (drawn_place m lines state) tree tree' f f'
 
-  -- two decompositions differ at most in their networks
-  pub drawn_with_same : (pivots : ℕ) (m : Matrix) (lines : LineSet) (tree tree' : Tree) → IsDrawnTo IsEnd limit pivots m lines tree → IsDrawnTo IsEnd limit pivots m lines tree' → plain_tree tree ≡ plain_tree tree'
-  drawn_with_same pivots m lines tree tree' d d' = drawn_same pivots (found_same pivots) m lines tree tree' d d'
+  -- two decompositions differ at most in what their networks say
+  pub drawn_with_same : (pivots state : ℕ) (m : Matrix) (lines : LineSet) (tree tree' : Tree) → IsDrawnWith limit pivots state m lines tree → IsDrawnWith limit pivots state m lines tree' → plain_tree tree ≡ plain_tree tree'
+  drawn_with_same pivots state m lines tree tree' d d' = drawn_same pivots (found_same pivots) state m lines tree tree' d d'
 
 pub one_pivoted_shape : OnePivotedShape
-one_pivoted_shape limit pivots m tree other d d' = drawn_with_same IsOpenEnd limit (open_ends limit) (pivots_within m pivots) m (all_lines m) tree other d d'
+one_pivoted_shape limit pivots m tree other d d' = drawn_with_same limit (pivots_within m pivots) 1 m (all_lines m) tree other d d'

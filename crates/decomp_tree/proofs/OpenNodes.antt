@@ -6,7 +6,9 @@ use Rattle.cmr_base.specs.declared.line_set.LineSet.{LineSet}
 use Rattle.cmr_base.specs.Matrix.{Matrix}
 use Rattle.cmr_base.proofs.Lists.{all_prefix, all_back}
 use Rattle.cmr_base.proofs.Options.{some_or, some_same}
+use Rattle.pivots.specs.declared.drawn.DrawnPlace.{DrawnPlace}
 use Rattle.cmr_base.specs.declared.placed_pivot.PlacedPivot.{PlacedPivot}
+use Rattle.pivots.specs.DrawnPlaces.{drawn_place}
 use Rattle.tree_type.specs.DecompositionTrees.{Finding, Empty, Cycle, Reduced, OneSum, Network, Conetwork, R10, TwoSum, ThreeSum, Enumerated, Violator, Undecided, Pivoted, Tree, Trees, Branch, NoTrees, MoreTrees, lines_at_root}
 use Rattle.tree_type.specs.Invariant.{AreLines, AreLinesOf, size_of, IsTreeWithin, AreTreesWithin}
 use Rattle.tree_type.specs.Places.{Due, These, Place, places_from, places_below, due_child, lines_of_each}
@@ -15,9 +17,8 @@ use Rattle.tree_type.specs.Verdicts.{Verdict, Yes, No, Open, first_in, first_amo
 use Rattle.tree_type.proofs.PlacedLines.{lines_within}
 use Rattle.decomp_tree.specs.Refined.{is_undecided, Refines, AllRefine}
 use Rattle.decomp_tree.specs.Shapes.{Case, HasNoLines, HasFault, IsReducible, IsApart, IsNetwork, IsConetwork, IsR10Matrix, IsTwoSum, IsThreeSum, IsShort, IsLeft, IsFirstCase, NodeSays, finding_in, IsShapedAt, IsShapeOn}
-use Rattle.decomp_tree.specs.PivotedShapes.{IsToldBeforePivot, IsFoundAt, IsFoundTo, IsOpenEnd, all_lines, pivots_within, undecided}
+use Rattle.decomp_tree.specs.PivotedShapes.{IsToldBeforePivot, IsFoundAt, IsFound, all_lines, pivots_within, undecided}
 use Rattle.decomp_tree.specs.PivotedLaws.{OpenLinesAreLeft}
-use Rattle.decomp_tree.proofs.Ends.{AreLawful, IsEndLeaf, open_ends}
 use Rattle.decomp_tree.proofs.FaultLines.{lines_themselves}
 use Rattle.decomp_tree.proofs.PivotedRoots.{all_are_lines}
 use Rattle.decomp_tree.proofs.RefinedTrees.{RefinedNode, replaced, kept, refined_node}
@@ -62,7 +63,7 @@ left_here limit m place e shaped =
     let says = subst (λ f. NodeSays shaped.case (part m place.lines) f shaped.parts) found shaped.says in
     subst (IsFirstCase limit (part m place.lines)) (left_case (part m place.lines) shaped.case shaped.parts says) shaped.first
 
--- ---- what replaces a node is open only if it is undecided
+-- ---- what pivots find is open only where nothing is found
 
 none_is_some : {A B : Type 0} (x : A) → None ≡ Some x → B
 none_is_some x e = absurd (cc)
@@ -80,20 +81,15 @@ told_open m lines place after Yes is tree found e first =
 told_open m lines place after (No fault) is tree found (before, b, e) first = none_is_some found (sym (ap (first_in open_at) e) ∙ first)
 told_open m lines place after (Open left) is tree found e first = undecided_open lines found (sym (ap (first_in open_at) e) ∙ first)
 
-found_at_open : (IsTree : Matrix → Tree → Type 0) (m : Matrix) (lines : LineSet) (place : PlacedPivot) (tree : Tree) (found : LineSet) → IsFoundAt IsTree m lines place tree → first_in open_at tree ≡ Some found → found ≡ lines
-found_at_open IsTree m lines place tree found (inl (fault, shows, e)) first = none_is_some found (sym (ap (first_in open_at) e) ∙ first)
-found_at_open IsTree m lines place tree found (inr (ternary, after, is, told)) first = told_open m lines place after (verdict_of after) refl tree found told first
+found_at_open : (IsTree : ℕ → Matrix → Tree → Type 0) (m : Matrix) (lines : LineSet) (drawn : Option DrawnPlace) (tree : Tree) (found : LineSet) → IsFoundAt IsTree m lines drawn tree → first_in open_at tree ≡ Some found → found ≡ lines
+found_at_open IsTree m lines None tree found e first = undecided_open lines found (sym (ap (first_in open_at) e) ∙ first)
+found_at_open IsTree m lines (Some drawn) tree found (inl (fault, shows, e)) first = none_is_some found (sym (ap (first_in open_at) e) ∙ first)
+found_at_open IsTree m lines (Some drawn) tree found (inr (ternary, after, is, told)) first = told_open m lines drawn.place after (verdict_of after) refl tree found told first
 
-end_open : (lines : LineSet) (tree : Tree) (found : LineSet) → IsEndLeaf lines tree → first_in open_at tree ≡ Some found → found ≡ lines
-end_open lines tree found (inl e) first = undecided_open lines found (sym (ap (first_in open_at) e) ∙ first)
-end_open lines tree found (inr (fault, e)) first = none_is_some found (sym (ap (first_in open_at) e) ∙ first)
-
-module _ (IsEnd : ℕ → Matrix → LineSet → Tree → Type 0) (limit : ℕ) (ends : AreLawful limit IsEnd) where
-  found_open : (pivots : ℕ) (m : Matrix) (lines : LineSet) (tree : Tree) (found : LineSet) → IsFoundTo IsEnd limit pivots m lines tree → first_in open_at tree ≡ Some found → found ≡ lines
-  found_open zero m lines tree found e first = undecided_open lines found (sym (ap (first_in open_at) e) ∙ first)
-  found_open (suc pivots) m lines tree found (inl (none, end)) first = end_open lines tree found (ends.leaf (suc pivots) m lines tree end) first
-  found_open (suc pivots) m lines tree found (inr (place, at, is)) first =
-      found_at_open (λ after t. (shape : Tree) × IsShapeOn limit after lines shape × Refines (IsFoundTo IsEnd limit pivots after) shape t) m lines place tree found is first
+found_open : (limit pivots state : ℕ) (m : Matrix) (lines : LineSet) (tree : Tree) (found : LineSet) → IsFound limit pivots state m lines tree → first_in open_at tree ≡ Some found → found ≡ lines
+found_open limit zero state m lines tree found e first = undecided_open lines found (sym (ap (first_in open_at) e) ∙ first)
+found_open limit (suc pivots) state m lines tree found is first =
+    found_at_open (λ next after t. (shape : Tree) × IsShapeOn limit after lines shape × Refines (IsFound limit pivots next after) shape t) m lines (drawn_place m lines state) tree found is first
 
 -- ---- the nodes of a decomposition
 
@@ -151,6 +147,6 @@ pub open_case : OpenLinesAreLeft
 open_case limit pivots m tree lines is d first =
     let all = all_lines m in
     let are = all_are_lines m is in
-    open_refined limit m (IsFoundTo IsOpenEnd limit (pivots_within m pivots) m) (λ some t found stands e. found_open IsOpenEnd limit (open_ends limit) (pivots_within m pivots) m some t found stands e)
+    open_refined limit m (IsFound limit (pivots_within m pivots) 1 m) (λ some t found stands e. found_open limit (pivots_within m pivots) 1 m some t found stands e)
     [] (These all) all (suc (size_of (lines_at_root d.shape))) d.shape tree lines are
     (shape_within limit m is [] (These all) all (suc (size_of (lines_at_root d.shape))) d.shape d.drawn are (subst (λ some. AreLinesOf some all) (sym (shape_lines limit m all d.shape d.drawn)) (lines_themselves m all are)) (omega arith)) d.drawn d.refines first

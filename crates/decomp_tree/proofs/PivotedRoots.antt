@@ -12,9 +12,8 @@ use Rattle.tree_type.specs.Soundness.{IsSoundTree}
 use Rattle.decomp_tree.specs.Laws.{ShapesAreTrees, ShapesAreSound}
 use Rattle.decomp_tree.specs.Refined.{is_undecided, Refines, AllRefine}
 use Rattle.decomp_tree.specs.Shapes.{IsShape, IsShapeOn}
-use Rattle.decomp_tree.specs.PivotedShapes.{IsDrawnWith, IsFound, IsOpenEnd, IsShapeWith, all_lines, pivots_within}
+use Rattle.decomp_tree.specs.PivotedShapes.{IsDrawnWith, IsFound, IsShapeWith, all_lines, pivots_within}
 use Rattle.decomp_tree.specs.PivotedLaws.{PivotedShapesAreTrees, PivotedShapesAreSound, NoPivotsChangeNothing}
-use Rattle.decomp_tree.proofs.Ends.{open_ends}
 use Rattle.decomp_tree.proofs.FaultLines.{lines_themselves}
 use Rattle.decomp_tree.proofs.FoundTrees.{drawn_with_lines, drawn_with_within}
 use Rattle.decomp_tree.proofs.FoundSound.{drawn_with_sound}
@@ -30,7 +29,7 @@ all_are_lines m is = root_lines m is (all_lines m) refl refl
 -- the root has all lines
 pub root_is_whole : (limit pivots : ℕ) (m : Matrix) (tree : Tree) → IsShapeWith limit pivots m tree → ((lines_at_root tree).rows ≡ first_lines (height m)) × ((lines_at_root tree).columns ≡ first_lines m.width)
 root_is_whole limit pivots m tree d =
-    let same = drawn_with_lines IsOpenEnd limit (open_ends limit) (pivots_within m pivots) m (all_lines m) tree d in
+    let same = drawn_with_lines limit (pivots_within m pivots) 1 m (all_lines m) tree d in
     (ap (λ (lines : LineSet). lines.rows) same, ap (λ (lines : LineSet). lines.columns) same)
 
 -- no more pivots than lines are left of 2,000
@@ -53,7 +52,7 @@ none_of n = zero-min n
 
 pub pivoted_shapes_are_trees : PivotedShapesAreTrees
 pivoted_shapes_are_trees limit pivots m tree is d =
-    let same = drawn_with_lines IsOpenEnd limit (open_ends limit) (pivots_within m pivots) m (all_lines m) tree d in
+    let same = drawn_with_lines limit (pivots_within m pivots) 1 m (all_lines m) tree d in
     let are = all_are_lines m is in
     record {
       rows_in = is.height_in;
@@ -61,60 +60,60 @@ pivoted_shapes_are_trees limit pivots m tree is d =
       root_rows = subst (λ (lines : LineSet). AllBelow (height m) lines.rows) (sym same) are.rows.in_range;
       root_columns = subst (λ (lines : LineSet). AllBelow m.width lines.columns) (sym same) are.columns.in_range;
       nodes = subst (λ (lines : LineSet). IsTreeWithin lines 2001 tree) (sym same)
-          (drawn_with_within IsOpenEnd limit (open_ends limit) (pivots_within m pivots) m (all_lines m) tree (all_lines m) 2001 is d are (lines_themselves m (all_lines m) are) (few_levels m pivots is));
+          (drawn_with_within limit (pivots_within m pivots) 1 m (all_lines m) tree (all_lines m) 2001 is d are (lines_themselves m (all_lines m) are) (few_levels m pivots is));
     }
 
 pub pivoted_shapes_are_sound : PivotedShapesAreSound
 pivoted_shapes_are_sound limit pivots m tree few is d =
-    drawn_with_sound IsOpenEnd limit (open_ends limit) few (pivots_within m pivots) m (all_lines m) tree is d (all_are_lines m is) [] (AllLines (height m) m.width) (refl, refl) (root_is_whole limit pivots m tree d)
+    drawn_with_sound limit few (pivots_within m pivots) 1 m (all_lines m) tree is d (all_are_lines m is) [] (AllLines (height m) m.width) (refl, refl) (root_is_whole limit pivots m tree d)
 
 -- the tree of all lines
 module _ (limit pivots within : ℕ) (m : Matrix) (lines : LineSet) (rows : lines.rows ≡ first_lines (height m)) (columns : lines.columns ≡ first_lines m.width) (is_within : within ≡ pivots_within m pivots) (tree : Tree) where
-  pub whole_shape : IsDrawnWith limit within m lines tree → IsShapeWith limit pivots m tree
+  pub whole_shape : IsDrawnWith limit within 1 m lines tree → IsShapeWith limit pivots m tree
   whole_shape d =
       let all : lines ≡ all_lines m = ap₂ (λ (r c : List ℕ). let set : LineSet = record { rows = r; columns = c } in set) rows columns in
-      subst (λ (some : LineSet). IsDrawnWith limit (pivots_within m pivots) m some tree) all (subst (λ k. IsDrawnWith limit k m lines tree) is_within d)
+      subst (λ (some : LineSet). IsDrawnWith limit (pivots_within m pivots) 1 m some tree) all (subst (λ k. IsDrawnWith limit k 1 m lines tree) is_within d)
 
   module _ (is : IsMatrix m) (r w : ℕ) (e : r ≡ height m) (f : w ≡ m.width) where
-    pub whole_tree : IsDrawnWith limit within m lines tree → IsTreeFor r w tree
+    pub whole_tree : IsDrawnWith limit within 1 m lines tree → IsTreeFor r w tree
     whole_tree d = subst (λ k. IsTreeFor k w tree) (sym e) (subst (λ k. IsTreeFor (height m) k tree) (sym f) (pivoted_shapes_are_trees limit pivots m tree is (whole_shape d)))
 
-    pub whole_sound : limit ≤ 24 → IsDrawnWith limit within m lines tree → IsSoundTree m r w tree
+    pub whole_sound : limit ≤ 24 → IsDrawnWith limit within 1 m lines tree → IsSoundTree m r w tree
     whole_sound few d = subst (λ k. IsSoundTree m k w tree) (sym e) (subst (λ k. IsSoundTree m (height m) k tree) (sym f) (pivoted_shapes_are_sound limit pivots m tree few is (whole_shape d)))
 
 -- where nothing is found each undecided node stays
-module _ (limit : ℕ) (m : Matrix) where
+module _ (limit state : ℕ) (m : Matrix) where
   no_children : (trees : Trees) → count_trees trees ≡ 0 → trees ≡ NoTrees
   no_children NoTrees e = refl
   no_children (MoreTrees tree trees) e = cc
 
   mutual
-    refined_is_same : (shape tree : Tree) → HasCounts shape → Refines (IsFound limit 0 m) shape tree → tree ≡ shape
-    refined_is_same (Branch lines finding trees) tree counted r = go (refined_node (IsFound limit 0 m) lines finding trees tree r) (λ below all. each_is_same trees below counted.1 all)
+    refined_is_same : (shape tree : Tree) → HasCounts shape → Refines (IsFound limit 0 state m) shape tree → tree ≡ shape
+    refined_is_same (Branch lines finding trees) tree counted r = go (refined_node (IsFound limit 0 state m) lines finding trees tree r) (λ below all. each_is_same trees below counted.1 all)
       where
-        go : RefinedNode (IsFound limit 0 m) lines finding trees tree → ((below : Trees) → AllRefine (IsFound limit 0 m) trees below → below ≡ trees) → tree ≡ Branch lines finding trees
+        go : RefinedNode (IsFound limit 0 state m) lines finding trees tree → ((below : Trees) → AllRefine (IsFound limit 0 state m) trees below → below ≡ trees) → tree ≡ Branch lines finding trees
         go (replaced e is) each =
             let none : trees ≡ NoTrees = no_children trees (subst (λ f. HasChildren f (count_trees trees)) e counted.0) in
             is ∙ ap₂ (λ (f : Finding) (ts : Trees). Branch lines f ts) (sym e) (sym none)
         go (kept e below is all) each = is ∙ ap (λ (ts : Trees). Branch lines finding ts) (each below all)
 
-    each_is_same : (trees below : Trees) → HaveCounts trees → AllRefine (IsFound limit 0 m) trees below → below ≡ trees
+    each_is_same : (trees below : Trees) → HaveCounts trees → AllRefine (IsFound limit 0 state m) trees below → below ≡ trees
     each_is_same NoTrees below counted e = e
     each_is_same (MoreTrees tree trees) below counted (first, rest, e, r, all) =
         e ∙ ap₂ (λ (t : Tree) (ts : Trees). MoreTrees t ts) (refined_is_same tree first counted.0 r) (each_is_same trees rest counted.1 all)
 
   mutual
-    refines_itself : (shape : Tree) → HasCounts shape → Refines (IsFound limit 0 m) shape shape
+    refines_itself : (shape : Tree) → HasCounts shape → Refines (IsFound limit 0 state m) shape shape
     refines_itself (Branch lines finding trees) counted = go (is_undecided finding) refl (each_refines trees counted.1)
       where
-        go : (b : Bool) → is_undecided finding ≡ b → AllRefine (IsFound limit 0 m) trees trees → Refines (IsFound limit 0 m) (Branch lines finding trees) (Branch lines finding trees)
+        go : (b : Bool) → is_undecided finding ≡ b → AllRefine (IsFound limit 0 state m) trees trees → Refines (IsFound limit 0 state m) (Branch lines finding trees) (Branch lines finding trees)
         go true e all =
             let is = only_undecided_is finding e in
             let none : trees ≡ NoTrees = no_children trees (subst (λ f. HasChildren f (count_trees trees)) is counted.0) in
-            subst (λ f. Refines (IsFound limit 0 m) (Branch lines f trees) (Branch lines f trees)) (sym is) (ap (λ (ts : Trees). Branch lines Undecided ts) none)
-        go false e all = refined_kept (IsFound limit 0 m) lines finding trees trees e all
+            subst (λ f. Refines (IsFound limit 0 state m) (Branch lines f trees) (Branch lines f trees)) (sym is) (ap (λ (ts : Trees). Branch lines Undecided ts) none)
+        go false e all = refined_kept (IsFound limit 0 state m) lines finding trees trees e all
 
-    each_refines : (trees : Trees) → HaveCounts trees → AllRefine (IsFound limit 0 m) trees trees
+    each_refines : (trees : Trees) → HaveCounts trees → AllRefine (IsFound limit 0 state m) trees trees
     each_refines NoTrees counted = refl
     each_refines (MoreTrees tree trees) counted = (tree, trees, refl, refines_itself tree counted.0, each_refines trees counted.1)
 
@@ -123,15 +122,15 @@ no_pivots_change_nothing limit m tree = (plain, pivoted)
   where
     plain : IsShapeWith limit 0 m tree → IsShape limit m tree
     plain d =
-        let found : Refines (IsFound limit 0 m) d.shape tree = subst (λ pivots. Refines (IsFound limit pivots m) d.shape tree) (none_of (2000 - (height m + m.width))) d.refines in
-        let same = refined_is_same limit m d.shape tree (counts limit m [] [] (These (all_lines m)) d.shape d.drawn) found in
+        let found : Refines (IsFound limit 0 1 m) d.shape tree = subst (λ pivots. Refines (IsFound limit pivots 1 m) d.shape tree) (none_of (2000 - (height m + m.width))) d.refines in
+        let same = refined_is_same limit 1 m d.shape tree (counts limit m [] [] (These (all_lines m)) d.shape d.drawn) found in
         shape_moved limit m [] (AllLines (height m) m.width) (all_lines m) tree (refl, refl) (subst (IsShapeOn limit m (all_lines m)) (sym same) d.drawn)
 
     pivoted : IsShape limit m tree → IsShapeWith limit 0 m tree
     pivoted shape = record {
       shape = tree;
       drawn = shape_from limit m (AllLines (height m) m.width) (all_lines m) tree (due_here limit m [] [] (AllLines (height m) m.width) tree shape) shape;
-      refines = subst (λ pivots. Refines (IsFound limit pivots m) tree tree) (sym (none_of (2000 - (height m + m.width)))) (refines_itself limit m tree (counts limit m [] [] (AllLines (height m) m.width) tree shape));
+      refines = subst (λ pivots. Refines (IsFound limit pivots 1 m) tree tree) (sym (none_of (2000 - (height m + m.width)))) (refines_itself limit 1 m tree (counts limit m [] [] (AllLines (height m) m.width) tree shape));
     }
 
 pub shapes_are_trees : ShapesAreTrees

@@ -15,7 +15,7 @@ use Rattle.decomp_tree.specs.declared.drafts.Opening.{Opening}
 use Rattle.decomp_tree.specs.Shapes.{HasFault, case_number, IsShapeOn}
 use Rattle.decomp_tree.specs.Seen.{HasNoneAmong, AreFewer, IsNamedFault, IsSaid, is_unsearched}
 use Rattle.decomp_tree.specs.Refined.{is_undecided, AllRefine}
-use Rattle.decomp_tree.specs.PivotedShapes.{IsBehind, IsFoundTo, IsDrawnTo}
+use Rattle.decomp_tree.specs.PivotedShapes.{IsBehind, IsFound, IsDrawnWith}
 use Rattle.decomp_tree.specs.Openings.{IsOpeningOf}
 use Rattle.decomp_tree.specs.Sketches.{sketches_from, sketch_of, opening_in, is_free_in, drafts_in, lines_of_sketch, IsDrafted, AreDrafted, HasNoLateFault}
 use Rattle.decomp_tree.proofs.Children.{has_children}
@@ -24,9 +24,9 @@ use Rattle.decomp_tree.proofs.Drawn.{AreDrawn, drawn as drawn_node, drawn_more}
 use Rattle.decomp_tree.proofs.RefinedTrees.{count_refined, refined_kept, refined_more}
 use Rattle.decomp_tree.proofs.Said.{seen_fault}
 
--- the trees of some sets of lines, with what replaces undecided nodes
-abbrev pub AreSettled : (ℕ → Matrix → LineSet → Tree → Type 0) → ℕ → ℕ → Matrix → List LineSet → List Tree → Type 0
-AreSettled IsEnd limit pivots m children trees = (shapes : List Tree) × AreDrawn limit m children shapes × AllRefine (IsFoundTo IsEnd limit pivots m) (trees_from shapes) (trees_from trees)
+-- the trees of some sets of lines, with what pivots find
+abbrev pub AreSettled : ℕ → ℕ → ℕ → Matrix → List LineSet → List Tree → Type 0
+AreSettled limit pivots state m children trees = (shapes : List Tree) × AreDrawn limit m children shapes × AllRefine (IsFound limit pivots state m) (trees_from shapes) (trees_from trees)
 
 pub only_undecided_is : (finding : Finding) → is_undecided finding ≡ true → finding ≡ Undecided
 only_undecided_is Undecided e = refl
@@ -64,14 +64,14 @@ module _ (limit : ℕ) (m : Matrix) where
   one_more (other ∷ drafts) draft = ap (λ xs. lines_of_sketch (sketch_of other) ∷ xs) (one_more drafts draft)
 
   -- the next child is settled behind the others
-  pub settled_next : (IsEnd : ℕ → Matrix → LineSet → Tree → Type 0) (pivots : ℕ) (drafts : List Draft) (draft : Draft) (before after : List Tree) → AreSettled IsEnd limit pivots m (map (λ draft. lines_of_sketch (sketch_of draft)) drafts) before
-      → IsBehind (IsDrawnTo IsEnd limit pivots m (lines_of_sketch (sketch_of draft))) before after → AreSettled IsEnd limit pivots m (map (λ draft. lines_of_sketch (sketch_of draft)) (drafts ++ draft ∷ [])) after
-  settled_next IsEnd pivots drafts draft before after (shapes, drawn, refined) one =
-      subst (AreSettled IsEnd limit pivots m (map (λ draft. lines_of_sketch (sketch_of draft)) (drafts ++ draft ∷ []))) (sym one.order)
-      (subst (λ some. AreSettled IsEnd limit pivots m some (before ++ one.tree ∷ [])) (sym (one_more drafts draft)) (
+  pub settled_next : (pivots state : ℕ) (drafts : List Draft) (draft : Draft) (before after : List Tree) → AreSettled limit pivots state m (map (λ draft. lines_of_sketch (sketch_of draft)) drafts) before
+      → IsBehind (IsDrawnWith limit pivots state m (lines_of_sketch (sketch_of draft))) before after → AreSettled limit pivots state m (map (λ draft. lines_of_sketch (sketch_of draft)) (drafts ++ draft ∷ [])) after
+  settled_next pivots state drafts draft before after (shapes, drawn, refined) one =
+      subst (AreSettled limit pivots state m (map (λ draft. lines_of_sketch (sketch_of draft)) (drafts ++ draft ∷ []))) (sym one.order)
+      (subst (λ some. AreSettled limit pivots state m some (before ++ one.tree ∷ [])) (sym (one_more drafts draft)) (
         shapes ++ one.stands.shape ∷ [],
         drawn_more limit m (map (λ draft. lines_of_sketch (sketch_of draft)) drafts) shapes (lines_of_sketch (sketch_of draft)) one.stands.shape drawn one.stands.drawn,
-        refined_more (IsFoundTo IsEnd limit pivots m) shapes before one.stands.shape one.tree refined one.stands.refines,
+        refined_more (IsFound limit pivots state m) shapes before one.stands.shape one.tree refined one.stands.refines,
       ))
 
   -- all children are settled
@@ -110,20 +110,20 @@ module _ (limit : ℕ) (m : Matrix) where
         let each = each_drafted (AreFewer opening.lines) opening.children before child after (subst (λ (drafts : List Draft). AreDrafted limit m opening.children (sketches_from (map sketch_of drafts))) (sym e) parts.2) parts.0.said.fewer in
         (each.0, subst (λ (lines : LineSet). AreFewer lines (lines_of_sketch (sketch_of child))) (sym (lines_are draft)) each.1)
 
-    module _ (IsEnd : ℕ → Matrix → LineSet → Tree → Type 0) (pivots : ℕ) where
+    module _ (pivots state : ℕ) where
       abbrev Settles : Tree → Type 0
-      Settles = IsDrawnTo IsEnd limit pivots m (lines_of_sketch (sketch_of draft))
+      Settles = IsDrawnWith limit pivots state m (lines_of_sketch (sketch_of draft))
 
-      settles : (tree : Tree) → IsDrawnTo IsEnd limit pivots m (opening_in draft).lines tree → Settles tree
-      settles tree d = subst (λ (lines : LineSet). IsDrawnTo IsEnd limit pivots m lines tree) (sym (lines_are draft)) d
+      settles : (tree : Tree) → IsDrawnWith limit pivots state m (opening_in draft).lines tree → Settles tree
+      settles tree d = subst (λ (lines : LineSet). IsDrawnWith limit pivots state m lines tree) (sym (lines_are draft)) d
 
-      module _ (nodes : List Node) (settled : AreSettled IsEnd limit pivots m (map (λ child. lines_of_sketch (sketch_of child)) (drafts_in draft)) (map tree_of nodes)) where
+      module _ (nodes : List Node) (settled : AreSettled limit pivots state m (map (λ child. lines_of_sketch (sketch_of child)) (drafts_in draft)) (map tree_of nodes)) where
         all_settled : AreDrawn limit m (opening_in draft).children settled.0
         all_settled = settled_all (opening_in draft).children (drafts_in draft) settled.0 (parts_of limit m draft drafted).2 settled.1
 
         as_many_nodes : length nodes ≡ length settled.0
         as_many_nodes =
-            sym (count_of nodes) ∙ count_refined (IsFoundTo IsEnd limit pivots m) (trees_from settled.0) (trees_from (map tree_of nodes)) settled.2 ∙ count_list settled.0
+            sym (count_of nodes) ∙ count_refined (IsFound limit pivots state m) (trees_from settled.0) (trees_from (map tree_of nodes)) settled.2 ∙ count_list settled.0
 
         pub count_settled : HasChildren (finding_shown (opening_in draft).finding) (length nodes)
         count_settled = subst (HasChildren (finding_shown (opening_in draft).finding)) (sym as_many_nodes) (has_children limit m (finding_shown (opening_in draft).finding) (opening_in draft).children settled.0 (parts_of limit m draft drafted).0.said.count all_settled)
@@ -139,7 +139,7 @@ module _ (limit : ℕ) (m : Matrix) where
               stands = settles tree (record {
                 shape = Branch opening.lines (finding_shown opening.finding) (trees_from settled.0);
                 drawn = node_drawn opening (parts_of limit m draft drafted).0 late settled.0 all_settled;
-                refines = refined_kept (IsFoundTo IsEnd limit pivots m) opening.lines (finding_shown opening.finding) (trees_from settled.0) (trees_from (map tree_of nodes)) decided settled.2;
+                refines = refined_kept (IsFound limit pivots state m) opening.lines (finding_shown opening.finding) (trees_from settled.0) (trees_from (map tree_of nodes)) decided settled.2;
               });
             }
 
@@ -154,12 +154,12 @@ module _ (limit : ℕ) (m : Matrix) where
             stands = settles tree (record {
               shape = tree;
               drawn = fault_drawn lines fault is are found;
-              refines = refined_kept (IsFoundTo IsEnd limit pivots m) lines (Cycle fault) NoTrees NoTrees refl refl;
+              refines = refined_kept (IsFound limit pivots state m) lines (Cycle fault) NoTrees NoTrees refl refl;
             });
           }
 
       -- an undecided node, of which something is found
-      pub found_settled : is_undecided (finding_shown (opening_in draft).finding) ≡ true → (found : Tree) → IsFoundTo IsEnd limit pivots m (opening_in draft).lines found → (before after : List Tree) → after ≡ before ++ found ∷ [] → IsBehind Settles before after
+      pub found_settled : is_undecided (finding_shown (opening_in draft).finding) ≡ true → (found : Tree) → IsFound limit pivots state m (opening_in draft).lines found → (before after : List Tree) → after ≡ before ++ found ∷ [] → IsBehind Settles before after
       found_settled open_node found is before after e =
           let opening = opening_in draft in
           let known = (parts_of limit m draft drafted).0 in

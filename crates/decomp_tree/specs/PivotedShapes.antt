@@ -1,11 +1,13 @@
--- The shape of a decomposition that makes pivots if nothing else decides.
+-- The shape of a decomposition that makes pivots where nothing else decides.
 use Rattle.std.specs.Prelude.{◌≡◌, ◌+◌, ◌-◌, ◌++◌, ◌⊎◌, ℕ, zero, suc, min, List, [], ◌∷◌, Option, Some, None}
 use Rattle.cmr_base.specs.declared.limits.TheConstants.{MAX_DEPTH}
 use Rattle.cmr_base.specs.declared.line_set.LineSet.{LineSet}
 use Rattle.cmr_base.specs.Matrix.{Matrix, height}
 use Rattle.cmr_base.specs.LineSets.{IsRowSet, IsColumnSet, first_lines}
 use Rattle.ghouila.specs.PivotLaws.{AreLinesBefore}
+use Rattle.pivots.specs.declared.drawn.DrawnPlace.{DrawnPlace}
 use Rattle.cmr_base.specs.declared.placed_pivot.PlacedPivot.{PlacedPivot}
+use Rattle.pivots.specs.DrawnPlaces.{drawn_place}
 use Rattle.cmr_base.specs.PlacedPivots.{pivoted_part, IsTernaryPivot}
 use Rattle.pivots.specs.PivotedParts.{AreAmong, ShowsFirstTwoIn}
 use Rattle.tree_type.specs.declared.finding.Finding.{Finding as Held}
@@ -13,7 +15,6 @@ use Rattle.tree_type.specs.declared.finding.Finding.TheVariants as held
 use Rattle.tree_type.specs.DecompositionTrees.{Tree, Branch, NoTrees, Undecided, Violator, Pivoted, one_tree}
 use Rattle.tree_type.specs.Verdicts.{Verdict, Yes, No, Open, verdict_of}
 use Rattle.decomp_tree.specs.Refined.{Refines}
-use Rattle.separating_places.specs.SeparatingPlaces.{HasNoSeparatingPlace, IsSeparatingPlace}
 use Rattle.decomp_tree.specs.Shapes.{IsShapeOn}
 
 abbrev pub undecided : LineSet → Tree
@@ -30,69 +31,58 @@ pub record AreBefore (m : Matrix) (place : PlacedPivot) (fault before : LineSet)
   pub column_set : IsColumnSet m before.columns
   pub lines : AreLinesBefore m place.row place.column fault.rows fault.columns before.rows before.columns
 
--- What the tree of the submatrix after a pivot says of the submatrix: for a yes a pivoted node above that tree, for a no its fault mapped
--- back to the lines before the pivot, and otherwise an undecided node.
+-- What the tree of the submatrix after a pivot says, told of the submatrix: a yes by a pivoted node above that tree, a no by
+-- its fault taken back to the lines before the pivot, and nothing where it is undecided.
 abbrev pub IsToldBeforePivot : Matrix → LineSet → PlacedPivot → Tree → Verdict → Tree → Type 0
 IsToldBeforePivot m lines place after Yes tree = tree ≡ Branch lines (Pivoted place) (one_tree after)
 IsToldBeforePivot m lines place after (No fault) tree =
     (before : LineSet) × AreBefore m place fault before × (tree ≡ Branch lines (Violator before) NoTrees)
 IsToldBeforePivot m lines place after (Open left) tree = tree ≡ undecided lines
 
--- What is said of the lines before a pivot if the tree after it has this verdict: nothing if the verdict is a yes.
+-- What is said of the lines before a pivot where the tree after it has this verdict: nothing where it is a yes.
 abbrev pub SaysBeforePivot : Matrix → PlacedPivot → Verdict → Option Held → Type 0
 SaysBeforePivot m place Yes said = said ≡ None
 SaysBeforePivot m place (No fault) said = (before : LineSet) × AreBefore m place fault before × (said ≡ Some (held.Violator before))
 SaysBeforePivot m place (Open left) said = said ≡ Some held.Undecided
 
--- A pivot at a place, and then the tree of the submatrix after it.
-abbrev pub IsFoundAt : (Matrix → Tree → Type 0) → Matrix → LineSet → PlacedPivot → Tree → Type 0
-IsFoundAt IsTree m lines place tree =
-    ShowsTwoAfterPivot m lines place tree
-    ⊎ (IsTernaryPivot m lines place
-    × (after : Tree) × IsTree (pivoted_part m lines place) after
-    × IsToldBeforePivot m lines place after (verdict_of after) tree)
+-- A pivot at a place that is drawn, if there is one, and then the tree of the submatrix after it, which goes on from the next
+-- state.
+abbrev pub IsFoundAt : (ℕ → Matrix → Tree → Type 0) → Matrix → LineSet → Option DrawnPlace → Tree → Type 0
+IsFoundAt IsTree m lines None tree = tree ≡ undecided lines
+IsFoundAt IsTree m lines (Some drawn) tree =
+    ShowsTwoAfterPivot m lines drawn.place tree
+    ⊎ (IsTernaryPivot m lines drawn.place
+    × (after : Tree) × IsTree drawn.state (pivoted_part m lines drawn.place) after
+    × IsToldBeforePivot m lines drawn.place after (verdict_of after) tree)
 
--- What replaces an undecided node on these lines if at most this number of pivots may still be made. The submatrix after a pivot has a
--- decomposition of its own, in which one pivot fewer may be made. If the submatrix has no place for a pivot, `IsEnd` says what replaces
--- the node.
-abbrev pub IsFoundTo : (ℕ → Matrix → LineSet → Tree → Type 0) → ℕ → ℕ → Matrix → LineSet → Tree → Type 0
-IsFoundTo IsEnd limit zero m lines tree = tree ≡ undecided lines
-IsFoundTo IsEnd limit (suc pivots) m lines tree =
-    (HasNoSeparatingPlace m lines × IsEnd (suc pivots) m lines tree)
-    ⊎ ((place : PlacedPivot) × IsSeparatingPlace m lines place
-    × IsFoundAt
-    (λ after found. (shape : Tree) × IsShapeOn limit after lines shape
-    × Refines (IsFoundTo IsEnd limit pivots after) shape found)
-    m lines place tree)
+-- What stands in the place of an undecided node on these lines where so many pivots may still be made, of which the first is
+-- drawn from this state. The submatrix after a pivot has a decomposition of its own, in which one pivot fewer may be made.
+abbrev pub IsFound : ℕ → ℕ → ℕ → Matrix → LineSet → Tree → Type 0
+IsFound limit zero state m lines tree = tree ≡ undecided lines
+IsFound limit (suc pivots) state m lines tree =
+    IsFoundAt
+    (λ next after found. (shape : Tree) × IsShapeOn limit after lines shape
+    × Refines (IsFound limit pivots next after) shape found)
+    m lines (drawn_place m lines state) tree
 
--- the decomposition of the submatrix on some lines, with what replaces its undecided nodes
-pub record IsDrawnTo (IsEnd : ℕ → Matrix → LineSet → Tree → Type 0) (limit pivots : ℕ) (m : Matrix) (lines : LineSet) (tree : Tree) : Type 0 where
+-- the decomposition of the submatrix on some lines, with what is found by pivots in the places of its undecided nodes
+pub record IsDrawnWith (limit pivots state : ℕ) (m : Matrix) (lines : LineSet) (tree : Tree) : Type 0 where
   pub shape : Tree
   pub drawn : IsShapeOn limit m lines shape
-  pub refines : Refines (IsFoundTo IsEnd limit pivots m) shape tree
+  pub refines : Refines (IsFound limit pivots state m) shape tree
 
--- the node stays undecided
-abbrev pub IsOpenEnd : ℕ → Matrix → LineSet → Tree → Type 0
-IsOpenEnd pivots m lines tree = tree ≡ undecided lines
-
-abbrev pub IsFound : ℕ → ℕ → Matrix → LineSet → Tree → Type 0
-IsFound limit = IsFoundTo IsOpenEnd limit
-
-abbrev pub IsDrawnWith : ℕ → ℕ → Matrix → LineSet → Tree → Type 0
-IsDrawnWith limit = IsDrawnTo IsOpenEnd limit
-
--- the number of pivots, or a smaller one so that no node is deeper than 2,000 even if each line is a level
+-- so many pivots that no node stands deeper than 2,000, also where each line is a level
 abbrev pub pivots_within : Matrix → ℕ → ℕ
 pivots_within m pivots = min pivots (MAX_DEPTH - (height m + m.width))
 
 abbrev pub all_lines : Matrix → LineSet
 all_lines m = record { rows = first_lines (height m); columns = first_lines m.width }
 
--- The tree is a decomposition of the matrix with this budget of lines and at most this number of pivots on the path to a node.
+-- The tree is a decomposition of the matrix with this budget of lines, in which so many pivots may be made on the way to a node.
 abbrev pub IsShapeWith : ℕ → ℕ → Matrix → Tree → Type 0
-IsShapeWith limit pivots m tree = IsDrawnWith limit (pivots_within m pivots) m (all_lines m) tree
+IsShapeWith limit pivots m tree = IsDrawnWith limit (pivots_within m pivots) 1 m (all_lines m) tree
 
--- one more tree, after some others
+-- a tree stands behind some others
 pub record IsBehind (Stands : Tree → Type 0) (before after : List Tree) : Type 0 where
   pub tree : Tree
   pub order : after ≡ before ++ tree ∷ []

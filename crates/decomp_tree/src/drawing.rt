@@ -13,9 +13,12 @@ use std::alloc::Global;
 use std::thread::Threads;
 use tree_type::DecTree;
 
-/// The decomposition of the matrix, by the first case that applies at each node. The row sets of a submatrix are
-/// enumerated if its shorter side has at most `limit` lines. If no case decides a node, at most `pivots` pivots are made
-/// on the path to it, and at most 2,000 minus the number of lines of the matrix.
+// The state from which the first pivot on the way to a node is drawn.
+const FIRST_STATE: u32 = 1;
+
+/// The decomposition of the matrix, by the first case that applies at each node. `limit` is the most lines that the
+/// shorter side of a matrix may have whose row sets are tried one after another. Where nothing decides, at most `pivots`
+/// pivots are made on the way to a node, and fewer in a matrix of more than 1,900 lines: at most 2,000 less its lines.
 pub fn decompose<R: Threads + Sync>(
     rt: &R,
     alloc: Global,
@@ -33,11 +36,11 @@ pub fn decompose<R: Threads + Sync>(
     let lines = LineSet::all(alloc, matrix.rows(), matrix.columns())?;
     let limits = SearchLimits::new(limit, workers);
     let within = pivots_within(matrix, pivots);
-    let root = draw_root(rt, alloc, matrix, &lines, limits, within)?;
+    let root = draw_root(rt, alloc, matrix, &lines, limits, within, FIRST_STATE)?;
     Ok(DecTree::make(matrix.rows(), matrix.columns(), root))
 }
 
-// The number of pivots, or fewer so that no node is too deep.
+// So many pivots that no node stands too deep.
 fn pivots_within(matrix: &Matrix, pivots: u32) -> u32
     ensures { result ≡ pivots_within matrix.now pivots }
 {

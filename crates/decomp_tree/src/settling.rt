@@ -1,5 +1,5 @@
-// The second pass over a draft: late cycle faults are searched for from the root down, and pivots replace undecided nodes.
-ghost use Rattle.std.specs.Prelude.{◌≡◌, ◌++◌, ◌∷◌, [], length, map, IfOk, OnOk};
+// Drafts that are settled: cycle faults are looked for late, from the root down, and pivots are made where nothing decides.
+ghost use Rattle.std.specs.Prelude.{◌≡◌, ◌<◌, ◌^◌, ◌++◌, ◌∷◌, [], length, map, IfOk, OnOk};
 ghost use Rattle.cmr_base.specs.Matrix.{IsMatrix};
 ghost use Rattle.tree_type.specs.DecompositionTrees.{Branch, Cycle, NoTrees, tree_of, trees_from};
 ghost use Rattle.tree_type.specs.Invariant.{AreLines, HasChildren};
@@ -13,14 +13,13 @@ use crate::faults::late_fault;
 use crate::search_limits::SearchLimits;
 use crate::taking_back::{leaf, taken_back};
 use cmr_base::{LineSet, Matrix, Memory, RowsAndColumns};
-use pivots::{PivotedPart, pivot_part};
-use separating_places::separating_place;
+use pivots::{PivotedPart, drawn_place, pivot_part};
 use std::alloc::Global;
 use std::thread::Threads;
 use tree_type::{Finding, Node, join_node};
 
-/// The tree of the submatrix on these lines. The first pass ignores late cycle faults: if no node below a node has a
-/// violator, its lines contain none, and the search is not needed.
+/// The tree of the submatrix on these lines. It is drawn first as if no submatrix had a cycle fault, since where nothing
+/// below a node has a violator, none stands among its lines and none need be looked for.
 #[cycle(settling)]
 pub fn draw_root<R: Threads + Sync>(
     rt: &R,
@@ -29,25 +28,28 @@ pub fn draw_root<R: Threads + Sync>(
     lines: &LineSet,
     limits: SearchLimits,
     pivots: u32,
+    state: u32,
 ) -> Result<Node, Memory>
+    requires state { state < 2 ^ 31 }
     requires shape { IsMatrix matrix.now }
     requires lines { AreLines matrix.now lines.now }
     ensures { IfOk result (λ node.
-        IsDrawnWith limits.lines pivots matrix.now lines.now (tree_of node)) }
+        IsDrawnWith limits.lines pivots state matrix.now lines.now (tree_of node)) }
 {
     let columns = matrix.transposed(alloc)?;
     let both = RowsAndColumns::of(matrix, &columns);
     let drawn = draft_root(rt, alloc, &both, lines, limits)?;
     let mut roots = Vec::new(alloc);
-    settle(rt, alloc, &both, drawn, limits, pivots, &mut roots)?;
+    settle(rt, alloc, &both, drawn, limits, pivots, state, &mut roots)?;
     let Some(root) = roots.pop() else {
         unreachable!()
     };
     Ok(root)
 }
 
-// Settles a draft and appends its tree. A node with a late cycle fault becomes a leaf that names it, without the drafts
-// below it. An undecided node is replaced by what pivots find. Otherwise the children are settled.
+// Settles a drawn node, and puts its tree behind the nodes that are there. Where a cycle fault is found late, the node is
+// a leaf that names it, and what was drawn below it is dropped. An undecided node is replaced by what pivots find. Else its
+// children are settled.
 #[cycle(settling)]
 fn settle<R: Threads + Sync>(
     rt: &R,
@@ -56,13 +58,15 @@ fn settle<R: Threads + Sync>(
     drawn: Draft,
     limits: SearchLimits,
     pivots: u32,
+    state: u32,
     nodes: &mut Vec<Node>,
 ) -> Result<(), Memory>
+    requires state { state < 2 ^ 31 }
     requires shape { IsMatrix matrix.now }
     requires lines { AreLines matrix.now (lines_of_sketch (sketch_of drawn)) }
     requires drafted { IsDrafted limits.lines matrix.now (sketch_of drawn) }
     ensures { OnOk result (IsBehind
-        (IsDrawnWith limits.lines pivots matrix.now (lines_of_sketch (sketch_of drawn)))
+        (IsDrawnWith limits.lines pivots state matrix.now (lines_of_sketch (sketch_of drawn)))
         (map tree_of nodes.old.items)
         (map tree_of nodes.new.items)) }
 {
@@ -79,13 +83,22 @@ fn settle<R: Threads + Sync>(
     }
     if is_undecided(&opening.finding) {
         let whole = matrix.by_rows();
-        let found = find(rt, alloc, whole, &opening.lines, limits, pivots)?;
+        let found = find(rt, alloc, whole, &opening.lines, limits, pivots, state)?;
         nodes.push(found)?;
         return Ok(());
     }
     let mut children = Vec::new(alloc);
     for child in drawn.children {
-        settle(rt, alloc, matrix, child, limits, pivots, &mut children)?;
+        settle(
+            rt,
+            alloc,
+            matrix,
+            child,
+            limits,
+            pivots,
+            state,
+            &mut children,
+        )?;
     }
     push_node(alloc, opening, children, nodes)?;
     Ok(())
@@ -97,7 +110,7 @@ fn is_undecided(finding: &Finding) -> bool
     matches!(finding, Finding::Undecided)
 }
 
-// What replaces an undecided node: its submatrix is pivoted at its separating place, and the tree of the pivot decides.
+// What is found of an undecided node: by a pivot of its submatrix at a place that is drawn, and by the tree of the pivot.
 #[cycle(settling)]
 fn find<R: Threads + Sync>(
     rt: &R,
@@ -106,28 +119,30 @@ fn find<R: Threads + Sync>(
     lines: &LineSet,
     limits: SearchLimits,
     pivots: u32,
+    state: u32,
 ) -> Result<Node, Memory>
+    requires state { state < 2 ^ 31 }
     requires shape { IsMatrix matrix.now }
     requires lines { AreLines matrix.now lines.now }
     ensures { IfOk result (λ node.
-        IsFound limits.lines pivots matrix.now lines.now (tree_of node)) }
+        IsFound limits.lines pivots state matrix.now lines.now (tree_of node)) }
 {
     if pivots == 0 {
         return leaf(alloc, lines, Finding::Undecided);
     }
-    let Some(place) = separating_place(alloc, matrix, lines)? else {
+    let Some(drawn) = drawn_place(matrix, lines, state) else {
         return leaf(alloc, lines, Finding::Undecided);
     };
-    match pivot_part(alloc, matrix, lines, place)? {
+    match pivot_part(alloc, matrix, lines, drawn.place)? {
         PivotedPart::Violated(fault) => leaf(alloc, lines, Finding::Violator(fault)),
         PivotedPart::Ternary(after) => {
-            let tree = draw_root(rt, alloc, &after, lines, limits, pivots - 1)?;
-            taken_back(alloc, matrix, lines, place, tree)
+            let tree = draw_root(rt, alloc, &after, lines, limits, pivots - 1, drawn.state)?;
+            taken_back(alloc, matrix, lines, drawn.place, tree)
         }
     }
 }
 
-// Joins a node from its finding and its children, and appends it.
+// Joins a node from what it says and its children, and puts it behind others.
 #[inline(never)]
 fn push_node(
     alloc: Global,
@@ -147,7 +162,7 @@ fn push_node(
     Ok(())
 }
 
-// The lines of an opening.
+// The lines of a opening alone.
 fn lines_of(opening: Box<Opening>) -> LineSet
     ensures { result ≡ opening.value.lines }
 {
@@ -155,7 +170,7 @@ fn lines_of(opening: Box<Opening>) -> LineSet
     lines
 }
 
-// Appends the leaf of some lines with a cycle fault.
+// Puts the leaf of some lines with a cycle fault behind others.
 #[inline(never)]
 fn push_fault(
     alloc: Global,

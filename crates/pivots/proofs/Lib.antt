@@ -1,5 +1,6 @@
 pub mod ChosenLines
 pub mod LinesBefore
+pub mod DrawnPlaces
 pub mod MultipliedRows
 pub mod MadePivots
 pub mod PivotEntries

@@ -1,4 +1,5 @@
 pub mod ChosenLines
+pub mod DrawnPlaces
 pub mod PartLaws
 pub mod Pivoted
 pub mod PivotedParts

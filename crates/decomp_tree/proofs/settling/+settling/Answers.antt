@@ -1,11 +1,10 @@
-use Rattle.std.proofs.Common.{rules, ◌≡◌, ◌<◌, ◌+◌, ◌-◌, ◌*◌, ◌∙◌, ◌++◌, true, false, Option, Some, MatchOption, List, [], ◌∷◌, length, map, append_assoc, append-nil, refl, ap, sym, subst, arith}
+use Rattle.std.proofs.Common.{rules, ◌≡◌, ◌<◌, ◌+◌, ◌-◌, ◌*◌, ◌∙◌, ◌++◌, true, false, Option, MatchOption, List, [], ◌∷◌, length, map, append_assoc, append-nil, refl, ap, sym, subst, arith}
 use Rattle.std.proofs.lemmas.List.{length-map, map-append}
 use Rattle.std.proofs.lemmas.Result.{IfOk-weaker}
 use Rattle.std.specs.Vec.Iter.{into_iter_items}
 use Rattle.cmr_base.specs.declared.line_set.LineSet.{LineSet}
 use Rattle.cmr_base.specs.Matrix.{Matrix, IsMatrix}
 use Rattle.cmr_base.proofs.Lists.{no_items}
-use Rattle.cmr_base.specs.declared.placed_pivot.PlacedPivot.{PlacedPivot}
 use Rattle.pivots.specs.PivotedParts.{IsPivotedPart}
 use Rattle.tree_type.specs.Findings.{finding_shown}
 use Rattle.tree_type.specs.Invariant.{AreLines, size_of}
@@ -15,14 +14,12 @@ use Rattle.tree_type.specs.declared.tree.Node.{Node}
 use Rattle.decomp_tree.specs.declared.drafts.Draft.{Draft}
 use Rattle.decomp_tree.specs.declared.drafts.Draft.TheViews.{out-roll-Draft}
 use Rattle.decomp_tree.specs.declared.drafts.Opening.{Opening}
-use Rattle.decomp_tree.specs.PivotedShapes.{IsBehind, IsDrawnWith, IsFound, IsOpenEnd, IsToldBeforePivot, undecided}
+use Rattle.decomp_tree.specs.PivotedShapes.{IsBehind, IsDrawnWith, IsFound, IsToldBeforePivot, undecided}
 use Rattle.decomp_tree.specs.Refined.{is_undecided}
 use Rattle.decomp_tree.specs.Seen.{HasNoneAmong, IsNamedFault, is_unsearched}
-use Rattle.separating_places.specs.SeparatingPlaces.{HasNoSeparatingPlace, IsSeparatingPlace}
 use Rattle.decomp_tree.specs.Sketches.{sketch_of, lines_of_sketch, opening_in, drafts_in, HasNoLateFault}
 use Rattle.decomp_tree.proofs.Children.{child_lines}
 use Rattle.decomp_tree.proofs.DraftLemmas.{lines_are}
-use Rattle.decomp_tree.proofs.Ends.{open_ends}
 use Rattle.decomp_tree.proofs.FoundCases.{fault_drawn, found_after, found_none, found_no_place, found_two, lines_made}
 use Rattle.decomp_tree.proofs.Settled.{AreSettled, lines_in, none_if_free, child_at, settled_next, count_settled, whole_settled, fault_settled, found_settled}
 use Rattle.decomp_tree.proofs.settling.+settling.Goals as goal
@@ -55,10 +52,13 @@ draw_root-settle-requires g t c =
         (
           search rules,
           (
-            subst IsMatrix (sym c.of-both.ensures) c.requires.shape,
+            c.requires.state,
             (
-              subst (λ (m : Matrix). AreLines m (lines_of_sketch (sketch_of drawn))) (sym c.of-both.ensures) (subst (AreLines c.args.matrix.now) (sym same) c.requires.lines),
-              c.in_ok-drawn.ensures.drafted,
+              subst IsMatrix (sym c.of-both.ensures) c.requires.shape,
+              (
+                subst (λ (m : Matrix). AreLines m (lines_of_sketch (sketch_of drawn))) (sym c.of-both.ensures) (subst (AreLines c.args.matrix.now) (sym same) c.requires.lines),
+                c.in_ok-drawn.ensures.drafted,
+              ),
             ),
           ),
         ),
@@ -67,39 +67,33 @@ draw_root-settle-requires g t c =
 
 pub draw_root-unreachable-requires : goal.draw_root-unreachable-requires
 draw_root-unreachable-requires g t c =
-    let Stands = IsDrawnWith c.args.limits.lines c.args.pivots c.of-both.result (lines_of_sketch (sketch_of c.in_ok-drawn.drawn)) in
+    let Stands = IsDrawnWith c.args.limits.lines c.args.pivots c.args.state c.of-both.result (lines_of_sketch (sketch_of c.in_ok-drawn.drawn)) in
     let behind = subst (λ (nodes : List Node). IsBehind Stands (map tree_of nodes) (map tree_of c.settle.new.nodes.items)) c.new-roots.ensures.items c.in_ok-settle.ensures in
     some_behind Stands c.settle.new.nodes.items behind (let z = c.in_default.ensures.cases.0 in let k = c.settle.new.nodes.ok in omega (arith, k, z))
 
 pub draw_root-returns : goal.draw_root-returns
 draw_root-returns g t c =
-    let Stands = IsDrawnWith c.args.limits.lines c.args.pivots c.of-both.result (lines_of_sketch (sketch_of c.in_ok-drawn.drawn)) in
+    let Stands = IsDrawnWith c.args.limits.lines c.args.pivots c.args.state c.of-both.result (lines_of_sketch (sketch_of c.in_ok-drawn.drawn)) in
     let behind = subst (λ (nodes : List Node). IsBehind Stands (map tree_of nodes) (map tree_of c.settle.new.nodes.items)) c.new-roots.ensures.items c.in_ok-settle.ensures in
     let only = only_behind Stands c.pop.new.self.items c.in-Some.root (subst (λ (nodes : List Node). IsBehind Stands [] (map tree_of nodes)) c.in-Some.ensures.items behind) in
-    subst (λ (m : Matrix). IsDrawnWith c.args.limits.lines c.args.pivots m c.args.lines.now (tree_of c.in-Some.root)) c.of-both.ensures
-    (subst (λ (lines : LineSet). IsDrawnWith c.args.limits.lines c.args.pivots c.of-both.result lines (tree_of c.in-Some.root)) c.in_ok-drawn.ensures.lines only)
+    subst (λ (m : Matrix). IsDrawnWith c.args.limits.lines c.args.pivots c.args.state m c.args.lines.now (tree_of c.in-Some.root)) c.of-both.ensures
+    (subst (λ (lines : LineSet). IsDrawnWith c.args.limits.lines c.args.pivots c.args.state c.of-both.result lines (tree_of c.in-Some.root)) c.in_ok-drawn.ensures.lines only)
 
 -- ---- what pivots find
 
-place_found : (m : Matrix) (lines : LineSet) (found : Option PlacedPivot) (place : PlacedPivot) → found ≡ Some place → MatchOption found (HasNoSeparatingPlace m lines) (IsSeparatingPlace m lines) → IsSeparatingPlace m lines place
-place_found m lines found place e answer = subst (λ (o : Option PlacedPivot). MatchOption o (HasNoSeparatingPlace m lines) (IsSeparatingPlace m lines)) e answer
-
 pub find-returns-in_default : goal.find-returns-in_default
 find-returns-in_default g t c =
-    let m = c.args.matrix.now in
-    let lines = c.args.lines.now in
-    let none = subst (λ (o : Option PlacedPivot). MatchOption o (HasNoSeparatingPlace m lines) (IsSeparatingPlace m lines)) c.in_default.is c.in_ok-place.ensures.place in
-    IfOk-weaker c.leaf-in_default.result (λ node. tree_of node ≡ undecided lines) _
-    (λ node e. found_no_place IsOpenEnd c.args.limits.lines c.args.pivots m lines (tree_of node) c.if-pivots-eq0.false none e) c.leaf-in_default.ensures
+    IfOk-weaker c.leaf-in_default.result (λ node. tree_of node ≡ undecided c.args.lines.now) _
+    (λ node e. found_no_place c.args.limits.lines c.args.pivots c.args.state c.args.matrix.now c.args.lines.now (tree_of node) c.if-pivots-eq0.false (sym c.drawn_place.ensures.drawn ∙ c.in_default.is) e) c.leaf-in_default.ensures
 
 pub find-returns-then-pivots-eq0 : goal.find-returns-then-pivots-eq0
 find-returns-then-pivots-eq0 g t c =
     IfOk-weaker c.leaf.result (λ node. tree_of node ≡ undecided c.args.lines.now) _
-    (λ node e. found_none IsOpenEnd c.args.limits.lines c.args.pivots c.args.matrix.now c.args.lines.now (tree_of node) c.if-pivots-eq0.true e) c.leaf.ensures
+    (λ node e. found_none c.args.limits.lines c.args.pivots c.args.state c.args.matrix.now c.args.lines.now (tree_of node) c.if-pivots-eq0.true e) c.leaf.ensures
 
 pub find-draw_root-requires : goal.find-draw_root-requires
 find-draw_root-requires g t c =
-    let made = subst (IsPivotedPart c.args.matrix.now c.args.lines.now c.in-Some.place) c.in-Ternary.is c.in_ok-fault.ensures in
+    let made = subst (IsPivotedPart c.args.matrix.now c.args.lines.now c.in-Some.drawn.place) c.in-Ternary.is c.in_ok-fault.ensures in
     let falls : 4 * ((c.args.pivots - 1) + size_of c.args.lines.now) + 3 < t = omega (arith, c.decreases, c.if-pivots-eq0.false) in
     λ κs lives. (
       falls,
@@ -108,8 +102,11 @@ find-draw_root-requires g t c =
         (
           search rules,
           (
-            made.shape,
-            lines_made c.args.matrix.now c.args.lines.now c.in-Some.place c.in-Ternary.after made c.requires.lines,
+            c.in-Some.ensures.low,
+            (
+              made.shape,
+              lines_made c.args.limits.lines c.args.pivots c.args.state c.args.matrix.now c.args.lines.now c.in-Some.drawn (sym c.drawn_place.ensures.drawn ∙ c.in-Some.is) c.in-Ternary.after made c.requires.lines,
+            ),
           ),
         ),
       ),
@@ -117,29 +114,24 @@ find-draw_root-requires g t c =
 
 pub find-taken_back-requires-clause-fault : goal.find-taken_back-requires-clause-fault
 find-taken_back-requires-clause-fault g t c =
-    let made = subst (IsPivotedPart c.args.matrix.now c.args.lines.now c.in-Some.place) c.in-Ternary.is c.in_ok-fault.ensures in
-    let are = lines_made c.args.matrix.now c.args.lines.now c.in-Some.place c.in-Ternary.after made c.requires.lines in
-    fault_drawn IsOpenEnd c.args.limits.lines (open_ends c.args.limits.lines) (c.args.pivots - 1) c.in-Ternary.after c.args.lines.now (tree_of c.in_ok-tree-in-Ternary.tree) made.shape are c.in_ok-tree-in-Ternary.ensures
+    let made = subst (IsPivotedPart c.args.matrix.now c.args.lines.now c.in-Some.drawn.place) c.in-Ternary.is c.in_ok-fault.ensures in
+    let are = lines_made c.args.limits.lines c.args.pivots c.args.state c.args.matrix.now c.args.lines.now c.in-Some.drawn (sym c.drawn_place.ensures.drawn ∙ c.in-Some.is) c.in-Ternary.after made c.requires.lines in
+    fault_drawn c.args.limits.lines (c.args.pivots - 1) c.in-Some.drawn.state c.in-Ternary.after c.args.lines.now (tree_of c.in_ok-tree-in-Ternary.tree) made.shape are c.in_ok-tree-in-Ternary.ensures
 
 pub find-returns-in-Violated : goal.find-returns-in-Violated
 find-returns-in-Violated g t c =
-    let m = c.args.matrix.now in
-    let lines = c.args.lines.now in
-    let shows = subst (IsPivotedPart m lines c.in-Some.place) c.in-Violated.is c.in_ok-fault.ensures in
-    let at = place_found m lines c.in_ok-place.field-0 c.in-Some.place c.in-Some.is c.in_ok-place.ensures.place in
-    IfOk-weaker c.leaf-in-Violated.result (λ node. tree_of node ≡ Branch lines (Violator c.in-Violated.fault) NoTrees) _
-    (λ node e. found_two IsOpenEnd c.args.limits.lines c.args.pivots m lines c.in-Some.place at (tree_of node) c.in-Violated.fault c.if-pivots-eq0.false shows e)
+    let shows = subst (IsPivotedPart c.args.matrix.now c.args.lines.now c.in-Some.drawn.place) c.in-Violated.is c.in_ok-fault.ensures in
+    IfOk-weaker c.leaf-in-Violated.result (λ node. tree_of node ≡ Branch c.args.lines.now (Violator c.in-Violated.fault) NoTrees) _
+    (λ node e. found_two c.args.limits.lines c.args.pivots c.args.state c.args.matrix.now c.args.lines.now c.in-Some.drawn (sym c.drawn_place.ensures.drawn ∙ c.in-Some.is) (tree_of node) c.in-Violated.fault c.if-pivots-eq0.false shows e)
     c.leaf-in-Violated.ensures
 
 pub find-returns-in_ok-tree-in-Ternary : goal.find-returns-in_ok-tree-in-Ternary
 find-returns-in_ok-tree-in-Ternary g t c =
-    let m = c.args.matrix.now in
-    let lines = c.args.lines.now in
-    let made = subst (IsPivotedPart m lines c.in-Some.place) c.in-Ternary.is c.in_ok-fault.ensures in
-    let at = place_found m lines c.in_ok-place.field-0 c.in-Some.place c.in-Some.is c.in_ok-place.ensures.place in
+    let made = subst (IsPivotedPart c.args.matrix.now c.args.lines.now c.in-Some.drawn.place) c.in-Ternary.is c.in_ok-fault.ensures in
     let found = tree_of c.in_ok-tree-in-Ternary.tree in
-    IfOk-weaker c.taken_back.result (λ node. IsToldBeforePivot m lines c.in-Some.place found (verdict_of found) (tree_of node)) _
-    (λ node told. found_after IsOpenEnd c.args.limits.lines c.args.pivots m lines c.in-Some.place at (tree_of node) found c.in-Ternary.after c.if-pivots-eq0.false made c.in_ok-tree-in-Ternary.ensures told)
+    IfOk-weaker c.taken_back.result (λ node. IsToldBeforePivot c.args.matrix.now c.args.lines.now c.in-Some.drawn.place found (verdict_of found) (tree_of node)) _
+    (λ node told. found_after c.args.limits.lines c.args.pivots c.args.state c.args.matrix.now c.args.lines.now c.in-Some.drawn (sym c.drawn_place.ensures.drawn ∙ c.in-Some.is) (tree_of node) found c.in-Ternary.after c.if-pivots-eq0.false made
+    c.in_ok-tree-in-Ternary.ensures told)
     c.taken_back.ensures
 
 -- ---- a draft that is settled
@@ -160,17 +152,17 @@ pub settle-returns-in-Some : goal.settle-returns-in-Some
 settle-returns-in-Some g t c =
     let m = c.args.matrix.now in
     let found = subst (λ (o : Option LineSet). MatchOption o (HasNoLateFault m c.deref.result.now.lines (finding_shown c.deref-2.result.now.finding)) (λ fault. IsNamedFault m c.deref.result.now.lines fault × (is_unsearched (finding_shown c.deref-2.result.now.finding) ≡ true))) c.in-Some.is c.in_ok-fault.ensures in
-    fault_settled c.args.limits.lines m c.args.drawn c.requires.drafted IsOpenEnd c.args.pivots c.requires.shape (lines_in c.args.limits.lines m c.args.drawn c.requires.drafted c.requires.lines) c.in-Some.fault
+    fault_settled c.args.limits.lines m c.args.drawn c.requires.drafted c.args.pivots c.args.state c.requires.shape (lines_in c.args.limits.lines m c.args.drawn c.requires.drafted c.requires.lines) c.in-Some.fault
     (subst (λ (opening : Opening). IsNamedFault m opening.lines c.in-Some.fault) c.deref.ensures found.0) (map tree_of c.args.nodes.now.items) (map tree_of c.push_fault.new.nodes.items)
     (subst (λ (lines : LineSet). map tree_of c.push_fault.new.nodes.items ≡ map tree_of c.args.nodes.now.items ++ Branch lines (Cycle c.in-Some.fault) NoTrees ∷ []) c.lines_of.ensures c.in_ok-push_fault.ensures)
 
 pub settle-returns-then-is_undecided : goal.settle-returns-then-is_undecided
 settle-returns-then-is_undecided g t c =
     let m = c.args.matrix.now in
-    found_settled c.args.limits.lines m c.args.drawn c.requires.drafted IsOpenEnd c.args.pivots
+    found_settled c.args.limits.lines m c.args.drawn c.requires.drafted c.args.pivots c.args.state
     (subst (λ (opening : Opening). is_undecided (finding_shown opening.finding) ≡ true) c.deref-3.ensures (sym c.is_undecided.ensures ∙ c.if-is_undecided.true)) (tree_of c.in_ok-found.found)
-    (subst (λ (opening : Opening). IsFound c.args.limits.lines c.args.pivots m opening.lines (tree_of c.in_ok-found.found)) c.deref-then-is_undecided.ensures
-    (subst (λ (whole : Matrix). IsFound c.args.limits.lines c.args.pivots whole c.deref-then-is_undecided.result.now.lines (tree_of c.in_ok-found.found)) c.by_rows-whole.ensures.matrix c.in_ok-found.ensures))
+    (subst (λ (opening : Opening). IsFound c.args.limits.lines c.args.pivots c.args.state m opening.lines (tree_of c.in_ok-found.found)) c.deref-then-is_undecided.ensures
+    (subst (λ (whole : Matrix). IsFound c.args.limits.lines c.args.pivots c.args.state whole c.deref-then-is_undecided.result.now.lines (tree_of c.in_ok-found.found)) c.by_rows-whole.ensures.matrix c.in_ok-found.ensures))
     (map tree_of c.args.nodes.now.items) (map tree_of c.push.new.self.items) (tree_behind c.args.nodes.now.items c.push.new.self.items c.in_ok-found.found c.in_ok-push.ensures.items)
 
 pub settle-late_fault-requires-clause-lines : goal.settle-late_fault-requires-clause-lines
@@ -195,8 +187,11 @@ settle-find-requires g t c =
         (
           search rules,
           (
-            subst IsMatrix (sym c.by_rows-whole.ensures.matrix) c.requires.shape,
-            subst (λ (whole : Matrix). AreLines whole lines) (sym c.by_rows-whole.ensures.matrix) (subst (AreLines m) (sym same) c.requires.lines),
+            c.requires.state,
+            (
+              subst IsMatrix (sym c.by_rows-whole.ensures.matrix) c.requires.shape,
+              subst (λ (whole : Matrix). AreLines whole lines) (sym c.by_rows-whole.ensures.matrix) (subst (AreLines m) (sym same) c.requires.lines),
+            ),
           ),
         ),
       ),
@@ -219,10 +214,13 @@ settle-settle-requires g t c =
         (
           search rules,
           (
-            c.requires.shape,
+            c.requires.state,
             (
-              child_lines m (lines_of_sketch (sketch_of c.args.drawn)) (lines_of_sketch (sketch_of child)) c.requires.lines known.1,
-              known.0,
+              c.requires.shape,
+              (
+                child_lines m (lines_of_sketch (sketch_of c.args.drawn)) (lines_of_sketch (sketch_of child)) c.requires.lines known.1,
+                known.0,
+              ),
             ),
           ),
         ),
@@ -233,7 +231,7 @@ pub settle-loop-child-init : goal.settle-loop-child-init
 settle-loop-child-init g t c = (
   refl,
   search rules,
-  subst (λ (nodes : List Node). AreSettled IsOpenEnd c.args.limits.lines c.args.pivots c.args.matrix.now [] (map tree_of nodes)) (sym c.new-children.ensures.items) ([], tt, refl),
+  subst (λ (nodes : List Node). AreSettled c.args.limits.lines c.args.pivots c.args.state c.args.matrix.now [] (map tree_of nodes)) (sym c.new-children.ensures.items) ([], tt, refl),
 )
 
 pub settle-loop-child-preserved : goal.settle-loop-child-preserved
@@ -246,7 +244,7 @@ settle-loop-child-preserved g t c =
           let gone = c.in-Some-child.ensures.steps.1 in
           let short = ap length steps in
           omega arith),
-      settled_next c.args.limits.lines c.args.matrix.now IsOpenEnd c.args.pivots at.yielded child (map tree_of at.children.items) (map tree_of c.settle.new.nodes.items) at.invariant.2 c.in_ok-settle.ensures,
+      settled_next c.args.limits.lines c.args.matrix.now c.args.pivots c.args.state at.yielded child (map tree_of at.children.items) (map tree_of c.settle.new.nodes.items) at.invariant.2 c.in_ok-settle.ensures,
     )
 
 pub settle-push_node-requires : goal.settle-push_node-requires
@@ -254,8 +252,8 @@ settle-push_node-requires g t c =
     let at = c.loop-child in
     let none = c.in-None.ensures.steps in
     let all = all_yielded at.yielded (into_iter_items at.child-iterator) (into_iter_items c.into_iter-child-iterator.result) (drafts_in c.args.drawn) (sym at.invariant.1 ∙ none.0) at.invariant.0 (c.into_iter-child-iterator.ensures.into_iter_gives.0 ∙ ap (λ d. d.children.items) (out-roll-Draft _)) in
-    count_settled c.args.limits.lines c.args.matrix.now c.args.drawn c.requires.drafted IsOpenEnd c.args.pivots at.children.items
-    (subst (λ (drafts : List Draft). AreSettled IsOpenEnd c.args.limits.lines c.args.pivots c.args.matrix.now (map (λ child. lines_of_sketch (sketch_of child)) drafts) (map tree_of at.children.items)) all at.invariant.2)
+    count_settled c.args.limits.lines c.args.matrix.now c.args.drawn c.requires.drafted c.args.pivots c.args.state at.children.items
+    (subst (λ (drafts : List Draft). AreSettled c.args.limits.lines c.args.pivots c.args.state c.args.matrix.now (map (λ child. lines_of_sketch (sketch_of child)) drafts) (map tree_of at.children.items)) all at.invariant.2)
 
 pub settle-returns : goal.settle-returns
 settle-returns g t c =
@@ -264,8 +262,8 @@ settle-returns g t c =
     let none = c.in-None.ensures.steps in
     let all = all_yielded at.yielded (into_iter_items at.child-iterator) (into_iter_items c.into_iter-child-iterator.result) (drafts_in c.args.drawn) (sym at.invariant.1 ∙ none.0) at.invariant.0 (c.into_iter-child-iterator.ensures.into_iter_gives.0 ∙ ap (λ d. d.children.items) (out-roll-Draft _)) in
     let late = subst (λ (o : Option LineSet). MatchOption o (HasNoLateFault m c.deref.result.now.lines (finding_shown c.deref-2.result.now.finding)) (λ fault. IsNamedFault m c.deref.result.now.lines fault × (is_unsearched (finding_shown c.deref-2.result.now.finding) ≡ true))) c.in_default.is c.in_ok-fault.ensures in
-    whole_settled c.args.limits.lines m c.args.drawn c.requires.drafted IsOpenEnd c.args.pivots at.children.items
-    (subst (λ (drafts : List Draft). AreSettled IsOpenEnd c.args.limits.lines c.args.pivots m (map (λ child. lines_of_sketch (sketch_of child)) drafts) (map tree_of at.children.items)) all at.invariant.2)
+    whole_settled c.args.limits.lines m c.args.drawn c.requires.drafted c.args.pivots c.args.state at.children.items
+    (subst (λ (drafts : List Draft). AreSettled c.args.limits.lines c.args.pivots c.args.state m (map (λ child. lines_of_sketch (sketch_of child)) drafts) (map tree_of at.children.items)) all at.invariant.2)
     (subst (λ (opening : Opening). is_undecided (finding_shown opening.finding) ≡ false) c.deref-3.ensures (sym c.is_undecided.ensures ∙ c.if-is_undecided.false))
     (subst (λ (opening : Opening). HasNoLateFault m (opening_in c.args.drawn).lines (finding_shown opening.finding)) c.deref-2.ensures (subst (λ (opening : Opening). HasNoLateFault m opening.lines (finding_shown c.deref-2.result.now.finding)) c.deref.ensures late))
     (map tree_of c.args.nodes.now.items) (map tree_of c.push_node.new.nodes.items) c.in_ok-push_node.ensures

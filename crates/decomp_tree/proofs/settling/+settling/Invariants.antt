@@ -2,7 +2,6 @@ use Rattle.std.proofs.Common.{◌≡◌, ◌+◌, ◌*◌, ◌++◌, length, map
 use Rattle.std.specs.Vec.Iter.{into_iter_items, into_iter_len}
 use Rattle.tree_type.specs.DecompositionTrees.{tree_of}
 use Rattle.tree_type.specs.Invariant.{size_of}
-use Rattle.decomp_tree.specs.PivotedShapes.{IsOpenEnd}
 use Rattle.decomp_tree.specs.Sketches.{lines_of_sketch, sketch_of}
 use Rattle.decomp_tree.proofs.Settled.{AreSettled}
 use Rattle.decomp_tree.proofs.settling.+settling.Given as goal
@@ -20,4 +19,4 @@ decreases-find g l = 4 * (l.pivots + size_of l.lines.now)
 abbrev pub invariant-settle-loop-child : goal.invariant-settle-loop-child
 invariant-settle-loop-child g l = (l.yielded ++ into_iter_items l.child-iterator ≡ into_iter_items l.initial.child-iterator)
     × (into_iter_len l.child-iterator ≡ length (into_iter_items l.child-iterator))
-    × AreSettled IsOpenEnd l.limits.lines l.pivots l.matrix (map (λ draft. lines_of_sketch (sketch_of draft)) l.yielded) (map tree_of l.children.items)
+    × AreSettled l.limits.lines l.pivots l.state l.matrix (map (λ draft. lines_of_sketch (sketch_of draft)) l.yielded) (map tree_of l.children.items)

@@ -1,2 +1,0 @@
-pub mod SameSets
-pub mod SeparatingPlaces
