@@ -9,6 +9,10 @@ use Rattle.cmr_front.specs.declared.status.Answer.{Answer}
 use Rattle.cmr_tools.specs.ToolOrders.{Order, order_of, ordered, tool_of}
 use Rattle.cmr_tools.specs.declared.command.Command.{Command}
 
+-- the options of a command are in their ranges
+pub ranges_of : (command named : Command) → command ≡ named → (tool_of (order_of command)).InRanges → (tool_of (order_of named)).InRanges
+ranges_of command named is ranges = subst (λ it. (tool_of (order_of it)).InRanges) is ranges
+
 pub runs_of : (command named : Command) (standing : Standing) (before after : Devices) (status : ℕ) → command ≡ named
     → Runs (work (tool_of (order_of named))) standing before after status → Runs (work (tool_of (order_of command))) standing before after status
 runs_of command named standing before after status is runs = subst (λ it. Runs (work (tool_of (order_of it))) standing before after status) (sym is) runs

@@ -1,5 +1,21 @@
-use Rattle.cmr_tools.proofs.Obeyed.{means_of, runs_of}
+use Rattle.std.proofs.Common.{refl, rules}
+use Rattle.cmr_tools.proofs.Obeyed.{means_of, ranges_of, runs_of}
 use Rattle.cmr_tools.proofs.command.obey.Goals as goal
+
+pub run-requires-sync-R : goal.run-requires-sync-R
+run-requires-sync-R g c κs within = (search rules, ((refl, tt), ranges_of c.args.command.now _ c.in-Tu.is c.requires))
+
+pub run-requires-in-Regular-sync-R : goal.run-requires-in-Regular-sync-R
+run-requires-in-Regular-sync-R g c κs within = (search rules, ((refl, tt), ranges_of c.args.command.now _ c.in-Regular.is c.requires))
+
+pub run-requires-in-Test-sync-R : goal.run-requires-in-Test-sync-R
+run-requires-in-Test-sync-R g c κs within = (search rules, ((refl, tt), ranges_of c.args.command.now _ c.in-Test.is c.requires))
+
+pub run-requires-in-Generate-sync-R : goal.run-requires-in-Generate-sync-R
+run-requires-in-Generate-sync-R g c κs within = (search rules, ((refl, tt), ranges_of c.args.command.now _ c.in-Generate.is c.requires))
+
+pub run-requires-in-Balanced-sync-R : goal.run-requires-in-Balanced-sync-R
+run-requires-in-Balanced-sync-R g c κs within = (search rules, ((refl, tt), ranges_of c.args.command.now _ c.in-Balanced.is c.requires))
 
 pub returns-in-Tu-clause-runs : goal.returns-in-Tu-clause-runs
 returns-in-Tu-clause-runs g c = runs_of c.args.command.now _ _ _ _ _ c.in-Tu.is c.run.ensures.runs
