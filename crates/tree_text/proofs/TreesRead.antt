@@ -185,7 +185,7 @@ module _ (sizes : Sizes) (lines : LineSet) where
       let steps = bind_ok (fields Short (step_in sizes lines) count.0.0 count.0.1) (λ (steps : List Line × Text). Ok ((Reduced steps.0, 1), steps.1)) found count.2 in
       let few = field_value (limited (size_of lines)) (λ n. n ≤ size_of lines) (limited_ok (size_of lines)) text count.0 count.1 in
       let read = fields_ok Short (step_in sizes lines) count.0.0 [] count.0.1 steps.0.0 steps.0.1 steps.1 in
-      let all = spelled_all (step_in sizes lines) (HasLine lines.rows lines.columns) (step_ok sizes lines) (texts_of read.opening) read.read read.spell in
+      let all = spelled_all (step_in sizes lines) (HasLine lines.rows lines.columns) (step_ok sizes lines) (texts_of read.prefix) read.read read.spell in
       fitting_from (Reduced steps.0.0, 1) steps.0.1 found steps.2 (λ trees e. (
         (subst (AllByRecursion (HasLine lines.rows lines.columns)) (sym read.values_are) all, (let n = ap length read.values_are ∙ read.count in omega (arith, n, few))),
         e,
