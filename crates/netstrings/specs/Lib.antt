@@ -1,0 +1,3 @@
+pub mod Colons
+pub mod Laws
+pub mod Netstrings
