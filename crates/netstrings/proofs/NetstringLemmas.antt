@@ -5,7 +5,7 @@ use Rattle.std.specs.Fmt.{decimal}
 use Rattle.std.proofs.lemmas.Fmt.{decimal_by_steps, decimal_injective, decimal_digit, decimal_step}
 use Rattle.netstrings.specs.Colons.{HasNoColon, IsFirstColon}
 use Rattle.std.specs.List.{AllByRecursion}
-use Rattle.netstrings.specs.Netstrings.{netstring, netstrings, NeverBegins, IsCut, IsShort, Splits}
+use Rattle.netstrings.specs.Netstrings.{netstring, netstrings, NeverBegins, IsIncomplete, IsShort, StartsWith}
 
 -- ---- colons
 
@@ -90,13 +90,13 @@ prefix-decimal n small = (decimal_by_steps IsPrefixOfDecimal one_digit more_digi
 -- ---- the first netstring
 
 -- the digits before its colon, and all after it
-digits_and_rest : (bytes text rest : List ℕ) → Splits bytes text rest → bytes ≡ decimal (length text) ++ (58 ∷ ((text ++ (44 ∷ [])) ++ rest))
+digits_and_rest : (bytes text rest : List ℕ) → StartsWith bytes text rest → bytes ≡ decimal (length text) ++ (58 ∷ ((text ++ (44 ∷ [])) ++ rest))
 digits_and_rest bytes text rest s = s.whole ∙ append_assoc (decimal (length text)) (58 ∷ (text ++ (44 ∷ []))) rest
 
 joined : (bytes text rest : List ℕ) → bytes ≡ decimal (length text) ++ (58 ∷ ((text ++ (44 ∷ [])) ++ rest)) → bytes ≡ netstring text ++ rest
 joined bytes text rest e = e ∙ sym (append_assoc (decimal (length text)) (58 ∷ (text ++ (44 ∷ []))) rest)
 
-meets_colon : (prefix tail bytes text rest : List ℕ) → HasNoColon prefix → bytes ≡ prefix ++ (58 ∷ tail) → Splits bytes text rest → (prefix ≡ decimal (length text)) × (tail ≡ (text ++ (44 ∷ [])) ++ rest)
+meets_colon : (prefix tail bytes text rest : List ℕ) → HasNoColon prefix → bytes ≡ prefix ++ (58 ∷ tail) → StartsWith bytes text rest → (prefix ≡ decimal (length text)) × (tail ≡ (text ++ (44 ∷ [])) ++ rest)
 meets_colon prefix tail bytes text rest clean e s =
     same_colon prefix (decimal (length text)) tail ((text ++ (44 ∷ [])) ++ rest) clean (no_colon-decimal (length text) (omega arith)) (sym e ∙ digits_and_rest bytes text rest s)
 
@@ -130,7 +130,7 @@ headed bytes left at n first e digits small = record { prefix = take at bytes; c
 headed_here : (bytes left : List ℕ) (n : ℕ) → IsHeaded bytes left n → bytes ≡ decimal n ++ (58 ∷ left)
 headed_here bytes left n h = h.here ∙ ap (λ f. f ++ (58 ∷ left)) h.digits
 
-pub is_whole : (bytes left : List ℕ) (n : ℕ) → IsHeaded bytes left n → n < length left → get_or left n 0 ≡ 44 → Splits bytes (take n left) (drop (n + 1) left)
+pub is_whole : (bytes left : List ℕ) (n : ℕ) → IsHeaded bytes left n → n < length left → get_or left n 0 ≡ 44 → StartsWith bytes (take n left) (drop (n + 1) left)
 is_whole bytes left n h within comma =
     let len : length (take n left) ≡ n = length-take-le n left (omega arith) in
     record {
@@ -148,7 +148,7 @@ is_no_netstring bytes left n h within other more text rest s =
     let byte : get_or left n 0 ≡ get_or (left ++ more) n 0 = sym (get_or_append_left left more 0 n within) in
     other (byte ∙ ap (λ x. get_or x n 0) met.1 ∙ ap (λ k. get_or ((text ++ (44 ∷ [])) ++ rest) k 0) len ∙ comma_after text rest)
 
-pub is_cut : (bytes left : List ℕ) (n : ℕ) → IsHeaded bytes left n → length left ≤ n → IsCut bytes
+pub is_cut : (bytes left : List ℕ) (n : ℕ) → IsHeaded bytes left n → length left ≤ n → IsIncomplete bytes
 is_cut bytes left n h few =
     let zeros : List ℕ = replicate (n - length left) 0 in
     let text : List ℕ = left ++ zeros in
@@ -176,7 +176,7 @@ has_no_length bytes at first none more text rest s =
     let met = meets_colon (take at bytes) (drop (at + 1) bytes ++ more) (bytes ++ more) text rest first.before (with_more (take at bytes) (drop (at + 1) bytes) bytes more first.here) s in
     none (length text) s.short met.0
 
-pub empty_is_cut : (bytes : List ℕ) → length bytes ≡ 0 → IsCut bytes
+pub empty_is_cut : (bytes : List ℕ) → length bytes ≡ 0 → IsIncomplete bytes
 empty_is_cut (b ∷ bytes) e = absurd (omega arith)
 empty_is_cut [] e = record {
   none = λ text rest s.
@@ -187,7 +187,7 @@ empty_is_cut [] e = record {
   whole = record { whole = sym (append-nil (netstring [])); short = omega arith };
 }
 
-pub digits_are_cut : (bytes : List ℕ) (n : ℕ) → HasNoColon bytes → bytes ≡ decimal n → n < 2 ^ 31 → IsCut bytes
+pub digits_are_cut : (bytes : List ℕ) (n : ℕ) → HasNoColon bytes → bytes ≡ decimal n → n < 2 ^ 31 → IsIncomplete bytes
 digits_are_cut bytes n clean e small =
     let zeros : List ℕ = replicate n 0 in
     let len : length zeros ≡ n = length-replicate n 0 in
@@ -221,7 +221,7 @@ same_prefixes (c ∷ a) (d ∷ b) x y len e =
     (cc, rest.1)
 
 -- the first netstring is unique
-pub one_netstring : (bytes text rest other tail : List ℕ) → Splits bytes text rest → Splits bytes other tail → (text ≡ other) × (rest ≡ tail)
+pub one_netstring : (bytes text rest other tail : List ℕ) → StartsWith bytes text rest → StartsWith bytes other tail → (text ≡ other) × (rest ≡ tail)
 one_netstring bytes text rest other tail s t =
     let met = meets_colon (decimal (length text)) ((text ++ (44 ∷ [])) ++ rest) bytes other tail (no_colon-decimal (length text) (let short = s.short in omega arith)) (digits_and_rest bytes text rest s) t in
     let len : length text ≡ length other = decimal_injective (length text) (length other) (let short = s.short in omega arith) (let short = t.short in omega arith) met.0 in

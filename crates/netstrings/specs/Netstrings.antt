@@ -18,27 +18,27 @@ abbrev pub IsShort : List ℕ → Type 0
 IsShort text = length text < 2 ^ 31
 
 -- the bytes are the netstring of a text and the rest after it
-pub record Splits (bytes text rest : List ℕ) : Type 0 where
+pub record StartsWith (bytes text rest : List ℕ) : Type 0 where
   pub whole : bytes ≡ netstring text ++ rest
   pub short : IsShort text
 
 -- the bytes begin with no netstring
 abbrev pub BeginsWithNone : List ℕ → Type 0
-BeginsWithNone bytes = (text rest : List ℕ) → Splits bytes text rest → ⊥
+BeginsWithNone bytes = (text rest : List ℕ) → StartsWith bytes text rest → ⊥
 
 -- they do not, whatever bytes follow
 abbrev pub NeverBegins : List ℕ → Type 0
 NeverBegins bytes = (more : List ℕ) → BeginsWithNone (bytes ++ more)
 
 -- they do not, and some bytes after them would complete one
-pub record IsCut (bytes : List ℕ) : Type 0 where
+pub record IsIncomplete (bytes : List ℕ) : Type 0 where
   pub none : BeginsWithNone bytes
   pub more : List ℕ
   pub text : List ℕ
-  pub whole : Splits (bytes ++ more) text []
+  pub whole : StartsWith (bytes ++ more) text []
 
 -- how the bytes begin
 abbrev pub Begins : List ℕ → Beginning → Type 0
-Begins bytes (Whole first) = Splits bytes first.text.now first.rest.now
-Begins bytes Cut = IsCut bytes
+Begins bytes (Whole first) = StartsWith bytes first.text.now first.rest.now
+Begins bytes Cut = IsIncomplete bytes
 Begins bytes Fault = NeverBegins bytes

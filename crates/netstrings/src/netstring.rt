@@ -1,7 +1,7 @@
 // The netstring at the beginning of a text: a length in digits, a colon, this number of bytes, and a comma.
 ghost use Rattle.std.specs.Prelude.{◌≡◌, ◌<◌, ◌^◌, ◌++◌, ◌∷◌, ℕ, IfNone, IfSome, MatchOption, length, take, drop};
 ghost use Rattle.std.specs.Fmt.{decimal};
-ghost use Rattle.netstrings.specs.Netstrings.{Begins, BeginsWithNone, Splits};
+ghost use Rattle.netstrings.specs.Netstrings.{Begins, BeginsWithNone, StartsWith};
 ghost use Rattle.netstrings.specs.Colons.{IsFirstColon, HasNoColon};
 
 use crate::length::length_in;
@@ -74,7 +74,7 @@ fn after_colon(bytes: &[u8], at: usize, count: usize) -> Beginning<'_>
 
 /// The first netstring, and `None` if and only if the text begins with none.
 pub fn first_netstring(bytes: &[u8]) -> Option<Netstring<'_>>
-    ensures some { IfSome result (λ first. Splits bytes.now first.text.now first.rest.now) }
+    ensures some { IfSome result (λ first. StartsWith bytes.now first.text.now first.rest.now) }
     ensures none { IfNone result (BeginsWithNone bytes.now) }
 {
     match beginning_of(bytes) {
