@@ -1,0 +1,3 @@
+pub mod FileLemmas
+pub mod IncomingLemmas
+pub mod RequestLemmas

@@ -1,0 +1,10 @@
+pub mod RequestBegun
+pub mod NamedFiles
+pub mod GrowingSink
+pub mod Held
+pub mod Incoming
+pub mod Laws
+pub mod Replies
+pub mod ReplyViews
+pub mod Requests
+pub mod RequestShelf
