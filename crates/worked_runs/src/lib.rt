@@ -3,6 +3,8 @@
 #![tactic(auto)]
 
 #[cfg(test)]
+mod batched;
+#[cfg(test)]
 mod endings;
 #[cfg(test)]
 mod failing_devices;

@@ -42,7 +42,7 @@ fn refused_words(rt: HostRuntime) -> Result<(), Fail> {
     Ok(())
 }
 
-const RUNS: &str = "\
+pub const RUNS: &str = "\
 tu f | f: 0 0/ | 0 | totally unimodular: yes/0 empty 0x0/ | none
 tu f | f: 3 0//// | 0 | totally unimodular: yes/0 reduced 3x0/1 empty 0x0/ | none
 tu -E e f | f: 3 3/1 1 0/0 1 1/1 0 -1/ | 0 | totally unimodular: yes/0 network 3x3/ | e: as before

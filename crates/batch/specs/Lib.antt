@@ -1,0 +1,2 @@
+pub mod RequestReplies
+pub mod Serving
