@@ -1,6 +1,7 @@
 """A plain slow program for decompositions with pivots. It asks the program itself only for the tree of each pivoted submatrix.
 
-It follows the rule of docs/DEFINITIONS.md, with its own pivots, draws and inverse map of violators. Tests compare the results.
+It follows the rule of docs/DEFINITIONS.md, with its own positions of pivots (`slow_separating`) and inverse map of violators. Tests compare
+the results.
 """
 
 from __future__ import annotations
@@ -9,23 +10,12 @@ from dataclasses import dataclass, replace
 
 from cmr_matrices import BadEntry, Line, LineSet, Matrix, Node, Tree
 from cmr_matrices.line_orders import LineOrder
+from tests.slow_separating import separating_place
 from tests.support import asked_once
 
-__all__ = ["Draws", "slow_tree", "violator_before"]
+__all__ = ["slow_tree", "violator_before"]
 
 MOST_LEVELS = 2000
-
-
-@dataclass(frozen=True)
-class Draws:
-    """Numbers that are drawn one after another from a state below 2^31, by the generator of `cmr generate`: docs/DEFINITIONS.md."""
-
-    state: int = 1
-
-    def below(self, bound: int) -> tuple[int, Draws]:
-        """A number below a bound, and the draws after it."""
-        after = (1103515245 * self.state + 12345) % 2**31
-        return after // 1024 % bound, Draws(after)
 
 
 def violator_before(matrix: Matrix, row: int, column: int, fault: LineSet) -> LineSet:
@@ -43,7 +33,7 @@ def violator_before(matrix: Matrix, row: int, column: int, fault: LineSet) -> Li
 def slow_tree(matrix: Matrix, pivots: int, lines: int) -> tuple[Tree, int]:
     """The decomposition with up to `pivots` pivots on the path to a node and the budget `lines`, and the most pivots that a path has."""
     search = _Search(lines)
-    tree = search.tree(matrix, min(pivots, MOST_LEVELS - sum(matrix.shape)), Draws())
+    tree = search.tree(matrix, min(pivots, MOST_LEVELS - sum(matrix.shape)))
     return tree, search.deepest
 
 
@@ -52,29 +42,29 @@ class _Search:
     lines: int
     deepest: int = 0
 
-    def tree(self, matrix: Matrix, left: int, draws: Draws, made: int = 0) -> Tree:
+    def tree(self, matrix: Matrix, left: int, made: int = 0) -> Tree:
         """The tree of a matrix in which up to `left` more pivots may be made."""
         self.deepest = max(self.deepest, made)
         tree = asked_once("totally unimodular", matrix, lines=self.lines).tree
         assert tree is not None
         undecided = [node for _, node in tree.walk() if node.kind == "undecided"]
-        found = {node: self._found(matrix, node, left, draws, made) for node in undecided}
+        found = {node: self._found(matrix, node, left, made) for node in undecided}
         return replace(tree, root=tree.root.rebuilt(_Exchanged(found)))
 
-    def _found(self, matrix: Matrix, node: Node, left: int, draws: Draws, made: int) -> Node:
-        """What stands in the place of an undecided node. Its submatrix has a nonzero, as it is not reducible."""
-        if not left:
-            return node
+    def _found(self, matrix: Matrix, node: Node, left: int, made: int) -> Node:
+        """What replaces an undecided node."""
         order = LineOrder(matrix, node.rows, node.columns)
         part = order.reordered()
-        number, after = draws.below(len(part.nonzeros))
-        row, column, _ = part.nonzeros[number]
+        position = separating_place(part) if left else None
+        if position is None:
+            return node
+        row, column = position
         try:
             pivoted = part.pivoted(row, column)
         except BadEntry as entry:
             fault = LineSet(tuple(sorted((row, entry.row))), tuple(sorted((column, entry.column))))
             return Node("violator", node.lines, fault=order.lines(fault))
-        below = self.tree(pivoted, left - 1, after, made + 1)
+        below = self.tree(pivoted, left - 1, made + 1)
         if below.verdict == "yes":
             place = order.line(Line("row", row)), order.line(Line("column", column))
             return Node("pivoted", node.lines, (order.tree(below).root,), place=place)
