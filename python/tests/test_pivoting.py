@@ -30,7 +30,7 @@ class Rules(unittest.TestCase):
         """The first cut is a cut, and there is one if and only if some set of lines is a cut."""
         draw, seen = random.Random(3), Counter[bool]()
         for _ in range(150):
-            rows = [[draw.choice((0, 0, 1)) for _ in range(5)] for _ in range(4)]
+            rows = [[draw.choice((-1, 0, 1)) for _ in range(5)] for _ in range(4)]
             side = first_cut(rows)
             seen[side is not None] += 1
             if side is None:
@@ -42,10 +42,14 @@ class Rules(unittest.TestCase):
 
     def test_positions(self) -> None:
         """In side one if it is not fit, otherwise in side two; none if both are fit or there is no path."""
-        one, path = frozenset((0, 1, 4, 5)), [[1, 1, 1, 0], [1, 1, 0, 0], [0, 0, 1, 1], [1, 0, 1, 1]]
-        self.assertEqual(cut_place(path, one), None)
-        longer = [[0, 1, 1, 0], [1, 1, 0, 0], [0, 0, 1, 1], [1, 0, 1, 1]]
-        self.assertEqual(cut_place(longer, one), (0, 1))
+        one = frozenset((0, 1, 4, 5))
+        for rows, place in (
+            ([[1, 1, 1, 0], [1, 1, 0, 0], [0, 0, 1, 1], [1, 0, 1, 1]], (0, 1)),
+            ([[1, 0, 1, 0], [1, 1, 0, 0], [0, 0, 1, 1], [1, 0, 1, 1]], None),
+            ([[1, 0, 1, 0], [0, 1, 1, 0], [1, 0, 1, 1], [0, 0, 1, 1]], (2, 3)),
+            ([[1, 0, 1, 0], [0, 1, 1, 0], [1, 0, 0, 1], [1, 0, 1, 1]], None),
+        ):
+            self.assertEqual(cut_place(rows, one), place)
 
     def test_violators_before_a_pivot(self) -> None:
         """Each violator of a pivot comes from one of the matrix, and the lines beside the pivot's stay."""
