@@ -12,7 +12,7 @@ use Rattle.ghouila.proofs.Cycles.{four_or_two}
 use Rattle.cmr_base.proofs.Lists.{all_of}
 use Rattle.cmr_base.proofs.Members.{all_in}
 use Rattle.cmr_base.proofs.Parity.{IsFour, even-add, four-double, two_mod_four_not_four}
-use Rattle.cmr_base.proofs.IncreasingLists.{row_set_rises, column_set_rises, increasing_column_set, increasing_below}
+use Rattle.cmr_base.proofs.IncreasingLists.{row_set_increases, column_set_increases, increasing_column_set, increasing_below}
 use Rattle.cmr_base.proofs.RowLists.{in_filter, search_rows}
 use Rattle.cmr_base.proofs.SumLaws.{sum_over_same, sum_over-add, sum_over-exchange}
 use Rattle.cmr_base.proofs.Booleans.{not_is, is_zero, zero_is}
@@ -23,7 +23,7 @@ use Rattle.balance.specs.BalanceFaults.{IsBalanceFault}
 use Rattle.balance.specs.SearchedFaults.{HasNoFaultBelow}
 use Rattle.balance.specs.CandidateColumns.{IsCandidate}
 use Rattle.balance.proofs.NonzeroCounts.{mark, mark_zero, mark_sign, counted, two_from_sum, two_is_even}
-use Rattle.balance.proofs.FilterSums.{with_line, sum-with_line, all-with_line, rises-with_line, sum_split, sum_part}
+use Rattle.balance.proofs.FilterSums.{with_line, sum-with_line, all-with_line, increases-with_line, sum_split, sum_part}
 use Rattle.balance.proofs.ColumnPairs.{some_nonzero, third_zero}
 use Rattle.balance.proofs.AddedLines.{added, only, added_true, added_false, not_added, sum_added, sum_only}
 use Rattle.balance.proofs.MinimalFaults.{IsClosed, closed_rest, part_no_fault, part_sum, less_four, rows_two, columns_two, other_row, no_lesser, no_chord}
@@ -58,7 +58,7 @@ module _ (m : Matrix) (small : (i j : ℕ) → IsEntry (entry m i j)) (R C : Lis
           two = counted (λ i. entry m i w) R ∙ ap pos is
 
           here : sum_over (filter (only u) R) (λ i. mark (entry m i w)) ≡ mark (entry m u w)
-          here = sum_only u (height m) R (λ i. mark (entry m i w)) (row_set_rises m R row_set) u_in
+          here = sum_only u (height m) R (λ i. mark (entry m i w)) (row_set_increases m R row_set) u_in
 
           split : sum_over (filter (only u) R) (λ i. mark (entry m i w)) +ℤ sum_over (filter (λ i. not (only u i)) R) (λ i. mark (entry m i w)) ≡ sum_over R (λ i. mark (entry m i w))
           split = sum_split (only u) R (λ i. mark (entry m i w))
@@ -125,11 +125,11 @@ module _ (m : Matrix) (small : (i j : ℕ) → IsEntry (entry m i j)) (R C : Lis
       first : sum_over (filter (λ i. is_nonzero (entry m i c)) R) (λ i. sum_over (filter (added (only c) d) C) (λ j. entry m i j)) ≡ sum_over R (λ i. entry m i d) +ℤ sum_over R (λ i. entry m i c)
       first =
           sum_over-exchange (filter (λ i. is_nonzero (entry m i c)) R) (filter (added (only c) d) C) (λ i j. entry m i j)
-          ∙ sum_added (only c) d m.width C (λ j. sum_over (filter (λ i. is_nonzero (entry m i c)) R) (λ i. entry m i j)) (column_set_rises m C column_set) d_in
+          ∙ sum_added (only c) d m.width C (λ j. sum_over (filter (λ i. is_nonzero (entry m i c)) R) (λ i. entry m i j)) (column_set_increases m C column_set) d_in
           (not_added (λ j. false) c d refl (λ e. apart (sym e)))
           ∙ plain (sum_over (filter (λ i. is_nonzero (entry m i c)) R) (λ i. entry m i d)) (sum_over (filter (only c) C) (λ j. sum_over (filter (λ i. is_nonzero (entry m i c)) R) (λ i. entry m i j))) (sum_over R (λ i. entry m i d)) (sum_over R (λ i. entry m i c))
           (column_part d (λ i h e. zero_is (entry m i d) (sym (same i h) ∙ e)))
-          (sum_only c m.width C (λ j. sum_over (filter (λ i. is_nonzero (entry m i c)) R) (λ i. entry m i j)) (column_set_rises m C column_set) c_in ∙ column_part c (λ i h e. zero_is (entry m i c) e))
+          (sum_only c m.width C (λ j. sum_over (filter (λ i. is_nonzero (entry m i c)) R) (λ i. entry m i j)) (column_set_increases m C column_set) c_in ∙ column_part c (λ i h e. zero_is (entry m i c) e))
         where
           plain : (a b x y : ℤ) → a ≡ x → b ≡ y → a +ℤ b ≡ x +ℤ y
           plain a b x y e g = omega (arith, sums)
@@ -176,13 +176,13 @@ module _ (m : Matrix) (small : (i j : ℕ) → IsEntry (entry m i j)) (R C : Lis
   -- two columns that are a fault on the rows that they join
   two_columns : (w c r : ℕ) → w < m.width → IsCandidate m R w → (j : Joins w) → IsIn c C → IsSign (entry m j.u c) → IsSign (entry m j.v c) → w ≢ c → IsTwoModFour (sum_over R (λ i. entry m i w) +ℤ sum_over R (λ i. entry m i c)) → IsIn r R → r ≢ j.u → r ≢ j.v → ⊥
   two_columns w c r w_in is j c_in s t apart two r_in r_u r_v = no_lesser m small R C row_set column_set f before (added (only j.u) j.v) (with_line w (c ∷ [])) r r_in (not_added (only j.u) j.v r (not_added (λ i. false) j.u r refl r_u) r_v)
-      (increasing_column_set m (with_line w (c ∷ [])) (rises-with_line 0 m.width w (c ∷ []) out (omega arith) w_in (omega arith, below, tt))) rows
+      (increasing_column_set m (with_line w (c ∷ [])) (increases-with_line 0 m.width w (c ∷ []) out (omega arith) w_in (omega arith, below, tt))) rows
       (all_in (λ k. sum_over (filter (added (only j.u) j.v) R) (λ i. mark (entry m i k)) ≡ pos 2) (with_line w (c ∷ [])) (all-with_line (λ k. sum_over (filter (added (only j.u) j.v) R) (λ i. mark (entry m i k)) ≡ pos 2) w (c ∷ [])
       (column w is j.at_u j.at_v) (column c (fault_column c c_in) s t, tt)))
       (subst IsTwoModFour (sym total) two)
     where
       below : c < m.width
-      below = all_in (λ x. x < m.width) C (increasing_below 0 m.width C (column_set_rises m C column_set)) c c_in
+      below = all_in (λ x. x < m.width) C (increasing_below 0 m.width C (column_set_increases m C column_set)) c c_in
 
       out : IsIn w (c ∷ []) → ⊥
       out (inl e) = apart e
@@ -231,8 +231,8 @@ module _ (m : Matrix) (small : (i j : ℕ) → IsEntry (entry m i j)) (R C : Lis
       c_in = d_in;
       same = one_support w d is (fault_column d d_in) j a at_v;
       four = combined (sum_over R (λ i. entry m i w)) (sum_over R (λ i. entry m i c)) (sum_over R (λ i. entry m i d)) two
-          (subst IsTwoModFour (sum_over-exchange R C (λ i k. entry m i k) ∙ sym all ∙ sum_added (only c) d m.width C (λ k. sum_over R (λ i. entry m i k)) (column_set_rises m C column_set) d_in (not_added (λ x. false) c d refl d_c)
-          ∙ ap (λ (z : ℤ). sum_over R (λ i. entry m i d) +ℤ z) (sum_only c m.width C (λ k. sum_over R (λ i. entry m i k)) (column_set_rises m C column_set) c_in)) f.two_mod_four)
+          (subst IsTwoModFour (sum_over-exchange R C (λ i k. entry m i k) ∙ sym all ∙ sum_added (only c) d m.width C (λ k. sum_over R (λ i. entry m i k)) (column_set_increases m C column_set) d_in (not_added (λ x. false) c d refl d_c)
+          ∙ ap (λ (z : ℤ). sum_over R (λ i. entry m i d) +ℤ z) (sum_only c m.width C (λ k. sum_over R (λ i. entry m i k)) (column_set_increases m C column_set) c_in)) f.two_mod_four)
           (column_even c (fault_column c c_in));
     },
   )
@@ -293,7 +293,7 @@ module _ (m : Matrix) (small : (i j : ℕ) → IsEntry (entry m i j)) (R C : Lis
                   more : sum_over (filter (λ k. not (only c k)) C) (λ k. mark (entry m j.u k)) ≢ pos 0
                   more e =
                       let all = sum_split (only c) C (λ k. mark (entry m j.u k)) in
-                      let here = sum_only c m.width C (λ k. mark (entry m j.u k)) (column_set_rises m C column_set) c_in in
+                      let here = sum_only c m.width C (λ k. mark (entry m j.u k)) (column_set_increases m C column_set) c_in in
                       let one = mark_sign (entry m j.u c) s in
                       let whole = rows_two m small R C row_set column_set f before j.u j.u_in in
                       omega (arith, sums)

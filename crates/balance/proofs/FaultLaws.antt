@@ -8,7 +8,7 @@ use Rattle.cmr_base.specs.CyclePlaces.{cycle_rows, cycle_columns}
 use Rattle.cmr_base.specs.Sums.{sum_over, IsEven, IsTwoModFour}
 use Rattle.cmr_base.proofs.Lists.{all_of, all_weaker}
 use Rattle.cmr_base.proofs.Members.{all_in, all_of_members, increasing_are_distinct, sum_over_members}
-use Rattle.cmr_base.proofs.IncreasingLists.{row_set_rises, column_set_rises}
+use Rattle.cmr_base.proofs.IncreasingLists.{row_set_increases, column_set_increases}
 use Rattle.cmr_base.proofs.SumLaws.{sum_over-map, sum_over_same}
 use Rattle.ghouila.proofs.Cycles.{IsCycle, below, one_term, two_terms}
 use Rattle.ghouila.proofs.Routes.{Route, route, place_cycle, rows_apart, columns_apart}
@@ -74,10 +74,10 @@ cycle_fault_unbalanced m is R C f = go (route (entry m) is.small f.row f.first_c
         cycle = place_cycle (entry m) is.small f.row f.first_column f.last_column f.path f.fault.place q
 
         rows : (g : ℕ → ℤ) → sum_over R g ≡ sum_over (cycle_rows f.row f.path) g
-        rows g = sum_over_members R (cycle_rows f.row f.path) g (increasing_are_distinct 0 (height m) R (row_set_rises m R f.row_set)) (rows_apart (entry m) is.small f.row f.first_column f.last_column f.path f.fault.place q) (λ i. (f.rows_are i).0) (λ i. (f.rows_are i).1)
+        rows g = sum_over_members R (cycle_rows f.row f.path) g (increasing_are_distinct 0 (height m) R (row_set_increases m R f.row_set)) (rows_apart (entry m) is.small f.row f.first_column f.last_column f.path f.fault.place q) (λ i. (f.rows_are i).0) (λ i. (f.rows_are i).1)
 
         columns : (g : ℕ → ℤ) → sum_over C g ≡ sum_over (cycle_columns f.first_column f.last_column f.path) g
-        columns g = sum_over_members C (cycle_columns f.first_column f.last_column f.path) g (increasing_are_distinct 0 m.width C (column_set_rises m C f.column_set)) (columns_apart (entry m) is.small f.row f.first_column f.last_column f.path f.fault.place q) (λ j. (f.columns_are j).0) (λ j. (f.columns_are j).1)
+        columns g = sum_over_members C (cycle_columns f.first_column f.last_column f.path) g (increasing_are_distinct 0 m.width C (column_set_increases m C f.column_set)) (columns_apart (entry m) is.small f.row f.first_column f.last_column f.path f.fault.place q) (λ j. (f.columns_are j).0) (λ j. (f.columns_are j).1)
 
         row_sum : (i : ℕ) → sum_over (cycle_columns f.first_column f.last_column f.path) (λ j. mark (entry m i j)) ≡ sum_over (map q.way.col (below (suc q.k))) (λ j. mark (entry m i j))
         row_sum i = q.columns_are (λ j. mark (entry m i j)) ∙ sym (sum_over-map q.way.col (below (suc q.k)) (λ j. mark (entry m i j)))

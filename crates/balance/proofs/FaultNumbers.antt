@@ -6,7 +6,7 @@ use Rattle.cmr_base.specs.LineSets.{set_number, set_numbered}
 use Rattle.cmr_base.specs.Members.{IsIn}
 use Rattle.cmr_base.proofs.Integers.{sums}
 use Rattle.cmr_base.proofs.Members.{increasing_are_distinct, sum_over_members}
-use Rattle.cmr_base.proofs.IncreasingLists.{RisesIn, column_set_rises}
+use Rattle.cmr_base.proofs.IncreasingLists.{IncreasesIn, column_set_increases}
 use Rattle.cmr_base.proofs.SetNumbers.{number_of_numbered, numbered_same, row_set-numbered}
 use Rattle.first_hit.specs.First.{NoneBetween}
 use Rattle.balance.specs.BalanceFaults.{IsBalanced, IsBalanceFault, HasNoFaultColumns, IsLeastFaultByRows}
@@ -16,14 +16,14 @@ use Rattle.balance.proofs.FaultSets.{none_more, none_at_all, least_found}
 use Rattle.balance.proofs.KeptColumns.{kept_fault, kept_least, sum_number}
 
 -- increasing lists with the same members are equal
-same_set : (high : ℕ) (xs ys : List ℕ) → RisesIn 0 high xs → RisesIn 0 high ys → ((x : ℕ) → IsIn x xs ↔ IsIn x ys) → xs ≡ ys
+same_set : (high : ℕ) (xs ys : List ℕ) → IncreasesIn 0 high xs → IncreasesIn 0 high ys → ((x : ℕ) → IsIn x xs ↔ IsIn x ys) → xs ≡ ys
 same_set high xs ys r s same =
     let sum = sum_over_members xs ys (λ x. pos (2 ^ x)) (increasing_are_distinct 0 high xs r) (increasing_are_distinct 0 high ys s) (λ x. (same x).0) (λ x. (same x).1) in
     let number : set_number xs ≡ set_number ys = let a = sum_number xs in let b = sum_number ys in omega (arith, sums) in
     sym (numbered_same high xs r) ∙ ap (set_numbered high 0) number ∙ numbered_same high ys s
 
 kept_same : (m : Matrix) (rows xs ys : List ℕ) → AreKept m rows xs → AreKept m rows ys → xs ≡ ys
-kept_same m rows xs ys a b = same_set m.width xs ys (column_set_rises m xs a.column_set) (column_set_rises m ys b.column_set) (λ x. ((λ h. (b.members x).1 ((a.members x).0 h)), (λ h. (a.members x).1 ((b.members x).0 h))))
+kept_same m rows xs ys a b = same_set m.width xs ys (column_set_increases m xs a.column_set) (column_set_increases m ys b.column_set) (λ x. ((λ h. (b.members x).1 ((a.members x).0 h)), (λ h. (a.members x).1 ((b.members x).0 h))))
 
 pub make_fault : (m : Matrix) (rows columns : List ℕ) → AreKept m rows columns → IsBalanceFault (entry m) rows columns → MakeFault m rows
 make_fault m rows columns kept fault others k = subst (IsBalanceFault (entry m) rows) (kept_same m rows columns others kept k) fault

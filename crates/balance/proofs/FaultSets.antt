@@ -4,7 +4,7 @@ use Rattle.std.proofs.lemmas.Bool.{cases_lt}
 use Rattle.cmr_base.specs.Matrix.{Matrix, height, entry, transposed, IsMatrix}
 use Rattle.cmr_base.specs.LineSets.{set_number, set_numbered}
 use Rattle.cmr_base.specs.Sums.{IsTwoModFour}
-use Rattle.cmr_base.proofs.IncreasingLists.{row_set_rises}
+use Rattle.cmr_base.proofs.IncreasingLists.{row_set_increases}
 use Rattle.cmr_base.proofs.SetNumbers.{number_of_numbered, numbered_same, row_set-numbered, set_number-lt}
 use Rattle.cmr_base.proofs.SumLaws.{sum_over-exchange}
 use Rattle.cmr_base.proofs.TransposedLemmas.{entries-transposed, row_set-transposed, column_set_from_transposed, column_set-transposed, row_set_from_transposed}
@@ -16,13 +16,13 @@ none_more m number none before others is h = elim (cases_lt (set_number others) 
   | inl less ↦ before others is less
   | inr past ↦
       let same : number ≡ set_number others = omega arith in
-      let here : set_numbered (height m) 0 number ≡ others = ap (set_numbered (height m) 0) same ∙ numbered_same (height m) others (row_set_rises m others is) in
+      let here : set_numbered (height m) 0 number ≡ others = ap (set_numbered (height m) 0) same ∙ numbered_same (height m) others (row_set_increases m others is) in
       subst (HasNoFaultColumns m) here none
 ]
 
 pub none_at_all : (m : Matrix) (number : ℕ) → 2 ^ height m ≤ number → HasNoFaultBelow m number → IsBalanced m
 none_at_all m number end before rows columns row_set column_set f =
-    before rows row_set (omega (arith, set_number-lt (height m) rows (row_set_rises m rows row_set))) columns column_set f
+    before rows row_set (omega (arith, set_number-lt (height m) rows (row_set_increases m rows row_set))) columns column_set f
 
 pub least_found : (m : Matrix) (number : ℕ) (columns : List ℕ) → number < 2 ^ height m → HasNoFaultBelow m number → IsLeastFaultColumns m (set_numbered (height m) 0 number) columns → IsLeastFaultByRows m (set_numbered (height m) 0 number) columns
 least_found m number columns small before least = record {

@@ -9,7 +9,7 @@ use Rattle.cmr_base.specs.LineSets.{set_number}
 use Rattle.cmr_base.specs.Members.{IsIn}
 use Rattle.cmr_base.specs.Sums.{sum_over}
 use Rattle.cmr_base.proofs.Integers.{sums}
-use Rattle.cmr_base.proofs.IncreasingLists.{RisesIn, rises_from_lower}
+use Rattle.cmr_base.proofs.IncreasingLists.{IncreasesIn, increases_from_lower}
 
 split_one : (b : Bool) (x : ℕ) (ys zs : List ℕ) (f : ℕ → ℤ) (total : ℤ) → sum_over ys f +ℤ sum_over zs f ≡ total → sum_over (cond b (x ∷ ys) ys) f +ℤ sum_over (cond (not b) (x ∷ zs) zs) f ≡ f x +ℤ total
 split_one true x ys zs f total e = omega (arith, sums)
@@ -60,13 +60,13 @@ number_less p [] x h e = absurd h
 number_less p (y ∷ ys) x (inl q) e = less_here (p y) y (filter p ys) (set_number ys) (ap p (sym q) ∙ e) (pow_pos y) (at_most p ys)
 number_less p (y ∷ ys) x (inr h) e = less_later (p y) y (filter p ys) (set_number ys) (number_less p ys x h e)
 
-part_one : (b : Bool) (low high x : ℕ) (ys : List ℕ) → low ≤ x → x < high → RisesIn (x + 1) high ys → RisesIn low high (cond b (x ∷ ys) ys)
+part_one : (b : Bool) (low high x : ℕ) (ys : List ℕ) → low ≤ x → x < high → IncreasesIn (x + 1) high ys → IncreasesIn low high (cond b (x ∷ ys) ys)
 part_one true low high x ys l h r = (l, h, r)
-part_one false low high x ys l h r = rises_from_lower low (x + 1) high ys (omega arith) r
+part_one false low high x ys l h r = increases_from_lower low (x + 1) high ys (omega arith) r
 
-pub rises-part : (p : ℕ → Bool) (low high : ℕ) (xs : List ℕ) → RisesIn low high xs → RisesIn low high (filter p xs)
-rises-part p low high [] r = tt
-rises-part p low high (x ∷ xs) r = part_one (p x) low high x (filter p xs) r.0 r.1 (rises-part p (x + 1) high xs r.2)
+pub increases-part : (p : ℕ → Bool) (low high : ℕ) (xs : List ℕ) → IncreasesIn low high xs → IncreasesIn low high (filter p xs)
+increases-part p low high [] r = tt
+increases-part p low high (x ∷ xs) r = part_one (p x) low high x (filter p xs) r.0 r.1 (increases-part p (x + 1) high xs r.2)
 
 fewer_one : (b c : Bool) (x : ℕ) (ys zs : List ℕ) → (b ≡ true → c ≡ true) → length ys ≤ length zs → length (cond b (x ∷ ys) ys) ≤ length (cond c (x ∷ zs) zs)
 fewer_one true true x ys zs k h = omega arith
@@ -117,10 +117,10 @@ pub all-with_line : (P : ℕ → Type 0) (n : ℕ) (xs : List ℕ) → P n → A
 all-with_line P n [] p h = (p, tt)
 all-with_line P n (x ∷ xs) p h = all_put P (nat_lt n x) n x xs (with_line n xs) p h.0 h.1 (all-with_line P n xs p h.1)
 
-rises_put : (b : Bool) (low high n x : ℕ) (xs ys : List ℕ) → nat_lt n x ≡ b → n ≢ x → low ≤ n → n < high → low ≤ x → x < high → RisesIn (x + 1) high xs → (x + 1 ≤ n → RisesIn (x + 1) high ys) → RisesIn low high (cond b (n ∷ x ∷ xs) (x ∷ ys))
-rises_put true low high n x xs ys e apart l h k i r s = let less : n < x = grind (arith, nat_tests) in (l, h, (omega arith, i, r))
-rises_put false low high n x xs ys e apart l h k i r s = let more : x ≤ n = grind (arith, nat_tests) in (k, i, s (omega arith))
+increases_put : (b : Bool) (low high n x : ℕ) (xs ys : List ℕ) → nat_lt n x ≡ b → n ≢ x → low ≤ n → n < high → low ≤ x → x < high → IncreasesIn (x + 1) high xs → (x + 1 ≤ n → IncreasesIn (x + 1) high ys) → IncreasesIn low high (cond b (n ∷ x ∷ xs) (x ∷ ys))
+increases_put true low high n x xs ys e apart l h k i r s = let less : n < x = grind (arith, nat_tests) in (l, h, (omega arith, i, r))
+increases_put false low high n x xs ys e apart l h k i r s = let more : x ≤ n = grind (arith, nat_tests) in (k, i, s (omega arith))
 
-pub rises-with_line : (low high n : ℕ) (xs : List ℕ) → ¬ (IsIn n xs) → low ≤ n → n < high → RisesIn low high xs → RisesIn low high (with_line n xs)
-rises-with_line low high n [] apart l h r = (l, h, tt)
-rises-with_line low high n (x ∷ xs) apart l h r = rises_put (nat_lt n x) low high n x xs (with_line n xs) refl (λ e. apart (inl e)) l h r.0 r.1 r.2 (λ m. rises-with_line (x + 1) high n xs (λ g. apart (inr g)) m h r.2)
+pub increases-with_line : (low high n : ℕ) (xs : List ℕ) → ¬ (IsIn n xs) → low ≤ n → n < high → IncreasesIn low high xs → IncreasesIn low high (with_line n xs)
+increases-with_line low high n [] apart l h r = (l, h, tt)
+increases-with_line low high n (x ∷ xs) apart l h r = increases_put (nat_lt n x) low high n x xs (with_line n xs) refl (λ e. apart (inl e)) l h r.0 r.1 r.2 (λ m. increases-with_line (x + 1) high n xs (λ g. apart (inr g)) m h r.2)

@@ -11,7 +11,7 @@ use Rattle.cmr_base.proofs.Integers.{sums}
 use Rattle.cmr_base.proofs.Members.{all_in, all_of_members, increasing_are_distinct}
 use Rattle.cmr_base.proofs.Parity.{IsFour, even-add, two_mod_four_not_four}
 use Rattle.ghouila.proofs.Cycles.{four_or_two}
-use Rattle.cmr_base.proofs.IncreasingLists.{RisesIn, column_set_rises, increasing_below}
+use Rattle.cmr_base.proofs.IncreasingLists.{IncreasesIn, column_set_increases, increasing_below}
 use Rattle.cmr_base.proofs.RowLists.{filter_in, in_filter}
 use Rattle.cmr_base.proofs.SumLaws.{sum_over-exchange}
 use Rattle.cmr_base.proofs.Booleans.{not_is}
@@ -19,7 +19,7 @@ use Rattle.balance.specs.BalanceFaults.{row_nonzeros, column_nonzeros, IsBalance
 use Rattle.balance.specs.SearchedFaults.{HasNoFaultBelow}
 use Rattle.balance.specs.CandidateColumns.{IsCandidate, AreAlike, IsLeastAlike, AreKept}
 use Rattle.balance.proofs.NonzeroCounts.{mark, two_from_sum, two_is_even}
-use Rattle.balance.proofs.FilterSums.{sum_split, rises-part}
+use Rattle.balance.proofs.FilterSums.{sum_split, increases-part}
 use Rattle.balance.proofs.AddedLines.{only, added_false, not_added, sum_only}
 use Rattle.balance.proofs.MinimalFaults.{rows_two}
 use Rattle.balance.proofs.AlikeColumns.{IsAlike, alike, fault_column, never_alike}
@@ -32,13 +32,13 @@ pub record IsMatched (t : ℕ → ℕ → Type 0) (xs ys : List ℕ) : Type 0 wh
   pub one_y : (x y z : ℕ) → IsIn x xs → IsIn y ys → IsIn z ys → t x y → t x z → y ≡ z
   pub one_x : (x z y : ℕ) → IsIn x xs → IsIn z xs → IsIn y ys → t x y → t z y → x ≡ z
 
-pub matched_sums : (r : ℤ → ℤ → Type 0) → r (pos 0) (pos 0) → ((a b c d : ℤ) → r a b → r c d → r (a +ℤ c) (b +ℤ d)) → (t : ℕ → ℕ → Type 0) (f g : ℕ → ℤ) (high : ℕ) (xs ys : List ℕ) → IsDistinct xs → RisesIn 0 high ys → IsMatched t xs ys
+pub matched_sums : (r : ℤ → ℤ → Type 0) → r (pos 0) (pos 0) → ((a b c d : ℤ) → r a b → r c d → r (a +ℤ c) (b +ℤ d)) → (t : ℕ → ℕ → Type 0) (f g : ℕ → ℤ) (high : ℕ) (xs ys : List ℕ) → IsDistinct xs → IncreasesIn 0 high ys → IsMatched t xs ys
     → ((x y : ℕ) → IsIn x xs → IsIn y ys → t x y → r (f x) (g y)) → r (sum_over xs f) (sum_over ys g)
 matched_sums r none more t f g high [] [] d s m each = none
 matched_sums r none more t f g high [] (y ∷ ys) d s m each = absurd ((m.from y (inl refl)).1)
 matched_sums r none more t f g high (x ∷ xs) ys d s m each = subst (r (f x +ℤ sum_over xs f)) total
     (more (f x) (g y) (sum_over xs f) (sum_over (filter (λ z. not (only y z)) ys) g) (each x y (inl refl) partner.1 partner.2)
-    (matched_sums r none more t f g high xs (filter (λ z. not (only y z)) ys) d.1 (rises-part (λ z. not (only y z)) 0 high ys s) rest (λ a b h k q. each a b (inr h) (in_filter (λ z. not (only y z)) b ys k).0 q)))
+    (matched_sums r none more t f g high xs (filter (λ z. not (only y z)) ys) d.1 (increases-part (λ z. not (only y z)) 0 high ys s) rest (λ a b h k q. each a b (inr h) (in_filter (λ z. not (only y z)) b ys k).0 q)))
   where
     partner : (y : ℕ) × IsIn y ys × t x y
     partner = m.to x (inl refl)
@@ -115,7 +115,7 @@ module _ (m : Matrix) (small : (i j : ℕ) → IsEntry (entry m i j)) (R C : Lis
   fault_candidate = fault_column m small R C row_set column_set f before
 
   inside : (c : ℕ) → IsIn c C → c < m.width
-  inside = all_in (λ x. x < m.width) C (increasing_below 0 m.width C (column_set_rises m C column_set))
+  inside = all_in (λ x. x < m.width) C (increasing_below 0 m.width C (column_set_increases m C column_set))
 
   like_itself : (c : ℕ) → IsIn c C → Like c c
   like_itself c h = go (alike m small R C row_set column_set f before c (inside c h) (fault_candidate c h))
@@ -179,18 +179,18 @@ module _ (m : Matrix) (small : (i j : ℕ) → IsEntry (entry m i j)) (R C : Lis
   }
 
   distinct : IsDistinct K
-  distinct = increasing_are_distinct 0 m.width K (column_set_rises m K kept.column_set)
+  distinct = increasing_are_distinct 0 m.width K (column_set_increases m K kept.column_set)
 
   -- the kept columns are also a fault
   pub kept_fault : IsBalanceFault (entry m) R K
   kept_fault = record {
     two_in_rows = all_of_members (λ i. row_nonzeros (entry m) K i ≡ 2) R (λ i h. two_from_sum (λ j. entry m i j) K
-        (matched_sums (λ a b. a ≡ b) refl (λ a b c d e g. plain a b c d e g) Like (λ j. mark (entry m i j)) (λ j. mark (entry m i j)) m.width K C distinct (column_set_rises m C column_set) matched (λ k c x y a. mark_same (entry m i k) (entry m i c) (a.same i h))
+        (matched_sums (λ a b. a ≡ b) refl (λ a b c d e g. plain a b c d e g) Like (λ j. mark (entry m i j)) (λ j. mark (entry m i j)) m.width K C distinct (column_set_increases m C column_set) matched (λ k c x y a. mark_same (entry m i k) (entry m i c) (a.same i h))
         ∙ rows_two m small R C row_set column_set f before i h));
     two_in_columns = all_of_members (λ j. column_nonzeros (entry m) R j ≡ 2) K (λ k h. (kept_is k h).candidate);
     two_mod_four = subst IsTwoModFour (sym (sum_over-exchange R K (λ i j. entry m i j)))
         (two_of (sum_over K (λ j. sum_over R (λ i. entry m i j))) (sum_over C (λ j. sum_over R (λ i. entry m i j)))
-        (matched_sums (λ a b. IsFour (a +ℤ b)) (pos 0, refl) (λ a b c d e g. fours a b c d e g) Like (λ j. sum_over R (λ i. entry m i j)) (λ j. sum_over R (λ i. entry m i j)) m.width K C distinct (column_set_rises m C column_set) matched (λ k c x y a. a.four))
+        (matched_sums (λ a b. IsFour (a +ℤ b)) (pos 0, refl) (λ a b c d e g. fours a b c d e g) Like (λ j. sum_over R (λ i. entry m i j)) (λ j. sum_over R (λ i. entry m i j)) m.width K C distinct (column_set_increases m C column_set) matched (λ k c x y a. a.four))
         (subst IsTwoModFour (sum_over-exchange R C (λ i j. entry m i j)) f.two_mod_four));
   }
     where
@@ -202,7 +202,7 @@ module _ (m : Matrix) (small : (i j : ℕ) → IsEntry (entry m i j)) (R C : Lis
 
   -- as a set, the kept columns have at most the number of the fault's columns
   pub kept_least : set_number K ≤ set_number C
-  kept_least = let k = matched_sums (λ a b. a ≤ℤ b) (omega (arith, sums)) (λ a b c d e g. plain a b c d e g) Like (λ j. pos (2 ^ j)) (λ j. pos (2 ^ j)) m.width K C distinct (column_set_rises m C column_set) matched powers in
+  kept_least = let k = matched_sums (λ a b. a ≤ℤ b) (omega (arith, sums)) (λ a b c d e g. plain a b c d e g) Like (λ j. pos (2 ^ j)) (λ j. pos (2 ^ j)) m.width K C distinct (column_set_increases m C column_set) matched powers in
       let a = sum_number K in let b = sum_number C in omega (arith, sums)
     where
       plain : (a b c d : ℤ) → a ≤ℤ b → c ≤ℤ d → (a +ℤ c) ≤ℤ (b +ℤ d)

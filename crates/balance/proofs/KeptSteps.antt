@@ -101,8 +101,8 @@ one_kept m rows x list list2 b p e = rw e (record {
   );
 })
 
-pub one_left_out : (m : Matrix) (rows : List ℕ) (x : ℕ) (list list2 : List ℕ) → AreKeptBelow m rows x list → (IsLeastAlike m rows x → ⊥) → list2 ≡ list → AreKeptBelow m rows (x + 1) list2
-one_left_out m rows x list list2 b p e = rw e (record {
+pub one_omitted : (m : Matrix) (rows : List ℕ) (x : ℕ) (list list2 : List ℕ) → AreKeptBelow m rows x list → (IsLeastAlike m rows x → ⊥) → list2 ≡ list → AreKeptBelow m rows (x + 1) list2
+one_omitted m rows x list list2 b p e = rw e (record {
   increasing = b.increasing;
   members = λ y. (
     (λ h. let w = (b.members y).0 h in (let l = w.0 in omega arith, w.1)),

@@ -11,7 +11,7 @@ use Rattle.cmr_base.proofs.Integers.{sums}
 use Rattle.cmr_base.proofs.Lists.{all_of}
 use Rattle.cmr_base.proofs.Members.{all_in, all_of_members}
 use Rattle.cmr_base.proofs.Parity.{IsFour, even-sum_over, four-double, two_mod_four-add}
-use Rattle.cmr_base.proofs.IncreasingLists.{row_set_rises, column_set_rises, increasing_row_set, increasing_column_set}
+use Rattle.cmr_base.proofs.IncreasingLists.{row_set_increases, column_set_increases, increasing_row_set, increasing_column_set}
 use Rattle.cmr_base.proofs.RowLists.{filter_in, in_filter}
 use Rattle.cmr_base.proofs.SumLaws.{sum_over_same, sum_over-add, sum_over-exchange}
 use Rattle.cmr_base.proofs.Booleans.{not_is, not_false}
@@ -21,7 +21,7 @@ use Rattle.ghouila.proofs.SignedSums.{zero_or_sign}
 use Rattle.balance.specs.BalanceFaults.{row_nonzeros, column_nonzeros, IsBalanceFault}
 use Rattle.balance.specs.SearchedFaults.{HasNoFaultBelow}
 use Rattle.balance.proofs.NonzeroCounts.{mark, mark_zero, mark_sign, counted, two_from_sum, two_is_even}
-use Rattle.balance.proofs.FilterSums.{with_line, sum-with_line, all-with_line, rises-with_line, sum_split, sum_part, sum_empty, number_less, rises-part, fewer_kept}
+use Rattle.balance.proofs.FilterSums.{with_line, sum-with_line, all-with_line, increases-with_line, sum_split, sum_part, sum_empty, number_less, increases-part, fewer_kept}
 use Rattle.balance.proofs.ColumnPairs.{some_nonzero, one_term, third_zero}
 use Rattle.balance.proofs.AddedLines.{added, only, added_true, added_old, added_new, added_false, not_added, sum_added, sum_only}
 
@@ -41,7 +41,7 @@ module _ (m : Matrix) (small : (i j : ℕ) → IsEntry (entry m i j)) (R C : Lis
   -- no part of the rows has a fault
   pub no_lesser : (p : ℕ → Bool) (D : List ℕ) (r : ℕ) → IsIn r R → p r ≡ false → IsColumnSet m D → ((i : ℕ) → IsIn i R → p i ≡ true → sum_over D (λ j. mark (entry m i j)) ≡ pos 2)
       → ((j : ℕ) → IsIn j D → sum_over (filter p R) (λ i. mark (entry m i j)) ≡ pos 2) → IsTwoModFour (sum_over (filter p R) (λ i. sum_over D (λ j. entry m i j))) → ⊥
-  no_lesser p D r there out is rows columns two = before (filter p R) (increasing_row_set m (filter p R) (rises-part p 0 (height m) R (row_set_rises m R row_set))) (number_less p R r there out) D is (record {
+  no_lesser p D r there out is rows columns two = before (filter p R) (increasing_row_set m (filter p R) (increases-part p 0 (height m) R (row_set_increases m R row_set))) (number_less p R r there out) D is (record {
     two_in_rows = all_of_members (λ i. row_nonzeros (entry m) D i ≡ 2) (filter p R) (λ i h. let k = in_filter p i R h in two_from_sum (λ j. entry m i j) D (rows i k.0 k.1));
     two_in_columns = all_of_members (λ j. column_nonzeros (entry m) (filter p R) j ≡ 2) D (λ j h. two_from_sum (λ i. entry m i j) (filter p R) (columns j h));
     two_mod_four = two;
@@ -65,7 +65,7 @@ module _ (m : Matrix) (small : (i j : ℕ) → IsEntry (entry m i j)) (R C : Lis
 
   -- a part with its sum is not a fault
   pub part_no_fault : (p q : ℕ → Bool) → IsClosed p q → (r : ℕ) → IsIn r R → p r ≡ false → IsTwoModFour (sum_over (filter p R) (λ i. sum_over (filter q C) (λ j. entry m i j))) → ⊥
-  part_no_fault p q c r there out two = no_lesser p (filter q C) r there out (increasing_column_set m (filter q C) (rises-part q 0 m.width C (column_set_rises m C column_set)))
+  part_no_fault p q c r there out two = no_lesser p (filter q C) r there out (increasing_column_set m (filter q C) (increases-part q 0 m.width C (column_set_increases m C column_set)))
       (λ i h e. part_rows p q c mark mark_zero i h e ∙ rows_two i h)
       (λ j h. let k = in_filter q j C h in part_columns p q c j k.0 k.1) two
 
@@ -105,7 +105,7 @@ module _ (m : Matrix) (small : (i j : ℕ) → IsEntry (entry m i j)) (R C : Lis
 
   pub other_row : (x j : ℕ) → IsIn x R → IsIn j C → IsSign (entry m x j) → (y : ℕ) × IsIn y R × (y ≢ x) × IsSign (entry m y j)
   other_row x j x_in j_in u =
-      let here = sum_only x (height m) R (λ i. mark (entry m i j)) (row_set_rises m R row_set) x_in in
+      let here = sum_only x (height m) R (λ i. mark (entry m i j)) (row_set_increases m R row_set) x_in in
       let one = mark_sign (entry m x j) u in
       let k = sum_split (only x) R (λ i. mark (entry m i j)) in
       let l = columns_two j j_in in
@@ -154,8 +154,8 @@ module _ (m : Matrix) (small : (i j : ℕ) → IsEntry (entry m i j)) (R C : Lis
       | inl e ↦ elim (added_true (λ k. false) u i e) [ inl f ↦ absurd (false≢true f) | inr f ↦ absurd (a f) ]
       | inr e ↦ absurd (b e)
     ];
-    first_one = sum_only c m.width C (λ j. mark (entry m u j)) (column_set_rises m C column_set) c_in ∙ mark_sign (entry m u c) s;
-    last_one = sum_only c m.width C (λ j. mark (entry m y j)) (column_set_rises m C column_set) c_in ∙ mark_sign (entry m y c) t;
+    first_one = sum_only c m.width C (λ j. mark (entry m u j)) (column_set_increases m C column_set) c_in ∙ mark_sign (entry m u c) s;
+    last_one = sum_only c m.width C (λ j. mark (entry m y j)) (column_set_increases m C column_set) c_in ∙ mark_sign (entry m y c) t;
   }
 
   record IsLonger (u : ℕ) (p : ℕ → Bool) : Type 0 where
@@ -177,7 +177,7 @@ module _ (m : Matrix) (small : (i j : ℕ) → IsEntry (entry m i j)) (R C : Lis
         where
           full : (i : ℕ) → IsIn i R → mark (entry m i c) ≡ pos 1 → sum_over (filter q C) (λ j. mark (entry m i j)) ≡ pos 1 → (j : ℕ) → IsIn j C → added q c j ≡ false → IsSign (entry m i j) → ⊥
           full i i_in one rest j j_in out sign =
-              let here = sum_added q c m.width C (λ k. mark (entry m i k)) (column_set_rises m C column_set) c_in c_out in
+              let here = sum_added q c m.width C (λ k. mark (entry m i k)) (column_set_increases m C column_set) c_in c_out in
               let all = sum_split (added q c) C (λ k. mark (entry m i k)) in
               let two = rows_two i i_in in
               let none : sum_over (filter (λ k. not (added q c k)) C) (λ k. mark (entry m i k)) ≡ pos 0 = omega (arith, sums) in
@@ -231,8 +231,8 @@ module _ (m : Matrix) (small : (i j : ℕ) → IsEntry (entry m i j)) (R C : Lis
               | inl k ↦ not_out j j_in (subst (λ r. IsSign (entry m r j)) k sign) (added q c j) refl
             ]
           ];
-          first_one = sum_added q c m.width C (λ j. mark (entry m u j)) (column_set_rises m C column_set) c_in c_out ∙ (let z = mark_zero (entry m u c) u_zero in let o = w.first_one in omega (arith, sums));
-          last_one = sum_added q c m.width C (λ j. mark (entry m y j)) (column_set_rises m C column_set) c_in c_out ∙ (let o = mark_sign (entry m y c) t in let z = none_there in omega (arith, sums));
+          first_one = sum_added q c m.width C (λ j. mark (entry m u j)) (column_set_increases m C column_set) c_in c_out ∙ (let z = mark_zero (entry m u c) u_zero in let o = w.first_one in omega (arith, sums));
+          last_one = sum_added q c m.width C (λ j. mark (entry m y j)) (column_set_increases m C column_set) c_in c_out ∙ (let o = mark_sign (entry m y c) t in let z = none_there in omega (arith, sums));
         };
       }
         where
@@ -251,7 +251,7 @@ module _ (m : Matrix) (small : (i j : ℕ) → IsEntry (entry m i j)) (R C : Lis
           not_out : (j : ℕ) → IsIn j C → IsSign (entry m x j) → (b : Bool) → added q c j ≡ b → added q c j ≡ true
           not_out j j_in sign true e = e
           not_out j j_in sign false out =
-              let here = sum_added q c m.width C (λ k. mark (entry m x k)) (column_set_rises m C column_set) c_in c_out in
+              let here = sum_added q c m.width C (λ k. mark (entry m x k)) (column_set_increases m C column_set) c_in c_out in
               let one = mark_sign (entry m x c) s in
               let all = sum_split (added q c) C (λ k. mark (entry m x k)) in
               let two = rows_two x w.x_in in
@@ -296,7 +296,7 @@ module _ (m : Matrix) (small : (i j : ℕ) → IsEntry (entry m i j)) (R C : Lis
 
   module _ (w : ℕ) (w_in : w < m.width) (w_out : ¬ (IsIn w C)) (two_w : sum_over R (λ i. mark (entry m i w)) ≡ pos 2) where
     arc_set : (q : ℕ → Bool) → IsColumnSet m (with_line w (filter q C))
-    arc_set q = increasing_column_set m (with_line w (filter q C)) (rises-with_line 0 m.width w (filter q C) (λ h. w_out (in_filter q w C h).0) (omega arith) w_in (rises-part q 0 m.width C (column_set_rises m C column_set)))
+    arc_set q = increasing_column_set m (with_line w (filter q C)) (increases-with_line 0 m.width w (filter q C) (λ h. w_out (in_filter q w C h).0) (omega arith) w_in (increases-part q 0 m.width C (column_set_increases m C column_set)))
 
     record IsArc (p q : ℕ → Bool) : Type 0 where
       at_w : (i : ℕ) → IsIn i R → p i ≡ false → entry m i w ≡ pos 0

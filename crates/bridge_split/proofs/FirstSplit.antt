@@ -21,7 +21,7 @@ before_place xs p x h =
     let low : q.0 < p = let l = q.1 in let k = length-take p xs in omega arith in
     (q.0, low, sym (get_or-take p xs q.0 0 low) ∙ q.2)
 
-module _ (M : ℕ → ℕ → Bool) (S : List ℕ) (rises : IsStrictlyIncreasing S) where
+module _ (M : ℕ → ℕ → Bool) (S : List ℕ) (increases : IsStrictlyIncreasing S) where
   -- a row with two parts or more splits
   pub splits_two : (i : ℕ) (numbers : List (Option ℕ)) (count : ℕ) → ArePartNumbers M S i (number_at numbers) count → IsIn i S → 2 ≤ count → Splits M S i
   splits_two i numbers count n hi l =
@@ -35,7 +35,7 @@ module _ (M : ℕ → ℕ → Bool) (S : List ℕ) (rises : IsStrictlyIncreasing
         two_in = b.1;
         one_other = a.2;
         two_other = b.2;
-        apart = λ link. let e = same_number (number_at numbers b.0) 0 1 (sym (linked_number M S i rises numbers count n a.0 b.0 a.1 b.1 a.2 b.2 link) ∙ a.3) b.3 in omega arith;
+        apart = λ link. let e = same_number (number_at numbers b.0) 0 1 (sym (linked_number M S i increases numbers count n a.0 b.0 a.1 b.1 a.2 b.2 link) ∙ a.3) b.3 in omega arith;
       }
 
   pub splits_none : (i : ℕ) (numbers : List (Option ℕ)) (count : ℕ) → ArePartNumbers M S i (number_at numbers) count → count < 2 → ¬ (Splits M S i)
@@ -60,12 +60,12 @@ module _ (M : ℕ → ℕ → Bool) (S : List ℕ) (rises : IsStrictlyIncreasing
       go : IsPlaceOf row S (place_of row S) → ⊥
       go q = none (place_of row S) (let m = q.in_range in omega arith) (subst (Splits M S) (sym q.there) s)
 
-module _ (m : Matrix) (S : List ℕ) (rises : IsStrictlyIncreasing S) where
+module _ (m : Matrix) (S : List ℕ) (increases : IsStrictlyIncreasing S) where
   pub searching_on : (p count : ℕ) (part part' : List (Option ℕ)) (seen seen' : List ℕ) → IsSearching m S p part seen → p < length S → HasPartRoom m part' seen' → ArePartNumbers (support m) S (get_or S p 0) (number_at part') count → count < 2
       → IsSearching m S (p + 1) part' seen'
   searching_on p count part part' seen seen' w l room n few = record {
     room = room;
-    none = each_more (λ (q : ℕ). ¬ (Splits (support m) S (get_or S q 0))) p w.none (splits_none (support m) S rises (get_or S p 0) part' count n few);
+    none = each_more (λ (q : ℕ). ¬ (Splits (support m) S (get_or S q 0))) p w.none (splits_none (support m) S increases (get_or S p 0) part' count n few);
   }
 
   -- a row that is known not to split

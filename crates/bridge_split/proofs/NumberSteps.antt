@@ -32,9 +32,9 @@ module _ (m : Matrix) (S : List ℕ) (i number x : ℕ) (part part' : List (Opti
 
   pub starts_from : (place : ℕ) → IsStrictlyIncreasing S → IsBetween (support m) S i (number_at part) number → place < length S → x ≡ get_or S place 0 → ArePassedRows (support m) S i (number_at part) place → number < 1000
       → HasPartRoom m part' reached' → ((c : ℕ) → has_column reached' c ≡ (support m x c && not (support m i c))) → IsWalkingFrom m S i number x part part' reached' 1
-  starts_from place rises b inside at before few room' more = record {
+  starts_from place increases b inside at before few room' more = record {
     room = room';
-    walk = starts (support m) S i (number_at part) number x (number_at part') hx left.0 left.1 now same (has_column reached') rises b place inside at before few more;
+    walk = starts (support m) S i (number_at part) number x (number_at part') hx left.0 left.1 now same (has_column reached') increases b place inside at before few more;
     keeps = kept (support m) S i (number_at part) number x (number_at part') hx left.0 left.1 now same;
     first_in = now;
     none = λ e. absurd (omega arith);

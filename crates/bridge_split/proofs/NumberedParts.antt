@@ -24,15 +24,15 @@ is_the_number a (Some n) e = ap Some (eqb-true n a e)
 
 -- the first number of an increasing list is its least
 pub first_least : (xs : List ℕ) → IsStrictlyIncreasing xs → (x : ℕ) → IsIn x xs → get_or xs 0 0 ≤ x
-first_least xs rises x h = go (place_is x xs h)
+first_least xs increases x h = go (place_is x xs h)
   where
     go : IsPlaceOf x xs (place_of x xs) → get_or xs 0 0 ≤ x
     go p = elim (cases_eq (place_of x xs) 0) [
       | inl e ↦ let f : get_or xs 0 0 ≡ x = ap (λ (v : ℕ). get_or xs v 0) (sym e) ∙ p.there in omega arith
-      | inr n ↦ let l = increasing_places xs 0 (place_of x xs) rises (omega arith) p.in_range in let f = p.there in omega arith
+      | inr n ↦ let l = increasing_places xs 0 (place_of x xs) increases (omega arith) p.in_range in let f = p.there in omega arith
     ]
 
-module _ (M : ℕ → ℕ → Bool) (S : List ℕ) (i : ℕ) (rises : IsStrictlyIncreasing S) (numbers : List (Option ℕ)) (count : ℕ) (n : ArePartNumbers M S i (number_at numbers) count) where
+module _ (M : ℕ → ℕ → Bool) (S : List ℕ) (i : ℕ) (increases : IsStrictlyIncreasing S) (numbers : List (Option ℕ)) (count : ℕ) (n : ArePartNumbers M S i (number_at numbers) count) where
   -- rows of one part have one number
   pub linked_number : (j k : ℕ) → IsIn j S → IsIn k S → j ≢ i → k ≢ i → AreLinked M S i j k → number_at numbers j ≡ number_at numbers k
   linked_number j k hj hk nj nk (rows, e) = go j rows hj nj e
@@ -57,7 +57,7 @@ module _ (M : ℕ → ℕ → Bool) (S : List ℕ) (i : ℕ) (rises : IsStrictly
       (r.0, (λ q. no_number (number_at numbers i) a n.own (ap (number_at numbers) (sym q) ∙ e)), e)
 
   increasing_part : (a : ℕ) → a < count → IsStrictlyIncreasing (get_or (numbered_parts numbers S count) a [])
-  increasing_part a l = subst IsStrictlyIncreasing (sym (at_number a l)) (IsStrictlyIncreasing-filter (λ row. is_number a (number_at numbers row)) S rises)
+  increasing_part a l = subst IsStrictlyIncreasing (sym (at_number a l)) (IsStrictlyIncreasing-filter (λ row. is_number a (number_at numbers row)) S increases)
 
   filled_part : (a : ℕ) → a < count → 0 < length (get_or (numbered_parts numbers S count) a [])
   filled_part a l = let f = n.filled a l in some_in f.0 (get_or (numbered_parts numbers S count) a []) (in_part a f.0 l f.1 f.3)

@@ -31,8 +31,8 @@ some_or_none (Some a) = inr (a, refl)
 -- ---- the number of rows without a number decreases
 
 module _ (part part' : ℕ → Option ℕ) (keeps : KeepsParts part part') where
-  gone : (k : ℕ) → is_none (part k) ≡ false → is_none (part' k) ≡ false
-  gone k e = go (some_or_none (part k))
+  replaced : (k : ℕ) → is_none (part k) ≡ false → is_none (part' k) ≡ false
+  replaced k e = go (some_or_none (part k))
     where
       go : (part k ≡ None) ⊎ ((a : ℕ) × (part k ≡ Some a)) → is_none (part' k) ≡ false
       go (inl f) = absurd (true≢false (sym (ap is_none f) ∙ e))
@@ -40,7 +40,7 @@ module _ (part part' : ℕ → Option ℕ) (keeps : KeepsParts part part') where
 
   pub not_more_left : (S : List ℕ) → left_in S part' ≤ left_in S part
   not_more_left [] = omega arith
-  not_more_left (y ∷ ys) = go (is_none (part y)) (is_none (part' y)) (gone y) (not_more_left ys)
+  not_more_left (y ∷ ys) = go (is_none (part y)) (is_none (part' y)) (replaced y) (not_more_left ys)
     where
       go : (s t : Bool) → (s ≡ false → t ≡ false) → left_in ys part' ≤ left_in ys part
           → length (cond t (y ∷ filter (λ k. is_none (part' k)) ys) (filter (λ k. is_none (part' k)) ys)) ≤ length (cond s (y ∷ filter (λ k. is_none (part k)) ys) (filter (λ k. is_none (part k)) ys))
@@ -51,7 +51,7 @@ module _ (part part' : ℕ → Option ℕ) (keeps : KeepsParts part part') where
 
   pub one_less_left : (S : List ℕ) (x a : ℕ) → IsIn x S → part x ≡ None → part' x ≡ Some a → left_in S part' < left_in S part
   one_less_left [] x a h e f = absurd h
-  one_less_left (y ∷ ys) x a h e f = go (is_none (part y)) (is_none (part' y)) refl refl h (gone y) (not_more_left ys) (λ g. one_less_left ys x a g e f)
+  one_less_left (y ∷ ys) x a h e f = go (is_none (part y)) (is_none (part' y)) refl refl h (replaced y) (not_more_left ys) (λ g. one_less_left ys x a g e f)
     where
       go : (s t : Bool) → is_none (part y) ≡ s → is_none (part' y) ≡ t → (x ≡ y) ⊎ IsIn x ys → (s ≡ false → t ≡ false) → left_in ys part' ≤ left_in ys part → (IsIn x ys → left_in ys part' < left_in ys part)
           → length (cond t (y ∷ filter (λ k. is_none (part' k)) ys) (filter (λ k. is_none (part' k)) ys)) < length (cond s (y ∷ filter (λ k. is_none (part k)) ys) (filter (λ k. is_none (part k)) ys))
@@ -140,7 +140,7 @@ module _ (M : ℕ → ℕ → Bool) (S : List ℕ) (i : ℕ) where
     -- the first row of a part
     pub starts : (reached' : ℕ → Bool) → IsStrictlyIncreasing S → IsBetween M S i part number → (place : ℕ) → place < length S → x ≡ get_or S place 0 → ArePassedRows M S i part place → number < 1000
         → ((c : ℕ) → reached' c ≡ (M x c && not (M i c))) → IsWalkingPart M S i part' number reached'
-    starts reached' rises b place inside at before few more = record {
+    starts reached' increases b place inside at before few more = record {
       are = record {
         others = others' number b.are (omega arith);
         linked = links' number b.are (omega arith) (λ j e. absurd (let l = (b.are.others j number e).2 in omega arith));
@@ -173,7 +173,7 @@ module _ (M : ℕ → ℕ → Bool) (S : List ℕ) (i : ℕ) where
                 | inr g ↦ absurd (no_number (part k) g.0 f (ap part (sym e) ∙ g.1))
               ]
               | inr m ↦ elim (cases_lt place q) [
-                | inl n ↦ let h = increasing_places S place q rises n l in omega (arith, h, e, at)
+                | inl n ↦ let h = increasing_places S place q increases n l in omega (arith, h, e, at)
                 | inr n ↦ absurd (let s : q ≡ place = omega arith in itself p (sym e ∙ ap (λ (v : ℕ). get_or S v 0) s ∙ sym at))
               ]
             ]

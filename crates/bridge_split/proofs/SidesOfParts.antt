@@ -47,9 +47,9 @@ module _ (D : ℕ → ℕ → Bool) (count : ℕ) where
 
 module _ (M : ℕ → ℕ → Bool) (S : List ℕ) (i : ℕ) (parts : List (List ℕ)) (P : AreParts M S i parts) where
   -- there are at most as many parts as rows
-  least_rises : (a : ℕ) → a < length parts → a ≤ get_or (rows_at_part parts a) 0 0
-  least_rises zero l = omega arith
-  least_rises (suc a) l = let k = least_rises a (omega arith) in let o = P.ordered a (suc a) (omega arith) l in omega arith
+  least_increases : (a : ℕ) → a < length parts → a ≤ get_or (rows_at_part parts a) 0 0
+  least_increases zero l = omega arith
+  least_increases (suc a) l = let k = least_increases a (omega arith) in let o = P.ordered a (suc a) (omega arith) l in omega arith
 
   pub parts_few : (height : ℕ) → AllBelow height S → length parts ≤ height
   parts_few height below = go (length parts) refl
@@ -59,7 +59,7 @@ module _ (M : ℕ → ℕ → Bool) (S : List ℕ) (i : ℕ) (parts : List (List
       go (suc n) e =
           let l : n < length parts = omega arith in
           let least = get_or (rows_at_part parts n) 0 0 in
-          let k = least_rises n l in
+          let k = least_increases n l in
           let m = members_below height S below least (P.only n least l (in_at (rows_at_part parts n) 0 (P.filled n l))).0 in omega arith
 
   pub parts_below : (height : ℕ) → AllBelow height S → (a : ℕ) → a < length parts → AllBelow height (rows_at_part parts a)

@@ -119,12 +119,12 @@ more_than_none n false = ap (nat_lt 0) (let e : n + 0 ≡ n = omega arith in e) 
 pub first_is : (m : Matrix) (S set : List ℕ) (found : Option ℕ) → IsStrictlyIncreasing S → AreMore m S 2 set
     → MatchOption found ((column : ℕ) → has_column set column ≡ false) (λ first. (has_column set first ≡ true) × ((column : ℕ) → column < first → has_column set column ≡ false))
     → MatchOption found (HasNoThree (support m) S) (IsFirstWithThree (support m) S)
-first_is m S set None rises counted h = λ column r s t hr hs ht er es et rs rt st.
+first_is m S set None increases counted h = λ column r s t hr hs ht er es et rs rt st.
     let three = three_count (λ row. support m row column) S r s t hr hs ht rs rt st er es et in
     let f = length-filter (λ row. support m row column) S in
     not_both (has_column set column) (counted column ∙ is_lt 2 (count_by (λ row. support m row column) S) (omega arith)) (h column)
-first_is m S set (Some first) rises counted h = record {
-  here = three_here (support m) first S (increasing_distinct S rises)
+first_is m S set (Some first) increases counted h = record {
+  here = three_here (support m) first S (increasing_distinct S increases)
       (let l = lt_of 2 (count_by (λ row. support m row first) S) (sym (counted first) ∙ h.0) in let f = length-filter (λ row. support m row first) S in omega arith);
   first = λ other l three.
       let k = here_three (support m) other S three in
@@ -137,13 +137,13 @@ first_is m S set (Some first) rises counted h = record {
 -- a row that is not 0 in a column with two nonzeros before it
 pub third_found : (m : Matrix) (S : List ℕ) (k column : ℕ) → IsStrictlyIncreasing S → k < length S
     → nat_lt 1 (count_by (λ row. support m row column) (take k S)) ≡ true → support m (get_or S k 0) column ≡ true → ¬ (HasNoThree (support m) S)
-third_found m S k column rises low two here =
+third_found m S k column increases low two here =
     let p : ℕ → Bool = λ row. support m row column in
     let more = count_by_more_yes p S k 0 low here in
     let l = lt_of 1 (count_by p (take k S)) two in
     let f = length-filter p S in
     let g : count_by p (take (k + 1) S) ≤ count_by p S = sum_by-take-le (λ row. cond (p row) 1 0) S (k + 1) in
-    not_star (support m) S column (three_here (support m) column S (increasing_distinct S rises) (omega arith))
+    not_star (support m) S column (three_here (support m) column S (increasing_distinct S increases) (omega arith))
 
 -- another row, without a third nonzero
 pub no_third_more : (m : Matrix) (S : List ℕ) (k : ℕ) (ones twos more_ones more_twos row : List ℕ) → HaveNoThird m S k ones twos → k < length S

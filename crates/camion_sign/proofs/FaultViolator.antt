@@ -6,7 +6,7 @@ use Rattle.cmr_base.specs.Sums.{sum_over, IsEven, IsTwoModFour}
 use Rattle.cmr_base.specs.Violator.{IsViolator}
 use Rattle.cmr_base.proofs.Lists.{all_of}
 use Rattle.cmr_base.proofs.Members.{IsWithin, all_in, all_of_members, increasing_are_distinct, sum_over_members}
-use Rattle.cmr_base.proofs.IncreasingLists.{row_set_rises, column_set_rises}
+use Rattle.cmr_base.proofs.IncreasingLists.{row_set_increases, column_set_increases}
 use Rattle.cmr_base.proofs.SumLaws.{sum_over-map, sum_over_same}
 use Rattle.ghouila.proofs.Cycles.{below, cycle_violates, inner_row, column_even}
 use Rattle.ghouila.proofs.Routes.{Route, route, place_cycle, sum_by_places, rows_apart, columns_apart}
@@ -48,7 +48,7 @@ cycle_fault_violator m is R C f = go (route (entry m) is.small f.row f.first_col
   where
     go : Route (entry m) is.small f.row f.first_column f.last_column f.path → IsViolator (entry m) R C
     go q = violator_members (entry m) (cycle_rows f.row f.path) (cycle_columns f.first_column f.last_column f.path) R C
-        (λ g. sum_over_members R (cycle_rows f.row f.path) g (increasing_are_distinct 0 (height m) R (row_set_rises m R f.row_set)) (rows_apart (entry m) is.small f.row f.first_column f.last_column f.path f.fault.place q) (λ i. (f.rows_are i).0) (λ i. (f.rows_are i).1))
-        (λ g. sum_over_members C (cycle_columns f.first_column f.last_column f.path) g (increasing_are_distinct 0 m.width C (column_set_rises m C f.column_set)) (columns_apart (entry m) is.small f.row f.first_column f.last_column f.path f.fault.place q) (λ j. (f.columns_are j).0) (λ j. (f.columns_are j).1))
+        (λ g. sum_over_members R (cycle_rows f.row f.path) g (increasing_are_distinct 0 (height m) R (row_set_increases m R f.row_set)) (rows_apart (entry m) is.small f.row f.first_column f.last_column f.path f.fault.place q) (λ i. (f.rows_are i).0) (λ i. (f.rows_are i).1))
+        (λ g. sum_over_members C (cycle_columns f.first_column f.last_column f.path) g (increasing_are_distinct 0 m.width C (column_set_increases m C f.column_set)) (columns_apart (entry m) is.small f.row f.first_column f.last_column f.path f.fault.place q) (λ j. (f.columns_are j).0) (λ j. (f.columns_are j).1))
         (λ i. (f.rows_are i).0) (λ j. (f.columns_are j).0)
         (cycle_is_violator m is f.row f.first_column f.last_column f.path f.fault)

@@ -12,7 +12,7 @@ use Rattle.cmr_base.specs.declared.line_set.LineSet.{LineSet}
 use Rattle.cmr_base.proofs.Integers.{sums}
 use Rattle.cmr_base.proofs.Lists.{all_of}
 use Rattle.cmr_base.proofs.Members.{all_in, increasing_are_distinct, sum_over_members}
-use Rattle.cmr_base.proofs.IncreasingLists.{row_set_rises, column_set_rises}
+use Rattle.cmr_base.proofs.IncreasingLists.{row_set_increases, column_set_increases}
 use Rattle.cmr_base.proofs.SumLaws.{sum_over_same}
 use Rattle.cmr_base.proofs.Entries.{no_minus}
 use Rattle.ghouila.proofs.SignedSums.{zero_or_sign}
@@ -80,10 +80,10 @@ module _ (a : Matrix) (is : IsMatrix a) (t c d : ℕ) (cycle : LineSet) (o : IsO
   the_cycle = place_cycle (entry a) is.small t o.first o.last o.path o.place the_route
 
   distinct_rows : IsDistinct cycle.rows
-  distinct_rows = increasing_are_distinct 0 (height a) cycle.rows (row_set_rises a cycle.rows o.row_set)
+  distinct_rows = increasing_are_distinct 0 (height a) cycle.rows (row_set_increases a cycle.rows o.row_set)
 
   distinct_columns : IsDistinct cycle.columns
-  distinct_columns = increasing_are_distinct 0 a.width cycle.columns (column_set_rises a cycle.columns o.column_set)
+  distinct_columns = increasing_are_distinct 0 a.width cycle.columns (column_set_increases a cycle.columns o.column_set)
 
   -- sums over the cycle's lines
   row_sums : (f : ℕ → ℤ) → sum_over cycle.rows f ≡ sum_over (cycle_rows t o.path) f
@@ -188,7 +188,7 @@ module _ (a s : Matrix) (is : IsMatrix a) (signs : AreSigns a s) (t c d : ℕ) (
   pub sum_more : (v : ℤ) → submatrix_sum (with_entry s t d v) cycle.rows cycle.columns ≡ submatrix_sum s cycle.rows cycle.columns +ℤ v
   sum_more v = plain (submatrix_sum (with_entry s t d v) cycle.rows cycle.columns) (submatrix_sum s cycle.rows cycle.columns) (entry (with_entry s t d v) t d) (entry s t d) v
       (one_entry (entry (with_entry s t d v)) (entry s) cycle.rows cycle.columns t d
-      (increasing_are_distinct 0 (height a) cycle.rows (row_set_rises a cycle.rows lines.row_set)) (increasing_are_distinct 0 a.width cycle.columns (column_set_rises a cycle.columns lines.column_set))
+      (increasing_are_distinct 0 (height a) cycle.rows (row_set_increases a cycle.rows lines.row_set)) (increasing_are_distinct 0 a.width cycle.columns (column_set_increases a cycle.columns lines.column_set))
       (ends_in a t c d cycle lines).0 (ends_in a t c d cycle lines).1 (λ i j h g e. (one_more a s is.rectangular signs t d v here.one).other i j e))
       (one_more a s is.rectangular signs t d v here.one).here here.no_sign
     where

@@ -7,18 +7,18 @@ use Rattle.cmr_base.specs.Matrix.{Matrix, height, row_of, column_of, entry, IsMa
 use Rattle.cmr_base.specs.Members.{IsIn}
 use Rattle.cmr_base.proofs.Parts.{entry-transposed}
 use Rattle.cmr_base.proofs.Members.{in_at}
-use Rattle.cmr_base.proofs.IncreasingLists.{RisesIn, rises_from_lower, increasing_at_least}
+use Rattle.cmr_base.proofs.IncreasingLists.{IncreasesIn, increases_from_lower, increasing_at_least}
 use Rattle.cmr_base.proofs.Places.{found_at}
 use Rattle.cmr_base.proofs.Booleans.{zero_is, nonzero_is}
 use Rattle.camion_sign.specs.Nonzeros.{AreNonzeros, nonzeros_from}
 
-rises : (place high : ℕ) (line : List ℤ) → place + length line ≤ high → RisesIn place high (nonzeros_from place line)
-rises place high [] l = tt
-rises place high (z ∷ line) l = go (is_nonzero z) (rises (place + 1) high line (omega arith))
+increases : (place high : ℕ) (line : List ℤ) → place + length line ≤ high → IncreasesIn place high (nonzeros_from place line)
+increases place high [] l = tt
+increases place high (z ∷ line) l = go (is_nonzero z) (increases (place + 1) high line (omega arith))
   where
-    go : (b : Bool) → RisesIn (place + 1) high (nonzeros_from (place + 1) line) → RisesIn place high (cond b (place ∷ nonzeros_from (place + 1) line) (nonzeros_from (place + 1) line))
+    go : (b : Bool) → IncreasesIn (place + 1) high (nonzeros_from (place + 1) line) → IncreasesIn place high (cond b (place ∷ nonzeros_from (place + 1) line) (nonzeros_from (place + 1) line))
     go true h = (omega arith, omega arith, h)
-    go false h = rises_from_lower place (place + 1) high (nonzeros_from (place + 1) line) (omega arith) h
+    go false h = increases_from_lower place (place + 1) high (nonzeros_from (place + 1) line) (omega arith) h
 
 is_in : (place : ℕ) (line : List ℤ) (j : ℕ) → get_or line j (pos 0) ≢ pos 0 → IsIn (place + j) (nonzeros_from place line)
 is_in place [] j n = absurd (n refl)
@@ -45,7 +45,7 @@ in_is place (z ∷ line) x h = go (is_nonzero z) refl (λ g. in_is (place + 1) l
     go true e k (inr g) = later (k g)
     go false e k g = later (k g)
 
-increasing_pairs : (low high : ℕ) (xs : List ℕ) → RisesIn low high xs → (i j : ℕ) → i < j → j < length xs → get_or xs i 0 < get_or xs j 0
+increasing_pairs : (low high : ℕ) (xs : List ℕ) → IncreasesIn low high xs → (i j : ℕ) → i < j → j < length xs → get_or xs i 0 < get_or xs j 0
 increasing_pairs low high [] h i j l m = absurd (omega arith)
 increasing_pairs low high (x ∷ xs) h i zero l m = absurd (omega arith)
 increasing_pairs low high (x ∷ xs) h zero (suc j) l m = let a = increasing_at_least (x + 1) high xs h.2 j (omega arith) in omega arith
@@ -53,7 +53,7 @@ increasing_pairs low high (x ∷ xs) h (suc i) (suc j) l m = increasing_pairs (x
 
 are_nonzeros : (f : ℕ → ℤ) (line : List ℤ) → ((j : ℕ) → get_or line j (pos 0) ≡ f j) → AreNonzeros f (nonzeros_from 0 line)
 are_nonzeros f line same = record {
-  increasing = increasing_pairs 0 (length line) (nonzeros_from 0 line) (rises 0 (length line) line (omega arith));
+  increasing = increasing_pairs 0 (length line) (nonzeros_from 0 line) (increases 0 (length line) line (omega arith));
   nonzero = λ k l z.
       let v = in_is 0 line (get_or (nonzeros_from 0 line) k 0) (in_at (nonzeros_from 0 line) k l) in
       let e : v.0 ≡ get_or (nonzeros_from 0 line) k 0 = let q = v.1 in omega arith in

@@ -236,8 +236,8 @@ root_stands m rows columns (Branch lines finding trees) within e f = (
   lines,
   2001,
   record {
-    rows = record { increasing = within.nodes.1.rows_rise; in_range = subst (λ n. (k : ℕ) → k < length lines.rows → get_or lines.rows k 0 < n) e within.root_rows };
-    columns = record { increasing = within.nodes.1.columns_rise; in_range = subst (λ n. (k : ℕ) → k < length lines.columns → get_or lines.columns k 0 < n) f within.root_columns };
+    rows = record { increasing = within.nodes.1.rows_increase; in_range = subst (λ n. (k : ℕ) → k < length lines.rows → get_or lines.rows k 0 < n) e within.root_rows };
+    columns = record { increasing = within.nodes.1.columns_increase; in_range = subst (λ n. (k : ℕ) → k < length lines.columns → get_or lines.columns k 0 < n) f within.root_columns };
   },
   within.nodes,
 )

@@ -5,7 +5,7 @@ use Rattle.cmr_base.specs.Matrix.{Matrix, height, transposed, IsMatrix}
 use Rattle.cmr_base.proofs.TransposedLemmas.{violator_from_transposed, row_set_from_transposed, column_set_from_transposed, none_from_transposed}
 use Rattle.cmr_base.specs.LineSets.{IsRowSet, set_number, set_numbered}
 use Rattle.cmr_base.specs.Violator.{HasNoColumnSet, HasNoViolator, IsLeastColumnSet}
-use Rattle.cmr_base.proofs.IncreasingLists.{row_set_rises}
+use Rattle.cmr_base.proofs.IncreasingLists.{row_set_increases}
 use Rattle.cmr_base.proofs.SetNumbers.{numbered_same, row_set-numbered, set_number-lt}
 
 -- no row set with a lesser number has a column set
@@ -17,13 +17,13 @@ none_more m number none before others is h = elim (cases_lt (set_number others) 
   | inl less ↦ before others is less
   | inr past ↦
       let same : number ≡ set_number others = omega arith in
-      let here : set_numbered (height m) 0 number ≡ others = ap (set_numbered (height m) 0) same ∙ numbered_same (height m) others (row_set_rises m others is) in
+      let here : set_numbered (height m) 0 number ≡ others = ap (set_numbered (height m) 0) same ∙ numbered_same (height m) others (row_set_increases m others is) in
       subst (HasNoColumnSet m) here none
 ]
 
 pub none_at_all : (m : Matrix) (number : ℕ) → 2 ^ height m ≤ number → NoneBefore m number → HasNoViolator m
 none_at_all m number end before rows columns row_set column_set v =
-    before rows row_set (omega (arith, set_number-lt (height m) rows (row_set_rises m rows row_set))) columns column_set v
+    before rows row_set (omega (arith, set_number-lt (height m) rows (row_set_increases m rows row_set))) columns column_set v
 
 -- a row set with a column set makes a violator
 pub found_one : (m : Matrix) (number : ℕ) (columns : List ℕ) → IsLeastColumnSet m (set_numbered (height m) 0 number) columns → ¬ (HasNoViolator m)

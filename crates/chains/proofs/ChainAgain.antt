@@ -7,7 +7,7 @@ use Rattle.std.proofs.lemmas.List.{append-nil}
 use Rattle.std.proofs.lemmas.List.Concat.{flat_map-append}
 use Rattle.std.proofs.lemmas.List.Sums.{fold_push}
 use Rattle.cmr_base.specs.LineSets.{AllBelow}
-use Rattle.cmr_base.proofs.IncreasingLists.{RisesIn, rises_in}
+use Rattle.cmr_base.proofs.IncreasingLists.{IncreasesIn, increases_in}
 use Rattle.cmr_base.specs.declared.line_set.LineSet.{LineSet}
 use Rattle.std.proofs.Math.Nat.{mul-le-mul_left, mul-le-mul_right}
 use Rattle.cmr_base.proofs.Lists.{all-append}
@@ -66,14 +66,14 @@ again_line most before line few h above =
     (again_wrap (field Short (increasing_line_in most (last_number before))) (λ (number : ℕ). before ++ (number - 1) ∷ []) (number_of_line line ∷ []) (line + 1)
     (again_field Short (increasing_line_in most (last_number before)) (number_of_line line) (line + 1) (increasing_again most (last_number before) line few h above)))
 
-again_lines : (most : ℕ) (before lines : List ℕ) → most ≤ 1000 → RisesIn (last_number before) most lines → Again (times (another_line most) (length lines) before) (map number_of_line lines) (before ++ lines)
-again_lines most before [] few rises = subst (λ xs. Again {K = ChainKind} (λ text. Ok (before, text)) [] xs) (sym (append-nil before)) (again_done before)
-again_lines most before (line ∷ lines) few rises =
+again_lines : (most : ℕ) (before lines : List ℕ) → most ≤ 1000 → IncreasesIn (last_number before) most lines → Again (times (another_line most) (length lines) before) (map number_of_line lines) (before ++ lines)
+again_lines most before [] few increases = subst (λ xs. Again {K = ChainKind} (λ text. Ok (before, text)) [] xs) (sym (append-nil before)) (again_done before)
+again_lines most before (line ∷ lines) few increases =
     let last : last_number (before ++ line ∷ []) ≡ line + 1 = fold_push (λ (before line : ℕ). line + 1) 0 before line in
     subst (Again (times (another_line most) (length (line ∷ lines)) before) (map number_of_line (line ∷ lines))) (append_assoc before (line ∷ []) lines)
     (again_bind (another_line most before) _ (number_of_line line ∷ []) (map number_of_line lines) (before ++ line ∷ []) ((before ++ line ∷ []) ++ lines)
-    (again_line most before line few rises.1 rises.0)
-    (again_lines most (before ++ line ∷ []) lines few (subst (λ (low : ℕ). RisesIn low most lines) (sym last) rises.2)))
+    (again_line most before line few increases.1 increases.0)
+    (again_lines most (before ++ line ∷ []) lines few (subst (λ (low : ℕ). IncreasesIn low most lines) (sym last) increases.2)))
 
 again_line_set : (height width : ℕ) (lines : LineSet) → height ≤ 1000 → width ≤ 1000 → AreLinesIn height width lines → AreIncreasing lines → Again (line_set height width) (line_set_words lines) lines
 again_line_set height width lines few_rows few_columns inside increasing =
@@ -87,9 +87,9 @@ again_line_set height width lines few_rows few_columns inside increasing =
     (again_field Short (limited width) (decimal (length lines.columns)) (length lines.columns) (size_again width (length lines.columns) (omega (arith, few_columns, column_count)) column_count))
     (again_bind (increasing_lines height (length lines.rows)) _
     (map number_of_line lines.rows) (map number_of_line lines.columns) lines.rows lines
-    (again_lines height [] lines.rows few_rows (rises_in 0 height lines.rows increasing.0 inside.0 (λ h. zero-le)))
+    (again_lines height [] lines.rows few_rows (increases_in 0 height lines.rows increasing.0 inside.0 (λ h. zero-le)))
     (again_wrap (increasing_lines width (length lines.columns)) (λ (columns : List ℕ). record { rows = lines.rows; columns = columns }) (map number_of_line lines.columns) lines.columns
-    (again_lines width [] lines.columns few_columns (rises_in 0 width lines.columns increasing.1 inside.1 (λ h. zero-le))))))
+    (again_lines width [] lines.columns few_columns (increases_in 0 width lines.columns increasing.1 inside.1 (λ h. zero-le))))))
 
 -- ---- steps
 
@@ -133,9 +133,9 @@ pub record IsWritable (sized : SizedChain) : Type 0 where
   pub few_columns : sized.columns ≤ 1000
   pub few_steps : length sized.chain.steps ≤ sized.rows * sized.columns
   pub steps_in : AllByRecursion (IsStepIn sized.rows sized.columns) sized.chain.steps
-  pub steps_rise : AllByRecursion IsIncreasingStep sized.chain.steps
+  pub steps_increase : AllByRecursion IsIncreasingStep sized.chain.steps
   pub violator_in : AreLinesIn sized.rows sized.columns sized.chain.violator
-  pub violator_rises : AreIncreasing sized.chain.violator
+  pub violator_increases : AreIncreasing sized.chain.violator
 
 abbrev chain_words : SizedChain → List (List ℕ)
 chain_words sized = codes "cmr-chain" ∷ codes "1" ∷ decimal sized.rows ∷ decimal sized.columns ∷ decimal (length sized.chain.steps) ∷ (words_of_lines (map step_words sized.chain.steps) ++ (codes "violator" ∷ (line_set_words sized.chain.violator ++ [])))
@@ -180,12 +180,12 @@ read_again sized w =
     (end_then (times (another_step m n) count [])
     (λ made t. field Short (word_in (codes "violator") UnknownStep) t >>= λ name. line_set m n name.1 >>= λ violator.
     ended Extra (record { chain = record { steps = made; violator = violator.0 }; rows = m; columns = n }) violator.1)
-    (words_of_lines (map step_words steps)) _ steps sized (again_steps m n [] steps few_rows few_columns w.steps_in w.steps_rise)
+    (words_of_lines (map step_words steps)) _ steps sized (again_steps m n [] steps few_rows few_columns w.steps_in w.steps_increase)
     (end_then (field Short (word_in (codes "violator") UnknownStep))
     (λ _ t. line_set m n t >>= λ violator. ended Extra (record { chain = record { steps = steps; violator = violator.0 }; rows = m; columns = n }) violator.1)
     (codes "violator" ∷ []) _ tt sized (again_field Short _ (codes "violator") tt refl)
     (end_then (line_set m n) (λ violator t. ended Extra (record { chain = record { steps = steps; violator = violator }; rows = m; columns = n }) t)
-    (line_set_words sized.chain.violator) [] sized.chain.violator sized (again_line_set m n sized.chain.violator few_rows few_columns w.violator_in w.violator_rises) (end_here sized))))))))
+    (line_set_words sized.chain.violator) [] sized.chain.violator sized (again_line_set m n sized.chain.violator few_rows few_columns w.violator_in w.violator_increases) (end_here sized))))))))
 
 -- ---- the words of the text are valid words
 
@@ -241,8 +241,8 @@ chain_again sized w =
       (form_solid, (version_solid, tt)),
       (
         (decimal_word sized.rows (omega (arith, few_rows)), (decimal_word sized.columns (omega (arith, few_columns)), (decimal_word (length sized.chain.steps) (omega (arith, few, places)), tt))),
-        all-append (AllByRecursion IsWord) (map step_words sized.chain.steps) (violator ∷ []) (steps_solid sized.rows sized.columns sized.chain.steps few_rows few_columns w.steps_in w.steps_rise)
-            ((violator_solid, line_set_solid sized.rows sized.columns sized.chain.violator few_rows few_columns w.violator_in w.violator_rises), tt),
+        all-append (AllByRecursion IsWord) (map step_words sized.chain.steps) (violator ∷ []) (steps_solid sized.rows sized.columns sized.chain.steps few_rows few_columns w.steps_in w.steps_increase)
+            ((violator_solid, line_set_solid sized.rows sized.columns sized.chain.violator few_rows few_columns w.violator_in w.violator_increases), tt),
       ),
     )
     ∙ ap (λ ws. codes "cmr-chain" ∷ codes "1" ∷ decimal sized.rows ∷ decimal sized.columns ∷ decimal (length sized.chain.steps) ∷ ws) (flat_map-append (λ line. line) (map step_words sized.chain.steps) (violator ∷ [])))

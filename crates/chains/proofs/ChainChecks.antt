@@ -15,7 +15,7 @@ use Rattle.cmr_base.specs.Violator.{IsViolator}
 use Rattle.cmr_base.specs.declared.line_set.LineSet.{LineSet}
 use Rattle.cmr_base.proofs.Integers.{sums}
 use Rattle.cmr_base.proofs.Members.{all_in, all_of_members, in_at, increasing_are_distinct}
-use Rattle.cmr_base.proofs.IncreasingLists.{row_set_rises, column_set_rises}
+use Rattle.cmr_base.proofs.IncreasingLists.{row_set_increases, column_set_increases}
 use Rattle.cmr_base.proofs.ListsWithout.{place_of, place_is}
 use Rattle.chains.specs.declared.step.SignStep.{SignStep}
 use Rattle.chains.specs.declared.step.SignStep.TheVariants.{Free, Forced}
@@ -59,7 +59,7 @@ forced_from a s row column cycle v is signs here row_set column_set row_here col
     forced_sum a s row column cycle v is signs here row_set column_set row_here column_here =
         plain (submatrix_sum (with_entry s row column v) cycle.rows cycle.columns) (submatrix_sum s cycle.rows cycle.columns) (entry (with_entry s row column v) row column) (entry s row column) v
         (one_entry (entry (with_entry s row column v)) (entry s) cycle.rows cycle.columns row column
-        (increasing_are_distinct 0 (height a) cycle.rows (row_set_rises a cycle.rows row_set)) (increasing_are_distinct 0 a.width cycle.columns (column_set_rises a cycle.columns column_set))
+        (increasing_are_distinct 0 (height a) cycle.rows (row_set_increases a cycle.rows row_set)) (increasing_are_distinct 0 a.width cycle.columns (column_set_increases a cycle.columns column_set))
         row_here column_here (λ i j h g e. (one_more a s is.rectangular signs row column v here.one).other i j e))
         (one_more a s is.rectangular signs row column v here.one).here here.no_sign
       where
@@ -71,7 +71,7 @@ pub forced_rest : (a s : Matrix) (row column : ℕ) (cycle : LineSet) (v : ℤ) 
 forced_rest a s row column cycle v is signs rule = subst IsZeroModFour
     (plain (submatrix_sum (with_entry s row column v) cycle.rows cycle.columns) (submatrix_sum s cycle.rows cycle.columns) (entry (with_entry s row column v) row column) (entry s row column) v
     (one_entry (entry (with_entry s row column v)) (entry s) cycle.rows cycle.columns row column
-    (increasing_are_distinct 0 (height a) cycle.rows (row_set_rises a cycle.rows rule.row_set)) (increasing_are_distinct 0 a.width cycle.columns (column_set_rises a cycle.columns rule.column_set))
+    (increasing_are_distinct 0 (height a) cycle.rows (row_set_increases a cycle.rows rule.row_set)) (increasing_are_distinct 0 a.width cycle.columns (column_set_increases a cycle.columns rule.column_set))
     rule.row_in rule.column_in (λ i j h g e. (one_more a s is.rectangular signs row column v rule.here.one).other i j e))
     (one_more a s is.rectangular signs row column v rule.here.one).here rule.here.no_sign) rule.four
   where
@@ -112,9 +112,9 @@ lead_from a s end middle (step ∷ steps) (suc n) is signs (v, rule, rest) (w, r
 
 pub signed_violator : (a s : Matrix) (lines : LineSet) (column : ℕ) → AreSigns a s → IsStrictlyIncreasing lines.rows → IsStrictlyIncreasing lines.columns → AllBelow (height a) lines.rows → AllBelow a.width lines.columns → AllSignedBut a s lines.rows lines.columns (height a) column
     → IsViolator (entry s) lines.rows lines.columns → IsSignedViolator a s lines
-signed_violator a s lines column signs rows_rise columns_rise rows_in columns_in all v = record {
-  row_set = record { increasing = rows_rise; in_range = rows_in };
-  column_set = record { increasing = columns_rise; in_range = columns_in };
+signed_violator a s lines column signs rows_increase columns_increase rows_in columns_in all v = record {
+  row_set = record { increasing = rows_increase; in_range = rows_in };
+  column_set = record { increasing = columns_increase; in_range = columns_in };
   all_signed = λ i j h g one. all i j h g one (inl (λ e. let p = place_is i lines.rows h in let l = rows_in (place_of i lines.rows) p.in_range in let q = p.there in omega arith));
   violator = v;
 }

@@ -16,7 +16,7 @@ use Rattle.cmr_base.proofs.Lists.{get_or-replicated}
 use Rattle.cmr_base.proofs.Parity.{even-sum_over, even_by_difference}
 use Rattle.cmr_base.proofs.SumLaws.{sum_over-sub}
 use Rattle.cmr_base.proofs.Members.{all_in, all_of_members, increasing_are_distinct}
-use Rattle.cmr_base.proofs.IncreasingLists.{row_set_rises, column_set_rises}
+use Rattle.cmr_base.proofs.IncreasingLists.{row_set_increases, column_set_increases}
 use Rattle.cmr_base.proofs.RowLists.{is_eq, is_ne}
 use Rattle.cmr_base.proofs.Entries.{no_minus}
 use Rattle.ghouila.proofs.SignedSums.{zero_or_sign}
@@ -233,7 +233,7 @@ module _ (a : Matrix) (is : IsTernary a) (binary : IsBinary a) (lines : LineSet)
       }
       go (inl four) again = again (more_matched a s (with_entry s r c v) N r c v (one_more a s is.rectangular f r c v rule.here.one)
           (sym (one_more a s is.rectangular f r c v rule.here.one).here ∙ sign_four (sum_over cycle.rows (λ i. sum_over cycle.columns (λ j. entry (with_entry s r c v) i j))) (sum_over cycle.rows (λ i. sum_over cycle.columns (λ j. N i j))) (entry (with_entry s r c v) r c) (N r c)
-          (one_entry (entry (with_entry s r c v)) N cycle.rows cycle.columns r c (increasing_are_distinct 0 (height a) cycle.rows (row_set_rises a cycle.rows rule.row_set)) (increasing_are_distinct 0 a.width cycle.columns (column_set_rises a cycle.columns rule.column_set)) rule.row_in rule.column_in equal)
+          (one_entry (entry (with_entry s r c v)) N cycle.rows cycle.columns r c (increasing_are_distinct 0 (height a) cycle.rows (row_set_increases a cycle.rows rule.row_set)) (increasing_are_distinct 0 a.width cycle.columns (column_set_increases a cycle.columns rule.column_set)) rule.row_in rule.column_in equal)
           rule.four four (subst IsSign (sym (one_more a s is.rectangular f r c v rule.here.one).here) rule.is_sign) (sign_of a s N m r c rule.here.one))
           m)
 

@@ -126,8 +126,8 @@ fn join(labels: &mut Vec<u32>, row: usize, column: usize)
         labels.old.items }
 {
     let kept = labels[row];
-    let gone = labels[column];
-    join_labels(labels, gone, kept);
+    let replaced = labels[column];
+    join_labels(labels, replaced, kept);
 }
 
 // The sign of a step that keeps its rule.
@@ -201,8 +201,8 @@ fn are_lines_of(matrix: &Matrix, lines: &LineSet) -> bool
     ensures inside { IsTrue result
         ↔ (AllBelow (height matrix.now) lines.now.rows
         × AllBelow matrix.now.width lines.now.columns) }
-    ensures rows_rise { IsStrictlyIncreasing lines.now.rows }
-    ensures columns_rise { IsStrictlyIncreasing lines.now.columns }
+    ensures rows_increase { IsStrictlyIncreasing lines.now.rows }
+    ensures columns_increase { IsStrictlyIncreasing lines.now.columns }
 {
     let rows = lines.rows.as_slice();
     let columns = lines.columns.as_slice();

@@ -135,10 +135,10 @@ zero_is n e = go (same_or_not n 0)
 
 -- each bit of the first word is a bit of the second word
 pub part_bits : (a b : ℕ) → b < 2 ^ 64 → eqb (bit_and a (bit_not w64 b)) 0 ≡ true → (k : ℕ) → k < 64 → has_bit a k ≡ true → has_bit b k ≡ true
-part_bits a b fb e k small h = and_not (has_bit a k) (has_bit b k) (sym (left_out a b fb k small) ∙ ap (λ n. has_bit n k) (zero_is (bit_and a (bit_not w64 b)) e) ∙ has_bit-zero k) h
+part_bits a b fb e k small h = and_not (has_bit a k) (has_bit b k) (sym (omitted a b fb k small) ∙ ap (λ n. has_bit n k) (zero_is (bit_and a (bit_not w64 b)) e) ∙ has_bit-zero k) h
   where
-    left_out : (a b : ℕ) → b < 2 ^ 64 → (k : ℕ) → k < 64 → has_bit (bit_and a (bit_not w64 b)) k ≡ (has_bit a k && not (has_bit b k))
-    left_out a b fb k small = has_bit-and a (bit_not w64 b) k ∙ ap (λ t. has_bit a k && t) (has_bit-not b k fb small)
+    omitted : (a b : ℕ) → b < 2 ^ 64 → (k : ℕ) → k < 64 → has_bit (bit_and a (bit_not w64 b)) k ≡ (has_bit a k && not (has_bit b k))
+    omitted a b fb k small = has_bit-and a (bit_not w64 b) k ∙ ap (λ t. has_bit a k && t) (has_bit-not b k fb small)
 
 pub is_part_word : (a b : ℕ) → a < 2 ^ 64 → b < 2 ^ 64 → ((k : ℕ) → k < 64 → has_bit a k ≡ true → has_bit b k ≡ true) → eqb (bit_and a (bit_not w64 b)) 0 ≡ true
 is_part_word a b fa fb all =
@@ -234,4 +234,15 @@ cut_by_tests one two true true a b = inl (b.0 refl)
 cut_by_tests one two true false a b = λ d. elim d [
   | inl w ↦ true≢false (sym (b.1 w))
   | inr n ↦ let h = a.0 refl in true≢false (sym h.2 ∙ n h.0 h.1)
+]
+
+-- the columns below the next one that a set does not have are in another set
+pub others_next : (own old new : List ℕ) (column : ℕ) → ((x : ℕ) → x < column → has_column own x ≡ false → has_column old x ≡ true)
+    → ((x : ℕ) → has_column old x ≡ true → has_column new x ≡ true) → (has_column own column ≡ false → has_column new column ≡ true)
+    → (x : ℕ) → x < column + 1 → has_column own x ≡ false → has_column new x ≡ true
+others_next own old new column rest kept here x l e = elim (cases_lt x column) [
+  | inl low ↦ kept x (rest x low e)
+  | inr high ↦
+      let is : x ≡ column = omega arith in
+      subst (λ (z : ℕ). has_column new z ≡ true) (sym is) (here (subst (λ (z : ℕ). has_column own z ≡ false) is e))
 ]

@@ -10,7 +10,7 @@ use Rattle.cmr_base.specs.Trees.{tail, head, IsTree, IsPathOf, IsDirectedPathOf,
 use Rattle.cmr_base.proofs.RowLists.{is_ne, self_eq}
 pub use Rattle.cmr_base.proofs.RowLists.{differ_self}
 use Rattle.cmr_base.proofs.RemovedLines.{in_first_lines, first_lines_in}
-use Rattle.cmr_base.proofs.IncreasingLists.{rises-range}
+use Rattle.cmr_base.proofs.IncreasingLists.{increases-range}
 use Rattle.cmr_base.proofs.Members.{increasing_are_distinct}
 use Rattle.cmr_base.proofs.GrownNodes.{beyond_in, node_of_in_range, rows_of, rows-grown, length-grown, IsOrderOf, beyond_in-node_of, has_order}
 use Rattle.cmr_base.proofs.GrownPaths.{AreLaid, HasPath, grown_path}
@@ -103,7 +103,7 @@ differ_twice true false = refl
 differ_twice false b = refl
 
 first_lines_distinct : (count : ℕ) → IsDistinct (first_lines count)
-first_lines_distinct count = increasing_are_distinct 0 count (first_lines count) (rises-range 0 count count (omega arith))
+first_lines_distinct count = increasing_are_distinct 0 count (first_lines count) (increases-range 0 count count (omega arith))
 
 module _ (M : ℕ → ℕ → Bool) (m : ℕ) (side : ℕ → ℕ → Bool) (lies : Bool → ℕ → ℕ → Bool) (K : IsCuts M (λ r. r < m) side lies) where
   -- of three arcs, s and t are on one side of r, or r and t are on one side of s; of two arcs, one does not lie beyond the other

@@ -26,16 +26,16 @@ empty_from_none (x ∷ xs) h = absurd (h x (inl refl))
 -- ---- increasing lists
 
 pub increasing_tail : (x : ℕ) (xs : List ℕ) → IsStrictlyIncreasing (x ∷ xs) → IsStrictlyIncreasing xs
-increasing_tail x xs rises k h = let next : suc k + 1 ≡ suc (k + 1) = omega arith in subst (λ n. get_or xs k 0 < get_or (x ∷ xs) n 0) next (rises (suc k) (omega arith))
+increasing_tail x xs increases k h = let next : suc k + 1 ≡ suc (k + 1) = omega arith in subst (λ n. get_or xs k 0 < get_or (x ∷ xs) n 0) next (increases (suc k) (omega arith))
 
 pub head_below : (x y : ℕ) (xs : List ℕ) → IsStrictlyIncreasing (x ∷ xs) → IsIn y xs → x < y
-head_below x y [] rises h = absurd h
-head_below x y (z ∷ zs) rises (inl e) = let l = rises 0 (omega arith) in omega (arith, l)
-head_below x y (z ∷ zs) rises (inr h) = let l = rises 0 (omega arith) in let m = head_below z y zs (increasing_tail x (z ∷ zs) rises) h in omega (arith, l, m)
+head_below x y [] increases h = absurd h
+head_below x y (z ∷ zs) increases (inl e) = let l = increases 0 (omega arith) in omega (arith, l)
+head_below x y (z ∷ zs) increases (inr h) = let l = increases 0 (omega arith) in let m = head_below z y zs (increasing_tail x (z ∷ zs) increases) h in omega (arith, l, m)
 
 pub increasing_distinct : (xs : List ℕ) → IsStrictlyIncreasing xs → IsDistinct xs
-increasing_distinct [] rises = tt
-increasing_distinct (x ∷ xs) rises = ((λ h. let l = head_below x x xs rises h in omega (arith, l)), increasing_distinct xs (increasing_tail x xs rises))
+increasing_distinct [] increases = tt
+increasing_distinct (x ∷ xs) increases = ((λ h. let l = head_below x x xs increases h in omega (arith, l)), increasing_distinct xs (increasing_tail x xs increases))
 
 -- indices in a list without repeats
 pub same_place : (xs : List ℕ) (i k : ℕ) → IsDistinct xs → i < length xs → k < length xs → get_or xs i 0 ≡ get_or xs k 0 → i ≡ k
@@ -91,7 +91,7 @@ pub without-within : (i : ℕ) (xs ys : List ℕ) → IsWithin xs ys → IsWithi
 without-within i xs ys h x g = let w = without_in i x xs g in in_without i x ys (h x w.0) w.1
 
 pub without_increases : (i : ℕ) (xs : List ℕ) → IsStrictlyIncreasing xs → IsStrictlyIncreasing (without xs i)
-without_increases i xs rises = IsStrictlyIncreasing-filter (λ line. not (eqb line i)) xs rises
+without_increases i xs increases = IsStrictlyIncreasing-filter (λ line. not (eqb line i)) xs increases
 
 -- the list gets no longer, and shorter if it contained the number
 pub without_short : (i : ℕ) (xs : List ℕ) → length (without xs i) ≤ length xs

@@ -5,7 +5,7 @@ use Rattle.std.specs.List.Sorted.{IsStrictlyIncreasing}
 use Rattle.cmr_base.specs.Members.{IsIn, IsDistinct}
 use Rattle.cmr_base.specs.Sums.{sum_over}
 use Rattle.cmr_base.proofs.Integers.{sums}
-use Rattle.cmr_base.proofs.IncreasingLists.{RisesIn, rises_in, increases_along}
+use Rattle.cmr_base.proofs.IncreasingLists.{IncreasesIn, increases_in, increases_along}
 use Rattle.cmr_base.proofs.Booleans.{eq_of, is_ne, ne_of}
 
 -- each number of the first is in the second
@@ -53,21 +53,21 @@ in_at (x ∷ xs) (suc k) l = inr (in_at xs k (omega arith))
 
 -- ---- increasing lists
 
-rises_above : (low high x : ℕ) (xs : List ℕ) → RisesIn low high xs → IsIn x xs → low ≤ x
-rises_above low high x [] h g = absurd g
-rises_above low high x (y ∷ ys) h (inl e) = let l = h.0 in omega arith
-rises_above low high x (y ∷ ys) h (inr g) = let l = h.0 in let m = rises_above (y + 1) high x ys h.2 g in omega arith
+increases_above : (low high x : ℕ) (xs : List ℕ) → IncreasesIn low high xs → IsIn x xs → low ≤ x
+increases_above low high x [] h g = absurd g
+increases_above low high x (y ∷ ys) h (inl e) = let l = h.0 in omega arith
+increases_above low high x (y ∷ ys) h (inr g) = let l = h.0 in let m = increases_above (y + 1) high x ys h.2 g in omega arith
 
-pub increasing_are_distinct : (low high : ℕ) (xs : List ℕ) → RisesIn low high xs → IsDistinct xs
+pub increasing_are_distinct : (low high : ℕ) (xs : List ℕ) → IncreasesIn low high xs → IsDistinct xs
 increasing_are_distinct low high [] h = tt
-increasing_are_distinct low high (x ∷ xs) h = ((λ g. let l = rises_above (x + 1) high x xs h.2 g in omega arith), increasing_are_distinct (x + 1) high xs h.2)
+increasing_are_distinct low high (x ∷ xs) h = ((λ g. let l = increases_above (x + 1) high x xs h.2 g in omega arith), increasing_are_distinct (x + 1) high xs h.2)
 
-rises-append : (low x : ℕ) (xs : List ℕ) → RisesIn low x xs → low ≤ x → RisesIn low (x + 1) (xs ++ x ∷ [])
-rises-append low x [] h l = (l, omega arith, tt)
-rises-append low x (y ∷ ys) h l = (h.0, let m = h.1 in omega arith, rises-append (y + 1) x ys h.2 (let m = h.1 in omega arith))
+increases-append : (low x : ℕ) (xs : List ℕ) → IncreasesIn low x xs → low ≤ x → IncreasesIn low (x + 1) (xs ++ x ∷ [])
+increases-append low x [] h l = (l, omega arith, tt)
+increases-append low x (y ∷ ys) h l = (h.0, let m = h.1 in omega arith, increases-append (y + 1) x ys h.2 (let m = h.1 in omega arith))
 
 pub increasing-append : (xs : List ℕ) (x : ℕ) → IsStrictlyIncreasing xs → ((y : ℕ) → IsIn y xs → y < x) → IsStrictlyIncreasing (xs ++ x ∷ [])
-increasing-append xs x increasing below = increases_along 0 (x + 1) (xs ++ x ∷ []) (rises-append 0 x xs (rises_in 0 x xs increasing (λ k l. below (get_or xs k 0) (in_at xs k l)) (λ l. omega arith)) (omega arith))
+increasing-append xs x increasing below = increases_along 0 (x + 1) (xs ++ x ∷ []) (increases-append 0 x xs (increases_in 0 x xs increasing (λ k l. below (get_or xs k 0) (in_at xs k l)) (λ l. omega arith)) (omega arith))
 
 -- ---- a list without a number
 

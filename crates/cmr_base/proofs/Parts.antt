@@ -10,7 +10,7 @@ use Rattle.std.specs.List.Sorted.{IsStrictlyIncreasing}
 use Rattle.cmr_base.specs.declared.limits.TheConstants.{MAX_COLUMNS, MAX_ROWS}
 use Rattle.cmr_base.specs.Matrix.{Matrix, height, entry, column_of, transposed, IsMatrix, IsEntry, rows_of, IsRectangular, IsTernary}
 use Rattle.cmr_base.specs.LineSets.{AllBelow, submatrix}
-use Rattle.cmr_base.proofs.IncreasingLists.{rises_in, increasing_short}
+use Rattle.cmr_base.proofs.IncreasingLists.{increases_in, increasing_short}
 use Rattle.cmr_base.proofs.SignEntries.{zero_is_entry}
 
 pub length-cells : {A : Type 0} (f : A → List ℤ) (w : ℕ) (xs : List A) → ((x : A) → length (f x) ≡ w) → length (flat_map f xs) ≡ length xs * w
@@ -113,4 +113,4 @@ is_matrix-transposed m is = let of_transposed = is_ternary-transposed m (record 
 
 -- an increasing list of lines below a bound has at most `bound` lines
 pub length-increasing : (lines : List ℕ) (bound : ℕ) → IsStrictlyIncreasing lines → AllBelow bound lines → length lines ≤ bound
-length-increasing lines bound increasing below = omega (arith, increasing_short 0 bound lines (rises_in 0 bound lines increasing below (λ h. omega arith)) (omega arith))
+length-increasing lines bound increasing below = omega (arith, increasing_short 0 bound lines (increases_in 0 bound lines increasing below (λ h. omega arith)) (omega arith))

@@ -107,14 +107,14 @@ module _ (binary : Bool) (M : ℕ → ℕ → ℤ) (kind cross : ℕ → Line) (
 
   pub reason_from_reducible : IsStrictlyIncreasing C → IsReducible binary M R C i → IsSome (first_reason binary M kind cross R C i)
   unfolding copies negatives one_crossing
-  reason_from_reducible rises w = go (eqb (nonzeros_at C (M i)) 0) (eqb (nonzeros_at C (M i)) 1) binary refl refl refl w
+  reason_from_reducible increases w = go (eqb (nonzeros_at C (M i)) 0) (eqb (nonzeros_at C (M i)) 1) binary refl refl refl w
     where
       go : (a b y : Bool) → eqb (nonzeros_at C (M i)) 0 ≡ a → eqb (nonzeros_at C (M i)) 1 ≡ b → binary ≡ y → IsReducible binary M R C i
           → is_some (cond a (Some Zero) (cond b one_crossing (option_or copies (cond y None negatives)))) ≡ true
       go true b y p q r w = refl
       go false true y p q r w = some_map (λ j. One (cross j)) (find (λ j. is_nonzero (M i j)) C) ∙ nonzero_found C (M i) (eqb-true (nonzeros_at C (M i)) 1 q)
       go false false y p q r (inl thin) =
-          let n = count_from_thin C (M i) (increasing_distinct C rises) thin in
+          let n = count_from_thin C (M i) (increasing_distinct C increases) thin in
           let a = eqb-false (nonzeros_at C (M i)) 0 p in
           let b = eqb-false (nonzeros_at C (M i)) 1 q in
           absurd (omega (arith, n, a, b))

@@ -115,7 +115,7 @@ below_from_within : (count : ℕ) (lines : List ℕ) → IsWithin lines (first_l
 below_from_within count lines w k h = first_lines_in count (get_or lines k 0) (w (get_or lines k 0) (in-get_or lines k h))
 
 pub row_set_from_within : (m : Matrix) (rows : List ℕ) → IsStrictlyIncreasing rows → IsWithin rows (first_lines (height m)) → IsRowSet m rows
-row_set_from_within m rows rises w = record { increasing = rises; in_range = below_from_within (height m) rows w }
+row_set_from_within m rows increases w = record { increasing = increases; in_range = below_from_within (height m) rows w }
 
 pub column_set_from_within : (m : Matrix) (columns : List ℕ) → IsStrictlyIncreasing columns → IsWithin columns (first_lines m.width) → IsColumnSet m columns
-column_set_from_within m columns rises w = record { increasing = rises; in_range = below_from_within m.width columns w }
+column_set_from_within m columns increases w = record { increasing = increases; in_range = below_from_within m.width columns w }

@@ -111,7 +111,7 @@ is_row : Line → Type 0
 is_row (Row r) = Unit {0}
 is_row (Column c) = ⊥
 
-row_not_column : (r c : ℕ) → Row r ≢ Column c
+pub row_not_column : (r c : ℕ) → Row r ≢ Column c
 unfolding is_row
 row_not_column r c e = subst is_row e tt
 
@@ -132,7 +132,7 @@ first_apart M Delta one two c = tied_apart M true one two.row two.column c.first
 first_apart M YForm one two c = tied_apart M false one two.row two.column c.first_corner c.tied.first_tied
 first_apart M Mixed one two c = tied_apart M true one two.row two.column c.first_corner c.tied.first_tied
 first_apart M Concentrated one two c =
-    ((row_not_column one.row one.column, (row_not_column one.row one.other, tt)), ((columns_apart one.column one.other (λ e. let l = c.tied.columns_rise in omega (arith, e)), tt), (tt, tt)))
+    ((row_not_column one.row one.column, (row_not_column one.row one.other, tt)), ((columns_apart one.column one.other (λ e. let l = c.tied.columns_increase in omega (arith, e)), tt), (tt, tt)))
 
 module _ (m n : ℕ) (M : ℕ → ℕ → ℤ) (form : Form) (one two : Connector) where
   three_more : (flat : Bool) → 4 ≡ suc (length (connector_lines flat one))

@@ -5,7 +5,7 @@ use Rattle.std.proofs.Math.Nat.{pow-suc, pow-le-pow_right, zero-mul, eq_of_mul-e
 use Rattle.std.proofs.Math.Pow.{pow_pos}
 use Rattle.cmr_base.specs.LineSets.{set_number, set_numbered, IsRowSet, IsColumnSet}
 use Rattle.cmr_base.specs.Matrix.{Matrix, height}
-use Rattle.cmr_base.proofs.IncreasingLists.{RisesIn, rises_from_lower, increasing_row_set, increasing_column_set}
+use Rattle.cmr_base.proofs.IncreasingLists.{IncreasesIn, increases_from_lower, increasing_row_set, increasing_column_set}
 
 two_more : (n : ℕ) → 2 ^ (n + 1) ≡ 2 ^ n * 2
 two_more n = ap (λ k. 2 ^ k) (add-one n) ∙ pow-suc 2 n
@@ -14,13 +14,13 @@ twice_more : (n k : ℕ) → k * 2 ^ (n + 1) ≡ 2 * k * 2 ^ n
 twice_more n k = let e = ap (λ m. k * m) (two_more n) in omega (arith, e)
 
 -- the number of a set whose lines are at least `low` is a multiple of 2^low
-multiple : (low high : ℕ) (lines : List ℕ) → RisesIn low high lines → (k : ℕ) × (set_number lines ≡ k * 2 ^ low)
-multiple low high [] rises = (0, sym (zero-mul (2 ^ low)))
-multiple low high (line ∷ lines) rises =
-    let later = multiple (line + 1) high lines rises.2 in
+multiple : (low high : ℕ) (lines : List ℕ) → IncreasesIn low high lines → (k : ℕ) × (set_number lines ≡ k * 2 ^ low)
+multiple low high [] increases = (0, sym (zero-mul (2 ^ low)))
+multiple low high (line ∷ lines) increases =
+    let later = multiple (line + 1) high lines increases.2 in
     let a = 2 ^ (line - low) in
     let b = 2 ^ low in
-    let from : line - low + low ≡ line = omega (arith, rises.0) in
+    let from : line - low + low ≡ line = omega (arith, increases.0) in
     let p : 2 ^ line ≡ a * b = ap (λ n. 2 ^ n) (sym from) ∙ pow-add 2 (line - low) low in
     let q : 2 ^ (line + 1) ≡ a * b * 2 = two_more line ∙ ap (λ n. n * 2) p in
     let e : set_number lines ≡ later.0 * (a * b * 2) = later.1 ∙ ap (λ n. later.0 * n) q in
@@ -45,15 +45,15 @@ cancel : (first m n : ℕ) → m * 2 ^ first ≡ n * 2 ^ first → m ≡ n
 cancel first m n e = eq_of_mul-eq-mul_right (2 ^ first) (pow_pos first) m n e
 
 -- each set has a unique number
-pub set_numbered-unique : (count first high : ℕ) (lines : List ℕ) (number : ℕ) → high ≡ first + count → RisesIn first high lines → set_number lines ≡ number * 2 ^ first → set_numbered count first number ≡ lines
-set_numbered-unique zero first high [] number end rises e = refl
-set_numbered-unique zero first high (line ∷ lines) number end rises e = absurd (omega (arith, rises.0, rises.1))
-set_numbered-unique (suc count) first high [] number end rises e =
+pub set_numbered-unique : (count first high : ℕ) (lines : List ℕ) (number : ℕ) → high ≡ first + count → IncreasesIn first high lines → set_number lines ≡ number * 2 ^ first → set_numbered count first number ≡ lines
+set_numbered-unique zero first high [] number end increases e = refl
+set_numbered-unique zero first high (line ∷ lines) number end increases e = absurd (omega (arith, increases.0, increases.1))
+set_numbered-unique (suc count) first high [] number end increases e =
     let none : number ≡ 0 = cancel first number 0 (sym e ∙ sym (zero-mul (2 ^ first))) in
     rw none (none_numbered (suc count) first)
-set_numbered-unique (suc count) first high (line ∷ lines) number end rises e = elim (cases_lt first line) [
+set_numbered-unique (suc count) first high (line ∷ lines) number end increases e = elim (cases_lt first line) [
   | inl later ↦
-      let past : RisesIn (first + 1) high (line ∷ lines) = (omega arith, rises.1, rises.2) in
+      let past : IncreasesIn (first + 1) high (line ∷ lines) = (omega arith, increases.1, increases.2) in
       let m = multiple (first + 1) high (line ∷ lines) past in
       let k = m.0 in
       let q : k * 2 ^ (first + 1) ≡ 2 * k * 2 ^ first = omega (arith, twice_more first k) in
@@ -62,8 +62,8 @@ set_numbered-unique (suc count) first high (line ∷ lines) number end rises e =
       let half : number / 2 ≡ k = omega arith in
       rw (even, half) (set_numbered-unique count (first + 1) high (line ∷ lines) k (omega arith) past m.1)
   | inr here ↦
-      let same : line ≡ first = omega (arith, rises.0) in
-      let past : RisesIn (first + 1) high lines = subst (λ r. RisesIn (r + 1) high lines) same rises.2 in
+      let same : line ≡ first = omega (arith, increases.0) in
+      let past : IncreasesIn (first + 1) high lines = subst (λ r. IncreasesIn (r + 1) high lines) same increases.2 in
       let m = multiple (first + 1) high lines past in
       let k = m.0 in
       let q : k * 2 ^ (first + 1) ≡ 2 * k * 2 ^ first = omega (arith, twice_more first k) in
@@ -93,34 +93,34 @@ above-append [] line below (suc k) h = omega arith
 above-append (x ∷ lines) line below zero h = omega (arith, below 0 (omega arith))
 above-append (x ∷ lines) line below (suc k) h = above-append lines line (λ j lt. below (suc j) (omega arith)) k (omega arith)
 
-pub numbered_rises : (count first high number : ℕ) → high ≡ first + count → RisesIn first high (set_numbered count first number)
-numbered_rises zero first high number end = tt
-numbered_rises (suc count) first high number end =
-    let later = numbered_rises count (first + 1) high (number / 2) (omega arith) in
-    elim (eqb (number % 2) 1) as (λ b. RisesIn first high (cond b (first ∷ set_numbered count (first + 1) (number / 2)) (set_numbered count (first + 1) (number / 2)))) [
+pub numbered_increases : (count first high number : ℕ) → high ≡ first + count → IncreasesIn first high (set_numbered count first number)
+numbered_increases zero first high number end = tt
+numbered_increases (suc count) first high number end =
+    let later = numbered_increases count (first + 1) high (number / 2) (omega arith) in
+    elim (eqb (number % 2) 1) as (λ b. IncreasesIn first high (cond b (first ∷ set_numbered count (first + 1) (number / 2)) (set_numbered count (first + 1) (number / 2)))) [
       | true ↦ (omega arith, omega arith, later)
-      | false ↦ rises_from_lower first (first + 1) high (set_numbered count (first + 1) (number / 2)) (omega arith) later
+      | false ↦ increases_from_lower first (first + 1) high (set_numbered count (first + 1) (number / 2)) (omega arith) later
     ]
 
-number_in : (low high : ℕ) (lines : List ℕ) → RisesIn low high lines → low ≤ high → set_number lines + 2 ^ low ≤ 2 ^ high
-number_in low high [] rises h = let two : 0 < 2 = omega arith in omega (arith, pow-le-pow_right two h)
-number_in low high (line ∷ lines) rises h =
+number_in : (low high : ℕ) (lines : List ℕ) → IncreasesIn low high lines → low ≤ high → set_number lines + 2 ^ low ≤ 2 ^ high
+number_in low high [] increases h = let two : 0 < 2 = omega arith in omega (arith, pow-le-pow_right two h)
+number_in low high (line ∷ lines) increases h =
     let two : 0 < 2 = omega arith in
-    let up : 2 ^ low ≤ 2 ^ line = pow-le-pow_right two rises.0 in
-    let later = number_in (line + 1) high lines rises.2 (omega (arith, rises.1)) in
+    let up : 2 ^ low ≤ 2 ^ line = pow-le-pow_right two increases.0 in
+    let later = number_in (line + 1) high lines increases.2 (omega (arith, increases.1)) in
     omega (arith, up, later, two_more line)
 
-pub set_number-lt : (high : ℕ) (lines : List ℕ) → RisesIn 0 high lines → set_number lines < 2 ^ high
-set_number-lt high lines rises = omega (arith, number_in 0 high lines rises (omega arith))
+pub set_number-lt : (high : ℕ) (lines : List ℕ) → IncreasesIn 0 high lines → set_number lines < 2 ^ high
+set_number-lt high lines increases = omega (arith, number_in 0 high lines increases (omega arith))
 
-pub numbered_same : (high : ℕ) (lines : List ℕ) → RisesIn 0 high lines → set_numbered high 0 (set_number lines) ≡ lines
-numbered_same high lines rises = set_numbered-unique high 0 high lines (set_number lines) (omega arith) rises (omega arith)
+pub numbered_same : (high : ℕ) (lines : List ℕ) → IncreasesIn 0 high lines → set_numbered high 0 (set_number lines) ≡ lines
+numbered_same high lines increases = set_numbered-unique high 0 high lines (set_number lines) (omega arith) increases (omega arith)
 
 pub number_of_numbered : (count number : ℕ) → number < 2 ^ count → set_number (set_numbered count 0 number) ≡ number
 number_of_numbered count number h = set_number-set_numbered count 0 number h ∙ omega arith
 
 pub row_set-numbered : (m : Matrix) (number : ℕ) → IsRowSet m (set_numbered (height m) 0 number)
-row_set-numbered m number = increasing_row_set m (set_numbered (height m) 0 number) (numbered_rises (height m) 0 (height m) number (omega arith))
+row_set-numbered m number = increasing_row_set m (set_numbered (height m) 0 number) (numbered_increases (height m) 0 (height m) number (omega arith))
 
 pub column_set-numbered : (m : Matrix) (number : ℕ) → IsColumnSet m (set_numbered m.width 0 number)
-column_set-numbered m number = increasing_column_set m (set_numbered m.width 0 number) (numbered_rises m.width 0 m.width number (omega arith))
+column_set-numbered m number = increasing_column_set m (set_numbered m.width 0 number) (numbered_increases m.width 0 m.width number (omega arith))

@@ -14,10 +14,10 @@ use Rattle.cmr_base.proofs.Parts.{entry-submatrix, is_ternary-submatrix}
 use Rattle.cmr_base.proofs.GreedyLemmas.{IsInherited}
 
 pub increasing_places : (xs : List ℕ) (i k : ℕ) → IsStrictlyIncreasing xs → i < k → k < length xs → get_or xs i 0 < get_or xs k 0
-increasing_places [] i k rises l h = absurd (omega arith)
-increasing_places (x ∷ xs) i zero rises l h = absurd (omega arith)
-increasing_places (x ∷ xs) zero (suc k) rises l h = head_below x (get_or xs k 0) xs rises (in-get_or xs k (omega arith))
-increasing_places (x ∷ xs) (suc i) (suc k) rises l h = increasing_places xs i k (increasing_tail x xs rises) (omega arith) (omega arith)
+increasing_places [] i k increases l h = absurd (omega arith)
+increasing_places (x ∷ xs) i zero increases l h = absurd (omega arith)
+increasing_places (x ∷ xs) zero (suc k) increases l h = head_below x (get_or xs k 0) xs increases (in-get_or xs k (omega arith))
+increasing_places (x ∷ xs) (suc i) (suc k) increases l h = increasing_places xs i k (increasing_tail x xs increases) (omega arith) (omega arith)
 
 pub map_members : {A : Type 0} (f g : ℕ → A) (xs : List ℕ) → ((x : ℕ) → IsIn x xs → f x ≡ g x) → map f xs ≡ map g xs
 map_members f g [] h = refl
@@ -38,12 +38,12 @@ places_in_range xs ys within k h =
     omega (arith, p.in_range, e)
 
 pub places_increase : (xs ys : List ℕ) → IsStrictlyIncreasing xs → IsStrictlyIncreasing ys → IsWithin xs ys → IsStrictlyIncreasing (places_of xs ys)
-places_increase xs ys x_rises y_rises within k h =
+places_increase xs ys x_increases y_increases within k h =
     let more : k + 1 < length xs = omega (arith, h, length-map xs (λ x. place_of x ys)) in
     let less : k < length xs = omega (arith, more) in
     let low = place_is (get_or xs k 0) ys (within (get_or xs k 0) (in-get_or xs k less)) in
     let high = place_is (get_or xs (k + 1) 0) ys (within (get_or xs (k + 1) 0) (in-get_or xs (k + 1) more)) in
-    let above = x_rises k more in
+    let above = x_increases k more in
     let first = place_at xs ys k less in
     let second = place_at xs ys (k + 1) more in
     go (cases_lt (place_of (get_or xs k 0) ys) (place_of (get_or xs (k + 1) 0) ys)) low high above first second
@@ -59,7 +59,7 @@ places_increase xs ys x_rises y_rises within k h =
         at_most i j l inside e f above = pick (cases_lt i j)
           where
             pick : (i < j) ⊎ (j ≤ i) → ⊥
-            pick (inl m) = let r = increasing_places ys i j y_rises m inside in omega (arith, r, e, f, above)
+            pick (inl m) = let r = increasing_places ys i j y_increases m inside in omega (arith, r, e, f, above)
             pick (inr m) = let q : i ≡ j = omega (arith, l, m) in let r = ap (λ (z : ℕ). get_or ys z 0) q in omega (arith, r, e, f, above)
 
 module _ (m : Matrix) (rows columns rows' columns' : List ℕ) (row_within : IsWithin rows' rows) (column_within : IsWithin columns' columns) where

@@ -34,7 +34,7 @@ first_lines count = range_with_len 0 count
 
 -- the set without a line
 abbrev pub without : List ℕ → ℕ → List ℕ
-without lines gone = filter (λ line. not (line == gone)) lines
+without lines omitted = filter (λ line. not (line == omitted)) lines
 
 -- the set with this number, of `count` lines from `first` on; here line `first` adds 1 to the number
 abbrev pub set_numbered : ℕ → ℕ → ℕ → List ℕ

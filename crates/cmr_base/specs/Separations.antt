@@ -121,8 +121,8 @@ core_determinant M first second = M second.row first.column *ℤ M second.other 
 pub record AreConcentrated (M : ℕ → ℕ → ℤ) (first second : Connector) : Type 0 where
   pub first_other : M first.row first.other ≢ pos 0
   pub second_other : M second.other second.column ≢ pos 0
-  pub columns_rise : first.column < first.other
-  pub rows_rise : second.row < second.other
+  pub columns_increase : first.column < first.other
+  pub rows_increase : second.row < second.other
   pub determinant : IsSign (core_determinant M first second)
 
 -- the condition that ties the connectors of each form

@@ -16,13 +16,13 @@ pub fn own_labels(alloc: Global, size: u32) -> Result<Vec<u32>, Memory>
     Ok(labels)
 }
 
-/// Gives the label `kept` to all lines with the label `gone`.
-pub fn join_labels(labels: &mut Vec<u32>, gone: u32, kept: u32)
+/// Gives the label `kept` to all lines with the label `replaced`.
+pub fn join_labels(labels: &mut Vec<u32>, replaced: u32, kept: u32)
     ensures { labels.new.items
-        ≡ map (λ label. cond (nat_eq label gone) kept label) labels.old.items }
+        ≡ map (λ label. cond (nat_eq label replaced) kept label) labels.old.items }
 {
     for place in 0..labels.len() {
-        if labels[place] == gone {
+        if labels[place] == replaced {
             labels[place] = kept;
         }
     }

@@ -65,12 +65,12 @@ fn first_lines(alloc: Global, count: u32) -> Result<Indices, Memory>
     Ok(lines)
 }
 
-fn without(alloc: Global, lines: &Indices, gone: u32) -> Result<Indices, Memory>
-    ensures { IfOk result (λ rest. rest ≡ without lines.now gone) }
+fn without(alloc: Global, lines: &Indices, omitted: u32) -> Result<Indices, Memory>
+    ensures { IfOk result (λ rest. rest ≡ without lines.now omitted) }
 {
     let mut rest = Indices::new(alloc);
     for line in lines.as_slice() {
-        if *line != gone {
+        if *line != omitted {
             rest.push(*line)?;
         }
     }

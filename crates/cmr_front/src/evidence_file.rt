@@ -104,9 +104,9 @@ pub fn read_submatrix_file<'a>(
     columns: u32,
 ) -> Result<LineSet, Stop<'a>>
     ensures read { IfOk result (λ lines. named_lines rows columns (text_of bytes.now) ≡ Ok lines) }
-    ensures rows_rise { IfOk result (λ lines. IsStrictlyIncreasing lines.rows
+    ensures rows_increase { IfOk result (λ lines. IsStrictlyIncreasing lines.rows
         × AllBelow rows lines.rows) }
-    ensures columns_rise { IfOk result (λ lines. IsStrictlyIncreasing lines.columns
+    ensures columns_increase { IfOk result (λ lines. IsStrictlyIncreasing lines.columns
         × AllBelow columns lines.columns) }
     ensures stopped { IfErr result (StopsText faults.Matrix name.entry.now (named_lines rows columns
         (text_of bytes.now))) }

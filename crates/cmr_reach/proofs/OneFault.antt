@@ -3,31 +3,31 @@ use Rattle.std.proofs.Common.{◌≡◌, ◌≤◌, ◌∙◌, ℕ, List, ap, sy
 use Rattle.std.proofs.lemmas.Bool.{cases_lt}
 use Rattle.cmr_base.specs.Matrix.{Matrix, height}
 use Rattle.cmr_base.specs.LineSets.{set_number, set_numbered}
-use Rattle.cmr_base.proofs.IncreasingLists.{RisesIn, row_set_rises, column_set_rises}
+use Rattle.cmr_base.proofs.IncreasingLists.{IncreasesIn, row_set_increases, column_set_increases}
 use Rattle.cmr_base.proofs.SetNumbers.{numbered_same}
 use Rattle.balance.specs.BalanceFaults.{IsLeastFault, IsLeastFaultByColumns, IsLeastFaultByRows, IsLeastFaultColumns, IsLeastFaultRows}
 
-same_set : (high : ℕ) (lines others : List ℕ) → RisesIn 0 high lines → RisesIn 0 high others → set_number lines ≤ set_number others → set_number others ≤ set_number lines → lines ≡ others
-same_set high lines others rises rises' up down =
+same_set : (high : ℕ) (lines others : List ℕ) → IncreasesIn 0 high lines → IncreasesIn 0 high others → set_number lines ≤ set_number others → set_number others ≤ set_number lines → lines ≡ others
+same_set high lines others increases increases' up down =
     let same : set_number lines ≡ set_number others = omega arith in
-    sym (numbered_same high lines rises) ∙ ap (set_numbered high 0) same ∙ numbered_same high others rises'
+    sym (numbered_same high lines increases) ∙ ap (set_numbered high 0) same ∙ numbered_same high others increases'
 
 one_by_rows : (m : Matrix) (rows columns rows' columns' : List ℕ) → IsLeastFaultByRows m rows columns → IsLeastFaultByRows m rows' columns' → (rows ≡ rows') × (columns ≡ columns')
 one_by_rows m rows columns rows' columns' x y =
-    let same : rows ≡ rows' = same_set (height m) rows rows' (row_set_rises m rows x.row_set) (row_set_rises m rows' y.row_set)
+    let same : rows ≡ rows' = same_set (height m) rows rows' (row_set_increases m rows x.row_set) (row_set_increases m rows' y.row_set)
     (x.rows_least rows' columns' y.row_set y.columns_least.column_set y.columns_least.fault) (y.rows_least rows columns x.row_set x.columns_least.column_set x.columns_least.fault) in
     let here : IsLeastFaultColumns m rows' columns = subst (λ rs. IsLeastFaultColumns m rs columns) same x.columns_least in (
       same,
-      same_set m.width columns columns' (column_set_rises m columns here.column_set) (column_set_rises m columns' y.columns_least.column_set)
+      same_set m.width columns columns' (column_set_increases m columns here.column_set) (column_set_increases m columns' y.columns_least.column_set)
           (here.least columns' y.columns_least.column_set y.columns_least.fault) (y.columns_least.least columns here.column_set here.fault),
     )
 
 one_by_columns : (m : Matrix) (rows columns rows' columns' : List ℕ) → IsLeastFaultByColumns m rows columns → IsLeastFaultByColumns m rows' columns' → (rows ≡ rows') × (columns ≡ columns')
 one_by_columns m rows columns rows' columns' x y =
-    let same : columns ≡ columns' = same_set m.width columns columns' (column_set_rises m columns x.column_set) (column_set_rises m columns' y.column_set)
+    let same : columns ≡ columns' = same_set m.width columns columns' (column_set_increases m columns x.column_set) (column_set_increases m columns' y.column_set)
     (x.columns_least rows' columns' y.rows_least.row_set y.column_set y.rows_least.fault) (y.columns_least rows columns x.rows_least.row_set x.column_set x.rows_least.fault) in
     let here : IsLeastFaultRows m rows columns' = subst (λ cs. IsLeastFaultRows m rows cs) same x.rows_least in (
-      same_set (height m) rows rows' (row_set_rises m rows here.row_set) (row_set_rises m rows' y.rows_least.row_set)
+      same_set (height m) rows rows' (row_set_increases m rows here.row_set) (row_set_increases m rows' y.rows_least.row_set)
           (here.least rows' y.rows_least.row_set y.rows_least.fault) (y.rows_least.least rows here.row_set here.fault),
       same,
     )

@@ -91,9 +91,9 @@ chain_checked form file evidence matrix_text a signed steps fault read signing r
       few_columns = is.width_in;
       few_steps = few_signed a steps signed is (chain_sign_matrix a c signed is good) leads;
       steps_in = steps_in a steps _ signed is leads;
-      steps_rise = increasing_steps a _ signed steps leads;
+      steps_increase = increasing_steps a _ signed steps leads;
       violator_in = lines_in_matrix a signed steps (verdicts.No fault) signing refuted;
-      violator_rises = (refuted.row_set.increasing, refuted.column_set.increasing);
+      violator_increases = (refuted.row_set.increasing, refuted.column_set.increasing);
     }) in
     subst (λ kind. CheckReportsBy (check_of form file evidence) kind matrix_text (chain_text c) (irregular_report signed fault)) (sym (kind_of_chain (chain_text c) c again))
     (read_reported faults.Matrix file (λ m. EvidenceReports evidence kinds.Chain m (chain_text c)) (matrix_in form true matrix_text) a (irregular_report signed fault) read

@@ -3,10 +3,10 @@ use Rattle.std.proofs.Common.{◌≡◌, ◌<◌, ◌≤◌, ◌⊎◌, inl, inr
 use Rattle.std.proofs.lemmas.Bool.{cases_lt}
 use Rattle.cmr_base.specs.Matrix.{Matrix, height, entry, IsEntry}
 use Rattle.cmr_base.proofs.Integers.{sums}
-use Rattle.cmr_base.proofs.IncreasingLists.{row_set_rises, column_set_rises, increasing_row_set, increasing_column_set}
+use Rattle.cmr_base.proofs.IncreasingLists.{row_set_increases, column_set_increases, increasing_row_set, increasing_column_set}
 use Rattle.ghouila.proofs.Expansions.{determinant_is, minor}
 use Rattle.ghouila.proofs.Minors.{no_violator_by_minors}
-use Rattle.ghouila.proofs.Sublists.{IsSublist, sublist_rises}
+use Rattle.ghouila.proofs.Sublists.{IsSublist, sublist_increases}
 use Rattle.cmr_unimodular.specs.Tu.{HasOtherDeterminant}
 use Rattle.decomp_tree.proofs.OneLeast.{IsOnLines}
 
@@ -56,8 +56,8 @@ other_determinant m rows columns on = elim (entries_or_other (entry m) rows colu
   | inr one ↦ record {
     rows = one.0;
     columns = one.2;
-    row_set = increasing_row_set m one.0 (sublist_rises 0 (height m) rows one.0 (row_set_rises m rows on.row_set) one.1);
-    column_set = increasing_column_set m one.2 (sublist_rises 0 m.width columns one.2 (column_set_rises m columns on.column_set) one.3);
+    row_set = increasing_row_set m one.0 (sublist_increases 0 (height m) rows one.0 (row_set_increases m rows on.row_set) one.1);
+    column_set = increasing_column_set m one.2 (sublist_increases 0 m.width columns one.2 (column_set_increases m columns on.column_set) one.3);
     square = one.4.0;
     determinant = λ is. one.4.1 (subst IsEntry (determinant_is (entry m) one.2 one.0 one.4.0) is);
   }

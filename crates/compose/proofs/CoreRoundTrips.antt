@@ -28,8 +28,8 @@ pub record AreCored (M : ℕ → ℕ → ℤ) (s : Sides) (f g : Connector) : Ty
   pub unit_iq : IsSign (M f.row f.other)
   pub unit_kj : IsSign (M g.row g.column)
   pub unit_oj : IsSign (M g.other g.column)
-  pub columns_rise : f.column < f.other
-  pub rows_rise : g.row < g.other
+  pub columns_increase : f.column < f.other
+  pub rows_increase : g.row < g.other
   pub determinant : IsSign (core_determinant M f g)
   pub upper : (r c : ℕ) → IsIn r s.rows_one → IsIn c s.columns_two → M r c ≡ pos 0
   pub lower : (r c : ℕ) → IsIn r s.rows_two → IsIn c s.columns_one → M r c ≡ spread_at M f g r c

@@ -131,8 +131,8 @@ module _ (m : Matrix) (side : LineSet) where
   core_fits f g t =
       let r = rows_all in
       let c = columns_all in
-      let rise = t.rows_rise in
-      let up = t.columns_rise in
+      let increases = t.rows_increase in
+      let up = t.columns_increase in
       let a1 = one_there f.row s.rows_one t.row_i in
       let a2 = two_there g.row g.other s.rows_two t.row_k t.row_o (λ e. omega arith) in
       let b1 = two_there f.column f.other s.columns_one t.column_p t.column_q (λ e. omega arith) in

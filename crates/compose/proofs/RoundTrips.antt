@@ -101,8 +101,8 @@ module _ (m : Matrix) (side : LineSet) (ternary : HasTernaryEntries m) (f g : Co
     unit_iq = sign f.row f.other sep.connectors.tied.first_other;
     unit_kj = sign g.row g.column sep.connectors.second_corner;
     unit_oj = sign g.other g.column sep.connectors.tied.second_other;
-    columns_rise = sep.connectors.tied.columns_rise;
-    rows_rise = sep.connectors.tied.rows_rise;
+    columns_increase = sep.connectors.tied.columns_increase;
+    rows_increase = sep.connectors.tied.rows_increase;
     determinant = sep.connectors.tied.determinant;
     upper = blocks_right zeros (spread_at (entry m) f g) sep.blocks;
     lower = blocks_below zeros (spread_at (entry m) f g) sep.blocks;
@@ -122,8 +122,8 @@ module _ (m : Matrix) (side : LineSet) (ternary : HasTernaryEntries m) (f g : Co
       let t = cored sep in
       let trip = core_round_trip m s f g t _ _ (first_is m s f g t) (second_is m s f g t) in
       record {
-        rows = core_rows side.rows (height m) f.row g.row g.other t.row_i t.row_k t.row_o (λ e. let l = t.rows_rise in omega arith);
-        columns = core_columns side.columns m.width f.column f.other g.column t.column_p t.column_q (λ e. let l = t.columns_rise in omega arith) t.column_j;
+        rows = core_rows side.rows (height m) f.row g.row g.other t.row_i t.row_k t.row_o (λ e. let l = t.rows_increase in omega arith);
+        columns = core_columns side.columns m.width f.column f.other g.column t.column_p t.column_q (λ e. let l = t.columns_increase in omega arith) t.column_j;
         connected = trip.0;
         sum = trip.1;
       }

@@ -25,11 +25,11 @@ to_two list xs x h e = filter_in (on_list false list) x xs (in_from_contains xs 
 pub from_two : (list xs : List ℕ) (x : ℕ) → IsIn x (lines_on false list xs) → Contains xs x × (is_listed list x ≡ false)
 from_two list xs x h = let w = in_filter (on_list false list) x xs h in (contains_from_in xs x w.0, not_is (is_listed list x) w.1)
 
-pub in_others : (gone xs : List ℕ) (x : ℕ) → IsIn x (others gone xs) → IsIn x xs
-in_others gone xs x h = (in_filter (on_list false gone) x xs h).0
+pub in_others : (excluded xs : List ℕ) (x : ℕ) → IsIn x (others excluded xs) → IsIn x xs
+in_others excluded xs x h = (in_filter (on_list false excluded) x xs h).0
 
-pub to_others : (gone xs : List ℕ) (x : ℕ) → IsIn x xs → is_listed gone x ≡ false → IsIn x (others gone xs)
-to_others gone xs x h e = filter_in (on_list false gone) x xs h (is_not (is_listed gone x) e)
+pub to_others : (excluded xs : List ℕ) (x : ℕ) → IsIn x xs → is_listed excluded x ≡ false → IsIn x (others excluded xs)
+to_others excluded xs x h e = filter_in (on_list false excluded) x xs h (is_not (is_listed excluded x) e)
 
 pub in_either : (xs ys : List ℕ) (x : ℕ) → IsIn x (xs ++ ys) → IsIn x xs ⊎ IsIn x ys
 in_either [] ys x h = inr h

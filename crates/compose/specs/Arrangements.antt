@@ -118,7 +118,7 @@ corner_lines M first_flat second_flat s first second = record {
 
 -- the lines of a side without the lines of a list
 abbrev pub others : List ℕ → List ℕ → List ℕ
-others gone lines = lines_on false gone lines
+others excluded lines = lines_on false excluded lines
 
 -- both matrices contain the connectors: the first matrix ends with them, and the second matrix begins with them
 abbrev pub core_lines : Sides → (first second : Connector) → Arrangement

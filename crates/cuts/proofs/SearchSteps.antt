@@ -17,8 +17,8 @@ abbrev pub Leads : Matrix → (from_one from_two to_one to_two : Side) → Type 
 Leads m from_one from_two to_one to_two = (P : Lines) → Covers m (as_set from_one.lines) (as_set from_two.lines) P → Covers m (as_set to_one.lines) (as_set to_two.lines) P
 
 -- no line needs to be marked, since the lines are covered
-pub covered_at_once : (m : Matrix) (one two : Side) (parted : LineWords) → HasWords m parted → Covers m (as_set one.lines) (as_set two.lines) (as_set parted) → HasMarked m one two parted parted true
-covered_at_once m one two parted size covers = record { size = size; more = λ x l e. e; covers = λ e. covers }
+pub covered_at_once : (m : Matrix) (one two : Side) (separated : LineWords) → HasWords m separated → Covers m (as_set one.lines) (as_set two.lines) (as_set separated) → HasMarked m one two separated separated true
+covered_at_once m one two separated size covers = record { size = size; more = λ x l e. e; covers = λ e. covers }
 
 -- a search of one state replaces the search of another
 pub searched_as : {E : Type 0} (m : Matrix) (one two other_one other_two : Side) (before after : LineWords) (found : Result Bool E) → Leads m other_one other_two one two → IfOk found (HasMarked m other_one other_two before after)

@@ -83,7 +83,7 @@ impl GroupFinder {
         ensures { OnOk result (AreFound matrix.now self.new) }
     {
         let mut search = CutSearch {
-            parted: self.taken.copied(alloc, matrix)?,
+            separated: self.taken.copied(alloc, matrix)?,
             states: self.states,
         };
         let name = if self.size == 0 {
@@ -92,9 +92,9 @@ impl GroupFinder {
             self.largest
         };
         if is_covered(alloc, matrix, &self.groups, line, name, &mut search)? {
-            self.groups.rename(matrix, line, &search.parted);
-            self.taken.add_rest(matrix, &search.parted);
-            self.note(matrix, line, search.parted.count_others(matrix));
+            self.groups.rename(matrix, line, &search.separated);
+            self.taken.add_rest(matrix, &search.separated);
+            self.note(matrix, line, search.separated.count_others(matrix));
         } else {
             self.taken = self.taken.with_line(alloc, matrix, line)?;
             self.small = self.small.saturating_add(1);
@@ -132,10 +132,10 @@ fn is_covered(
     requires names { HasNames matrix.now groups.now }
     requires together { HoldTogether (IsCut matrix.now) matrix.now groups.now }
     requires line { IsLineOf matrix.now line }
-    requires parted { HasWords matrix.now search.old.parted }
-    ensures size { OnOk result (HasWords matrix.now search.new.parted) }
+    requires separated { HasWords matrix.now search.old.separated }
+    ensures size { OnOk result (HasWords matrix.now search.new.separated) }
     ensures one_side { IfOk result (λ covered. covered ≡ true
-        → AreOnOneSide matrix.now line (as_set search.new.parted)) }
+        → AreOnOneSide matrix.now line (as_set search.new.separated)) }
 {
     let depth = matrix.rows() + matrix.columns() + 2;
     let nothing = Side::empty(alloc, matrix)?;

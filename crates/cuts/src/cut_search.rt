@@ -18,7 +18,7 @@ const MANY_ZEROS: u32 = 2;
 /// examine.
 #[derive(Drop)]
 pub struct CutSearch {
-    pub parted: LineWords,
+    pub separated: LineWords,
     pub states: u32,
 }
 
@@ -34,14 +34,14 @@ impl CutSearch {
         two: &Side,
         depth: u32,
     ) -> Result<bool, Memory>
-        requires { CanSearch matrix.now self.old.parted one.now two.now }
+        requires { CanSearch matrix.now self.old.separated one.now two.now }
         ensures { IfOk result
-            (HasMarked matrix.now one.now two.now self.old.parted self.new.parted) }
+            (HasMarked matrix.now one.now two.now self.old.separated self.new.separated) }
     {
         if one.lines.meets(matrix, &two.lines) {
             return Ok(true);
         }
-        if self.parted.have_all(matrix, &one.lines) {
+        if self.separated.have_all(matrix, &one.lines) {
             return Ok(true);
         }
         if depth == 0 || self.states == 0 {
@@ -67,16 +67,16 @@ impl CutSearch {
         two: &Side,
         depth: u32,
     ) -> Result<bool, Memory>
-        requires { CanSearch matrix.now self.old.parted one.now two.now }
+        requires { CanSearch matrix.now self.old.separated one.now two.now }
         ensures { IfOk result
-            (HasMarked matrix.now one.now two.now self.old.parted self.new.parted) }
+            (HasMarked matrix.now one.now two.now self.old.separated self.new.separated) }
     {
         let near = LinePatterns::of(alloc, matrix, one)?;
         if near.are_few(matrix, &one.lines) {
             return Ok(true);
         }
         if near.have_one_class() && one.lines.are_enough(matrix) {
-            self.parted.add_rest(matrix, &one.lines);
+            self.separated.add_rest(matrix, &one.lines);
             return Ok(true);
         }
         let far = LinePatterns::of(alloc, matrix, two)?;
@@ -98,11 +98,11 @@ impl CutSearch {
         far: &LinePatterns,
         depth: u32,
     ) -> Result<bool, Memory>
-        requires sides { CanSearch matrix.now self.old.parted one.now two.now }
+        requires sides { CanSearch matrix.now self.old.separated one.now two.now }
         requires near { HasPatterns matrix.now one.now.lines near.now }
         requires far { HasPatterns matrix.now two.now.lines far.now }
         ensures { IfOk result
-            (HasMarked matrix.now one.now two.now self.old.parted self.new.parted) }
+            (HasMarked matrix.now one.now two.now self.old.separated self.new.separated) }
     {
         let least = least_heap(matrix, one, two, near, far);
         if let Some(halves) = near.halves(alloc, matrix, one, least)? {
@@ -130,12 +130,12 @@ impl CutSearch {
         two: &Side,
         depth: u32,
     ) -> Result<bool, Memory>
-        requires { CanSearch matrix.now self.old.parted one.now two.now }
+        requires { CanSearch matrix.now self.old.separated one.now two.now }
         ensures { IfOk result
-            (HasMarked matrix.now one.now two.now self.old.parted self.new.parted) }
+            (HasMarked matrix.now one.now two.now self.old.separated self.new.separated) }
     {
-        let Some(line) = next_line(matrix, &one.lines, &two.lines, &self.parted) else {
-            self.parted.add_rest(matrix, &one.lines);
+        let Some(line) = next_line(matrix, &one.lines, &two.lines, &self.separated) else {
+            self.separated.add_rest(matrix, &one.lines);
             return Ok(true);
         };
         let more_one = one.with_line(alloc, matrix, line)?;

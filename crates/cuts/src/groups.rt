@@ -85,21 +85,21 @@ impl Groups {
         Ok(LineWords { rows, columns })
     }
 
-    /// Gives the name of a line to all lines that are not in `parted`.
-    pub fn rename(&mut self, matrix: &RowsAndColumns<'_>, line: Line, parted: &LineWords)
+    /// Gives the name of a line to all lines that are not in `separated`.
+    pub fn rename(&mut self, matrix: &RowsAndColumns<'_>, line: Line, separated: &LineWords)
         requires names { HasNames matrix.now self.old }
         requires line { IsLineOf matrix.now line }
-        requires parted { HasWords matrix.now parted.now }
+        requires separated { HasWords matrix.now separated.now }
         ensures names { HasNames matrix.now self.new }
-        ensures get { GetName matrix.now self.old self.new (as_set parted.now) line }
+        ensures get { GetName matrix.now self.old self.new (as_set separated.now) line }
     {
         let name = self.name(matrix, line);
-        rename_others(&mut self.names, 0, matrix.rows(), &parted.rows, name);
+        rename_others(&mut self.names, 0, matrix.rows(), &separated.rows, name);
         rename_others(
             &mut self.names,
             matrix.rows(),
             matrix.columns(),
-            &parted.columns,
+            &separated.columns,
             name,
         );
     }

@@ -16,30 +16,30 @@ const CROSSING: u32 = 4096;
 const NOT_PARTED: u32 = 2048;
 
 /// The line with the greatest value among the lines on neither side. Lines that cross a line of side one come first, then lines
-/// that are not in `parted`, then lines with many nonzeros.
+/// that are not in `separated`, then lines with many nonzeros.
 pub fn next_line(
     matrix: &RowsAndColumns<'_>,
     one: &LineWords,
     two: &LineWords,
-    parted: &LineWords,
+    separated: &LineWords,
 ) -> Option<Line>
     requires one { HasWords matrix.now one.now }
     requires two { HasWords matrix.now two.now }
-    requires parted { HasWords matrix.now parted.now }
+    requires separated { HasWords matrix.now separated.now }
     ensures { MatchOption result (Unit {0}) (IsLineOf matrix.now) }
 {
     let row = next_row(
         matrix.by_rows(),
         &one.rows,
         &two.rows,
-        &parted.rows,
+        &separated.rows,
         &one.columns,
     );
     let column = next_row(
         matrix.by_columns(),
         &one.columns,
         &two.columns,
-        &parted.columns,
+        &separated.columns,
         &one.rows,
     );
     if row.value == 0 && column.value == 0 {
@@ -66,18 +66,18 @@ fn next_row(
     matrix: &Matrix,
     one: &[u64],
     two: &[u64],
-    parted: &[u64],
+    separated: &[u64],
     crossing: &[u64],
 ) -> Candidate
     requires one { length one.now ≡ words_for (height matrix.now) }
     requires two { length two.now ≡ words_for (height matrix.now) }
-    requires parted { length parted.now ≡ words_for (height matrix.now) }
+    requires separated { length separated.now ≡ words_for (height matrix.now) }
     requires crossing { length crossing.now ≡ words_for matrix.now.width }
 {
     let mut best = Candidate { line: 0, value: 0 };
     for row in 0..matrix.rows() {
         if !has_column(one, row) && !has_column(two, row) {
-            let value = value_of(matrix.support_words(row), crossing, has_column(parted, row));
+            let value = value_of(matrix.support_words(row), crossing, has_column(separated, row));
             if value > best.value {
                 best = Candidate { line: row, value };
             }

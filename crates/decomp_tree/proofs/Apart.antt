@@ -110,8 +110,8 @@ count_map f test other [] h = refl
 count_map f test other (p ∷ parts) h = counted test (f p) (map f parts) ∙ ap₂ (λ a b. cond a 1 0 + b) h.0 (count_map f test other parts h.1) ∙ sym (counted other p parts)
 
 among_named : (xs set : List ℕ) (k : ℕ) → IsStrictlyIncreasing xs → ((x : ℕ) → IsIn x set → x < length xs) → k < length xs → is_among (map (numbered xs) set) (numbered xs k) ≡ is_among set k
-among_named xs set k rises low l = same_test (is_among (map (numbered xs) set) (numbered xs k)) (is_among set k)
-    (λ e. let w = map_in (numbered xs) set (numbered xs k) (among_in (map (numbered xs) set) (numbered xs k) e) in in_among set k (subst (λ y. IsIn y set) (sym (once xs rises (λ _. true) k w.0 l (low w.0 w.1) w.2)) w.1))
+among_named xs set k increases low l = same_test (is_among (map (numbered xs) set) (numbered xs k)) (is_among set k)
+    (λ e. let w = map_in (numbered xs) set (numbered xs k) (among_in (map (numbered xs) set) (numbered xs k) e) in in_among set k (subst (λ y. IsIn y set) (sym (once xs increases (λ _. true) k w.0 l (low w.0 w.1) w.2)) w.1))
     (λ e. in_among (map (numbered xs) set) (numbered xs k) (in_map (numbered xs) set k (among_in set k e)))
 
 low_members : (xs : List ℕ) (high : ℕ) → ((k : ℕ) → k < length xs → get_or xs k 0 < high) → (x : ℕ) → IsIn x xs → x < high

@@ -12,19 +12,19 @@ use Rattle.decomp_tree.specs.PivotedShapes.{HasFaultAmong}
 
 pub lines_of_lines : (a b c : LineSet) → AreLinesOf a b → AreLinesOf b c → AreLinesOf a c
 lines_of_lines a b c x y = record {
-  rows_rise = x.rows_rise;
-  columns_rise = x.columns_rise;
+  rows_increase = x.rows_increase;
+  columns_increase = x.columns_increase;
   rows = λ row h. y.rows row (x.rows row h);
   columns = λ column h. y.columns column (x.columns column h);
 }
 
 -- lines of others are lines of themselves
 pub lines_of_lines_of : (lines parent : LineSet) → AreLinesOf lines parent → AreLinesOf lines lines
-lines_of_lines_of lines parent are = record { rows_rise = are.rows_rise; columns_rise = are.columns_rise; rows = λ row h. h; columns = λ column h. h }
+lines_of_lines_of lines parent are = record { rows_increase = are.rows_increase; columns_increase = are.columns_increase; rows = λ row h. h; columns = λ column h. h }
 
 -- all lines are among themselves
 pub lines_themselves : (m : Matrix) (lines : LineSet) → AreLines m lines → AreLinesOf lines lines
-lines_themselves m lines are = record { rows_rise = are.rows.increasing; columns_rise = are.columns.increasing; rows = λ row h. h; columns = λ column h. h }
+lines_themselves m lines are = record { rows_increase = are.rows.increasing; columns_increase = are.columns.increasing; rows = λ row h. h; columns = λ column h. h }
 
 fault_here : (lines : LineSet) (finding : Finding) (trees : Trees) (fault : LineSet) → FitsLines lines finding trees → fault_at lines finding ≡ Some fault → AreLinesOf fault lines
 fault_here lines (Cycle found) trees fault fits e = subst (λ f. AreLinesOf f lines) (some_same found fault e) fits

@@ -9,19 +9,11 @@ use Rattle.cmr_base.specs.declared.separation.Three.{Three}
 use Rattle.cmr_base.specs.Matrix.{Matrix, height, entry}
 use Rattle.cmr_base.specs.Separations.{Lines}
 use Rattle.cmr_base.specs.Seeds.{IsBefore, IsGoodTwo, IsGoodThree, form_number, line_number, two_key, three_key}
-use Rattle.cmr_base.proofs.Booleans.{neither}
 use Rattle.cmr_base.proofs.SeedLemmas.{line_is, form_is}
 use Rattle.two_sep.specs.FirstSeeds.{IsFirstTwoSeparation}
 use Rattle.three_sep.specs.ThreeSeparations.{IsFirstThreeSeparation}
+use Rattle.three_sep.proofs.OneFirstCut.{same_keys}
 use Rattle.decomp_tree.proofs.SameSets.{HasAllOf, lines_in, same_sets}
-
-same_keys : (xs ys : List ℕ) → length xs ≡ length ys → ¬ (IsBefore xs ys) → ¬ (IsBefore ys xs) → xs ≡ ys
-same_keys [] [] e a b = refl
-same_keys [] (y ∷ ys) e a b = absurd (omega arith)
-same_keys (x ∷ xs) [] e a b = absurd (omega arith)
-same_keys (x ∷ xs) (y ∷ ys) e a b =
-    let first : x ≡ y = neither x y (λ l. a (inl l)) (λ l. b (inl l)) in
-    ap (λ (n : ℕ). n ∷ xs) first ∙ ap (λ (ns : List ℕ). y ∷ ns) (same_keys xs ys (omega arith) (λ h. a (inr (first, h))) (λ h. b (inr (sym first, h))))
 
 -- ---- two-separations
 

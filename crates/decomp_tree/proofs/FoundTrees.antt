@@ -100,10 +100,10 @@ violator_within : (lines fault parent : LineSet) (levels : ℕ) → AreLinesOf l
 violator_within lines fault parent levels are fits l = (l, are, fits, refl, tt)
 
 -- increasing lines among others are lines of them
-lines_among : (m : Matrix) (lines fault : LineSet) (rows_rise : IsRowSet m fault.rows) (columns_rise : IsColumnSet m fault.columns) → AreAmong lines fault.rows fault.columns → AreLinesOf fault lines
+lines_among : (m : Matrix) (lines fault : LineSet) (rows_increase : IsRowSet m fault.rows) (columns_increase : IsColumnSet m fault.columns) → AreAmong lines fault.rows fault.columns → AreLinesOf fault lines
 lines_among m lines fault rows columns among = record {
-  rows_rise = rows.increasing;
-  columns_rise = columns.increasing;
+  rows_increase = rows.increasing;
+  columns_increase = columns.increasing;
   rows = λ row h. all_contained (Contains lines.rows) fault.rows row among.rows h;
   columns = λ column h. all_contained (Contains lines.columns) fault.columns column among.columns h;
 }

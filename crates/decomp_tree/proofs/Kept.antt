@@ -35,8 +35,8 @@ named_within lines set low x h =
 -- a set of lines of the submatrix, by their numbers, is a set of lines of the node
 pub named_lines : (lines set : LineSet) → IsStrictlyIncreasing lines.rows → IsStrictlyIncreasing lines.columns → IsPlacedSet lines set → IsStrictlyIncreasing set.rows → IsStrictlyIncreasing set.columns → AreLinesOf (set_in lines set) lines
 named_lines lines set rows columns placed set_rows set_columns = record {
-  rows_rise = increasing_named lines.rows set.rows rows set_rows (below_members set.rows (length lines.rows) placed.rows);
-  columns_rise = increasing_named lines.columns set.columns columns set_columns (below_members set.columns (length lines.columns) placed.columns);
+  rows_increase = increasing_named lines.rows set.rows rows set_rows (below_members set.rows (length lines.rows) placed.rows);
+  columns_increase = increasing_named lines.columns set.columns columns set_columns (below_members set.columns (length lines.columns) placed.columns);
   rows = named_within lines.rows set.rows placed.rows;
   columns = named_within lines.columns set.columns placed.columns;
 }
@@ -48,8 +48,8 @@ filtered p xs x h = contains_from_in xs x (in_filter p x xs (in_from_contains (f
 
 pub filtered_lines : (lines : LineSet) (p q : ℕ → Bool) → IsStrictlyIncreasing lines.rows → IsStrictlyIncreasing lines.columns → AreLinesOf (record { rows = filter p lines.rows; columns = filter q lines.columns }) lines
 filtered_lines lines p q rows columns = record {
-  rows_rise = IsStrictlyIncreasing-filter p lines.rows rows;
-  columns_rise = IsStrictlyIncreasing-filter q lines.columns columns;
+  rows_increase = IsStrictlyIncreasing-filter p lines.rows rows;
+  columns_increase = IsStrictlyIncreasing-filter q lines.columns columns;
   rows = filtered p lines.rows;
   columns = filtered q lines.columns;
 }
@@ -84,21 +84,21 @@ among_few (i ∷ more) xs d =
     omega (arith, both, one, rest)
 
 pub with_few : (p : ℕ → Bool) (more xs : List ℕ) → IsStrictlyIncreasing xs → length (filter (λ x. p x || is_among more x) xs) ≤ length (filter p xs) + length more
-with_few p more xs rises = let both = filter_or p (is_among more) xs in let few = among_few more xs (increasing_distinct xs rises) in omega (arith, both, few)
+with_few p more xs increases = let both = filter_or p (is_among more) xs in let few = among_few more xs (increasing_distinct xs increases) in omega (arith, both, few)
 
 pub both_sides : (set xs : List ℕ) → length (inside set xs) + length (outside set xs) ≡ length xs
 both_sides set xs = length-filter_both (is_among set) (λ x. not (is_among set x)) (λ x. refl) xs
 
 -- ---- the children of sums
 
-module _ (lines : LineSet) (rows_rise : IsStrictlyIncreasing lines.rows) (columns_rise : IsStrictlyIncreasing lines.columns) where
+module _ (lines : LineSet) (rows_increase : IsStrictlyIncreasing lines.rows) (columns_increase : IsStrictlyIncreasing lines.columns) where
   -- a side with some lines of the other side, fewer than all of them
   pub one_fewer : (side : LineSet) (more_rows more_columns : List ℕ) → length more_rows + length more_columns < length (outside side.rows lines.rows) + length (outside side.columns lines.columns)
       → AreFewer lines (record { rows = inside_with side.rows more_rows lines.rows; columns = inside_with side.columns more_columns lines.columns })
   one_fewer side more_rows more_columns l = record {
-    among = filtered_lines lines (λ x. is_among side.rows x || is_among more_rows x) (λ x. is_among side.columns x || is_among more_columns x) rows_rise columns_rise;
-    fewer = let a = with_few (is_among side.rows) more_rows lines.rows rows_rise in
-        let b = with_few (is_among side.columns) more_columns lines.columns columns_rise in
+    among = filtered_lines lines (λ x. is_among side.rows x || is_among more_rows x) (λ x. is_among side.columns x || is_among more_columns x) rows_increase columns_increase;
+    fewer = let a = with_few (is_among side.rows) more_rows lines.rows rows_increase in
+        let b = with_few (is_among side.columns) more_columns lines.columns columns_increase in
         let c = both_sides side.rows lines.rows in
         let d = both_sides side.columns lines.columns in
         omega (arith, a, b, c, d, l);
@@ -107,9 +107,9 @@ module _ (lines : LineSet) (rows_rise : IsStrictlyIncreasing lines.rows) (column
   pub two_fewer : (side : LineSet) (more_rows more_columns : List ℕ) → length more_rows + length more_columns < length (inside side.rows lines.rows) + length (inside side.columns lines.columns)
       → AreFewer lines (record { rows = outside_with side.rows more_rows lines.rows; columns = outside_with side.columns more_columns lines.columns })
   two_fewer side more_rows more_columns l = record {
-    among = filtered_lines lines (λ x. not (is_among side.rows x) || is_among more_rows x) (λ x. not (is_among side.columns x) || is_among more_columns x) rows_rise columns_rise;
-    fewer = let a = with_few (λ x. not (is_among side.rows x)) more_rows lines.rows rows_rise in
-        let b = with_few (λ x. not (is_among side.columns x)) more_columns lines.columns columns_rise in
+    among = filtered_lines lines (λ x. not (is_among side.rows x) || is_among more_rows x) (λ x. not (is_among side.columns x) || is_among more_columns x) rows_increase columns_increase;
+    fewer = let a = with_few (λ x. not (is_among side.rows x)) more_rows lines.rows rows_increase in
+        let b = with_few (λ x. not (is_among side.columns x)) more_columns lines.columns columns_increase in
         let c = both_sides side.rows lines.rows in
         let d = both_sides side.columns lines.columns in
         omega (arith, a, b, c, d, l);

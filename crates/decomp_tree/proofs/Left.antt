@@ -74,8 +74,8 @@ module _ (m : Matrix) (lines : LineSet) (are : AreLines m lines) where
   -- from all lines on
   all_left : AreLeft m lines are (first_lines (height (part m lines))) (first_lines (length lines.columns))
   all_left = record {
-    rows_rise = first_lines_increase (height (part m lines));
-    columns_rise = first_lines_increase (length lines.columns);
+    rows_increase = first_lines_increase (height (part m lines));
+    columns_increase = first_lines_increase (length lines.columns);
     rows_low = λ r h. let l = first_lines_in (height (part m lines)) r h in omega (arith, l, height_in m lines);
     columns_low = λ c h. first_lines_in (length lines.columns) c h;
   }

@@ -81,8 +81,8 @@ within_all set (y ∷ ys) all x (inr h) = within_all set ys all.1 x h
 -- some lines of a set, by where they stand in it
 pub some_are_lines : (m : Matrix) (lines some : LineSet) → AreLines m lines → IsSomeOf lines.rows some.rows → IsSomeOf lines.columns some.columns → AreLines m some
 some_are_lines m lines some are r c = lines_within m some lines (record {
-  rows_rise = r.increasing;
-  columns_rise = c.increasing;
+  rows_increase = r.increasing;
+  columns_increase = c.increasing;
   rows = λ x h. contains_from_in lines.rows x (r.among x (in_from_contains some.rows x h));
   columns = λ x h. contains_from_in lines.columns x (c.among x (in_from_contains some.columns x h));
 }) are
@@ -98,29 +98,29 @@ dropped_in zero xs x h = h
 dropped_in (suc n) [] x h = h
 dropped_in (suc n) (y ∷ ys) x h = inr (dropped_in n ys x h)
 
-rises_dropped : (n : ℕ) (xs : List ℕ) → IsStrictlyIncreasing xs → IsStrictlyIncreasing (drop n xs)
-rises_dropped zero xs rises = rises
-rises_dropped (suc n) [] rises = rises
-rises_dropped (suc n) (x ∷ xs) rises = rises_dropped n xs (increasing_tail x xs rises)
+increases_dropped : (n : ℕ) (xs : List ℕ) → IsStrictlyIncreasing xs → IsStrictlyIncreasing (drop n xs)
+increases_dropped zero xs increases = increases
+increases_dropped (suc n) [] increases = increases
+increases_dropped (suc n) (x ∷ xs) increases = increases_dropped n xs (increasing_tail x xs increases)
 
-rises_taken : (n : ℕ) (xs : List ℕ) → IsStrictlyIncreasing xs → IsStrictlyIncreasing (take n xs)
-rises_taken n xs rises k h =
+increases_taken : (n : ℕ) (xs : List ℕ) → IsStrictlyIncreasing xs → IsStrictlyIncreasing (take n xs)
+increases_taken n xs increases k h =
     let short = length-take n xs in
-    let l = rises k (omega (arith, h, short)) in
+    let l = increases k (omega (arith, h, short)) in
     let low = get_or-take n xs k 0 (omega (arith, h, short)) in
     let high = get_or-take n xs (k + 1) 0 (omega (arith, h, short)) in
     omega (arith, l, low, high)
 
 -- a run of lines
 pub run_of : (xs : List ℕ) (from count : ℕ) → IsStrictlyIncreasing xs → IsSomeOf xs (take count (drop from xs))
-run_of xs from count rises = record {
-  increasing = rises_taken count (drop from xs) (rises_dropped from xs rises);
+run_of xs from count increases = record {
+  increasing = increases_taken count (drop from xs) (increases_dropped from xs increases);
   among = λ x h. dropped_in from xs x (taken_in count (drop from xs) x h);
 }
 
 pub run_among : (lines numbers run middle : List ℕ) (from count : ℕ) → IsStrictlyIncreasing lines → numbers ≡ lines → run ≡ take count (drop from numbers) → middle ≡ run → IsSomeOf lines middle
-run_among lines numbers run middle from count rises e f g =
-    subst (IsSomeOf lines) (sym (g ∙ f ∙ ap (λ (xs : List ℕ). take count (drop from xs)) e)) (run_of lines from count rises)
+run_among lines numbers run middle from count increases e f g =
+    subst (IsSomeOf lines) (sym (g ∙ f ∙ ap (λ (xs : List ℕ). take count (drop from xs)) e)) (run_of lines from count increases)
 
-pub run_rises : (lines numbers run : List ℕ) (from count : ℕ) → IsStrictlyIncreasing lines → numbers ≡ lines → run ≡ take count (drop from numbers) → IsStrictlyIncreasing run
-run_rises lines numbers run from count rises e f = (run_among lines numbers run run from count rises e f refl).increasing
+pub run_increases : (lines numbers run : List ℕ) (from count : ℕ) → IsStrictlyIncreasing lines → numbers ≡ lines → run ≡ take count (drop from numbers) → IsStrictlyIncreasing run
+run_increases lines numbers run from count increases e f = (run_among lines numbers run run from count increases e f refl).increasing

@@ -55,12 +55,12 @@ map_in f (x ∷ xs) y (inl e) = (x, inl refl, e)
 map_in f (x ∷ xs) y (inr h) = let w = map_in f xs y h in (w.0, inr w.1, w.2)
 
 -- the lines of a side by their numbers in a increasing list
-module _ (xs : List ℕ) (rises : IsStrictlyIncreasing xs) (s : ℕ → Bool) where
+module _ (xs : List ℕ) (increases : IsStrictlyIncreasing xs) (s : ℕ → Bool) where
   abbrev pub named : List ℕ
   named = map (numbered xs) (filter s (first_lines (length xs)))
 
   pub once : (i k : ℕ) → i < length xs → k < length xs → numbered xs i ≡ numbered xs k → i ≡ k
-  once i k h l e = same_place xs i k (increasing_distinct xs rises) h l e
+  once i k h l e = same_place xs i k (increasing_distinct xs increases) h l e
 
   pub among_named : (k : ℕ) → k < length xs → is_among named (numbered xs k) ≡ s k
   among_named k l = same_test (is_among named (numbered xs k)) (s k)
@@ -113,12 +113,12 @@ named_all xs = same_number_lists (map (numbered xs) (first_lines (length xs))) x
 
 -- what is named next is above all that was named
 pub named_below : (lines places : List ℕ) (i : ℕ) → IsStrictlyIncreasing lines → IsStrictlyIncreasing places → AllBelow (length lines) places → i < length places → IsAbove (numbered lines (get_or places i 0)) (map (numbered lines) (take i places))
-named_below lines places i rises places_rise low l k h =
+named_below lines places i increases places_increase low l k h =
     let many = length-map (take i places) (numbered lines) in
     let taken = length-take i places in
     let before : k < i = omega (arith, h, many, taken) in
     let short : k < length (take i places) = omega (arith, h, many) in
     let a = get_or-map (numbered lines) (take i places) k 0 0 short in
     let b = get_or-take i places k 0 before in
-    let less = increasing_places lines (get_or places k 0) (get_or places i 0) rises (increasing_places places k i places_rise before l) (low i l) in
+    let less = increasing_places lines (get_or places k 0) (get_or places i 0) increases (increasing_places places k i places_increase before l) (low i l) in
     omega (arith, a, ap (numbered lines) b, less)

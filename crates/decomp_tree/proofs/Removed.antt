@@ -59,12 +59,12 @@ without_named f (r ∷ R) i one = go (eqb r i) refl (without_named f R i (λ s h
         apart false k = k
 
 pub increasing_named : (xs C : List ℕ) → IsStrictlyIncreasing xs → IsStrictlyIncreasing C → ((c : ℕ) → IsIn c C → c < length xs) → IsStrictlyIncreasing (map (numbered xs) C)
-increasing_named xs C rises C_rises low k l =
+increasing_named xs C increases C_increases low k l =
     let more : k + 1 < length C = omega (arith, l, length-map C (numbered xs)) in
     let less : k < length C = omega (arith, more) in
     let first = get_or-map (numbered xs) C k 0 0 less in
     let second = get_or-map (numbered xs) C (k + 1) 0 0 more in
-    let before = increasing_places xs (get_or C k 0) (get_or C (k + 1) 0) rises (C_rises k more) (low (get_or C (k + 1) 0) (in-get_or C (k + 1) more)) in
+    let before = increasing_places xs (get_or C k 0) (get_or C (k + 1) 0) increases (C_increases k more) (low (get_or C (k + 1) 0) (in-get_or C (k + 1) more)) in
     omega (arith, first, second, before)
 
 module _ (m : Matrix) (lines : LineSet) (are : AreLines m lines) where
@@ -76,8 +76,8 @@ module _ (m : Matrix) (lines : LineSet) (are : AreLines m lines) where
 
   -- rows and columns that stay
   pub record AreLeft (R C : List ℕ) : Type 0 where
-    pub rows_rise : IsStrictlyIncreasing R
-    pub columns_rise : IsStrictlyIncreasing C
+    pub rows_increase : IsStrictlyIncreasing R
+    pub columns_increase : IsStrictlyIncreasing C
     pub rows_low : (r : ℕ) → IsIn r R → r < length lines.rows
     pub columns_low : (c : ℕ) → IsIn c C → c < length lines.columns
 
@@ -85,14 +85,14 @@ module _ (m : Matrix) (lines : LineSet) (are : AreLines m lines) where
       → IsSome (line_reason false (entry m) (map (numbered lines.rows) R) (map (numbered lines.columns) C) (numbered_line lines line))
   reason_named R C (Row r) left h some =
       reason_from_reducible false (entry m) Row Column (map (numbered lines.rows) R) (map (numbered lines.columns) C) (numbered lines.rows r)
-      (increasing_named lines.columns C are.columns.increasing left.columns_rise left.columns_low)
+      (increasing_named lines.columns C are.columns.increasing left.columns_increase left.columns_low)
       (named_reducible (entry (part m lines)) (entry m) (numbered lines.rows) (numbered lines.columns) R C r (in_from_contains R r h)
       (λ i j x y. entry_in m lines i j (left.rows_low i x) (left.columns_low j y))
       (λ i j x y e. once lines.rows are.rows.increasing (λ _. true) i j (left.rows_low i x) (left.rows_low j y) e)
       (reducible_from_reason false (entry (part m lines)) Row Column R C r some))
   reason_named R C (Column c) left h some =
       reason_from_reducible false (λ j i. entry m i j) Column Row (map (numbered lines.columns) C) (map (numbered lines.rows) R) (numbered lines.columns c)
-      (increasing_named lines.rows R are.rows.increasing left.rows_rise left.rows_low)
+      (increasing_named lines.rows R are.rows.increasing left.rows_increase left.rows_low)
       (named_reducible (λ j i. entry (part m lines) i j) (λ j i. entry m i j) (numbered lines.columns) (numbered lines.rows) C R c (in_from_contains C c h)
       (λ j i y x. entry_in m lines i j (left.rows_low i x) (left.columns_low j y))
       (λ i j x y e. once lines.columns are.columns.increasing (λ _. true) i j (left.columns_low i x) (left.columns_low j y) e)
@@ -112,8 +112,8 @@ module _ (m : Matrix) (lines : LineSet) (are : AreLines m lines) where
 
   pub fewer_left : (R C : List ℕ) (line : Line) → AreLeft R C → AreLeft (rows_without R line) (columns_without C line)
   fewer_left R C line left = record {
-    rows_rise = rows_increase line R left.rows_rise;
-    columns_rise = columns_increase line C left.columns_rise;
+    rows_increase = rows_increase line R left.rows_increase;
+    columns_increase = columns_increase line C left.columns_increase;
     rows_low = λ r h. left.rows_low r (rows_within line R r h);
     columns_low = λ c h. left.columns_low c (columns_within line C c h);
   }

@@ -349,7 +349,7 @@ module _ (limit : ℕ) (m : Matrix) (is : IsMatrix m) (lines : LineSet) (are : A
         count = refl;
         fewer = (
           record {
-            among = named_lines lines rest are.rows.increasing are.columns.increasing placed_rest (subst IsStrictlyIncreasing (sym f) left.left.rows_rise) (subst IsStrictlyIncreasing (sym g) left.left.columns_rise);
+            among = named_lines lines rest are.rows.increasing are.columns.increasing placed_rest (subst IsStrictlyIncreasing (sym f) left.left.rows_increase) (subst IsStrictlyIncreasing (sym g) left.left.columns_increase);
             fewer = let a = counted left in let b = length-map rest.rows (numbered lines.rows) in let c = length-map rest.columns (numbered lines.columns) in
                 omega (arith, a, b, c, ap length f, ap length g, ap length e, some);
           },
@@ -394,8 +394,8 @@ module _ (n : Matrix) where
           (f.0, f.1, λ h. d (are.once (suc a) b f.0 l k h (has_line_from_listed (part_at parts b).rows (part_at parts b).columns f.0 f.2)))
 
   few_lines : (xs : List ℕ) (high x : ℕ) → IsStrictlyIncreasing xs → AllBelow high xs → x < high → ¬ (IsIn x xs) → length xs < high
-  few_lines xs high x rises low l d =
-      let a = distinct_few high (x ∷ xs) (d, increasing_distinct xs rises) below in omega (arith, a)
+  few_lines xs high x increases low l d =
+      let a = distinct_few high (x ∷ xs) (d, increasing_distinct xs increases) below in omega (arith, a)
     where
       below : (y : ℕ) → IsIn y (x ∷ xs) → y < high
       below y (inl e) = omega (arith, e, l)
@@ -430,15 +430,15 @@ module _ (n : Matrix) where
 
   few_parts : (parts : List LineSet) → AreComponents n parts → length parts ≤ height n + n.width
   few_parts parts are =
-      let a = length-increasing (map (first_number (height n)) parts) (height n + n.width) rises (λ k l. all_at (λ y. y < height n + n.width) (map (first_number (height n)) parts) k 0 lows l) in
+      let a = length-increasing (map (first_number (height n)) parts) (height n + n.width) increases (λ k l. all_at (λ y. y < height n + n.width) (map (first_number (height n)) parts) k 0 lows l) in
       let b = length-map parts (first_number (height n)) in
       omega (arith, a, b)
     where
       number_at : (k : ℕ) → k < length parts → get_or (map (first_number (height n)) parts) k 0 ≡ first_number (height n) (part_at parts k)
       number_at k l = get_or-map (first_number (height n)) parts k no_lines 0 l
 
-      rises : IsStrictlyIncreasing (map (first_number (height n)) parts)
-      rises k l =
+      increases : IsStrictlyIncreasing (map (first_number (height n)) parts)
+      increases k l =
           let b = length-map parts (first_number (height n)) in
           let more : k + 1 < length parts = omega (arith, l, b) in
           let low : k < length parts = omega (arith, more) in

@@ -11,34 +11,34 @@ use Rattle.cmr_base.specs.Seeds.{IsLine}
 use Rattle.cmr_base.proofs.Members.{IsWithin, all_in}
 use Rattle.cmr_base.proofs.ListsWithout.{head_below, increasing_tail}
 use Rattle.cmr_base.proofs.ListedLines.{in_from_listed, listed_from_in}
-use Rattle.cmr_base.proofs.IncreasingLists.{increasing_below, row_set_rises, column_set_rises}
+use Rattle.cmr_base.proofs.IncreasingLists.{increasing_below, row_set_increases, column_set_increases}
 
 -- increasing lists of the same numbers
 pub same_numbers : (xs ys : List ℕ) → IsStrictlyIncreasing xs → IsStrictlyIncreasing ys → IsWithin xs ys → IsWithin ys xs → xs ≡ ys
-same_numbers [] [] rises rises' up down = refl
-same_numbers [] (y ∷ ys) rises rises' up down = absurd (down y (inl refl))
-same_numbers (x ∷ xs) [] rises rises' up down = absurd (up x (inl refl))
-same_numbers (x ∷ xs) (y ∷ ys) rises rises' up down =
-    ap (λ (n : ℕ). n ∷ xs) first ∙ ap (λ (ns : List ℕ). y ∷ ns) (same_numbers xs ys (increasing_tail x xs rises) (increasing_tail y ys rises') later later')
+same_numbers [] [] increases increases' up down = refl
+same_numbers [] (y ∷ ys) increases increases' up down = absurd (down y (inl refl))
+same_numbers (x ∷ xs) [] increases increases' up down = absurd (up x (inl refl))
+same_numbers (x ∷ xs) (y ∷ ys) increases increases' up down =
+    ap (λ (n : ℕ). n ∷ xs) first ∙ ap (λ (ns : List ℕ). y ∷ ns) (same_numbers xs ys (increasing_tail x xs increases) (increasing_tail y ys increases') later later')
   where
     first : x ≡ y
     first = elim (up x (inl refl)) [
       | inl e ↦ e
       | inr g ↦ elim (down y (inl refl)) [
         | inl e ↦ sym e
-        | inr h ↦ absurd (let a = head_below y x ys rises' g in let b = head_below x y xs rises h in omega arith)
+        | inr h ↦ absurd (let a = head_below y x ys increases' g in let b = head_below x y xs increases h in omega arith)
       ]
     ]
 
     later : IsWithin xs ys
     later z g = elim (up z (inr g)) [
-      | inl e ↦ absurd (let a = head_below x z xs rises g in let same = first in omega arith)
+      | inl e ↦ absurd (let a = head_below x z xs increases g in let same = first in omega arith)
       | inr h ↦ h
     ]
 
     later' : IsWithin ys xs
     later' z g = elim (down z (inr g)) [
-      | inl e ↦ absurd (let a = head_below y z ys rises' g in let same = first in omega arith)
+      | inl e ↦ absurd (let a = head_below y z ys increases' g in let same = first in omega arith)
       | inr h ↦ h
     ]
 
@@ -55,11 +55,11 @@ pub record IsSet (m : Matrix) (set : LineSet) : Type 0 where
 
 rows_within : (m : Matrix) (s t : LineSet) → IsSet m s → HasAllOf m (lines_in s) (lines_in t) → IsWithin s.rows t.rows
 rows_within m s t is has x h =
-    in_from_listed x t.rows (has (Row x) (all_in (λ row. row < height m) s.rows (increasing_below 0 (height m) s.rows (row_set_rises m s.rows is.rows)) x h) (listed_from_in x s.rows h))
+    in_from_listed x t.rows (has (Row x) (all_in (λ row. row < height m) s.rows (increasing_below 0 (height m) s.rows (row_set_increases m s.rows is.rows)) x h) (listed_from_in x s.rows h))
 
 columns_within : (m : Matrix) (s t : LineSet) → IsSet m s → HasAllOf m (lines_in s) (lines_in t) → IsWithin s.columns t.columns
 columns_within m s t is has x h =
-    in_from_listed x t.columns (has (Column x) (all_in (λ column. column < m.width) s.columns (increasing_below 0 m.width s.columns (column_set_rises m s.columns is.columns)) x h) (listed_from_in x s.columns h))
+    in_from_listed x t.columns (has (Column x) (all_in (λ column. column < m.width) s.columns (increasing_below 0 m.width s.columns (column_set_increases m s.columns is.columns)) x h) (listed_from_in x s.columns h))
 
 pub same_sets : (m : Matrix) (s t : LineSet) → IsSet m s → IsSet m t → HasAllOf m (lines_in s) (lines_in t) → HasAllOf m (lines_in t) (lines_in s) → s ≡ t
 same_sets m s t is is' up down =

@@ -31,7 +31,7 @@ use Rattle.decomp_tree.proofs.Numbered.{entry_in, height_in, among_named, from_i
 
 -- a increasing list lower a bound has the lines that it lists
 listed_lines : (xs : List ℕ) (bound : ℕ) → IsStrictlyIncreasing xs → ((k : ℕ) → k < length xs → numbered xs k < bound) → xs ≡ filter (λ x. list_any (λ y. nat_eq y x) xs) (first_lines bound)
-listed_lines xs bound rises low = increasing_same xs (filter (λ x. list_any (λ y. nat_eq y x) xs) (first_lines bound)) rises
+listed_lines xs bound increases low = increasing_same xs (filter (λ x. list_any (λ y. nat_eq y x) xs) (first_lines bound)) increases
     (IsStrictlyIncreasing-filter (λ x. list_any (λ y. nat_eq y x) xs) (first_lines bound) (first_lines_increase bound))
     (λ x h. let w = place_is x xs h in
     filter_in (λ z. list_any (λ y. nat_eq y z) xs) x (first_lines bound) (in_first_lines bound x (subst (λ z. z < bound) w.there (low (place_of x xs) w.in_range))) (listed_from_in x xs h))
@@ -252,8 +252,8 @@ module _ (m : Matrix) (lines : LineSet) (are : AreLines m lines) (S : Lines) whe
     concentrated_in c = record {
       first_other = nonzero_in first.row first.other first_row first_other c.first_other;
       second_other = nonzero_in second.other second.column second_other second_column c.second_other;
-      columns_rise = increasing_places lines.columns first.column first.other are.columns.increasing c.columns_rise first_other;
-      rows_rise = increasing_places lines.rows second.row second.other are.rows.increasing c.rows_rise second_other;
+      columns_increase = increasing_places lines.columns first.column first.other are.columns.increasing c.columns_increase first_other;
+      rows_increase = increasing_places lines.rows second.row second.other are.rows.increasing c.rows_increase second_other;
       determinant = subst IsSign core_in c.determinant;
     }
 

@@ -21,7 +21,7 @@ use Rattle.tree_type.specs.Sides.{sides, HaveLines, IsReference, AreTwoBlocks, A
 use Rattle.cmr_base.specs.Violator.{IsViolator, IsLeastViolator}
 use Rattle.cmr_base.proofs.ListsWithout.{in_from_contains}
 use Rattle.cmr_base.proofs.RemovedLines.{among_from_has_line, first_lines_increase, first_lines_in}
-use Rattle.cmr_base.proofs.IncreasingLists.{row_set_rises, column_set_rises, increasing_below}
+use Rattle.cmr_base.proofs.IncreasingLists.{row_set_increases, column_set_increases, increasing_below}
 use Rattle.camion_sign.proofs.FaultViolator.{cycle_fault_violator}
 use Rattle.sp_reduce.proofs.Orders.{search_none, after_step}
 use Rattle.tree_type.specs.Invariant.{AreLines}
@@ -51,10 +51,10 @@ some_line rows columns (line.Column c) h = let l = first_lines_in columns c (in_
 
 module _ (limit : ℕ) (few : limit ≤ 24) (m : Matrix) (is : IsMatrix m) (lines : LineSet) (are : AreLines m lines) where
   low_rows : (R : List ℕ) → IsRowSet (part m lines) R → AllByRecursion (λ r. r < length lines.rows) R
-  low_rows R set = subst (λ k. AllByRecursion (λ r. r < k) R) (height_in m lines) (increasing_below 0 (height (part m lines)) R (row_set_rises (part m lines) R set))
+  low_rows R set = subst (λ k. AllByRecursion (λ r. r < k) R) (height_in m lines) (increasing_below 0 (height (part m lines)) R (row_set_increases (part m lines) R set))
 
   low_columns : (C : List ℕ) → IsColumnSet (part m lines) C → AllByRecursion (λ c. c < length lines.columns) C
-  low_columns C set = increasing_below 0 (length lines.columns) C (column_set_rises (part m lines) C set)
+  low_columns C set = increasing_below 0 (length lines.columns) C (column_set_increases (part m lines) C set)
 
   pub reductions : (steps : List Line) → steps ≡ map (λ step. step.line) (removal false (part m lines)).steps → Applies limit (part m lines) IsReducible
       → (0 < length (map (numbered_line lines) steps)) × AreReductions (entry m) lines.rows lines.columns (map (numbered_line lines) steps)
@@ -67,8 +67,8 @@ module _ (limit : ℕ) (few : limit ≤ 24) (m : Matrix) (is : IsMatrix m) (line
         (subst (λ rows. AreReductions (entry m) rows lines.columns (map (numbered_line lines) (map (λ step. step.line) (removal false (part m lines)).steps))) (ap (λ k. map (numbered lines.rows) (first_lines k)) (height_in m lines) ∙ named_all lines.rows)
         (subst (λ columns. AreReductions (entry m) (map (numbered lines.rows) (first_lines (height (part m lines)))) columns (map (numbered_line lines) (map (λ step. step.line) (removal false (part m lines)).steps))) (named_all lines.columns)
         (removed m lines are (height (part m lines) + length lines.columns) (first_lines (height (part m lines))) (first_lines (length lines.columns)) (record {
-          rows_rise = first_lines_increase (height (part m lines));
-          columns_rise = first_lines_increase (length lines.columns);
+          rows_increase = first_lines_increase (height (part m lines));
+          columns_increase = first_lines_increase (length lines.columns);
           rows_low = λ r h. let l = first_lines_in (height (part m lines)) r h in omega (arith, l, height_in m lines);
           columns_low = λ c h. first_lines_in (length lines.columns) c h;
         })))),

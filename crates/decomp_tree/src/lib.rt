@@ -12,6 +12,6 @@ mod search_limits;
 mod searched_node;
 mod seen;
 mod settling;
-mod taking_back;
+mod pulling_back;
 
 pub use drawing::decompose;

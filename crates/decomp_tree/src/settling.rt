@@ -11,7 +11,7 @@ ghost use Rattle.decomp_tree.specs.Sketches.{IsDrafted, lines_of_sketch, sketch_
 use crate::drafts::{Draft, Opening, draft_root};
 use crate::faults::late_fault;
 use crate::search_limits::SearchLimits;
-use crate::taking_back::{leaf, taken_back};
+use crate::pulling_back::{leaf, pulled_back};
 use cmr_base::{LineSet, Matrix, Memory, RowsAndColumns};
 use pivots::{PivotedPart, drawn_place, pivot_part};
 use std::alloc::Global;
@@ -137,7 +137,7 @@ fn find<R: Threads + Sync>(
         PivotedPart::Violated(fault) => leaf(alloc, lines, Finding::Violator(fault)),
         PivotedPart::Ternary(after) => {
             let tree = draw_root(rt, alloc, &after, lines, limits, pivots - 1, drawn.state)?;
-            taken_back(alloc, matrix, lines, drawn.place, tree)
+            pulled_back(alloc, matrix, lines, drawn.place, tree)
         }
     }
 }

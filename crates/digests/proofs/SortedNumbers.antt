@@ -23,13 +23,13 @@ distinct_if_different numbers different = IsDistinct-from_apart eqb numbers (λ 
     (rw (get_or_default numbers i d 0 (omega (arith, below, inside)), get_or_default numbers j d 0 inside) (different i j below inside)))
 
 distinct_if_increasing : (sorted : List ℕ) → IsStrictlyIncreasing sorted → IsDistinct eqb sorted
-distinct_if_increasing sorted rises = IsDistinct-from_apart eqb sorted
-    (λ i j d a b. ne_eqb (get_or sorted i d) (get_or sorted j d) (λ e. let below = AllPairs-from_increasing sorted rises i j d a b in omega (arith, below, e)))
+distinct_if_increasing sorted increases = IsDistinct-from_apart eqb sorted
+    (λ i j d a b. ne_eqb (get_or sorted i d) (get_or sorted j d) (λ e. let below = AllPairs-from_increasing sorted increases i j d a b in omega (arith, below, e)))
 
 pub different_when_sorted : (numbers sorted : List ℕ) → IsPermutation numbers sorted → IsNonDecreasing sorted → IsStrictlyIncreasing sorted ↔ AreDifferent numbers
 different_when_sorted numbers sorted permuted ordered = (
-  (λ rises. different_if_distinct numbers
-      (IsDistinct-IsPermutation eqb equal_flips sorted numbers (IsPermutation-sym numbers sorted permuted) (distinct_if_increasing sorted rises))),
+  (λ increases. different_if_distinct numbers
+      (IsDistinct-IsPermutation eqb equal_flips sorted numbers (IsPermutation-sym numbers sorted permuted) (distinct_if_increasing sorted increases))),
   (λ different. IsStrictlyIncreasing-from_distinct sorted ordered
       (IsDistinct-IsPermutation eqb equal_flips numbers sorted permuted (distinct_if_different numbers different))),
 )

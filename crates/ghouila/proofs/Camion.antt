@@ -10,7 +10,7 @@ use Rattle.cmr_base.proofs.Integers.{sums, products}
 use Rattle.cmr_base.proofs.Parity.{even_or_odd}
 use Rattle.cmr_base.proofs.SumLaws.{sum_over-map}
 use Rattle.cmr_base.proofs.Lists.{IsJoined, one_more_first, all_without}
-use Rattle.cmr_base.proofs.IncreasingLists.{IsSplitAt, split_at, odd_times, all-odd_times, rises-odd_times}
+use Rattle.cmr_base.proofs.IncreasingLists.{IsSplitAt, split_at, odd_times, all-odd_times, increases-odd_times}
 use Rattle.cmr_base.proofs.ViolatorLemmas.{violator-odd_times}
 use Rattle.cmr_base.specs.PlacedPivots.{reduced, pivoted}
 use Rattle.ghouila.specs.Pivot.{IsTernaryRow}
@@ -88,7 +88,7 @@ module _ (height width : ℕ) (M : ℕ → ℕ → ℤ) (r c : ℕ) (u : IsSign 
   ]
 
   pub violator_back : HasViolatorIn height width (pivoted M r c) → HasViolatorIn height width M
-  violator_back v = go (split_at 0 width c (odd_times v.columns) (rises-odd_times width v.columns v.columns_in))
+  violator_back v = go (split_at 0 width c (odd_times v.columns) (increases-odd_times width v.columns v.columns_in))
     where
       R : List ℕ
       R = odd_times v.rows

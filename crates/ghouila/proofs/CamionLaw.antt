@@ -9,7 +9,7 @@ use Rattle.cmr_base.proofs.Integers.{sums}
 use Rattle.cmr_base.proofs.Parity.{IsFour, even_by_difference, two_mod_four_not_four}
 use Rattle.cmr_base.proofs.SumLaws.{sum_over-map, sum_over_same, sum_over-zero}
 use Rattle.cmr_base.proofs.Lists.{all_of, all_both}
-use Rattle.cmr_base.proofs.IncreasingLists.{increasing_below, row_set_rises, column_set_rises, increasing_row_set, increasing_column_set, odd_times, rises-odd_times}
+use Rattle.cmr_base.proofs.IncreasingLists.{increasing_below, row_set_increases, column_set_increases, increasing_row_set, increasing_column_set, odd_times, increases-odd_times}
 use Rattle.cmr_base.proofs.ViolatorLemmas.{violator-odd_times}
 use Rattle.ghouila.specs.Laws.{ViolatorsHaveNoSigning}
 use Rattle.ghouila.proofs.SignedSums.{signed, even_change-signed, four_change-signed, signed-sum_over, even_entry}
@@ -81,7 +81,7 @@ pub unsigned : ViolatorsHaveNoSigning
 unsigned m rows columns is v signs s =
     two_mod_four_not_four (sum_over rows (λ row. sum_over columns (entry m row))) v.two_mod_four
     (less_zero (sum_over rows (λ row. sum_over columns (entry m row))) (signed (λ p. p.1) (pairs_of rows signs) (λ p. sum_over columns (entry m p.0)))
-    (signed-sum_over (λ p. p.1) (pairs_of rows signs) columns (λ p. entry m p.0) ∙ columns_vanish m rows signs columns s (increasing_below 0 m.width columns (column_set_rises m columns is)) v.even_columns)
+    (signed-sum_over (λ p. p.1) (pairs_of rows signs) columns (λ p. entry m p.0) ∙ columns_vanish m rows signs columns s (increasing_below 0 m.width columns (column_set_increases m columns is)) v.even_columns)
     (subst (λ z. IsFour (z -ℤ signed (λ p. p.1) (pairs_of rows signs) (λ p. sum_over columns (entry m p.0)))) whole
     (four_change-signed (λ p. p.1) (pairs_of rows signs) (λ p. sum_over columns (entry m p.0)) (signs-pairs_of rows signs s.each) (even_pairs rows signs v.even_rows))))
   where
@@ -100,14 +100,14 @@ unsigned m rows columns is v signs s =
 
 pub no_violator : (m : Matrix) → HasNoViolator m → HasViolatorIn (height m) m.width (entry m) → ⊥
 no_violator m free v = free (odd_times v.rows) (odd_times v.columns)
-    (increasing_row_set m (odd_times v.rows) (rises-odd_times (height m) v.rows v.rows_in))
-    (increasing_column_set m (odd_times v.columns) (rises-odd_times m.width v.columns v.columns_in))
+    (increasing_row_set m (odd_times v.rows) (increases-odd_times (height m) v.rows v.rows_in))
+    (increasing_column_set m (odd_times v.columns) (increases-odd_times m.width v.columns v.columns_in))
     (violator-odd_times (entry m) v.rows v.columns v.violator)
 
 pub camion : (m : Matrix) → HasTernaryEntries m → IsTotallyUnimodular m ↔ HasNoViolator m
 camion m small = (
   λ all rows columns row_set column_set v. let s = all rows row_set in unsigned m rows columns column_set v s.0 s.1,
-  λ free rows row_set. elim (signed_or_violated (height m) m.width rows (entry m) (increasing_below 0 (height m) rows (row_set_rises m rows row_set)) (all_of _ (λ row column l. small row column) rows)) [
+  λ free rows row_set. elim (signed_or_violated (height m) m.width rows (entry m) (increasing_below 0 (height m) rows (row_set_increases m rows row_set)) (all_of _ (λ row column l. small row column) rows)) [
     | inl s ↦ signing_of_pairs m rows s
     | inr v ↦ absurd (no_violator m free v)
   ],

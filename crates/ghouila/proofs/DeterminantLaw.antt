@@ -8,19 +8,19 @@ use Rattle.cmr_base.specs.Violator.{HasNoViolator}
 use Rattle.cmr_base.specs.Determinants.{HasUnimodularMinors}
 use Rattle.cmr_base.proofs.Integers.{sums}
 use Rattle.cmr_base.proofs.Lists.{all_weaker}
-use Rattle.cmr_base.proofs.IncreasingLists.{increasing_below, row_set_rises, column_set_rises, increasing_row_set, increasing_column_set}
+use Rattle.cmr_base.proofs.IncreasingLists.{increasing_below, row_set_increases, column_set_increases, increasing_row_set, increasing_column_set}
 use Rattle.ghouila.specs.Pivot.{IsTernaryRow}
 use Rattle.ghouila.specs.DeterminantLaws.{GhouilaHouriEquivalence}
 use Rattle.ghouila.proofs.Camion.{signed_or_violated}
 use Rattle.ghouila.proofs.CamionLaw.{signing_of_pairs, no_violator, unsigned}
 use Rattle.ghouila.proofs.Expansions.{determinant_is}
-use Rattle.ghouila.proofs.Sublists.{sublist_rises}
+use Rattle.ghouila.proofs.Sublists.{sublist_increases}
 use Rattle.ghouila.proofs.Minors.{HasMinorsOn, one_minor, entry_without_sign, no_violator_by_minors, minor_or_violator}
 
 pub minors_on : (m : Matrix) → HasUnimodularMinors m → (R C : List ℕ) → IsRowSet m R → IsColumnSet m C → HasMinorsOn (entry m) R C
 minors_on m minors R C row_set column_set P Q h k e = subst IsEntry (determinant_is (entry m) Q P e) (minors P Q
-    (increasing_row_set m P (sublist_rises 0 (height m) R P (row_set_rises m R row_set) h))
-    (increasing_column_set m Q (sublist_rises 0 m.width C Q (column_set_rises m C column_set) k)) e)
+    (increasing_row_set m P (sublist_increases 0 (height m) R P (row_set_increases m R row_set) h))
+    (increasing_column_set m Q (sublist_increases 0 m.width C Q (column_set_increases m C column_set) k)) e)
 
 one_row : (m : Matrix) (row : ℕ) → row < height m → IsRowSet m (row ∷ [])
 one_row m row l = increasing_row_set m (row ∷ []) (omega arith, l, tt)
@@ -44,14 +44,14 @@ minor_entry m minors row l column k = subst IsEntry (determinant_is (entry m) (c
 
 minors_of_signings : (m : Matrix) → IsTotallyUnimodular m → HasUnimodularMinors m
 minors_of_signings m signings rows columns row_set column_set e = subst IsEntry (sym (determinant_is (entry m) columns rows e))
-    (elim (minor_or_violator (height m) m.width columns rows 0 (entry m) (column_set_rises m columns column_set) inside
+    (elim (minor_or_violator (height m) m.width columns rows 0 (entry m) (column_set_increases m columns column_set) inside
     (all_weaker (λ row. row < height m) (λ row. IsTernaryRow m.width (entry m row)) (λ row l. signed_entry m row (signings (row ∷ []) (one_row m row l))) rows inside)) [
       | inl h ↦ h
       | inr v ↦ absurd (no_violator m free v)
     ])
   where
     inside : AllByRecursion (λ row. row < height m) rows
-    inside = increasing_below 0 (height m) rows (row_set_rises m rows row_set)
+    inside = increasing_below 0 (height m) rows (row_set_increases m rows row_set)
 
     free : HasNoViolator m
     free rows columns row_set column_set v = let s = signings rows row_set in unsigned m rows columns column_set v s.0 s.1
@@ -64,7 +64,7 @@ signings_of_minors m minors rows row_set =
     ]
   where
     inside : AllByRecursion (λ row. row < height m) rows
-    inside = increasing_below 0 (height m) rows (row_set_rises m rows row_set)
+    inside = increasing_below 0 (height m) rows (row_set_increases m rows row_set)
 
     free : HasNoViolator m
     free rows columns row_set column_set v = no_violator_by_minors columns rows (entry m) (minors_on m minors rows columns row_set column_set) v

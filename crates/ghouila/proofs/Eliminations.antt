@@ -6,7 +6,7 @@ use Rattle.cmr_base.specs.Sums.{sum_over}
 use Rattle.cmr_base.proofs.Integers.{sums, products}
 use Rattle.cmr_base.proofs.SumLaws.{sum_over_same, sum_over-zero}
 use Rattle.cmr_base.proofs.Lists.{all_of, all_weaker, all_both, all_without, all-one_more, item_of_one_more}
-use Rattle.cmr_base.proofs.IncreasingLists.{RisesIn, increasing_apart}
+use Rattle.cmr_base.proofs.IncreasingLists.{IncreasesIn, increasing_apart}
 use Rattle.cmr_base.proofs.RowLists.{self_eq, is_ne}
 use Rattle.cmr_base.specs.PlacedPivots.{reduced}
 use Rattle.ghouila.specs.IntegralLaws.{IsMultiple}
@@ -120,15 +120,15 @@ sum_placed c t z f C apart = both (f c) (placed c t z c) t (sum_over C (λ j. f 
 pub at_row : (a w : ℤ) → IsSign a → a *ℤ neg_ℤ (a *ℤ w) +ℤ w ≡ pos 0
 at_row a w u = let twice : a *ℤ (a *ℤ w) ≡ w = sign_twice a w u in simp (products, twice) (omega (arith, sums))
 
-pub eliminated_independent : (C R : List ℕ) (low high : ℕ) (M : ℕ → ℕ → ℤ) → RisesIn low high C → HasMinorsOn M R C → IsIndependent M R C → IsEliminated C M R
-eliminated_independent [] R low high M rises minors free = tt
-eliminated_independent (c ∷ C) R low high M rises minors free = elim (zeros_or_sign (λ i. M i c) R (first_column_entries M R c C minors)) [
+pub eliminated_independent : (C R : List ℕ) (low high : ℕ) (M : ℕ → ℕ → ℤ) → IncreasesIn low high C → HasMinorsOn M R C → IsIndependent M R C → IsEliminated C M R
+eliminated_independent [] R low high M increases minors free = tt
+eliminated_independent (c ∷ C) R low high M increases minors free = elim (zeros_or_sign (λ i. M i c) R (first_column_entries M R c C minors)) [
   | inl zeros ↦ absurd (no_zeros zeros)
-  | inr s ↦ (s, eliminated_independent C s.others (c + 1) high (reduced M s.row c) rises.2 (pivoted_minors M s.row c s.others R C s.sign s.more minors) (still_free s))
+  | inr s ↦ (s, eliminated_independent C s.others (c + 1) high (reduced M s.row c) increases.2 (pivoted_minors M s.row c s.others R C s.sign s.more minors) (still_free s))
 ]
   where
     apart : AllByRecursion (λ j. j ≢ c) C
-    apart = increasing_apart (c + 1) high c C (omega arith) rises.2
+    apart = increasing_apart (c + 1) high c C (omega arith) increases.2
 
     no_zeros : AllByRecursion (λ i. M i c ≡ pos 0) R → ⊥
     no_zeros zeros = clash (placed c (pos 1) (λ j. pos 0) c) (placed_at c (pos 1) (λ j. pos 0)) (free (placed c (pos 1) (λ j. pos 0))

@@ -7,7 +7,7 @@ use Rattle.cmr_base.specs.Sums.{sum_over}
 use Rattle.cmr_base.proofs.Integers.{sums, products, mul_assoc}
 use Rattle.cmr_base.proofs.SumLaws.{sum_over_same, sum_over-zero}
 use Rattle.cmr_base.proofs.Lists.{HasOneMore, all_weaker, all_both, all_without, all-one_more, item_of_one_more}
-use Rattle.cmr_base.proofs.IncreasingLists.{RisesIn, increasing_apart}
+use Rattle.cmr_base.proofs.IncreasingLists.{IncreasesIn, increasing_apart}
 use Rattle.cmr_base.specs.PlacedPivots.{reduced}
 use Rattle.ghouila.specs.IntegralLaws.{IsMultiple}
 use Rattle.ghouila.proofs.SignedSums.{entry_zero, sign_is_entry}
@@ -114,9 +114,9 @@ fraction_alone M r c h = record {
             plain x e = omega (arith, sums)
 
 -- a solution before a pivot: the number of the pivot's column solves the equation of the pivot's row
-module _ (M : ℕ → ℕ → ℤ) (r c high : ℕ) (R' R C : List ℕ) (u : IsSign (M r c)) (more : HasOneMore r R' R) (rises : RisesIn (c + 1) high C) where
+module _ (M : ℕ → ℕ → ℤ) (r c high : ℕ) (R' R C : List ℕ) (u : IsSign (M r c)) (more : HasOneMore r R' R) (increases : IncreasesIn (c + 1) high C) where
   apart : AllByRecursion (λ j. j ≢ c) C
-  apart = increasing_apart (c + 1) high c C (omega arith) rises
+  apart = increasing_apart (c + 1) high c C (omega arith) increases
 
   independent_before : IsIndependent (reduced M r c) R' C → IsIndependent M R (c ∷ C)
   independent_before free z h = (first (M r c) (z c) (sum_over C (λ j. M r j *ℤ z j)) u top (vanished C others), others)
@@ -176,18 +176,18 @@ module _ (M : ℕ → ℕ → ℤ) (r c high : ℕ) (R' R C : List ℕ) (u : IsS
       other a p x w = simp products (omega (arith, sums))
 
 -- induction on the number of lines, to the smallest submatrices
-pub entry_or_fraction : (C R : List ℕ) (low high : ℕ) (M : ℕ → ℕ → ℤ) → RisesIn low high C → length R ≡ length C → HasSmallerMinorsOn M R C → IsEntry (minor M C R) ⊎ HasFraction M R C
-entry_or_fraction [] [] low high M rises e minors = inl (sign_is_entry (pos 1) (inl refl))
-entry_or_fraction [] (r ∷ R) low high M rises e minors = inl entry_zero
-entry_or_fraction (c ∷ []) [] low high M rises e minors = inl entry_zero
-entry_or_fraction (c ∷ []) (r ∷ []) low high M rises e minors = elim (entry_or_large (M r c)) [
+pub entry_or_fraction : (C R : List ℕ) (low high : ℕ) (M : ℕ → ℕ → ℤ) → IncreasesIn low high C → length R ≡ length C → HasSmallerMinorsOn M R C → IsEntry (minor M C R) ⊎ HasFraction M R C
+entry_or_fraction [] [] low high M increases e minors = inl (sign_is_entry (pos 1) (inl refl))
+entry_or_fraction [] (r ∷ R) low high M increases e minors = inl entry_zero
+entry_or_fraction (c ∷ []) [] low high M increases e minors = inl entry_zero
+entry_or_fraction (c ∷ []) (r ∷ []) low high M increases e minors = elim (entry_or_large (M r c)) [
   | inl h ↦ inl (subst IsEntry (sym (one_minor M r c)) h)
   | inr h ↦ inr (fraction_alone M r c h)
 ]
-entry_or_fraction (c ∷ []) (r ∷ r' ∷ R) low high M rises e minors = absurd (omega arith)
-entry_or_fraction (c ∷ c' ∷ C) R low high M rises e minors = elim (zeros_or_sign (λ i. M i c) R entries) [
+entry_or_fraction (c ∷ []) (r ∷ r' ∷ R) low high M increases e minors = absurd (omega arith)
+entry_or_fraction (c ∷ c' ∷ C) R low high M increases e minors = elim (zeros_or_sign (λ i. M i c) R entries) [
   | inl zeros ↦ inl (subst IsEntry (sym (expansion_zero_column (λ i. M i c) (minor M (c' ∷ C)) R zeros)) entry_zero)
-  | inr s ↦ pivot s (entry_or_fraction (c' ∷ C) s.others (c + 1) high (reduced M s.row c) rises.2 (shorter s) (smaller s))
+  | inr s ↦ pivot s (entry_or_fraction (c' ∷ C) s.others (c + 1) high (reduced M s.row c) increases.2 (shorter s) (smaller s))
 ]
   where
     entries : AllByRecursion (λ i. IsEntry (M i c)) R
@@ -205,4 +205,4 @@ entry_or_fraction (c ∷ c' ∷ C) R low high M rises e minors = elim (zeros_or_
     pivot : (s : HasSignIn (λ i. M i c) R) → IsEntry (minor (reduced M s.row c) (c' ∷ C) s.others) ⊎ HasFraction (reduced M s.row c) s.others (c' ∷ C)
         → IsEntry (minor M (c ∷ c' ∷ C) R) ⊎ HasFraction M R (c ∷ c' ∷ C)
     pivot s (inl h) = inl (entry_before M s.row c (c' ∷ C) s.others R s.sign s.more h)
-    pivot s (inr f) = inr (fraction_before M s.row c high s.others R (c' ∷ C) s.sign s.more rises.2 f)
+    pivot s (inr f) = inr (fraction_before M s.row c high s.others R (c' ∷ C) s.sign s.more increases.2 f)

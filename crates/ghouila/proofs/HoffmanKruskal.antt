@@ -10,27 +10,27 @@ use Rattle.cmr_base.proofs.Integers.{sums, products}
 use Rattle.cmr_base.proofs.SumLaws.{sum_over-add, sum_over-sub, sum_over-scale, sum_over_same}
 use Rattle.cmr_base.proofs.Lists.{all_of}
 use Rattle.cmr_base.proofs.Members.{all_in, all_of_members}
-use Rattle.cmr_base.proofs.IncreasingLists.{RisesIn, rises-range, increasing_below, increasing_apart, row_set_rises, column_set_rises}
+use Rattle.cmr_base.proofs.IncreasingLists.{IncreasesIn, increases-range, increasing_below, increasing_apart, row_set_increases, column_set_increases}
 use Rattle.cmr_base.proofs.RowLists.{same_or_not, in_or_not}
 use Rattle.ghouila.specs.IntegralLaws.{IsMultiple, row_value, IsFeasible, IsMidpoint, IsVertex, HasIntegralVertices, HoffmanKruskalEquivalence}
 use Rattle.ghouila.proofs.Expansions.{determinant_is, minor}
-use Rattle.ghouila.proofs.Sublists.{sublist_rises}
+use Rattle.ghouila.proofs.Sublists.{sublist_increases}
 use Rattle.ghouila.proofs.DeterminantLaw.{ghouila_houri}
 use Rattle.ghouila.proofs.Vertices.{HasBound, has_bound, size, size_bounds, product_not_below, multiple_at_least, integral_vertices}
 use Rattle.ghouila.proofs.Fractions.{no_product, HasFraction, entry_or_fraction}
 
 -- the sum over all lines is the sum over a list if the lines outside the list give 0
-sum_over_range : (from count : ℕ) (C : List ℕ) (f : ℕ → ℤ) → RisesIn from (from + count) C → ((j : ℕ) → from ≤ j → j < from + count → (IsIn j C → ⊥) → f j ≡ pos 0) → sum_over (range_with_len from count) f ≡ sum_over C f
-sum_over_range from zero [] f rises zeros = refl
-sum_over_range from zero (c ∷ C) f rises zeros = absurd (let l = rises.0 in let k = rises.1 in omega arith)
-sum_over_range from (suc count) [] f rises zeros = less (f from) (sum_over (range_with_len (from + 1) count) f) (zeros from (omega arith) (omega arith) (λ g. g))
+sum_over_range : (from count : ℕ) (C : List ℕ) (f : ℕ → ℤ) → IncreasesIn from (from + count) C → ((j : ℕ) → from ≤ j → j < from + count → (IsIn j C → ⊥) → f j ≡ pos 0) → sum_over (range_with_len from count) f ≡ sum_over C f
+sum_over_range from zero [] f increases zeros = refl
+sum_over_range from zero (c ∷ C) f increases zeros = absurd (let l = increases.0 in let k = increases.1 in omega arith)
+sum_over_range from (suc count) [] f increases zeros = less (f from) (sum_over (range_with_len (from + 1) count) f) (zeros from (omega arith) (omega arith) (λ g. g))
     (sum_over_range (from + 1) count [] f tt (λ j l k n. zeros j (omega arith) (omega arith) n))
   where
     less : (a s : ℤ) → a ≡ pos 0 → s ≡ pos 0 → a +ℤ s ≡ pos 0
     less a s e g = omega (arith, sums)
-sum_over_range from (suc count) (c ∷ C) f rises zeros = elim (same_or_not from c) [
+sum_over_range from (suc count) (c ∷ C) f increases zeros = elim (same_or_not from c) [
   | inl e ↦ both (f from) (f c) (sum_over (range_with_len (from + 1) count) f) (sum_over C f) (ap f e)
-      (sum_over_range (from + 1) count C f (higher C (subst (λ k. RisesIn (k + 1) (from + suc count) C) (sym e) rises.2))
+      (sum_over_range (from + 1) count C f (higher C (subst (λ k. IncreasesIn (k + 1) (from + suc count) C) (sym e) increases.2))
       (λ j l k n. zeros j (omega arith) (omega arith) (λ g. elim g [ inl h ↦ clash j l (h ∙ sym e) | inr h ↦ n h ])))
   | inr d ↦ less (f from) (sum_over (range_with_len (from + 1) count) f) (f c +ℤ sum_over C f) (zeros from (omega arith) (omega arith) (λ g. all_in (λ x. x ≢ from) (c ∷ C) (increasing_apart (from + 1) (from + suc count) from (c ∷ C) (omega arith) (later d)) from g refl))
       (sum_over_range (from + 1) count (c ∷ C) f (higher (c ∷ C) (later d)) (λ j l k n. zeros j (omega arith) (omega arith) n))
@@ -45,20 +45,20 @@ sum_over_range from (suc count) (c ∷ C) f rises zeros = elim (same_or_not from
     clash : (j : ℕ) → from + 1 ≤ j → j ≡ from → ⊥
     clash j l e = omega arith
 
-    higher : (D : List ℕ) → RisesIn (from + 1) (from + suc count) D → RisesIn (from + 1) ((from + 1) + count) D
-    higher D h = let e : from + suc count ≡ (from + 1) + count = omega arith in subst (λ k. RisesIn (from + 1) k D) e h
+    higher : (D : List ℕ) → IncreasesIn (from + 1) (from + suc count) D → IncreasesIn (from + 1) ((from + 1) + count) D
+    higher D h = let e : from + suc count ≡ (from + 1) + count = omega arith in subst (λ k. IncreasesIn (from + 1) k D) e h
 
-    later : from ≢ c → RisesIn (from + 1) (from + suc count) (c ∷ C)
-    later d = ((let l = rises.0 in omega arith), rises.1, rises.2)
+    later : from ≢ c → IncreasesIn (from + 1) (from + suc count) (c ∷ C)
+    later d = ((let l = increases.0 in omega arith), increases.1, increases.2)
 
-sum_first_lines : (count : ℕ) (C : List ℕ) (f : ℕ → ℤ) → RisesIn 0 count C → ((j : ℕ) → j < count → (IsIn j C → ⊥) → f j ≡ pos 0) → sum_over (first_lines count) f ≡ sum_over C f
-sum_first_lines count C f rises zeros = sum_over_range 0 count C f (subst (λ k. RisesIn 0 k C) e rises) (λ j l k n. zeros j (omega arith) n)
+sum_first_lines : (count : ℕ) (C : List ℕ) (f : ℕ → ℤ) → IncreasesIn 0 count C → ((j : ℕ) → j < count → (IsIn j C → ⊥) → f j ≡ pos 0) → sum_over (first_lines count) f ≡ sum_over C f
+sum_first_lines count C f increases zeros = sum_over_range 0 count C f (subst (λ k. IncreasesIn 0 k C) e increases) (λ j l k n. zeros j (omega arith) n)
   where
     e : count ≡ 0 + count
     e = omega arith
 
 -- a fractional solution on some rows and columns, moved to a feasible point, is a vertex for some right-hand side
-module _ (m : Matrix) (R C : List ℕ) (rows_rise : RisesIn 0 (height m) R) (columns_rise : RisesIn 0 m.width C) (f : HasFraction (entry m) R C) where
+module _ (m : Matrix) (R C : List ℕ) (rows_increase : IncreasesIn 0 (height m) R) (columns_increase : IncreasesIn 0 m.width C) (f : HasFraction (entry m) R C) where
   -- the fractions plus an integer that makes none of them negative
   raise : HasBound m.width f.y
   raise = has_bound m.width f.y
@@ -79,14 +79,14 @@ module _ (m : Matrix) (R C : List ℕ) (rows_rise : RisesIn 0 (height m) R) (col
   y j = (raised j).value
 
   column_in : (j : ℕ) → IsIn j C → j < m.width
-  column_in j g = all_in (λ j. j < m.width) C (increasing_below 0 m.width C columns_rise) j g
+  column_in j g = all_in (λ j. j < m.width) C (increasing_below 0 m.width C columns_increase) j g
 
   row_in : (i : ℕ) → IsIn i R → i < height m
-  row_in i g = all_in (λ i. i < height m) R (increasing_below 0 (height m) R rows_rise) i g
+  row_in i g = all_in (λ i. i < height m) R (increasing_below 0 (height m) R rows_increase) i g
 
   -- row values of numbers that are 0 outside the columns
   value_is : (i : ℕ) (z : ℕ → ℤ) → ((j : ℕ) → j < m.width → (IsIn j C → ⊥) → z j ≡ pos 0) → row_value m (first_lines m.width) z i ≡ sum_over C (λ j. entry m i j *ℤ z j)
-  value_is i z zeros = sum_first_lines m.width C (λ j. entry m i j *ℤ z j) columns_rise (λ j l n. nothing (entry m i j) (z j) (zeros j l n))
+  value_is i z zeros = sum_first_lines m.width C (λ j. entry m i j *ℤ z j) columns_increase (λ j l n. nothing (entry m i j) (z j) (zeros j l n))
     where
       nothing : (a x : ℤ) → x ≡ pos 0 → a *ℤ x ≡ pos 0
       nothing a x e = rw e (simp products)
@@ -186,7 +186,7 @@ module _ (m : Matrix) (R C : List ℕ) (rows_rise : RisesIn 0 (height m) R) (col
 
     -- both points satisfy a tight row with equality
     both_values : (i : ℕ) → f.d *ℤ (row_value m (first_lines m.width) u i +ℤ row_value m (first_lines m.width) v i) ≡ pos 2 *ℤ (e *ℤ row_value m (first_lines m.width) y i)
-    both_values i = go (first_lines m.width) (increasing_below 0 m.width (first_lines m.width) (rises-range 0 m.width m.width (omega arith)))
+    both_values i = go (first_lines m.width) (increasing_below 0 m.width (first_lines m.width) (increases-range 0 m.width m.width (omega arith)))
       where
         plain : (d e a u v y s t w : ℤ) → pos 2 *ℤ (e *ℤ y) ≡ d *ℤ (u +ℤ v) → d *ℤ (s +ℤ t) ≡ pos 2 *ℤ (e *ℤ w) → d *ℤ ((a *ℤ u +ℤ s) +ℤ (a *ℤ v +ℤ t)) ≡ pos 2 *ℤ (e *ℤ (a *ℤ y +ℤ w))
         plain d e a u v y s t w f g = apart ∙ together (a *ℤ (d *ℤ (u +ℤ v))) (a *ℤ (pos 2 *ℤ (e *ℤ y))) (d *ℤ (s +ℤ t)) (pos 2 *ℤ (e *ℤ w)) (ap (λ (x : ℤ). a *ℤ x) (sym f)) g ∙ back
@@ -265,17 +265,17 @@ module _ (m : Matrix) (R C : List ℕ) (rows_rise : RisesIn 0 (height m) R) (col
           back d k n = simp products
 
 -- induction on the number of lines: smaller square submatrices have the determinant -1, 0 or 1
-entries_by_vertices : (m : Matrix) → HasIntegralVertices m → (n : ℕ) (C R : List ℕ) → RisesIn 0 (height m) R → RisesIn 0 m.width C → length R ≡ length C → length C < n → IsEntry (minor (entry m) C R)
+entries_by_vertices : (m : Matrix) → HasIntegralVertices m → (n : ℕ) (C R : List ℕ) → IncreasesIn 0 (height m) R → IncreasesIn 0 m.width C → length R ≡ length C → length C < n → IsEntry (minor (entry m) C R)
 entries_by_vertices m integral zero C R rows columns e l = absurd (omega arith)
 entries_by_vertices m integral (suc n) C R rows columns e l = elim (entry_or_fraction C R 0 m.width (entry m) columns e
-    (λ P Q h k e k'. entries_by_vertices m integral n Q P (sublist_rises 0 (height m) R P rows h) (sublist_rises 0 m.width C Q columns k) e (omega arith))) [
+    (λ P Q h k e k'. entries_by_vertices m integral n Q P (sublist_increases 0 (height m) R P rows h) (sublist_increases 0 m.width C Q columns k) e (omega arith))) [
       | inl h ↦ h
       | inr f ↦ absurd (fraction_has_vertex m R C rows columns f integral)
     ]
 
 minors_of_vertices : (m : Matrix) → HasIntegralVertices m → HasUnimodularMinors m
 minors_of_vertices m integral R C row_set column_set e = subst IsEntry (sym (determinant_is (entry m) C R e))
-    (entries_by_vertices m integral (suc (length C)) C R (row_set_rises m R row_set) (column_set_rises m C column_set) e (omega arith))
+    (entries_by_vertices m integral (suc (length C)) C R (row_set_increases m R row_set) (column_set_increases m C column_set) e (omega arith))
 
 pub hoffman_kruskal : HoffmanKruskalEquivalence
 hoffman_kruskal m = (integral_vertices m, λ integral. (ghouila_houri m).1 (minors_of_vertices m integral))

@@ -9,7 +9,7 @@ use Rattle.cmr_base.specs.Signing.{IsSign}
 use Rattle.cmr_base.specs.Sums.{sum_over, IsEven, IsOdd}
 use Rattle.cmr_base.proofs.Integers.{sums}
 use Rattle.cmr_base.proofs.Lists.{HasOneMore, sum_over-one_more, item_of_one_more}
-use Rattle.cmr_base.proofs.IncreasingLists.{RisesIn, rises_from_lower, increasing_apart, increasing_at_least, row_set_rises, increasing_row_set}
+use Rattle.cmr_base.proofs.IncreasingLists.{IncreasesIn, increases_from_lower, increasing_apart, increasing_at_least, row_set_increases, increasing_row_set}
 use Rattle.ghouila.specs.Pivot.{IsOutside, HasNoPivot}
 use Rattle.ghouila.proofs.SignedSums.{zero_or_sign}
 
@@ -21,24 +21,24 @@ one_more-remove xs k h = record {
   more_is = sym (take-append-drop k xs) ∙ ap (λ ys. take k xs ++ ys) (drop-cons xs k 0 h);
 }
 
-rises-remove : (low high : ℕ) (xs : List ℕ) (k : ℕ) → k < length xs → RisesIn low high xs → RisesIn low high (remove xs k)
-rises-remove low high [] k h rises = absurd (omega arith)
-rises-remove low high (x ∷ xs) zero h rises = rises_from_lower low (x + 1) high xs (omega (arith, rises.0)) rises.2
-rises-remove low high (x ∷ xs) (suc k) h rises = (rises.0, rises.1, rises-remove (x + 1) high xs k (omega arith) rises.2)
+increases-remove : (low high : ℕ) (xs : List ℕ) (k : ℕ) → k < length xs → IncreasesIn low high xs → IncreasesIn low high (remove xs k)
+increases-remove low high [] k h increases = absurd (omega arith)
+increases-remove low high (x ∷ xs) zero h increases = increases_from_lower low (x + 1) high xs (omega (arith, increases.0)) increases.2
+increases-remove low high (x ∷ xs) (suc k) h increases = (increases.0, increases.1, increases-remove (x + 1) high xs k (omega arith) increases.2)
 
-apart-remove : (low high : ℕ) (xs : List ℕ) (k : ℕ) → k < length xs → RisesIn low high xs → IsOutside (get_or xs k 0) (remove xs k)
-apart-remove low high [] k h rises = absurd (omega arith)
-apart-remove low high (x ∷ xs) zero h rises = increasing_apart (x + 1) high x xs (omega arith) rises.2
-apart-remove low high (x ∷ xs) (suc k) h rises = (
-  let from = increasing_at_least (x + 1) high xs rises.2 k (omega arith) in omega arith,
-  apart-remove (x + 1) high xs k (omega arith) rises.2,
+apart-remove : (low high : ℕ) (xs : List ℕ) (k : ℕ) → k < length xs → IncreasesIn low high xs → IsOutside (get_or xs k 0) (remove xs k)
+apart-remove low high [] k h increases = absurd (omega arith)
+apart-remove low high (x ∷ xs) zero h increases = increasing_apart (x + 1) high x xs (omega arith) increases.2
+apart-remove low high (x ∷ xs) (suc k) h increases = (
+  let from = increasing_at_least (x + 1) high xs increases.2 k (omega arith) in omega arith,
+  apart-remove (x + 1) high xs k (omega arith) increases.2,
 )
 
 pub row_set-remove : (m : Matrix) (rows : List ℕ) (k : ℕ) → k < length rows → IsRowSet m rows → IsRowSet m (remove rows k)
-row_set-remove m rows k h is = increasing_row_set m (remove rows k) (rises-remove 0 (height m) rows k h (row_set_rises m rows is))
+row_set-remove m rows k h is = increasing_row_set m (remove rows k) (increases-remove 0 (height m) rows k h (row_set_increases m rows is))
 
 pub outside-remove : (m : Matrix) (rows : List ℕ) (k : ℕ) → k < length rows → IsRowSet m rows → IsOutside (get_or rows k 0) (remove rows k)
-outside-remove m rows k h is = apart-remove 0 (height m) rows k h (row_set_rises m rows is)
+outside-remove m rows k h is = apart-remove 0 (height m) rows k h (row_set_increases m rows is)
 
 -- the other rows have an odd sum in a pivot's column
 pub pivot_odd : (m : Matrix) (rows left : List ℕ) (row column : ℕ) → HasOneMore row left rows → IsSign (entry m row column) → IsEven (sum_over rows (λ r. entry m r column)) → IsOdd (sum_over left (λ r. entry m r column))

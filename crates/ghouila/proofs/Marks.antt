@@ -8,7 +8,7 @@ use Rattle.cmr_base.specs.Sums.{sum_over}
 use Rattle.cmr_base.proofs.Integers.{sums}
 use Rattle.cmr_base.proofs.SumLaws.{sum_over-append}
 use Rattle.cmr_base.proofs.Lists.{HasOneMore, IsJoined, one_more_first, joined_later}
-use Rattle.cmr_base.proofs.IncreasingLists.{RisesIn, rises_from_lower, increasing_below}
+use Rattle.cmr_base.proofs.IncreasingLists.{IncreasesIn, increases_from_lower, increasing_below}
 use Rattle.ghouila.specs.Found.{HasParity, marked_from, marked}
 use Rattle.ghouila.proofs.PivotSearch.{parity-add_sign, parity-add_zero}
 
@@ -31,10 +31,10 @@ all_marked P first [] h = tt
 all_marked P first (true ∷ marks) h = (h zero first (omega arith) refl, all_marked P (first + 1) marks (λ k n e is. h (suc k) n (omega arith) is))
 all_marked P first (false ∷ marks) h = all_marked P (first + 1) marks (λ k n e is. h (suc k) n (omega arith) is)
 
-pub marked_rises : (first high : ℕ) (marks : List Bool) → high ≡ first + length marks → RisesIn first high (marked_from first marks)
-marked_rises first high [] e = tt
-marked_rises first high (true ∷ marks) e = (omega arith, omega arith, marked_rises (first + 1) high marks (omega arith))
-marked_rises first high (false ∷ marks) e = rises_from_lower first (first + 1) high (marked_from (first + 1) marks) (omega arith) (marked_rises (first + 1) high marks (omega arith))
+pub marked_increases : (first high : ℕ) (marks : List Bool) → high ≡ first + length marks → IncreasesIn first high (marked_from first marks)
+marked_increases first high [] e = tt
+marked_increases first high (true ∷ marks) e = (omega arith, omega arith, marked_increases (first + 1) high marks (omega arith))
+marked_increases first high (false ∷ marks) e = increases_from_lower first (first + 1) high (marked_from (first + 1) marks) (omega arith) (marked_increases (first + 1) high marks (omega arith))
 
 -- a position is marked again
 pub joined_from : (mark : Bool) (first : ℕ) (marks : List Bool) (k n : ℕ) → n ≡ first + k → k < length marks → IsJoined mark n (marked_from first (set marks k false)) (marked_from first (set marks k mark))
@@ -72,7 +72,7 @@ pub unmarked_there : (marks : List Bool) (k : ℕ) → k < length marks → get_
 unmarked_there marks k inside e = marked_more marks k false inside ∙ ap (λ b. marked (take k marks) ++ cond b (k ∷ []) []) e ∙ append-nil (marked (take k marks))
 
 pub marked_below : (marks : List Bool) (k : ℕ) → k ≤ length marks → AllByRecursion (λ n. n < k) (marked (take k marks))
-marked_below marks k h = increasing_below 0 k (marked (take k marks)) (marked_rises 0 k (take k marks) (omega (arith, length-take k marks)))
+marked_below marks k h = increasing_below 0 k (marked (take k marks)) (marked_increases 0 k (take k marks) (omega (arith, length-take k marks)))
 
 -- ---- the parity of a sum over the marked positions of a prefix
 

@@ -19,12 +19,12 @@ use Rattle.cmr_base.proofs.IncreasingLists.{increasing_below, increases_along}
 use Rattle.cmr_base.proofs.ViolatorLemmas.{violator_same}
 use Rattle.cmr_base.specs.PlacedPivots.{pivoted}
 use Rattle.ghouila.specs.Pivot.{IsOutside, PivotsRows}
-use Rattle.ghouila.specs.Found.{HasParity, marked, MarksViolator, MarksAnew}
+use Rattle.ghouila.specs.Found.{HasParity, marked, MarksViolator, MarksAgain}
 use Rattle.ghouila.proofs.PivotSums.{sum_over_column, sum_over_pivot_column}
 use Rattle.ghouila.proofs.PivotBack.{IsViolatorAfter, violator_after, violator_before, sign_and_odd}
-use Rattle.ghouila.specs.SignRuns.{IsTakenBack}
+use Rattle.ghouila.specs.SignRuns.{IsPulledBack}
 use Rattle.ghouila.proofs.MarkedMembers.{iff_then, in_set_same, in_set_other}
-use Rattle.ghouila.proofs.Marks.{joined, all_marked, marked_rises, unmarked_apart, set_unmarked, set_same_mark}
+use Rattle.ghouila.proofs.Marks.{joined, all_marked, marked_increases, unmarked_apart, set_unmarked, set_same_mark}
 use Rattle.cmr_base.specs.Cuts.{bit}
 
 -- the violator of more rows
@@ -114,7 +114,7 @@ parity_odd false z p = (λ e. absurd (false≢true e), λ q. absurd (even_not_od
 -- the violator before a pivot
 module _ (before after : Matrix) (row column : ℕ) (left : List ℕ) (row_in : row < height before) (column_in : column < before.width) (out : IsOutside row left) (u : IsSign (entry before row column))
     (same_height : height after ≡ height before) (same_width : after.width ≡ before.width) (pivots : PivotsRows before after row column left)
-    (rows columns odd columns' : List Bool) (v : MarksViolator after left rows columns odd) (anew : MarksAnew (entry before row) column columns columns') where
+    (rows columns odd columns' : List Bool) (v : MarksViolator after left rows columns odd) (again : MarksAgain (entry before row) column columns columns') where
   abbrev g_odd : Bool
   g_odd = get_or odd column false
 
@@ -123,7 +123,7 @@ module _ (before after : Matrix) (row column : ℕ) (left : List ℕ) (row_in : 
       (λ k n e is. all_contained (λ r. (j : ℕ) → j < before.width → entry after r j ≡ pivoted (entry before) row column r j) left n pivots (v.among n (subst (λ i. get_or rows i false ≡ true) (let i : k ≡ n = omega arith in i) is)))
 
   columns_inside : AllByRecursion (λ j. j < before.width) (marked columns)
-  columns_inside = increasing_below 0 before.width (marked columns) (marked_rises 0 before.width columns (let w = v.column_each in omega arith))
+  columns_inside = increasing_below 0 before.width (marked columns) (marked_increases 0 before.width columns (let w = v.column_each in omega arith))
 
   column_sum : (j : ℕ) → j < before.width → sum_over (marked rows) (λ r. entry after r j) ≡ sum_over (marked rows) (λ r. pivoted (entry before) row column r j)
   column_sum j h = sum_over_same (marked rows) (λ r. entry after r j) (λ r. pivoted (entry before) row column r j)
@@ -149,9 +149,9 @@ module _ (before after : Matrix) (row column : ℕ) (left : List ℕ) (row_in : 
 
   violator_there : IsViolator (entry before) (marked (set rows row g_odd)) (marked columns')
   violator_there = violator_before (entry before) row column u (marked rows) (marked (set columns column false)) (sum_over (marked rows) (λ r. entry before r column))
-      (sum_over (marked (set columns column false)) (entry before row) +ℤ bit (get_or columns column false)) g_odd anew.mark (marked (set rows row g_odd)) (marked columns')
-      g_parity anew.parity row_joined
-      (subst (λ marks. IsJoined anew.mark column (marked (set columns column false)) (marked marks)) (sym anew.new_is) (joined anew.mark columns column (let w = v.column_each in omega arith))) after_pivot
+      (sum_over (marked (set columns column false)) (entry before row) +ℤ bit (get_or columns column false)) g_odd again.mark (marked (set rows row g_odd)) (marked columns')
+      g_parity again.parity row_joined
+      (subst (λ marks. IsJoined again.mark column (marked (set columns column false)) (marked marks)) (sym again.new_is) (joined again.mark columns column (let w = v.column_each in omega arith))) after_pivot
 
   pivot_column_even : (b : Bool) → HasParity b (sum_over (marked rows) (λ r. entry before r column)) → IsJoined b row (marked rows) (marked (set rows row g_odd)) → IsEven (sum_over (marked (set rows row g_odd)) (λ r. entry before r column))
   pivot_column_even true p join = subst IsEven (sym (sum_over-one_more row (marked rows) (marked (set rows row g_odd)) (λ r. entry before r column) join)) (sign_and_odd (entry before row column) (sum_over (marked rows) (λ r. entry before r column)) u p)
@@ -160,7 +160,7 @@ module _ (before after : Matrix) (row column : ℕ) (left : List ℕ) (row_in : 
   pub marks_before_pivot : MarksViolator before (row ∷ left) (set rows row g_odd) columns' (set odd column false)
   marks_before_pivot = record {
     row_each = length-set rows row g_odd ∙ v.row_each ∙ same_height;
-    column_each = ap length anew.new_is ∙ length-set columns column anew.mark ∙ v.column_each ∙ same_width;
+    column_each = ap length again.new_is ∙ length-set columns column again.mark ∙ v.column_each ∙ same_width;
     odd_each = length-set odd column false ∙ v.odd_each ∙ same_width;
     among = λ n is. elim (cases_eq n row) [
       | inl e ↦ subst (Contains (row ∷ left)) (sym e) (contains_first row left)
@@ -189,14 +189,14 @@ module _ (before after : Matrix) (row column : ℕ) (left : List ℕ) (row_in : 
       turned : (x y : ℤ) → x *ℤ pos 1 +ℤ y ≡ y +ℤ x
       turned x y = simp products (omega (arith, sums))
 
-  pub taken_back : IsTakenBack before row column (marked rows) (marked columns) (marked (set rows row g_odd)) (marked columns')
-  taken_back = record {
-    row_set = increases_along 0 (height after) (marked rows) (marked_rises 0 (height after) rows (let h = v.row_each in omega arith));
-    column_set = increases_along 0 after.width (marked columns) (marked_rises 0 after.width columns (let w = v.column_each in omega arith));
+  pub pulled_back : IsPulledBack before row column (marked rows) (marked columns) (marked (set rows row g_odd)) (marked columns')
+  pulled_back = record {
+    row_set = increases_along 0 (height after) (marked rows) (marked_increases 0 (height after) rows (let h = v.row_each in omega arith));
+    column_set = increases_along 0 after.width (marked columns) (marked_increases 0 after.width columns (let w = v.column_each in omega arith));
     row_there = iff_then (in_set_same rows row g_odd (let h = v.row_each in omega arith)) (parity_odd g_odd (sum_over (marked rows) (λ r. entry before r column)) g_parity);
     other_rows = λ i apart. in_set_other rows row i g_odd apart;
-    column_there = subst (λ marks. IsIn column (marked marks) ↔ IsOdd (sum_over (marked columns) (λ j. if j == column then pos 1 else entry before row j))) (sym anew.new_is)
-        (iff_then (in_set_same columns column anew.mark (let w = v.column_each in omega arith))
-        (parity_odd anew.mark (sum_over (marked columns) (λ j. if j == column then pos 1 else entry before row j)) (subst (HasParity anew.mark) (sym counted) anew.parity)));
-    other_columns = λ j apart. subst (λ marks. IsIn j (marked marks) ↔ IsIn j (marked columns)) (sym anew.new_is) (in_set_other columns column j anew.mark apart);
+    column_there = subst (λ marks. IsIn column (marked marks) ↔ IsOdd (sum_over (marked columns) (λ j. if j == column then pos 1 else entry before row j))) (sym again.new_is)
+        (iff_then (in_set_same columns column again.mark (let w = v.column_each in omega arith))
+        (parity_odd again.mark (sum_over (marked columns) (λ j. if j == column then pos 1 else entry before row j)) (subst (HasParity again.mark) (sym counted) again.parity)));
+    other_columns = λ j apart. subst (λ marks. IsIn j (marked marks) ↔ IsIn j (marked columns)) (sym again.new_is) (in_set_other columns column j again.mark apart);
   }

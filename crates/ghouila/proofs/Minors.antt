@@ -9,7 +9,7 @@ use Rattle.cmr_base.proofs.Integers.{sums, products, mul_assoc, one-mul}
 use Rattle.cmr_base.proofs.Parity.{two_mod_four_not_four, two_mod_four_by_difference}
 use Rattle.cmr_base.proofs.SumLaws.{sum_over-add, sum_over-sub, sum_over-scale, sum_over-scale_right, sum_over-zero, sum_over_same}
 use Rattle.cmr_base.proofs.Lists.{HasOneMore, all_weaker, all_both, all_without, item_of_one_more, sum_over-one_more}
-use Rattle.cmr_base.proofs.IncreasingLists.{RisesIn, increasing_apart}
+use Rattle.cmr_base.proofs.IncreasingLists.{IncreasesIn, increasing_apart}
 use Rattle.cmr_base.specs.PlacedPivots.{reduced, pivoted}
 use Rattle.ghouila.specs.Pivot.{IsTernaryRow}
 use Rattle.ghouila.proofs.PivotSums.{pivoted_apart}
@@ -160,16 +160,16 @@ no_violator_by_minors (c ∷ C) R M minors v = elim (zeros_or_sign (λ i. M i c)
 
 -- ---- without violators, minors are unimodular
 
-pub minor_or_violator : (height width : ℕ) (C R : List ℕ) (low : ℕ) (M : ℕ → ℕ → ℤ) → RisesIn low width C → AllByRecursion (λ i. i < height) R → AllByRecursion (λ i. IsTernaryRow width (M i)) R
+pub minor_or_violator : (height width : ℕ) (C R : List ℕ) (low : ℕ) (M : ℕ → ℕ → ℤ) → IncreasesIn low width C → AllByRecursion (λ i. i < height) R → AllByRecursion (λ i. IsTernaryRow width (M i)) R
     → IsEntry (minor M C R) ⊎ HasViolatorIn height width M
-minor_or_violator height width [] [] low M rises inside ternary = inl (sign_is_entry (pos 1) (inl refl))
-minor_or_violator height width [] (i ∷ R) low M rises inside ternary = inl entry_zero
-minor_or_violator height width (c ∷ C) R low M rises inside ternary =
-    elim (zeros_or_sign (λ i. M i c) R (all_weaker (λ i. IsTernaryRow width (M i)) (λ i. IsEntry (M i c)) (λ i h. h c rises.1) R ternary)) [
+minor_or_violator height width [] [] low M increases inside ternary = inl (sign_is_entry (pos 1) (inl refl))
+minor_or_violator height width [] (i ∷ R) low M increases inside ternary = inl entry_zero
+minor_or_violator height width (c ∷ C) R low M increases inside ternary =
+    elim (zeros_or_sign (λ i. M i c) R (all_weaker (λ i. IsTernaryRow width (M i)) (λ i. IsEntry (M i c)) (λ i h. h c increases.1) R ternary)) [
       | inl zeros ↦ inl (subst IsEntry (sym (expansion_zero_column (λ i. M i c) (minor M C) R zeros)) entry_zero)
-      | inr s ↦ pivot s (rows_after height width M s.row c s.sign (row_in s) rises.1 (top s) s.others (all_without (λ i. i < height) s.row s.others R s.more inside)
+      | inr s ↦ pivot s (rows_after height width M s.row c s.sign (row_in s) increases.1 (top s) s.others (all_without (λ i. i < height) s.row s.others R s.more inside)
           (all_without (λ i. IsTernaryRow width (M i)) s.row s.others R s.more ternary))
-          (λ rows. minor_or_violator height width C s.others (c + 1) (pivoted M s.row c) rises.2 (all_without (λ i. i < height) s.row s.others R s.more inside) rows)
+          (λ rows. minor_or_violator height width C s.others (c + 1) (pivoted M s.row c) increases.2 (all_without (λ i. i < height) s.row s.others R s.more inside) rows)
     ]
   where
     row_in : (s : HasSignIn (λ i. M i c) R) → s.row < height
@@ -180,7 +180,7 @@ minor_or_violator height width (c ∷ C) R low M rises inside ternary =
 
     kept : (s : HasSignIn (λ i. M i c) R) → minor (pivoted M s.row c) C s.others ≡ minor (reduced M s.row c) C s.others
     kept s = minor_same (pivoted M s.row c) (reduced M s.row c) C
-        (all_weaker (λ j. j ≢ c) (λ j. (i : ℕ) → pivoted M s.row c i j ≡ reduced M s.row c i j) (λ j other i. pivoted_apart M s.row c i j other) C (increasing_apart (c + 1) width c C (omega arith) rises.2)) s.others
+        (all_weaker (λ j. j ≢ c) (λ j. (i : ℕ) → pivoted M s.row c i j ≡ reduced M s.row c i j) (λ j other i. pivoted_apart M s.row c i j other) C (increasing_apart (c + 1) width c C (omega arith) increases.2)) s.others
 
     back : (s : HasSignIn (λ i. M i c) R) → IsEntry (minor (pivoted M s.row c) C s.others) → IsEntry (minor M (c ∷ C) R)
     back s h = entry_before M s.row c C s.others R s.sign s.more (subst IsEntry (kept s) h)
@@ -191,5 +191,5 @@ minor_or_violator height width (c ∷ C) R low M rises inside ternary =
     pivot s (inr v) next = inr v
     pivot s (inl rows) next = elim (next rows) [
       | inl h ↦ inl (back s h)
-      | inr v ↦ inr (violator_back height width M s.row c s.sign (row_in s) rises.1 (top s) v)
+      | inr v ↦ inr (violator_back height width M s.row c s.sign (row_in s) increases.1 (top s) v)
     ]

@@ -15,7 +15,7 @@ use Rattle.ghouila.specs.declared.by_pivots.SigningOrViolator.TheVariants as sig
 use Rattle.ghouila.specs.Found.{marked}
 use Rattle.ghouila.specs.MarkedSignings.{IsOutcome, NamesLines}
 use Rattle.ghouila.specs.Answer.{SignsOrViolates}
-use Rattle.ghouila.proofs.Marks.{all_marked, marked_rises}
+use Rattle.ghouila.proofs.Marks.{all_marked, marked_increases}
 
 signed_sum-map : (m : Matrix) (rows : List ℕ) (sign : ℕ → ℤ) (column : ℕ) → sum_over rows (λ row. sign row *ℤ entry m row column) ≡ signed_sum m rows (map sign rows) column
 signed_sum-map m [] sign column = refl
@@ -30,8 +30,8 @@ named_right m rows (Signed s) (signings.Signed signs) is e = subst (IsSigning m 
 named_right m rows (Signed s) (signings.Violated lines) is e = absurd e
 named_right m rows (Violated v) (signings.Signed signs) is e = absurd e
 named_right m rows (Violated v) (signings.Violated lines) is e = rw (e.0, e.1) (record {
-  row_set = increasing_row_set m (marked v.rows.items) (marked_rises 0 (height m) v.rows.items (let h = is.row_each in omega arith));
-  column_set = increasing_column_set m (marked v.columns.items) (marked_rises 0 m.width v.columns.items (let h = is.column_each in omega arith));
+  row_set = increasing_row_set m (marked v.rows.items) (marked_increases 0 (height m) v.rows.items (let h = is.row_each in omega arith));
+  column_set = increasing_column_set m (marked v.columns.items) (marked_increases 0 m.width v.columns.items (let h = is.column_each in omega arith));
   among = All-from_recursion (Contains rows) (marked v.rows.items) (all_marked (Contains rows) 0 v.rows.items (λ k n same mark. is.among n (subst (λ i. get_or v.rows.items i false ≡ true) (let i : k ≡ n = omega arith in i) mark)));
   violator = is.violator;
 })

@@ -13,7 +13,7 @@ use Rattle.cmr_base.specs.Trees.{WalkStep, tail, head, from, to, IsWalk, IsTree,
 use Rattle.cmr_base.proofs.Integers.{sums, products, mul-zero}
 use Rattle.cmr_base.proofs.SumLaws.{sum_over-add, sum_over-zero, sum_over_same}
 use Rattle.cmr_base.proofs.Members.{all_in, all_of_members, increasing_are_distinct}
-use Rattle.cmr_base.proofs.IncreasingLists.{row_set_rises}
+use Rattle.cmr_base.proofs.IncreasingLists.{row_set_increases}
 use Rattle.cmr_base.proofs.Parts.{is_ternary-transposed}
 use Rattle.cmr_base.proofs.RowLists.{same_or_not, in_or_not, is_eq, is_ne, same_bit}
 use Rattle.cmr_base.proofs.TransposedLemmas.{none_from_transposed_rectangular}
@@ -192,7 +192,7 @@ network_signing m net rows is = (
     s r = sign net.0.arcs (height m) net.1.network.tree rows r
 
     once : IsDistinct rows
-    once = increasing_are_distinct 0 (height m) rows (row_set_rises m rows is)
+    once = increasing_are_distinct 0 (height m) rows (row_set_increases m rows is)
 
     low : (r : ℕ) → IsIn r rows → r < height m
     low r h = all_in (λ x. x < height m) rows (all_below rows is.in_range) r h

@@ -22,7 +22,7 @@ use Rattle.cmr_base.proofs.ListsWithout.{in_without, without_in, without_increas
 use Rattle.cmr_base.proofs.Members.{all_of_members}
 use Rattle.cmr_base.proofs.Parity.{even_or_odd}
 use Rattle.cmr_base.proofs.Places.{increasing_same}
-use Rattle.cmr_base.proofs.IncreasingLists.{RisesIn, IsSplitAt, split_at, increasing_below, row_set_rises, column_set_rises}
+use Rattle.cmr_base.proofs.IncreasingLists.{IncreasesIn, IsSplitAt, split_at, increasing_below, row_set_increases, column_set_increases}
 use Rattle.cmr_base.proofs.SignEntries.{zero_is_entry, negative_is_entry, product_is_entry, sign_square}
 use Rattle.cmr_base.proofs.ViolatorLemmas.{violator_same}
 use Rattle.ghouila.specs.Found.{HasParity}
@@ -94,8 +94,8 @@ module _ (m : Matrix) (r c : ℕ) (place : IsPivotPlace m r c) where
 -- ---- violators
 
 module _ (height width : ℕ) (M : ℕ → ℕ → ℤ) (r c : ℕ) (u : IsSign (M r c)) (r_in : r < height) (c_in : c < width) where
-  violator_of_pivot : (P D : List ℕ) → RisesIn 0 height P → RisesIn 0 width D → IsViolator (pivot_entry M r c) P D → HasViolatorIn height width M
-  violator_of_pivot P D rises rises' v = go (split_at 0 height r P rises) (split_at 0 width c D rises')
+  violator_of_pivot : (P D : List ℕ) → IncreasesIn 0 height P → IncreasesIn 0 width D → IsViolator (pivot_entry M r c) P D → HasViolatorIn height width M
+  violator_of_pivot P D increases increases' v = go (split_at 0 height r P increases) (split_at 0 width c D increases')
     where
       below : (n x : ℕ) (b there : Bool) (xs fewer : List ℕ) → x < n → IsJoined there x fewer xs → AllByRecursion (λ y. y < n) xs → (more : List ℕ) × IsJoined b x fewer more × AllByRecursion (λ y. y < n) more
       below n x true there xs fewer h join all = (x ∷ fewer, one_more_first x fewer, (h, all_fewer (λ y. y < n) there x fewer xs join all))
@@ -108,8 +108,8 @@ module _ (height width : ℕ) (M : ℕ → ℕ → ℤ) (r c : ℕ) (u : IsSign 
       go s t =
           let row_in = parity (sum_over P (λ i. M i c)) in
           let column_in = parity (sum_over D (M r)) in
-          let rows = below height r row_in.0 s.there P s.others r_in s.joined (increasing_below 0 height P rises) in
-          let columns = below width c column_in.0 t.there D t.others c_in t.joined (increasing_below 0 width D rises') in
+          let rows = below height r row_in.0 s.there P s.others r_in s.joined (increasing_below 0 height P increases) in
+          let columns = below width c column_in.0 t.there D t.others c_in t.joined (increasing_below 0 width D increases') in
           record {
             rows = rows.0;
             columns = columns.0;
@@ -131,21 +131,21 @@ pivots_keep_violators m r c place = (forth, back)
 
     forth : HasNoViolator m → HasNoViolator (pivot_at m r c)
     forth free P D row_set column_set v =
-        let rises = subst (λ n. RisesIn 0 n P) high (row_set_rises (pivot_at m r c) P row_set) in
-        let rises' = column_set_rises (pivot_at m r c) D column_set in
-        no_violator m free (violator_of_pivot (height m) m.width (entry m) r c place.nonzero place.row_in place.column_in P D rises rises'
-        (violator_within (height m) m.width (entry (pivot_at m r c)) (pivot_entry (entry m) r c) P D (increasing_below 0 (height m) P rises) (increasing_below 0 m.width D rises') (entry_after m r c place) v))
+        let increases = subst (λ n. IncreasesIn 0 n P) high (row_set_increases (pivot_at m r c) P row_set) in
+        let increases' = column_set_increases (pivot_at m r c) D column_set in
+        no_violator m free (violator_of_pivot (height m) m.width (entry m) r c place.nonzero place.row_in place.column_in P D increases increases'
+        (violator_within (height m) m.width (entry (pivot_at m r c)) (pivot_entry (entry m) r c) P D (increasing_below 0 (height m) P increases) (increasing_below 0 m.width D increases') (entry_after m r c place) v))
 
     sign_after : IsSign (entry (pivot_at m r c) r c)
     sign_after = subst IsSign (sym (entry_after m r c place r c place.row_in place.column_in ∙ entry_there (entry m) r c)) place.nonzero
 
     back : HasNoViolator (pivot_at m r c) → HasNoViolator m
     back free P D row_set column_set v =
-        let rises = row_set_rises m P row_set in
-        let rises' = column_set_rises m D column_set in
+        let increases = row_set_increases m P row_set in
+        let increases' = column_set_increases m D column_set in
         no_violator (pivot_at m r c) free (subst (λ n. HasViolatorIn n m.width (entry (pivot_at m r c))) (sym high)
-        (violator_of_pivot (height m) m.width (entry (pivot_at m r c)) r c sign_after place.row_in place.column_in P D rises rises'
-        (violator_within (height m) m.width (entry m) (pivot_entry (entry (pivot_at m r c)) r c) P D (increasing_below 0 (height m) P rises) (increasing_below 0 m.width D rises') (λ i j hi hj. sym (entry_twice m r c place i j hi hj)) v)))
+        (violator_of_pivot (height m) m.width (entry (pivot_at m r c)) r c sign_after place.row_in place.column_in P D increases increases'
+        (violator_within (height m) m.width (entry m) (pivot_entry (entry (pivot_at m r c)) r c) P D (increasing_below 0 (height m) P increases) (increasing_below 0 m.width D increases') (λ i j hi hj. sym (entry_twice m r c place i j hi hj)) v)))
 
 -- ---- the matrix again
 
@@ -236,8 +236,8 @@ with_or_without n (x ∷ xs) d = go (eqb x n) refl (with_or_without n xs d.1)
     go false e (there, join, is) = (there, joined_later there x n (without xs n) xs join, ((λ h. inr (is.0 h)), (λ h. elim h [ inl q ↦ absurd (eqb-false x n e (sym q)) | inr k ↦ is.1 k ])))
 
 same_without : (n : ℕ) (xs ys : List ℕ) → IsStrictlyIncreasing xs → IsStrictlyIncreasing ys → ((x : ℕ) → x ≢ n → IsIn x xs ↔ IsIn x ys) → without xs n ≡ without ys n
-same_without n xs ys rises rises' same =
-    increasing_same (without xs n) (without ys n) (without_increases n xs rises) (without_increases n ys rises')
+same_without n xs ys increases increases' same =
+    increasing_same (without xs n) (without ys n) (without_increases n xs increases) (without_increases n ys increases')
     (λ x h. let w = without_in n x xs h in in_without n x ys ((same x w.1).0 w.0) w.1)
     (λ x h. let w = without_in n x ys h in in_without n x xs ((same x w.1).1 w.0) w.1)
 
@@ -255,8 +255,8 @@ joined_by_parity n xs fewer z d same odd = go (with_or_without n xs d)
 
 pub pivots_take_violators_back : PivotsTakeViolatorsBack
 pivots_take_violators_back m r c P D R' C' place p_set d_set r_set c_set lines v =
-    let inside = increasing_below 0 (height m) P (row_set_rises m P p_set) in
-    let inside' = increasing_below 0 m.width D (column_set_rises m D d_set) in
+    let inside = increasing_below 0 (height m) P (row_set_increases m P p_set) in
+    let inside' = increasing_below 0 m.width D (column_set_increases m D d_set) in
     let s = with_or_without r P (increasing_distinct P p_set.increasing) in
     let t = with_or_without c D (increasing_distinct D d_set.increasing) in
     let row = joined_by_parity r R' (without P r) (sum_over P (λ i. entry m i c)) (increasing_distinct R' r_set.increasing) (same_without r R' P r_set.increasing p_set.increasing lines.other_rows) lines.row_there in

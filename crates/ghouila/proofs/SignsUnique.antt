@@ -11,7 +11,7 @@ use Rattle.cmr_base.specs.Violator.{IsViolator, HasNoViolator}
 use Rattle.cmr_base.proofs.Parity.{even-mul_right, even_by_difference, two_mod_four_by_difference}
 use Rattle.cmr_base.proofs.SumLaws.{sum_over-scale, sum_over_same}
 use Rattle.cmr_base.proofs.Lists.{all_of, all_weaker}
-use Rattle.cmr_base.proofs.IncreasingLists.{increasing_row_set, increasing_column_set, odd_times, rises-odd_times}
+use Rattle.cmr_base.proofs.IncreasingLists.{increasing_row_set, increasing_column_set, odd_times, increases-odd_times}
 use Rattle.cmr_base.proofs.ViolatorLemmas.{violator-odd_times, violator-transposed}
 use Rattle.ghouila.proofs.SignedSums.{even_change-signed}
 use Rattle.ghouila.proofs.SignProducts.{sign_nonzero}
@@ -79,8 +79,8 @@ no_violator_no_fault m rectangular small free t c d path f = go (route (entry m)
   where
     go : Route (entry m) small t c d path → ⊥
     go q = free (odd_times rows) (odd_times columns)
-        (increasing_row_set m (odd_times rows) (rises-odd_times (height m) rows rows_in))
-        (increasing_column_set m (odd_times columns) (rises-odd_times m.width columns columns_in))
+        (increasing_row_set m (odd_times rows) (increases-odd_times (height m) rows rows_in))
+        (increasing_column_set m (odd_times columns) (increases-odd_times m.width columns columns_in))
         (violator-odd_times (entry m) rows columns
         (cycle_violates (entry m) t q.k q.way.row q.way.col (place_cycle (entry m) small t c d path f.place q) (subst IsTwoModFour (sum_by_places (entry m) small t c d path q (entry m)) f.two_mod_four)))
       where

@@ -4,7 +4,7 @@ use Rattle.std.specs.List.{AllByRecursion}
 use Rattle.cmr_base.specs.Matrix.{IsEntry}
 use Rattle.cmr_base.specs.Signing.{IsSign}
 use Rattle.cmr_base.proofs.Lists.{HasOneMore, one_more_first, one_more_later, all_weaker}
-use Rattle.cmr_base.proofs.IncreasingLists.{RisesIn, rises_from_lower}
+use Rattle.cmr_base.proofs.IncreasingLists.{IncreasesIn, increases_from_lower}
 use Rattle.ghouila.proofs.SignedSums.{zero_or_sign}
 
 -- the first list is the second list with some items removed
@@ -21,10 +21,10 @@ pub sublist_each : (R : List ℕ) → AllByRecursion (λ x. IsSublist (x ∷ [])
 sublist_each [] = tt
 sublist_each (x ∷ R) = (inr ([], refl, sublist_none R), all_weaker (λ y. IsSublist (y ∷ []) R) (λ y. IsSublist (y ∷ []) (x ∷ R)) (λ y h. inl h) R (sublist_each R))
 
-pub sublist_rises : (low high : ℕ) (R P : List ℕ) → RisesIn low high R → IsSublist P R → RisesIn low high P
-sublist_rises low high [] P rises e = subst (RisesIn low high) (sym e) tt
-sublist_rises low high (x ∷ R) P rises (inl h) = rises_from_lower low (x + 1) high P (omega (arith, rises.0)) (sublist_rises (x + 1) high R P rises.2 h)
-sublist_rises low high (x ∷ R) P rises (inr h) = subst (RisesIn low high) (sym h.1) (rises.0, rises.1, sublist_rises (x + 1) high R h.0 rises.2 h.2)
+pub sublist_increases : (low high : ℕ) (R P : List ℕ) → IncreasesIn low high R → IsSublist P R → IncreasesIn low high P
+sublist_increases low high [] P increases e = subst (IncreasesIn low high) (sym e) tt
+sublist_increases low high (x ∷ R) P increases (inl h) = increases_from_lower low (x + 1) high P (omega (arith, increases.0)) (sublist_increases (x + 1) high R P increases.2 h)
+sublist_increases low high (x ∷ R) P increases (inr h) = subst (IncreasesIn low high) (sym h.1) (increases.0, increases.1, sublist_increases (x + 1) high R h.0 increases.2 h.2)
 
 -- a sublist with one item more, in its order
 pub record IsSublistWith (item : ℕ) (fewer R : List ℕ) : Type 0 where

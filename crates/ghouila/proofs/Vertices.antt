@@ -10,7 +10,7 @@ use Rattle.cmr_base.proofs.Integers.{sums, products}
 use Rattle.cmr_base.proofs.SumLaws.{sum_over-add, sum_over-scale, sum_over_same}
 use Rattle.cmr_base.proofs.Lists.{all_of, all_weaker}
 use Rattle.cmr_base.proofs.Members.{all_in}
-use Rattle.cmr_base.proofs.IncreasingLists.{RisesIn, rises_from_lower, rises-range, increasing_below, increasing_row_set, increasing_column_set}
+use Rattle.cmr_base.proofs.IncreasingLists.{IncreasesIn, increases_from_lower, increases-range, increasing_below, increasing_row_set, increasing_column_set}
 use Rattle.cmr_base.proofs.RemovedLines.{in_first_lines}
 use Rattle.cmr_base.proofs.RowLists.{two_cases}
 use Rattle.ghouila.specs.IntegralLaws.{IsMultiple, row_value, BasicSolutionsAreIntegral, IsFeasible, IsVertex, HasIntegralVertices}
@@ -32,14 +32,14 @@ chosen : (ℕ → Bool) → List ℕ → List ℕ
 chosen p [] = []
 chosen p (x ∷ xs) = cond (p x) (x ∷ chosen p xs) (chosen p xs)
 
-chosen_rises : (p : ℕ → Bool) (low high : ℕ) (xs : List ℕ) → RisesIn low high xs → RisesIn low high (chosen p xs)
+chosen_increases : (p : ℕ → Bool) (low high : ℕ) (xs : List ℕ) → IncreasesIn low high xs → IncreasesIn low high (chosen p xs)
 unfolding chosen
-chosen_rises p low high [] rises = tt
-chosen_rises p low high (x ∷ xs) rises = go (p x) (chosen_rises p (x + 1) high xs rises.2)
+chosen_increases p low high [] increases = tt
+chosen_increases p low high (x ∷ xs) increases = go (p x) (chosen_increases p (x + 1) high xs increases.2)
   where
-    go : (t : Bool) → RisesIn (x + 1) high (chosen p xs) → RisesIn low high (cond t (x ∷ chosen p xs) (chosen p xs))
-    go true h = (rises.0, rises.1, h)
-    go false h = rises_from_lower low (x + 1) high (chosen p xs) (omega (arith, rises.0)) h
+    go : (t : Bool) → IncreasesIn (x + 1) high (chosen p xs) → IncreasesIn low high (cond t (x ∷ chosen p xs) (chosen p xs))
+    go true h = (increases.0, increases.1, h)
+    go false h = increases_from_lower low (x + 1) high (chosen p xs) (omega (arith, increases.0)) h
 
 -- all chosen lines have a property
 all_chosen : (P : ℕ → Type 0) (p : ℕ → Bool) (xs : List ℕ) → AllByRecursion (λ x. p x ≡ true → P x) xs → AllByRecursion P (chosen p xs)
@@ -164,11 +164,11 @@ module _ (m : Matrix) (unimodular : IsTotallyUnimodular m) (b y : ℕ → ℤ) (
       plain : (a x : ℤ) → a ≤ℤ x → pos 0 ≤ℤ (x -ℤ a)
       plain a x l = omega (arith, sums)
 
-  columns_rise : RisesIn 0 m.width C
-  columns_rise = chosen_rises (λ j. is_nonzero (y j)) 0 m.width (first_lines m.width) (rises-range 0 m.width m.width (omega arith))
+  columns_increase : IncreasesIn 0 m.width C
+  columns_increase = chosen_increases (λ j. is_nonzero (y j)) 0 m.width (first_lines m.width) (increases-range 0 m.width m.width (omega arith))
 
-  rows_rise : RisesIn 0 (height m) R
-  rows_rise = chosen_rises is_tight 0 (height m) (first_lines (height m)) (rises-range 0 (height m) (height m) (omega arith))
+  rows_increase : IncreasesIn 0 (height m) R
+  rows_increase = chosen_increases is_tight 0 (height m) (first_lines (height m)) (increases-range 0 (height m) (height m) (omega arith))
 
   -- a small move that keeps the tight rows and the zeros also keeps the point feasible
   moved : (e : ℤ) (z : ℕ → ℤ) → pos 1 ≤ℤ e
@@ -301,7 +301,7 @@ module _ (m : Matrix) (unimodular : IsTotallyUnimodular m) (b y : ℕ → ℤ) (
   independent : IsIndependent (entry m) R C
   independent z h = all_chosen (λ j. z j ≡ pos 0) (λ j. is_nonzero (y j)) (first_lines m.width)
       (all_weaker (λ j. j < m.width) (λ j. is_nonzero (y j) ≡ true → z j ≡ pos 0) (λ j l t. sym (kept z h j t) ∙ still z h j l) (first_lines m.width)
-      (increasing_below 0 m.width (first_lines m.width) (rises-range 0 m.width m.width (omega arith))))
+      (increasing_below 0 m.width (first_lines m.width) (increases-range 0 m.width m.width (omega arith))))
 
   solves : AllByRecursion (λ i. sum_over C (λ j. entry m i j *ℤ y j) ≡ d *ℤ b i) R
   solves = all_chosen (λ i. sum_over C (λ j. entry m i j *ℤ y j) ≡ d *ℤ b i) is_tight (first_lines (height m))
@@ -334,8 +334,8 @@ module _ (m : Matrix) (unimodular : IsTotallyUnimodular m) (b y : ℕ → ℤ) (
 
       all : AllByRecursion (λ j. IsMultiple d (y j)) C
       all = multiples C R (entry m) b y d
-          (eliminated_independent C R 0 m.width (entry m) columns_rise
-          (minors_on m ((ghouila_houri m).0 unimodular) R C (increasing_row_set m R rows_rise) (increasing_column_set m C columns_rise)) independent) solves
+          (eliminated_independent C R 0 m.width (entry m) columns_increase
+          (minors_on m ((ghouila_houri m).0 unimodular) R C (increasing_row_set m R rows_increase) (increasing_column_set m C columns_increase)) independent) solves
 
 pub integral_vertices : (m : Matrix) → IsTotallyUnimodular m → HasIntegralVertices m
 integral_vertices m unimodular b y d v = vertex_is_integral m unimodular b y d v

@@ -10,7 +10,7 @@ use Rattle.cmr_base.specs.Violator.{IsViolator, HasNoViolator}
 use Rattle.cmr_base.proofs.Lists.{all_of, all_weaker, all-map, all_unmapped}
 use Rattle.cmr_base.proofs.SumLaws.{sum_over-map, sum_over_same}
 use Rattle.cmr_base.proofs.Parts.{entry-submatrix}
-use Rattle.cmr_base.proofs.IncreasingLists.{odd_times, rises-odd_times, increasing_row_set, increasing_column_set, row_set_rises, column_set_rises, increasing_below}
+use Rattle.cmr_base.proofs.IncreasingLists.{odd_times, increases-odd_times, increasing_row_set, increasing_column_set, row_set_increases, column_set_increases, increasing_below}
 use Rattle.cmr_base.proofs.ViolatorLemmas.{violator-odd_times, violator_same}
 
 -- rows of P and columns of Q that are a violator
@@ -36,15 +36,15 @@ narrower M P Q P' Q' f g free v = free (widened M P Q P' Q' f g v)
 module _ (m : Matrix) where
   pub free_from_none : HasNoViolator m → FreeIn (entry m) (λ r. r < height m) (λ c. c < m.width)
   free_from_none none v = none (odd_times v.R) (odd_times v.C)
-      (increasing_row_set m (odd_times v.R) (rises-odd_times (height m) v.R v.rows)) (increasing_column_set m (odd_times v.C) (rises-odd_times m.width v.C v.columns))
+      (increasing_row_set m (odd_times v.R) (increases-odd_times (height m) v.R v.rows)) (increasing_column_set m (odd_times v.C) (increases-odd_times m.width v.C v.columns))
       (violator-odd_times (entry m) v.R v.C v.violator)
 
   pub none_from_free : FreeIn (entry m) (λ r. r < height m) (λ c. c < m.width) → HasNoViolator m
   none_from_free free rows columns is_rows is_columns violator = free (record {
     R = rows;
     C = columns;
-    rows = increasing_below 0 (height m) rows (row_set_rises m rows is_rows);
-    columns = increasing_below 0 m.width columns (column_set_rises m columns is_columns);
+    rows = increasing_below 0 (height m) rows (row_set_increases m rows is_rows);
+    columns = increasing_below 0 m.width columns (column_set_increases m columns is_columns);
     violator = violator;
   })
 

@@ -40,7 +40,7 @@ pub record MarksViolator (m : Matrix) (rows : List ℕ) (row_marks column_marks 
 
 -- the new mark of a column: set if and only if the row's entries in the other marked columns, plus 1 if the column was marked, have an odd
 -- sum
-pub record MarksAnew (row : ℕ → ℤ) (column : ℕ) (old new : List Bool) : Type 0 where
+pub record MarksAgain (row : ℕ → ℤ) (column : ℕ) (old new : List Bool) : Type 0 where
   pub mark : Bool
   pub new_is : new ≡ slice_set old column mark
   pub parity : HasParity mark (sum_over (marked (slice_set old column false)) row +ℤ bit (slice_index_or old column false))

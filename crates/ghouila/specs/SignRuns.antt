@@ -53,7 +53,7 @@ pub record IsFirstSquare (m : Matrix) (rows violator_rows violator_columns : Lis
 -- A violator after a pivot is mapped back to one before it. The pivot's row is in it if and only if the rows after the pivot have an odd
 -- sum in the pivot's column. The pivot's column is in it if and only if the columns after the pivot have an odd sum in the pivot's row, in
 -- which the pivot's own column counts as 1. The lines after the pivot are sets.
-pub record IsTakenBack (m : Matrix) (row column : ℕ) (after_rows after_columns rows columns : List ℕ) : Type 0 where
+pub record IsPulledBack (m : Matrix) (row column : ℕ) (after_rows after_columns rows columns : List ℕ) : Type 0 where
   pub row_set : IsStrictlyIncreasing after_rows
   pub column_set : IsStrictlyIncreasing after_columns
   pub row_there : IsIn row rows ↔ IsOdd (sum_over after_rows (λ i. entry m i column))
@@ -68,4 +68,4 @@ ViolatesBySteps m rows [] violator_rows violator_columns = IsFirstSquare m rows 
 ViolatesBySteps m rows (step ∷ steps) violator_rows violator_columns = (left : List ℕ) × MatchOption step.column
     (IsPutAside m rows step.row left × ViolatesBySteps m left steps violator_rows violator_columns)
     (λ column. IsPivotNext m rows step.row column left × ((after : Matrix) × IsPivotMade m after step.row column left
-    × ((after_rows : List ℕ) × (after_columns : List ℕ) × ViolatesBySteps after left steps after_rows after_columns × IsTakenBack m step.row column after_rows after_columns violator_rows violator_columns)))
+    × ((after_rows : List ℕ) × (after_columns : List ℕ) × ViolatesBySteps after left steps after_rows after_columns × IsPulledBack m step.row column after_rows after_columns violator_rows violator_columns)))

@@ -3,7 +3,7 @@ ghost use Rattle.cmr_base.specs.Matrix.{Matrix, height, entry};
 ghost use Rattle.cmr_base.specs.Members.{IsIn};
 ghost use Rattle.cmr_base.specs.Sums.{sum_over};
 ghost use Rattle.ghouila.specs.Pivot.{HasSquareViolator};
-ghost use Rattle.ghouila.specs.Found.{HasParity, marked, MarksViolator, MarksAnew};
+ghost use Rattle.ghouila.specs.Found.{HasParity, marked, MarksViolator, MarksAgain};
 
 use crate::pivots::Corner;
 use cmr_base::{Indices, LineSet, MAX_COLUMNS, MAX_ROWS, Matrix, Memory};
@@ -73,7 +73,7 @@ impl MarkedLines {
         ensures rows { self.new.rows.items
             ≡ slice_set self.old.rows.items row (slice_index_or self.old.odd.items column false) }
         ensures odd { self.new.odd.items ≡ slice_set self.old.odd.items column false }
-        ensures columns { MarksAnew (entry work.now row) column self.old.columns.items
+        ensures columns { MarksAgain (entry work.now row) column self.old.columns.items
             self.new.columns.items }
     {
         let was_there = self.columns[column as usize];

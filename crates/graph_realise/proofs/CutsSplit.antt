@@ -6,7 +6,7 @@ use Rattle.cmr_base.specs.Cuts.{HasCuts}
 use Rattle.cmr_base.proofs.PartNames.{rows_have_names}
 use Rattle.cmr_base.proofs.RowLists.{same_or_not, search_rows, in_or_not, fewer}
 use Rattle.graph_realise.proofs.CutTables.{has_fewer}
-use Rattle.graph_realise.proofs.PartRows.{in_part, part_in, in_with, left_out}
+use Rattle.graph_realise.proofs.PartRows.{in_part, part_in, in_with, omitted}
 use Rattle.graph_realise.proofs.NoCuts.{no_three}
 use Rattle.graph_realise.proofs.MiddleArcs.{linked_side}
 use Rattle.graph_realise.proofs.AgreeingParts.{across, Pair, pair_agrees}
@@ -116,8 +116,8 @@ module _ (M : ℕ → ℕ → Bool) (S : List ℕ) (K : HasCuts M (λ r. IsIn r 
   shorter j = go (same_or_not (part first.splits.one) (part j))
     where
       go : (part first.splits.one ≡ part j) ⊎ (part first.splits.one ≢ part j) → length (with_row part i (part j) S) < length S
-      go (inr n) = fewer (λ k. k == i || part k == part j) first.splits.one S first.splits.one_in (left_out part i (part j) first.splits.one first.splits.one_other n)
-      go (inl e) = fewer (λ k. k == i || part k == part j) first.splits.two S first.splits.two_in (left_out part i (part j) first.splits.two first.splits.two_other
+      go (inr n) = fewer (λ k. k == i || part k == part j) first.splits.one S first.splits.one_in (omitted part i (part j) first.splits.one first.splits.one_other n)
+      go (inl e) = fewer (λ k. k == i || part k == part j) first.splits.two S first.splits.two_in (omitted part i (part j) first.splits.two first.splits.two_other
           (λ f. first.splits.apart ((named first.splits.one first.splits.two first.splits.one_in first.splits.two_in first.splits.one_other first.splits.two_other).0 (e ∙ sym f))))
 
   pub has_split : (Rest : List ℕ → Type 0) → ((T : List ℕ) → length T < length S → HasCuts M (λ r. IsIn r T) → Rest T) → HasSplit M Rest S

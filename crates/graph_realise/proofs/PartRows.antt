@@ -31,5 +31,5 @@ module _ (part : ℕ → ℕ) (i name k : ℕ) where
       go false a (inr e) = is_eq (part k) name e
 
   -- a row of another part is removed
-  pub left_out : k ≢ i → part k ≢ name → (k == i || part k == name) ≡ false
-  left_out n m = ap (λ (t : Bool). t || part k == name) (is_ne k i n) ∙ is_ne (part k) name m
+  pub omitted : k ≢ i → part k ≢ name → (k == i || part k == name) ≡ false
+  omitted n m = ap (λ (t : Bool). t || part k == name) (is_ne k i n) ∙ is_ne (part k) name m

@@ -56,17 +56,17 @@ one_part_whole M S i parts all few s =
 
 -- a row before another row of an increasing list
 in_before : (before after : List ℕ) (i row : ℕ) → IsStrictlyIncreasing (before ++ i ∷ after) → IsIn row (before ++ i ∷ after) → row < i → IsIn row before
-in_before [] after i row rises (inl e) low = absurd (omega arith)
-in_before [] after i row rises (inr h) low = let l = head_below i row after rises h in absurd (omega arith)
-in_before (b ∷ before) after i row rises (inl e) low = inl e
-in_before (b ∷ before) after i row rises (inr h) low = inr (in_before before after i row (increasing_tail b (before ++ i ∷ after) rises) h low)
+in_before [] after i row increases (inl e) low = absurd (omega arith)
+in_before [] after i row increases (inr h) low = let l = head_below i row after increases h in absurd (omega arith)
+in_before (b ∷ before) after i row increases (inl e) low = inl e
+in_before (b ∷ before) after i row increases (inr h) low = inr (in_before before after i row (increasing_tail b (before ++ i ∷ after) increases) h low)
 
 pub split_is : (M : ℕ → ℕ → Bool) (S : List ℕ) (split : SplitRow) → IsStrictlyIncreasing S → IsFirstSplit M S split.row → AreParts M S split.row split.parts → IsSplit M S split
-split_is M S split rises first parts = record {
+split_is M S split increases first parts = record {
   here = first.splits.here;
   parts = parts;
   two = elim (cases_lt (length split.parts) 2) [ inl l ↦ absurd (one_part_whole M S split.row split.parts parts l first.splits) | inr l ↦ l ];
-  first = λ row low s. first.none row (in_before first.before first.after split.row row (subst IsStrictlyIncreasing first.place rises) (subst (IsIn row) first.place s.here) low) s;
+  first = λ row low s. first.none row (in_before first.before first.after split.row row (subst IsStrictlyIncreasing first.place increases) (subst (IsIn row) first.place s.here) low) s;
 }
 
 pub parts_disjoint : (M : ℕ → ℕ → Bool) (S : List ℕ) (i : ℕ) (parts : List (List ℕ)) → AreParts M S i parts → AreDisjoint parts

@@ -57,13 +57,13 @@ rays_clear M rows sides rays = record {
 module _ (M : ℕ → ℕ → Bool) where
   -- a row is not the first row of a column that an earlier row has
   not_first : (S : List ℕ) (p q c : ℕ) → IsStrictlyIncreasing S → q < p → p < length S → M (get_or S q 0) c ≡ true → is_first M S (get_or S p 0) c ≡ false
-  not_first [] p q c rises l k e = absurd (omega arith)
-  not_first (r ∷ S) zero q c rises l k e = absurd (omega arith)
-  not_first (r ∷ S) (suc p) q c rises l k e = go (M r c) refl q l e (λ q' l' e'. not_first S p q' c (increasing_tail r S rises) l' (omega arith) e')
+  not_first [] p q c increases l k e = absurd (omega arith)
+  not_first (r ∷ S) zero q c increases l k e = absurd (omega arith)
+  not_first (r ∷ S) (suc p) q c increases l k e = go (M r c) refl q l e (λ q' l' e'. not_first S p q' c (increasing_tail r S increases) l' (omega arith) e')
     where
       go : (t : Bool) → M r c ≡ t → (q : ℕ) → q < suc p → M (get_or (r ∷ S) q 0) c ≡ true → ((q' : ℕ) → q' < p → M (get_or S q' 0) c ≡ true → is_first M S (get_or S p 0) c ≡ false)
           → (if t then nat_eq r (get_or S p 0) else is_first M S (get_or S p 0) c) ≡ false
-      go true f q l e more = let b = head_below r (get_or S p 0) S rises (in_at S p (omega arith)) in is_ne r (get_or S p 0) (λ q. absurd (omega arith))
+      go true f q l e more = let b = head_below r (get_or S p 0) S increases (in_at S p (omega arith)) in is_ne r (get_or S p 0) (λ q. absurd (omega arith))
       go false f zero l e more = absurd (not_both (M r c) e f)
       go false f (suc q) l e more = more q (omega arith) e
 
@@ -82,7 +82,7 @@ module _ (M : ℕ → ℕ → Bool) where
 
   -- the ray drawn by `seen` is the ray of the star
   pub ray_after : (S : List ℕ) (p : ℕ) (seen : ℕ → Bool) (sides : ArcSides) → IsStrictlyIncreasing S → p < length S → AreSeen M S p seen → IsRayAfter M seen (get_or S p 0) sides → IsRay M S (get_or S p 0) sides
-  ray_after S p seen sides rises l were ray = record {
+  ray_after S p seen sides increases l were ray = record {
     arcs = ray.arcs;
     ends = λ end c. ray.ends end c ∙ pick end c (M (get_or S p 0) c) refl;
   }
@@ -95,7 +95,7 @@ module _ (M : ℕ → ℕ → Bool) where
           free q k f false g = refl
 
           go : (t : Bool) → seen c ≡ t → is_first M S (get_or S p 0) c ≡ not t
-          go true f = let h = were.into c f in not_first S p h.0 c rises h.1 l h.2
+          go true f = let h = were.into c f in not_first S p h.0 c increases h.1 l h.2
           go false f = first_here S p c l (λ q k. free q k f (M (get_or S q 0) c) refl) e
 
       twice : (t : Bool) → t ≡ not (not t)

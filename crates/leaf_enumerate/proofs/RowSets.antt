@@ -4,7 +4,7 @@ use Rattle.std.proofs.lemmas.Bool.{cases_lt}
 use Rattle.cmr_base.specs.Matrix.{Matrix, height, entry}
 use Rattle.cmr_base.specs.LineSets.{IsRowSet, IsColumnSet, set_number, set_numbered}
 use Rattle.cmr_base.specs.Violator.{HasNoColumnSet, HasNoViolator, IsLeastByRows, IsLeastColumnSet, IsViolator}
-use Rattle.cmr_base.proofs.IncreasingLists.{row_set_rises}
+use Rattle.cmr_base.proofs.IncreasingLists.{row_set_increases}
 use Rattle.cmr_base.proofs.SetNumbers.{number_of_numbered, numbered_same, row_set-numbered, set_number-lt}
 use Rattle.first_hit.specs.First.{NoneBetween}
 use Rattle.leaf_enumerate.specs.RowSets.{HasColumnSet}
@@ -12,7 +12,7 @@ use Rattle.leaf_enumerate.specs.RowSets.{HasColumnSet}
 -- the number of a row set with a column set has a column set
 pub has_column_set : (m : Matrix) (rows columns : List ℕ) → IsRowSet m rows → IsColumnSet m columns → IsViolator (entry m) rows columns → HasColumnSet m (set_number rows)
 has_column_set m rows columns row_set column_set v =
-    record { columns = columns; column_set = column_set; violator = subst (λ (set : List ℕ). IsViolator (entry m) set columns) (sym (numbered_same (height m) rows (row_set_rises m rows row_set))) v }
+    record { columns = columns; column_set = column_set; violator = subst (λ (set : List ℕ). IsViolator (entry m) set columns) (sym (numbered_same (height m) rows (row_set_increases m rows row_set))) v }
 
 pub least_has : (m : Matrix) (number : ℕ) (columns : List ℕ) → IsLeastColumnSet m (set_numbered (height m) 0 number) columns → HasColumnSet m number
 least_has m number columns least = record { columns = columns; column_set = least.column_set; violator = least.violator }
@@ -30,7 +30,7 @@ none_more m from number none before k low high has = elim (cases_lt k number) [
 
 pub none_at_all : (m : Matrix) (count : ℕ) → count ≡ 2 ^ height m → NoneBetween (HasColumnSet m) 0 count → HasNoViolator m
 none_at_all m count all none rows columns row_set column_set v =
-    none (set_number rows) (omega arith) (omega (arith, all, set_number-lt (height m) rows (row_set_rises m rows row_set))) (has_column_set m rows columns row_set column_set v)
+    none (set_number rows) (omega arith) (omega (arith, all, set_number-lt (height m) rows (row_set_increases m rows row_set))) (has_column_set m rows columns row_set column_set v)
 
 pub least_found : (m : Matrix) (number : ℕ) (columns : List ℕ) → number < 2 ^ height m → NoneBetween (HasColumnSet m) 0 number → IsLeastColumnSet m (set_numbered (height m) 0 number) columns
     → IsLeastByRows m (set_numbered (height m) 0 number) columns

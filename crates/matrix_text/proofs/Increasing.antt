@@ -2,7 +2,7 @@
 use Rattle.std.proofs.Common.{◌≡◌, ◌+◌, ◌-◌, ◌∙◌, ℕ, zero, suc, List, [], ◌∷◌, ◌++◌, length, Ok, refl, ap, sym, subst, append_assoc, arith}
 use Rattle.std.proofs.lemmas.List.{append-nil}
 use Rattle.std.proofs.lemmas.List.Sums.{fold_push}
-use Rattle.cmr_base.proofs.IncreasingLists.{RisesIn}
+use Rattle.cmr_base.proofs.IncreasingLists.{IncreasesIn}
 use Rattle.text_fields.specs.TextWords.{Text}
 use Rattle.text_fields.specs.Numbers.{count_in}
 use Rattle.text_fields.specs.Spelling.{texts_of, Spell}
@@ -24,7 +24,7 @@ pub record AreLines (most n : ℕ) (text : Text) (before lines : List ℕ) (rest
   pub lines_are : lines ≡ before ++ read
   pub spell : Spell count_in (texts_of prefix) (numbers_of read)
   pub count : length read ≡ n
-  pub rises : RisesIn (last_number before) most read
+  pub increases : IncreasesIn (last_number before) most read
 
 another_line_ok : (most : ℕ) (outside : TextKind) (before : List ℕ) (text : Text) (next : List ℕ × Text) → another_line most outside before text ≡ Ok next
     → (number : ℕ) × (field Short (increasing_line_in most outside (last_number before)) text ≡ Ok (number, next.1)) × (next.0 ≡ before ++ (number - 1) ∷ [])
@@ -43,7 +43,7 @@ lines_ok most outside zero before text lines rest h =
       lines_are = sym (ap (λ (p : List ℕ × Text). p.0) e) ∙ sym (append-nil before);
       spell = tt;
       count = refl;
-      rises = tt;
+      increases = tt;
     }
 lines_ok most outside (suc n) before text lines rest h =
     let b = bind_ok (another_line most outside before text) (λ (next : List ℕ × Text). times (another_line most outside) n next.0 next.1) (lines, rest) h in
@@ -60,17 +60,17 @@ lines_ok most outside (suc n) before text lines rest h =
       lines_are = later.lines_are ∙ ap (λ prefix. prefix ++ later.read) one.2 ∙ append_assoc before ((one.0 - 1) ∷ []) later.read;
       spell = (ok.0 ∙ ap Ok number, later.spell);
       count = ap suc later.count;
-      rises = (omega (arith, ok.3), omega (arith, ok.1, ok.2), subst (λ low. RisesIn low most later.read) last later.rises);
+      increases = (omega (arith, ok.3), omega (arith, ok.1, ok.2), subst (λ low. IncreasesIn low most later.read) last later.increases);
     }
 
 -- words that spell increasing lines are read as these lines
-pub lines_again : (most : ℕ) (outside : TextKind) (size : ℕ) (words later : List (ℕ × List ℕ)) (before lines : List ℕ) → Spell count_in (texts_of words) (numbers_of lines) → RisesIn (last_number before) most lines
+pub lines_again : (most : ℕ) (outside : TextKind) (size : ℕ) (words later : List (ℕ × List ℕ)) (before lines : List ℕ) → Spell count_in (texts_of words) (numbers_of lines) → IncreasesIn (last_number before) most lines
     → times (another_line most outside) (length lines) before (record { size = size; words = words ++ later }) ≡ Ok (before ++ lines, record { size = size; words = later })
-lines_again most outside size [] later before [] spell rises = ap (λ lines. Ok (lines, record { size = size; words = later })) (sym (append-nil before))
-lines_again most outside size [] later before (line ∷ lines) spell rises = absurd spell
-lines_again most outside size (word ∷ words) later before [] spell rises = absurd spell
-lines_again most outside size (word ∷ words) later before (line ∷ lines) spell rises =
-    let one = increasing_line_again (limit_kind outside) most (last_number before) word.1 (line + 1) spell.0 (omega arith) (omega (arith, rises.1)) (omega (arith, rises.0)) in
+lines_again most outside size [] later before [] spell increases = ap (λ lines. Ok (lines, record { size = size; words = later })) (sym (append-nil before))
+lines_again most outside size [] later before (line ∷ lines) spell increases = absurd spell
+lines_again most outside size (word ∷ words) later before [] spell increases = absurd spell
+lines_again most outside size (word ∷ words) later before (line ∷ lines) spell increases =
+    let one = increasing_line_again (limit_kind outside) most (last_number before) word.1 (line + 1) spell.0 (omega arith) (omega (arith, increases.1)) (omega (arith, increases.0)) in
     let back : line + 1 - 1 ≡ line = omega arith in
     let last = fold_push (λ (before line : ℕ). line + 1) 0 before line in
-    rw (one, back) (lines_again most outside size words later (before ++ line ∷ []) lines spell.1 (subst (λ low. RisesIn low most lines) (sym last) rises.2) ∙ ap (λ ls. Ok (ls, record { size = size; words = later })) (append_assoc before (line ∷ []) lines))
+    rw (one, back) (lines_again most outside size words later (before ++ line ∷ []) lines spell.1 (subst (λ low. IncreasesIn low most lines) (sym last) increases.2) ∙ ap (λ ls. Ok (ls, record { size = size; words = later })) (append_assoc before (line ∷ []) lines))

@@ -28,9 +28,9 @@ lines_spelled bound (line ∷ lines) few below = (count_of_decimal (line + 1) (l
 
 pub submatrix_again : (height width : ℕ) (lines : LineSet) → height ≤ MAX_ROWS → width ≤ MAX_COLUMNS → IsStrictlyIncreasing lines.rows → IsStrictlyIncreasing lines.columns → AllBelow height lines.rows → AllBelow width lines.columns
     → named_lines height width (text_of (submatrix_text height width lines)) ≡ Ok lines
-submatrix_again height width lines few_rows few_columns rows_rise columns_rise rows_in columns_in =
-    let row_count = increasing_count height lines.rows rows_rise rows_in in
-    let column_count = increasing_count width lines.columns columns_rise columns_in in
+submatrix_again height width lines few_rows few_columns rows_increase columns_increase rows_in columns_in =
+    let row_count = increasing_count height lines.rows rows_increase rows_in in
+    let column_count = increasing_count width lines.columns columns_increase columns_in in
     submatrix_only height width (length (submatrix_text height width lines)) (words_from 0 (submatrix_text height width lines)) lines (record {
       height_word = decimal height;
       width_word = decimal width;
@@ -50,8 +50,8 @@ submatrix_again height width lines few_rows few_columns rows_rise columns_rise r
       column_count = count_of_decimal (length lines.columns) (omega arith);
       rows_are = lines_spelled height lines.rows few_rows rows_in;
       columns_are = lines_spelled width lines.columns few_columns columns_in;
-      rows_rise = rows_rise;
-      columns_rise = columns_rise;
+      rows_increase = rows_increase;
+      columns_increase = columns_increase;
       rows_in = rows_in;
       columns_in = columns_in;
     })

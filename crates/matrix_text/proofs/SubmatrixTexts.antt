@@ -4,7 +4,7 @@ use Rattle.std.specs.Prelude.{IfOk}
 use Rattle.std.proofs.lemmas.List.{append-nil, map-append}
 use Rattle.std.proofs.lemmas.Bool.Decides.{nat_tests}
 use Rattle.cmr_base.specs.declared.line_set.LineSet.{LineSet}
-use Rattle.cmr_base.proofs.IncreasingLists.{increasing_count, RisesIn, rises_in, increasing_in_range, increases_along}
+use Rattle.cmr_base.proofs.IncreasingLists.{increasing_count, IncreasesIn, increases_in, increasing_in_range, increases_along}
 use Rattle.text_fields.specs.TextWords.{Text}
 use Rattle.text_fields.specs.Result.{◌>>=◌}
 use Rattle.text_fields.specs.Numbers.{count_in}
@@ -46,8 +46,8 @@ record AreLists (height width p q : ℕ) (words : List (List ℕ)) (lines : Line
   columns_are : Spell count_in column_words (numbers_of lines.columns)
   row_count : length lines.rows ≡ p
   column_count : length lines.columns ≡ q
-  rows_rise : RisesIn 0 height lines.rows
-  columns_rise : RisesIn 0 width lines.columns
+  rows_increase : IncreasesIn 0 height lines.rows
+  columns_increase : IncreasesIn 0 width lines.columns
 
 lists_found : (height width p q : ℕ) (text : Text) (lines : LineSet) → lines_behind height width p q text ≡ Ok lines → AreLists height width p q (texts_of text.words) lines
 lists_found height width p q text lines h =
@@ -73,8 +73,8 @@ lists_found height width p q text lines h =
           columns_are = subst (λ ls. Spell count_in (texts_of columns.prefix) (numbers_of ls)) columns_are columns.spell;
           row_count = ap length (sym rows_are) ∙ rows.count;
           column_count = ap length (sym columns_are) ∙ columns.count;
-          rows_rise = subst (RisesIn 0 height) rows_are rows.rises;
-          columns_rise = subst (RisesIn 0 width) columns_are columns.rises;
+          rows_increase = subst (IncreasesIn 0 height) rows_are rows.increases;
+          columns_increase = subst (IncreasesIn 0 width) columns_are columns.increases;
         }
 
 four_words : (a b c d : ℕ × List ℕ) (words x y z rest : List (ℕ × List ℕ)) → words ≡ a ∷ x → x ≡ b ∷ y → y ≡ c ∷ z → z ≡ d ∷ rest → texts_of words ≡ a.1 ∷ b.1 ∷ c.1 ∷ d.1 ∷ texts_of rest
@@ -110,10 +110,10 @@ submatrix_found height width text lines h =
           column_count = columns.2 ∙ ap Ok (sym lists.column_count);
           rows_are = lists.rows_are;
           columns_are = lists.columns_are;
-          rows_rise = increases_along 0 height lines.rows lists.rows_rise;
-          columns_rise = increases_along 0 width lines.columns lists.columns_rise;
-          rows_in = increasing_in_range 0 height lines.rows lists.rows_rise;
-          columns_in = increasing_in_range 0 width lines.columns lists.columns_rise;
+          rows_increase = increases_along 0 height lines.rows lists.rows_increase;
+          columns_increase = increases_along 0 width lines.columns lists.columns_increase;
+          rows_in = increasing_in_range 0 height lines.rows lists.rows_increase;
+          columns_in = increasing_in_range 0 width lines.columns lists.columns_increase;
         }
 
 own_size_again : (size : ℕ) (word : List ℕ) → count_in word ≡ Ok size → own_size size word ≡ Ok size
@@ -125,10 +125,10 @@ lists_again height width size words lines are =
     let s = split_texts words are.row_words are.column_words are.words_are in
     let rows : increasing_lines height RowOutOfRange (length lines.rows) (record { size = size; words = words }) ≡ Ok (lines.rows, record { size = size; words = s.second }) =
     ap (λ ws. increasing_lines height RowOutOfRange (length lines.rows) (record { size = size; words = ws })) s.words_are
-    ∙ lines_again height RowOutOfRange size s.first s.second [] lines.rows (subst (λ ws. Spell count_in ws (numbers_of lines.rows)) (sym s.prefix_is) are.rows_are) are.rows_rise in
+    ∙ lines_again height RowOutOfRange size s.first s.second [] lines.rows (subst (λ ws. Spell count_in ws (numbers_of lines.rows)) (sym s.prefix_is) are.rows_are) are.rows_increase in
     let columns : increasing_lines width ColumnOutOfRange (length lines.columns) (record { size = size; words = s.second }) ≡ Ok (lines.columns, record { size = size; words = [] }) =
     ap (λ ws. increasing_lines width ColumnOutOfRange (length lines.columns) (record { size = size; words = ws })) (sym (append-nil s.second))
-    ∙ lines_again width ColumnOutOfRange size s.second [] [] lines.columns (subst (λ ws. Spell count_in ws (numbers_of lines.columns)) (sym s.back_is) are.columns_are) are.columns_rise in
+    ∙ lines_again width ColumnOutOfRange size s.second [] [] lines.columns (subst (λ ws. Spell count_in ws (numbers_of lines.columns)) (sym s.back_is) are.columns_are) are.columns_increase in
     rw (rows, columns) refl
 
 -- a submatrix text is read
@@ -146,8 +146,8 @@ submatrix_only height width size (h ∷ w ∷ p ∷ q ∷ words) lines is =
     let lw : texts_of words ≡ is.row_words ++ is.column_words = cc in
     let same_height = own_size_again height h.1 (ap count_in hw ∙ is.height_is) in
     let same_width = own_size_again width w.1 (ap count_in ww ∙ is.width_is) in
-    let row_count = limited_again (limit_kind RowOutOfRange) height p.1 (length lines.rows) (ap count_in pw ∙ is.row_count) (increasing_count height lines.rows is.rows_rise is.rows_in) in
-    let column_count = limited_again (limit_kind ColumnOutOfRange) width q.1 (length lines.columns) (ap count_in qw ∙ is.column_count) (increasing_count width lines.columns is.columns_rise is.columns_in) in
+    let row_count = limited_again (limit_kind RowOutOfRange) height p.1 (length lines.rows) (ap count_in pw ∙ is.row_count) (increasing_count height lines.rows is.rows_increase is.rows_in) in
+    let column_count = limited_again (limit_kind ColumnOutOfRange) width q.1 (length lines.columns) (ap count_in qw ∙ is.column_count) (increasing_count width lines.columns is.columns_increase is.columns_in) in
     rw (same_height, same_width, row_count, column_count) (lists_again height width size words lines (record {
       row_words = is.row_words;
       column_words = is.column_words;
@@ -156,8 +156,8 @@ submatrix_only height width size (h ∷ w ∷ p ∷ q ∷ words) lines is =
       columns_are = is.columns_are;
       row_count = refl;
       column_count = refl;
-      rows_rise = rises_in 0 height lines.rows is.rows_rise is.rows_in (λ h. zero-le);
-      columns_rise = rises_in 0 width lines.columns is.columns_rise is.columns_in (λ h. zero-le);
+      rows_increase = increases_in 0 height lines.rows is.rows_increase is.rows_in (λ h. zero-le);
+      columns_increase = increases_in 0 width lines.columns is.columns_increase is.columns_in (λ h. zero-le);
     }))
 
 -- the same for the result of a function

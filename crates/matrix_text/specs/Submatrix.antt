@@ -32,8 +32,8 @@ pub record IsSubmatrix (height width : ℕ) (words : List (List ℕ)) (lines : L
   pub column_count : count_in column_count_word ≡ Ok (length lines.columns)
   pub rows_are : Spell count_in row_words (numbers_of lines.rows)
   pub columns_are : Spell count_in column_words (numbers_of lines.columns)
-  pub rows_rise : IsStrictlyIncreasing lines.rows
-  pub columns_rise : IsStrictlyIncreasing lines.columns
+  pub rows_increase : IsStrictlyIncreasing lines.rows
+  pub columns_increase : IsStrictlyIncreasing lines.columns
   pub rows_in : AllBelow height lines.rows
   pub columns_in : AllBelow width lines.columns
 

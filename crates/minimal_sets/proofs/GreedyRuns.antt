@@ -12,12 +12,12 @@ use Rattle.cmr_base.proofs.GreedyLemmas.{IsInherited}
 use Rattle.minimal_sets.specs.LeftOut.{rows_left, columns_left}
 
 pub rows_left-increase : (lines : List Line) (rows : List ℕ) → IsStrictlyIncreasing rows → IsStrictlyIncreasing (rows_left rows lines)
-rows_left-increase [] rows rises = rises
-rows_left-increase (line ∷ lines) rows rises = rows_left-increase lines (rows_without rows line) (rows_increase line rows rises)
+rows_left-increase [] rows increases = increases
+rows_left-increase (line ∷ lines) rows increases = rows_left-increase lines (rows_without rows line) (rows_increase line rows increases)
 
 pub columns_left-increase : (lines : List Line) (columns : List ℕ) → IsStrictlyIncreasing columns → IsStrictlyIncreasing (columns_left columns lines)
-columns_left-increase [] columns rises = rises
-columns_left-increase (line ∷ lines) columns rises = columns_left-increase lines (columns_without columns line) (columns_increase line columns rises)
+columns_left-increase [] columns increases = increases
+columns_left-increase (line ∷ lines) columns increases = columns_left-increase lines (columns_without columns line) (columns_increase line columns increases)
 
 pub rows_left-within : (lines : List Line) (rows : List ℕ) → IsWithin (rows_left rows lines) rows
 rows_left-within [] rows x h = h

@@ -110,19 +110,19 @@ times_zero s t = simp products
 
 -- ---- groups joined
 
-pub merged_coarser : (width : ℕ) (groups new_groups : List ℕ) (signs new_signs : List ℤ) (gone stays : ℕ) (factor : ℤ) → width ≡ length groups
-    → IsMerged groups signs new_groups new_signs gone stays factor → IsCoarser width groups new_groups
-merged_coarser width groups new_groups signs new_signs gone stays factor same merged c d lc ld e = go (cases_eq (group_of groups c) gone)
+pub merged_coarser : (width : ℕ) (groups new_groups : List ℕ) (signs new_signs : List ℤ) (replaced stays : ℕ) (factor : ℤ) → width ≡ length groups
+    → IsMerged groups signs new_groups new_signs replaced stays factor → IsCoarser width groups new_groups
+merged_coarser width groups new_groups signs new_signs replaced stays factor same merged c d lc ld e = go (cases_eq (group_of groups c) replaced)
   where
-    go : (group_of groups c ≡ gone) ⊎ (group_of groups c ≢ gone) → group_of new_groups c ≡ group_of new_groups d
+    go : (group_of groups c ≡ replaced) ⊎ (group_of groups c ≢ replaced) → group_of new_groups c ≡ group_of new_groups d
     go (inl f) = (merged.moved c (omega (arith, lc, same)) f).0 ∙ sym (merged.moved d (omega (arith, ld, same)) (sym e ∙ f)).0
     go (inr k) = (merged.others c (omega (arith, lc, same)) k).0 ∙ e ∙ sym (merged.others d (omega (arith, ld, same)) (λ f. k (e ∙ f))).0
 
-pub merged_products : (width : ℕ) (groups new_groups : List ℕ) (signs new_signs : List ℤ) (gone stays : ℕ) (factor : ℤ) → width ≡ length groups → IsSign factor
-    → IsMerged groups signs new_groups new_signs gone stays factor → KeepsProducts width groups signs new_signs
-merged_products width groups new_groups signs new_signs gone stays factor same factor_sign merged c d lc ld e = go (cases_eq (group_of groups c) gone)
+pub merged_products : (width : ℕ) (groups new_groups : List ℕ) (signs new_signs : List ℤ) (replaced stays : ℕ) (factor : ℤ) → width ≡ length groups → IsSign factor
+    → IsMerged groups signs new_groups new_signs replaced stays factor → KeepsProducts width groups signs new_signs
+merged_products width groups new_groups signs new_signs replaced stays factor same factor_sign merged c d lc ld e = go (cases_eq (group_of groups c) replaced)
   where
-    go : (group_of groups c ≡ gone) ⊎ (group_of groups c ≢ gone) → sign_of new_signs c *ℤ sign_of new_signs d ≡ sign_of signs c *ℤ sign_of signs d
+    go : (group_of groups c ≡ replaced) ⊎ (group_of groups c ≢ replaced) → sign_of new_signs c *ℤ sign_of new_signs d ≡ sign_of signs c *ℤ sign_of signs d
     go (inl f) =
         ap₂ (λ x y. x *ℤ y) (merged.moved c (omega (arith, lc, same)) f).1 (merged.moved d (omega (arith, ld, same)) (sym e ∙ f)).1
         ∙ both_moved (sign_of signs c) (sign_of signs d) factor factor_sign

@@ -45,12 +45,12 @@ IsRowForced m n signs row = (agreement : AgreeBefore (entry m) (entry n) (row + 
     → sign_of signs c *ℤ sign_of signs d ≡ agreement.column_sign c *ℤ agreement.column_sign d
 
 -- the columns of one group move to another, and their signs are multiplied by a factor
-pub record IsMerged (old_groups : List ℕ) (old_signs : List ℤ) (groups : List ℕ) (signs : List ℤ) (gone stays : ℕ) (factor : ℤ) : Type 0 where
+pub record IsMerged (old_groups : List ℕ) (old_signs : List ℤ) (groups : List ℕ) (signs : List ℤ) (replaced stays : ℕ) (factor : ℤ) : Type 0 where
   pub group_each : length groups ≡ length old_groups
   pub sign_each : length signs ≡ length old_signs
-  pub moved : (column : ℕ) → column < length old_groups → group_of old_groups column ≡ gone
+  pub moved : (column : ℕ) → column < length old_groups → group_of old_groups column ≡ replaced
       → (group_of groups column ≡ stays) × (sign_of signs column ≡ sign_of old_signs column *ℤ factor)
-  pub others : (column : ℕ) → column < length old_groups → group_of old_groups column ≢ gone
+  pub others : (column : ℕ) → column < length old_groups → group_of old_groups column ≢ replaced
       → (group_of groups column ≡ group_of old_groups column) × (sign_of signs column ≡ sign_of old_signs column)
 
 -- the sign of a row with which the sign of a column turns the first matrix's entry in this column into the second's

@@ -87,25 +87,25 @@ impl ColumnGroups {
             ≡ group_of self.new.groups.items first }
     {
         let stays = self.groups[first as usize];
-        let gone = self.groups[other as usize];
-        if gone != stays {
+        let replaced = self.groups[other as usize];
+        if replaced != stays {
             let by_first = self.row_sign_by(from, to, row, first);
             let by_other = self.row_sign_by(from, to, row, other);
-            self.merge(gone, stays, product(by_first, by_other));
+            self.merge(replaced, stays, product(by_first, by_other));
         }
     }
 
     // Moves the columns of a group into another group and multiplies their signs by a factor.
-    fn merge(&mut self, gone: u32, stays: u32, factor: i8)
+    fn merge(&mut self, replaced: u32, stays: u32, factor: i8)
         requires each { length self.old.signs.items ≡ length self.old.groups.items }
         requires signs { (column : ℕ) → IsSign (sign_of self.old.signs.items column) }
         requires factor { IsSign factor }
-        requires two { gone ≢ stays }
+        requires two { replaced ≢ stays }
         ensures { IsMerged self.old.groups.items self.old.signs.items self.new.groups.items
-            self.new.signs.items gone stays factor }
+            self.new.signs.items replaced stays factor }
     {
         for column in 0..self.groups.len() {
-            if self.groups[column] == gone {
+            if self.groups[column] == replaced {
                 self.groups[column] = stays;
                 self.signs[column] = product(self.sign_of(column), factor);
             }

@@ -50,11 +50,11 @@ common-reduced_by (e ∷ es) number set hold = common-reduced_by es (cleared_by 
   | inr none ↦ ap (λ n. common n set) (cleared_clear e number none)
 ]
 
-reduced_by_apart : (es : List Equation) (number gone : ℕ) → AllByRecursion (λ e. bit_and e.columns gone ≡ 0) es → bit_and number gone ≡ 0 → bit_and (reduced_by es number) gone ≡ 0
-reduced_by_apart [] number gone all apart = apart
-reduced_by_apart (e ∷ es) number gone all apart = reduced_by_apart es (cleared_by e number) gone all.1 (elim (bit_cases number e.pivot) [
-  | inl one ↦ ap (λ n. bit_and n gone) (cleared_set e number one) ∙ and-xor number e.columns gone ∙ ap₂ bit_xor apart all.0
-  | inr none ↦ ap (λ n. bit_and n gone) (cleared_clear e number none) ∙ apart
+reduced_by_apart : (es : List Equation) (number excluded : ℕ) → AllByRecursion (λ e. bit_and e.columns excluded ≡ 0) es → bit_and number excluded ≡ 0 → bit_and (reduced_by es number) excluded ≡ 0
+reduced_by_apart [] number excluded all apart = apart
+reduced_by_apart (e ∷ es) number excluded all apart = reduced_by_apart es (cleared_by e number) excluded all.1 (elim (bit_cases number e.pivot) [
+  | inl one ↦ ap (λ n. bit_and n excluded) (cleared_set e number one) ∙ and-xor number e.columns excluded ∙ ap₂ bit_xor apart all.0
+  | inr none ↦ ap (λ n. bit_and n excluded) (cleared_clear e number none) ∙ apart
 ])
 
 reduced_by_lt : (es : List Equation) (number width : ℕ) → AllByRecursion (λ e. e.columns < 2 ^ width) es → number < 2 ^ width → reduced_by es number < 2 ^ width
@@ -65,11 +65,11 @@ reduced_by_lt (e ∷ es) number width all h = reduced_by_lt es (cleared_by e num
 ])
 
 -- ---- the basis of some rows
-pub basis_none : (width gone : ℕ) → IsBasis width gone [] []
-basis_none width gone = record { follow = λ set hold. tt; cleared = tt; lowest = tt; apart = tt; small = tt }
+pub basis_none : (width excluded : ℕ) → IsBasis width excluded [] []
+basis_none width excluded = record { follow = λ set hold. tt; cleared = tt; lowest = tt; apart = tt; small = tt }
 
-pub basis_skip : (width gone : ℕ) (rows : List ℕ) (es : List Equation) (row : ℕ) → IsBasis width gone rows es → reduced_by es row ≡ 0 → IsBasis width gone (rows ++ row ∷ []) es
-basis_skip width gone rows es row basis none = record {
+pub basis_skip : (width excluded : ℕ) (rows : List ℕ) (es : List Equation) (row : ℕ) → IsBasis width excluded rows es → reduced_by es row ≡ 0 → IsBasis width excluded (rows ++ row ∷ []) es
+basis_skip width excluded rows es row basis none = record {
   follow = λ set hold. basis.follow set (all_prefix (λ r. common r set ≡ 0) rows (row ∷ []) hold);
   cleared = all-append (λ r. reduced_by es r ≡ 0) rows (row ∷ []) basis.cleared (none, tt);
   lowest = basis.lowest;
@@ -77,9 +77,9 @@ basis_skip width gone rows es row basis none = record {
   small = basis.small;
 }
 
-pub basis_push : (width gone : ℕ) (rows : List ℕ) (es : List Equation) (row pivot : ℕ) → IsBasis width gone rows es → bit_and row gone ≡ 0 → row < 2 ^ width → IsLowest (reduced_by es row) pivot
-    → IsBasis width gone (rows ++ row ∷ []) (es ++ record { pivot = pivot; columns = reduced_by es row } ∷ [])
-basis_push width gone rows es row pivot basis apart small low = record {
+pub basis_push : (width excluded : ℕ) (rows : List ℕ) (es : List Equation) (row pivot : ℕ) → IsBasis width excluded rows es → bit_and row excluded ≡ 0 → row < 2 ^ width → IsLowest (reduced_by es row) pivot
+    → IsBasis width excluded (rows ++ row ∷ []) (es ++ record { pivot = pivot; columns = reduced_by es row } ∷ [])
+basis_push width excluded rows es row pivot basis apart small low = record {
   follow = λ set hold.
       let before = basis.follow set (all_prefix (λ r. common r set ≡ 0) rows (row ∷ []) hold) in
       let last = (all_back (λ r. common r set ≡ 0) rows (row ∷ []) hold).0 in
@@ -88,7 +88,7 @@ basis_push width gone rows es row pivot basis apart small low = record {
       (all_weaker (λ r. reduced_by es r ≡ 0) (λ r. reduced_by (es ++ e ∷ []) r ≡ 0) (λ r none. reduced_by-append es (e ∷ []) r ∙ ap (cleared_by e) none ∙ cleared_clear e 0 (bit_at-zero pivot)) rows basis.cleared)
       (reduced_by-append es (e ∷ []) row ∙ cleared_set e (reduced_by es row) low.there ∙ xor_self (reduced_by es row), tt);
   lowest = all-append (λ f. IsLowest f.columns f.pivot) es (e ∷ []) basis.lowest (low, tt);
-  apart = all-append (λ f. bit_and f.columns gone ≡ 0) es (e ∷ []) basis.apart (reduced_by_apart es row gone basis.apart apart, tt);
+  apart = all-append (λ f. bit_and f.columns excluded ≡ 0) es (e ∷ []) basis.apart (reduced_by_apart es row excluded basis.apart apart, tt);
   small = all-append (λ f. f.columns < 2 ^ width) es (e ∷ []) basis.small (reduced_by_lt es row width basis.small small, tt);
 }
   where
@@ -96,8 +96,8 @@ basis_push width gone rows es row pivot basis apart small low = record {
     e = record { pivot = pivot; columns = reduced_by es row }
 
 -- a number that is reduced to 0 has an even number of columns in common with each set for which the rows hold
-pub even_where_cleared : (width gone : ℕ) (rows : List ℕ) (es : List Equation) (number set : ℕ) → IsBasis width gone rows es → reduced_by es number ≡ 0 → AllByRecursion (λ row. common row set ≡ 0) rows → common number set ≡ 0
-even_where_cleared width gone rows es number set basis none hold =
+pub even_where_cleared : (width excluded : ℕ) (rows : List ℕ) (es : List Equation) (number set : ℕ) → IsBasis width excluded rows es → reduced_by es number ≡ 0 → AllByRecursion (λ row. common row set ≡ 0) rows → common number set ≡ 0
+even_where_cleared width excluded rows es number set basis none hold =
     sym (common-reduced_by es number set (basis.follow set hold)) ∙ ap (λ n. common n set) none ∙ common-zero set
   where
     common-zero : (b : ℕ) → common 0 b ≡ 0
@@ -150,10 +150,10 @@ solved_lt (e ∷ es) start width all h = elim (common_cases e.columns (solved es
 ]
 
 -- the least set for which the rows hold and one more equation does not
-pub record IsLeastSolution (width gone : ℕ) (rows : List ℕ) (odd set : ℕ) : Type 0 where
+pub record IsLeastSolution (width excluded : ℕ) (rows : List ℕ) (odd set : ℕ) : Type 0 where
   pub hold : AllByRecursion (λ row. common row set ≡ 0) rows
   pub fails : common odd set ≡ 1
-  pub apart : bit_and set gone ≡ 0
+  pub apart : bit_and set excluded ≡ 0
   pub small : set < 2 ^ width
   pub least : (other : ℕ) → AllByRecursion (λ row. common row other ≡ 0) rows → common odd other ≡ 1 → set ≤ other
 
@@ -163,16 +163,16 @@ below_width number column width one h = elim (cases_lt column width) [
   | inr past ↦ absurd (omega (arith, one, bit_at_above number width column h past))
 ]
 
-pub apart_at : (number gone column : ℕ) → bit_at number column ≡ 1 → bit_and number gone ≡ 0 → bit_at gone column ≡ 0
-apart_at number gone column one apart =
-    omega (arith, one, bit_at-lt gone column, bit_at_and number gone column, ap (λ n. bit_at n column) apart, bit_at-zero column)
+pub apart_at : (number excluded column : ℕ) → bit_at number column ≡ 1 → bit_and number excluded ≡ 0 → bit_at excluded column ≡ 0
+apart_at number excluded column one apart =
+    omega (arith, one, bit_at-lt excluded column, bit_at_and number excluded column, ap (λ n. bit_at n column) apart, bit_at-zero column)
 
-pub least_solution : (width gone : ℕ) (rows : List ℕ) (es : List Equation) (odd free : ℕ) → IsBasis width gone rows es → bit_and odd gone ≡ 0 → odd < 2 ^ width → IsLowest (reduced_by es odd) free
-    → IsLeastSolution width gone rows odd (solved es (2 ^ free))
-least_solution width gone rows es odd free basis odd_apart odd_small low = record {
+pub least_solution : (width excluded : ℕ) (rows : List ℕ) (es : List Equation) (odd free : ℕ) → IsBasis width excluded rows es → bit_and odd excluded ≡ 0 → odd < 2 ^ width → IsLowest (reduced_by es odd) free
+    → IsLeastSolution width excluded rows odd (solved es (2 ^ free))
+least_solution width excluded rows es odd free basis odd_apart odd_small low = record {
   hold = hold;
   fails = fails;
-  apart = same_from_bits (bit_and set gone) 0 (λ column. at column (bit_cases set column) ∙ sym (bit_at-zero column));
+  apart = same_from_bits (bit_and set excluded) 0 (λ column. at column (bit_cases set column) ∙ sym (bit_at-zero column));
   small = solved_lt es (2 ^ free) width (pivots_below es basis.lowest basis.small) (pow_below free width (below_width (reduced_by es odd) free width low.there (reduced_by_lt es odd width basis.small odd_small)));
   least = λ other other_holds other_fails. elim (cases_lt other set) [
     | inl less ↦ absurd (no_less other other_holds other_fails (differs set other less))
@@ -193,15 +193,15 @@ least_solution width gone rows es odd free basis odd_apart odd_small low = recor
     pivots_below [] lows smalls = tt
     pivots_below (e ∷ fs) lows smalls = (below_width e.columns e.pivot width lows.0.there smalls.0, pivots_below fs lows.1 smalls.1)
 
-    pivots_apart : (fs : List Equation) → AllByRecursion (λ e. IsLowest e.columns e.pivot) fs → AllByRecursion (λ e. bit_and e.columns gone ≡ 0) fs → AllByRecursion (λ e. bit_at gone e.pivot ≡ 0) fs
+    pivots_apart : (fs : List Equation) → AllByRecursion (λ e. IsLowest e.columns e.pivot) fs → AllByRecursion (λ e. bit_and e.columns excluded ≡ 0) fs → AllByRecursion (λ e. bit_at excluded e.pivot ≡ 0) fs
     pivots_apart [] lows aparts = tt
-    pivots_apart (e ∷ fs) lows aparts = (apart_at e.columns gone e.pivot lows.0.there aparts.0, pivots_apart fs lows.1 aparts.1)
+    pivots_apart (e ∷ fs) lows aparts = (apart_at e.columns excluded e.pivot lows.0.there aparts.0, pivots_apart fs lows.1 aparts.1)
 
-    at : (column : ℕ) → (bit_at set column ≡ 1) ⊎ (bit_at set column ≡ 0) → bit_at (bit_and set gone) column ≡ 0
+    at : (column : ℕ) → (bit_at set column ≡ 1) ⊎ (bit_at set column ≡ 0) → bit_at (bit_and set excluded) column ≡ 0
     at column (inl one) =
-        let off : bit_at gone column ≡ 0 = solved_at (λ c. bit_at gone c ≡ 0) es free column (apart_at (reduced_by es odd) gone free low.there (reduced_by_apart es odd gone basis.apart odd_apart)) (pivots_apart es basis.lowest basis.apart) one in
-        bit_at_and set gone column ∙ omega (arith, off)
-    at column (inr none) = bit_at_and set gone column ∙ omega (arith, none)
+        let off : bit_at excluded column ≡ 0 = solved_at (λ c. bit_at excluded c ≡ 0) es free column (apart_at (reduced_by es odd) excluded free low.there (reduced_by_apart es odd excluded basis.apart odd_apart)) (pivots_apart es basis.lowest basis.apart) one in
+        bit_at_and set excluded column ∙ omega (arith, off)
+    at column (inr none) = bit_at_and set excluded column ∙ omega (arith, none)
 
     Agrees : ℕ → ℕ → Type 0
     Agrees other column = (b : ℕ) × IsLowest b column × (common b set ≡ common b other)

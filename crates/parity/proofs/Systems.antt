@@ -14,7 +14,7 @@ use Rattle.cmr_base.specs.Sums.{sum_over, IsEven, IsTwoModFour}
 use Rattle.cmr_base.specs.Violator.{IsViolator, IsLeastColumnSet, HasNoColumnSet}
 use Rattle.cmr_base.proofs.Integers.{sums}
 use Rattle.cmr_base.proofs.Lists.{all-map, all_weaker, all_unmapped}
-use Rattle.cmr_base.proofs.IncreasingLists.{column_set_rises}
+use Rattle.cmr_base.proofs.IncreasingLists.{column_set_increases}
 use Rattle.cmr_base.proofs.SetNumbers.{set_number-lt, numbered_same, number_of_numbered, column_set-numbered}
 use Rattle.cmr_base.proofs.SumLaws.{sum_over-exchange}
 use Rattle.cmr_base.proofs.PlaneWords.{bit_at-bits_of, bits_of-lt}
@@ -53,14 +53,14 @@ row_parity m row set is small =
     let at : column ≡ 0 + column = omega arith in
     subst (λ c. HasParity (entry m row c) (bit_at (support_of m row) column)) at (entry_parity m row column is))
 
-common-without_columns : (gone number set : ℕ) → bit_and set gone ≡ 0 → common (without_columns gone number) set ≡ common number set
-common-without_columns gone number set apart =
-    common-xor number (bit_and number gone) set ∙ omega (arith, common-lt number set, ap (λ n. count_ones n % 2) none, ones-zero)
+common-without_columns : (excluded number set : ℕ) → bit_and set excluded ≡ 0 → common (without_columns excluded number) set ≡ common number set
+common-without_columns excluded number set apart =
+    common-xor number (bit_and number excluded) set ∙ omega (arith, common-lt number set, ap (λ n. count_ones n % 2) none, ones-zero)
   where
-    none : bit_and (bit_and number gone) set ≡ 0
-    none = same_from_bits (bit_and (bit_and number gone) set) 0 (λ i.
-        let at : min (bit_at set i) (bit_at gone i) ≡ 0 = sym (bit_at_and set gone i) ∙ ap (λ n. bit_at n i) apart ∙ bit_at-zero i in
-        bit_at_and (bit_and number gone) set i ∙ omega (arith, bit_at_and number gone i, at, bit_at-zero i))
+    none : bit_and (bit_and number excluded) set ≡ 0
+    none = same_from_bits (bit_and (bit_and number excluded) set) 0 (λ i.
+        let at : min (bit_at set i) (bit_at excluded i) ≡ 0 = sym (bit_at_and set excluded i) ∙ ap (λ n. bit_at n i) apart ∙ bit_at-zero i in
+        bit_at_and (bit_and number excluded) set i ∙ omega (arith, bit_at_and number excluded i, at, bit_at-zero i))
 
 -- a set without columns of odd sum solves the equations without these columns
 pub record Solves (m : Matrix) (rows : List ℕ) (ones twos set : ℕ) : Type 0 where
@@ -126,13 +126,13 @@ solution_from_violator m rows ones twos set is are small violator = record {
     apart = same_from_bits (bit_and set ones) 0 (λ column. bit_at_and set ones column ∙ at_bit column (bit_cases set column) ∙ sym (bit_at-zero column))
 
 -- ---- the answer
-pub without_columns_apart : (gone number : ℕ) → bit_and (without_columns gone number) gone ≡ 0
-without_columns_apart gone number = same_from_bits (bit_and (without_columns gone number) gone) 0 (λ i.
-    bit_at_and (without_columns gone number) gone i
-    ∙ omega (arith, bit_at_xor number (bit_and number gone) i, bit_at_and number gone i, bit_at-lt number i, bit_at-lt gone i, bit_at-zero i))
+pub without_columns_apart : (excluded number : ℕ) → bit_and (without_columns excluded number) excluded ≡ 0
+without_columns_apart excluded number = same_from_bits (bit_and (without_columns excluded number) excluded) 0 (λ i.
+    bit_at_and (without_columns excluded number) excluded i
+    ∙ omega (arith, bit_at_xor number (bit_and number excluded) i, bit_at_and number excluded i, bit_at-lt number i, bit_at-lt excluded i, bit_at-zero i))
 
-pub without_columns_lt : (gone number width : ℕ) → number < 2 ^ width → without_columns gone number < 2 ^ width
-without_columns_lt gone number width h = xor_lt width number (bit_and number gone) h (omega (arith, and_le_l number gone))
+pub without_columns_lt : (excluded number width : ℕ) → number < 2 ^ width → without_columns excluded number < 2 ^ width
+without_columns_lt excluded number width h = xor_lt width number (bit_and number excluded) h (omega (arith, and_le_l number excluded))
 
 pub column_set_from_solution : (m : Matrix) (rows : List ℕ) (ones twos set : ℕ) → IsMatrix m → AreSums m rows ones twos → IsLeastSolution m.width ones (equations_of m ones rows) (without_columns ones twos) set → IsLeastColumnSet m rows (set_numbered m.width 0 set)
 column_set_from_solution m rows ones twos set is are solution = record {
@@ -144,9 +144,9 @@ column_set_from_solution m rows ones twos set is are solution = record {
   });
   least = λ others is_set violator.
       let number = set_number others in
-      let rises = column_set_rises m others is_set in
-      let small = set_number-lt m.width others rises in
-      let solves = solution_from_violator m rows ones twos number is are small (subst (IsViolator (entry m) rows) (sym (numbered_same m.width others rises)) violator) in
+      let increases = column_set_increases m others is_set in
+      let small = set_number-lt m.width others increases in
+      let solves = solution_from_violator m rows ones twos number is are small (subst (IsViolator (entry m) rows) (sym (numbered_same m.width others increases)) violator) in
       omega (arith, number_of_numbered m.width set solution.small, solution.least number (all-map (λ n. common n number ≡ 0) (λ row. without_columns ones (support_of m row)) rows solves.hold) solves.fails);
 }
 
@@ -154,10 +154,10 @@ pub no_column_set : (m : Matrix) (rows : List ℕ) (ones twos : ℕ) → IsMatri
     → ((set : ℕ) → AllByRecursion (λ n. common n set ≡ 0) (equations_of m ones rows) → common (without_columns ones twos) set ≡ 0) → HasNoColumnSet m rows
 no_column_set m rows ones twos is are none others is_set violator =
     let number = set_number others in
-    let rises = column_set_rises m others is_set in
-    let small = set_number-lt m.width others rises in
-    let solves = solution_from_violator m rows ones twos number is are small (subst (IsViolator (entry m) rows) (sym (numbered_same m.width others rises)) violator) in
+    let increases = column_set_increases m others is_set in
+    let small = set_number-lt m.width others increases in
+    let solves = solution_from_violator m rows ones twos number is are small (subst (IsViolator (entry m) rows) (sym (numbered_same m.width others increases)) violator) in
     omega (arith, solves.fails, none number (all-map (λ n. common n number ≡ 0) (λ row. without_columns ones (support_of m row)) rows solves.hold))
 
-pub equations_more : (m : Matrix) (gone : ℕ) (rows : List ℕ) (i : ℕ) → i < length rows → equations_of m gone (take (i + 1) rows) ≡ equations_of m gone (take i rows) ++ without_columns gone (support_of m (get_or rows i 0)) ∷ []
-equations_more m gone rows i h = map_more (λ row. without_columns gone (support_of m row)) rows i 0 h
+pub equations_more : (m : Matrix) (excluded : ℕ) (rows : List ℕ) (i : ℕ) → i < length rows → equations_of m excluded (take (i + 1) rows) ≡ equations_of m excluded (take i rows) ++ without_columns excluded (support_of m (get_or rows i 0)) ∷ []
+equations_more m excluded rows i h = map_more (λ row. without_columns excluded (support_of m row)) rows i 0 h

@@ -79,24 +79,24 @@ number_of-carry ones twos support minus after o_words t_words s_words m_words t_
     joined eo et es em = cc
 
 -- the words of the difference of two sets
-pub number_of-without_columns : (bits gone after : List ℕ) → AreWords bits → AreWords gone → length bits ≡ length after → length gone ≡ length after
-    → ((k : ℕ) → k < length after → get_or after k 0 ≡ bit_xor (get_or bits k 0) (bit_and (get_or bits k 0) (get_or gone k 0)))
-    → number_of after ≡ without_columns (number_of gone) (number_of bits)
-number_of-without_columns bits gone after b_words g_words b_long g_long each =
-    same_from_bits (number_of after) (without_columns (number_of gone) (number_of bits)) (λ i.
+pub number_of-without_columns : (bits excluded after : List ℕ) → AreWords bits → AreWords excluded → length bits ≡ length after → length excluded ≡ length after
+    → ((k : ℕ) → k < length after → get_or after k 0 ≡ bit_xor (get_or bits k 0) (bit_and (get_or bits k 0) (get_or excluded k 0)))
+    → number_of after ≡ without_columns (number_of excluded) (number_of bits)
+number_of-without_columns bits excluded after b_words g_words b_long g_long each =
+    same_from_bits (number_of after) (without_columns (number_of excluded) (number_of bits)) (λ i.
     bit_at-number_of after i fits
     ∙ ap (λ n. bit_at n (i % 64)) (all (i / 64) (cases_lt (i / 64) (length after)))
-    ∙ bits_are (get_or bits (i / 64) 0) (get_or gone (i / 64) 0) (i % 64)
-    ∙ ap₂ (λ (b g : ℕ). (b + min b g) % 2) (sym (bit_at-number_of bits i b_words)) (sym (bit_at-number_of gone i g_words))
-    ∙ sym (bits_are (number_of bits) (number_of gone) i))
+    ∙ bits_are (get_or bits (i / 64) 0) (get_or excluded (i / 64) 0) (i % 64)
+    ∙ ap₂ (λ (b g : ℕ). (b + min b g) % 2) (sym (bit_at-number_of bits i b_words)) (sym (bit_at-number_of excluded i g_words))
+    ∙ sym (bits_are (number_of bits) (number_of excluded) i))
   where
-    all : (k : ℕ) → (k < length after) ⊎ (length after ≤ k) → get_or after k 0 ≡ bit_xor (get_or bits k 0) (bit_and (get_or bits k 0) (get_or gone k 0))
+    all : (k : ℕ) → (k < length after) ⊎ (length after ≤ k) → get_or after k 0 ≡ bit_xor (get_or bits k 0) (bit_and (get_or bits k 0) (get_or excluded k 0))
     all k (inl lt) = each k lt
-    all k (inr past) = get_or_past after k 0 past ∙ sym (ap₂ bit_xor (get_or_past bits k 0 (omega arith)) (ap₂ bit_and (get_or_past bits k 0 (omega arith)) (get_or_past gone k 0 (omega arith))))
+    all k (inr past) = get_or_past after k 0 past ∙ sym (ap₂ bit_xor (get_or_past bits k 0 (omega arith)) (ap₂ bit_and (get_or_past bits k 0 (omega arith)) (get_or_past excluded k 0 (omega arith))))
 
     fits : AreWords after
     fits k = subst (λ n. n < 2 ^ 64) (sym (all k (cases_lt k (length after))))
-        (xor_lt 64 (get_or bits k 0) (bit_and (get_or bits k 0) (get_or gone k 0)) (b_words k) (omega (arith, and_le_l (get_or bits k 0) (get_or gone k 0), b_words k)))
+        (xor_lt 64 (get_or bits k 0) (bit_and (get_or bits k 0) (get_or excluded k 0)) (b_words k) (omega (arith, and_le_l (get_or bits k 0) (get_or excluded k 0), b_words k)))
 
     bits_are : (b g i : ℕ) → bit_at (bit_xor b (bit_and b g)) i ≡ (bit_at b i + min (bit_at b i) (bit_at g i)) % 2
     bits_are b g i = bit_at_xor b (bit_and b g) i ∙ ap (λ n. (bit_at b i + n) % 2) (bit_at_and b g i)

@@ -43,12 +43,12 @@ solved [] number = number
 solved (e ∷ es) number = corrected_by e (solved es number)
 
 -- a basis of the equations of some rows: its equations follow from the rows, and they reduce the rows to 0; all are sets of the first
--- columns, without the columns that are gone
-pub record IsBasis (width gone : ℕ) (rows : List ℕ) (es : List Equation) : Type 0 where
+-- columns, without the columns that are excluded
+pub record IsBasis (width excluded : ℕ) (rows : List ℕ) (es : List Equation) : Type 0 where
   pub follow : (set : ℕ) → AllByRecursion (λ row. common row set ≡ 0) rows → AllByRecursion (λ e. common e.columns set ≡ 0) es
   pub cleared : AllByRecursion (λ row. reduced_by es row ≡ 0) rows
   pub lowest : AllByRecursion (λ e. IsLowest e.columns e.pivot) es
-  pub apart : AllByRecursion (λ e. bit_and e.columns gone ≡ 0) es
+  pub apart : AllByRecursion (λ e. bit_and e.columns excluded ≡ 0) es
   pub small : AllByRecursion (λ e. e.columns < 2 ^ width) es
 
 -- an equation added to each word after a position that contains its pivot; no other word changes
@@ -62,10 +62,10 @@ AreCleared place before after = ((slice_index_or before place 0 ≡ 0) × (after
     ⊎ ((pivot : ℕ) × IsLowest (slice_index_or before place 0) pivot × IsAddedBehind (record { pivot = pivot; columns = slice_index_or before place 0 }) place before after)
 
 -- the words from a position on are reduced by a basis of the words before it
-pub record IsReducedBy (width gone place : ℕ) (before after : List ℕ) : Type 0 where
+pub record IsReducedBy (width excluded place : ℕ) (before after : List ℕ) : Type 0 where
   pub equations : List Equation
-  pub basis : IsBasis width gone (take place before) equations
+  pub basis : IsBasis width excluded (take place before) equations
   pub rest : (at : ℕ) → place ≤ at → at < length before → slice_index_or after at 0 ≡ reduced_by equations (slice_index_or before at 0)
 
 abbrev pub AreReduced : ℕ → List ℕ → List ℕ → Type 0
-AreReduced place before after = (width gone : ℕ) → AllByRecursion (λ word. (bit_and word gone ≡ 0) × (word < 2 ^ width)) before → IsReducedBy width gone place before after
+AreReduced place before after = (width excluded : ℕ) → AllByRecursion (λ word. (bit_and word excluded ≡ 0) × (word < 2 ^ width)) before → IsReducedBy width excluded place before after

@@ -13,9 +13,9 @@ support_of m row = bits_of is_nonzero (row_of m row)
 abbrev pub minus_of : Matrix → ℕ → ℕ
 minus_of m row = bits_of is_minus (row_of m row)
 
--- the columns of a set, without the columns that are gone
+-- the columns of a set, without the columns that are excluded
 abbrev pub without_columns : ℕ → ℕ → ℕ
-without_columns gone number = bit_xor number (bit_and number gone)
+without_columns excluded number = bit_xor number (bit_and number excluded)
 
 -- two planes of `words` words: the low and the high bits of column sums modulo 4
 pub record SumPlanes : Type 0 where
@@ -36,6 +36,6 @@ pub record HasResidue (sum : ℤ) (low high : ℕ) : Type 0 where
 pub record AreSums (m : Matrix) (rows : List ℕ) (ones twos : ℕ) : Type 0 where
   pub each : (column : ℕ) → HasResidue (sum_over rows (λ row. entry m row column)) (bit_at ones column) (bit_at twos column)
 
--- the equations of some rows, without the columns that are gone
+-- the equations of some rows, without the columns that are excluded
 abbrev pub equations_of : Matrix → ℕ → List ℕ → List ℕ
-equations_of m gone rows = map (λ row. without_columns gone (support_of m row)) rows
+equations_of m excluded rows = map (λ row. without_columns excluded (support_of m row)) rows

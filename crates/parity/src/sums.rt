@@ -89,12 +89,12 @@ fn add_planes(ones: &mut [u64], twos: &mut [u64], support: &[u64], minus: &[u64]
     }
 }
 
-fn write_outside(bits: &[u64], gone: &[u64], into: &mut [u64])
+fn write_outside(bits: &[u64], excluded: &[u64], into: &mut [u64])
     requires bits { length bits.now ≡ length into.old }
-    requires gone { length gone.now ≡ length into.old }
-    ensures { number_of into.new ≡ without_columns (number_of gone.now) (number_of bits.now) }
+    requires excluded { length excluded.now ≡ length into.old }
+    ensures { number_of into.new ≡ without_columns (number_of excluded.now) (number_of bits.now) }
 {
     for place in 0..into.len() {
-        into[place] = bits[place] ^ (bits[place] & gone[place]);
+        into[place] = bits[place] ^ (bits[place] & excluded[place]);
     }
 }

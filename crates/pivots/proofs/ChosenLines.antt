@@ -62,14 +62,14 @@ high_is_member x bound xs h l = filter_in (λ y. nat_lt bound y) x xs h (test bo
 -- the next line that is added is above those that are there
 pub next_above : (made lines : List ℕ) (bound i : ℕ) → IsStrictlyIncreasing lines → i < length lines → bound < get_or lines i 0 → ((x : ℕ) → IsIn x made → x ≤ bound)
     → IsAbove (get_or lines i 0) (made ++ filter (λ y. nat_lt bound y) (take i lines))
-next_above made lines bound i rises inside higher low = above_members (get_or lines i 0) (made ++ filter (λ y. nat_lt bound y) (take i lines))
+next_above made lines bound i increases inside higher low = above_members (get_or lines i 0) (made ++ filter (λ y. nat_lt bound y) (take i lines))
     (λ y h. elim (in_either y made (filter (λ y. nat_lt bound y) (take i lines)) h) [
       | inl k ↦ let l = low y k in omega arith
       | inr k ↦ taken_before y (in_filter (λ y. nat_lt bound y) y (take i lines) k).0
     ])
   where
     taken_before : (y : ℕ) → IsIn y (take i lines) → y < get_or lines i 0
-    taken_before y h = members_above (get_or lines i 0) (take i lines) (taken_below lines i rises inside) y h
+    taken_before y h = members_above (get_or lines i 0) (take i lines) (taken_below lines i increases inside) y h
 
 -- ---- a set with a line or without it
 

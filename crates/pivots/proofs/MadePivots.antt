@@ -29,8 +29,8 @@ use Rattle.pivots.specs.Pivoted.{ShowsFirstTwo}
 pub others_below : (n r : ℕ) → AllBelow n (without (first_lines n) r)
 others_below n r k h = first_lines_in n (get_or (without (first_lines n) r) k 0) (without_in r (get_or (without (first_lines n) r) k 0) (first_lines n) (in_at (without (first_lines n) r) k h)).0
 
-pub others_rise : (n r : ℕ) → IsStrictlyIncreasing (without (first_lines n) r)
-others_rise n r = without_increases r (first_lines n) (first_lines_increase n)
+pub others_increase : (n r : ℕ) → IsStrictlyIncreasing (without (first_lines n) r)
+others_increase n r = without_increases r (first_lines n) (first_lines_increase n)
 
 pub others_outside : (n r : ℕ) → IsOutside r (without (first_lines n) r)
 others_outside n r = all_of_members (λ x. x ≢ r) (without (first_lines n) r) (λ x h. (without_in r x (first_lines n) h).1)
@@ -126,5 +126,5 @@ module _ (m : Matrix) (r c : ℕ) (place : IsPivotPlace m r c) where
           not_later : (n : ℕ) → p ≤ n → n < length (without (first_lines (height m)) r) → get_or (without (first_lines (height m)) r) n 0 ≡ k → ⊥
           not_later n ge in_range is_k = elim (cases_eq n p) [
             | inl same ↦ let here : i ≡ k = at ∙ ap (λ x. get_or (without (first_lines (height m)) r) x 0) (sym same) ∙ is_k in omega arith
-            | inr apart ↦ let above = increasing_places (without (first_lines (height m)) r) p n (others_rise (height m) r) (omega arith) in_range in omega (arith, above, at, is_k)
+            | inr apart ↦ let above = increasing_places (without (first_lines (height m)) r) p n (others_increase (height m) r) (omega arith) in_range in omega (arith, above, at, is_k)
           ]

@@ -23,7 +23,7 @@ use Rattle.cmr_base.proofs.Lists.{IsJoined, one_more_first, all_weaker}
 use Rattle.cmr_base.proofs.Members.{all_in, all_of_members}
 use Rattle.cmr_base.proofs.Parity.{even_or_odd}
 use Rattle.cmr_base.proofs.Places.{contained_below}
-use Rattle.cmr_base.proofs.IncreasingLists.{odd_times, all-odd_times, rises-odd_times, increasing_row_set, increasing_column_set, IsSplitAt, split_at}
+use Rattle.cmr_base.proofs.IncreasingLists.{odd_times, all-odd_times, increases-odd_times, increasing_row_set, increasing_column_set, IsSplitAt, split_at}
 use Rattle.cmr_base.proofs.SignEntries.{sign_of_entry}
 use Rattle.cmr_base.proofs.ViolatorLemmas.{violator_same, violator-odd_times}
 use Rattle.ghouila.specs.Found.{HasParity}
@@ -56,8 +56,8 @@ module _ (high wide : ℕ) (M N : ℕ → ℕ → ℤ) (r c : ℕ) (rows columns
     (same : (i j : ℕ) → Contains rows i → Contains columns j → N i j ≡ pivot_entry M r c i j) where
   violated_before : ViolatedIn N (Contains rows) (Contains columns) → ViolatedIn M (Contains rows) (Contains columns)
   violated_before v =
-      go (split_at 0 high r (odd_times v.R) (rises-odd_times high v.R (all_weaker (Contains rows) (λ x. x < high) (λ x h. contained_below high rows x rows_below h) v.R v.rows)))
-      (split_at 0 wide c (odd_times v.C) (rises-odd_times wide v.C (all_weaker (Contains columns) (λ x. x < wide) (λ x h. contained_below wide columns x columns_below h) v.C v.columns)))
+      go (split_at 0 high r (odd_times v.R) (increases-odd_times high v.R (all_weaker (Contains rows) (λ x. x < high) (λ x h. contained_below high rows x rows_below h) v.R v.rows)))
+      (split_at 0 wide c (odd_times v.C) (increases-odd_times wide v.C (all_weaker (Contains columns) (λ x. x < wide) (λ x h. contained_below wide columns x columns_below h) v.C v.columns)))
     where
       go : IsSplitAt r (odd_times v.R) → IsSplitAt c (odd_times v.C) → ViolatedIn M (Contains rows) (Contains columns)
       go s t =
@@ -128,8 +128,8 @@ module _ (m : Matrix) (lines : LineSet) where
 
   pub free_from_none_among : AllBelow (height m) lines.rows → AllBelow m.width lines.columns → HasNoViolatorAmong m lines → FreeIn (entry m) (Contains lines.rows) (Contains lines.columns)
   free_from_none_among rows_below columns_below none v = none (odd_times v.R) (odd_times v.C)
-      (increasing_row_set m (odd_times v.R) (rises-odd_times (height m) v.R (all_weaker (Contains lines.rows) (λ x. x < height m) (λ x h. contained_below (height m) lines.rows x rows_below h) v.R v.rows)))
-      (increasing_column_set m (odd_times v.C) (rises-odd_times m.width v.C (all_weaker (Contains lines.columns) (λ x. x < m.width) (λ x h. contained_below m.width lines.columns x columns_below h) v.C v.columns)))
+      (increasing_row_set m (odd_times v.R) (increases-odd_times (height m) v.R (all_weaker (Contains lines.rows) (λ x. x < height m) (λ x h. contained_below (height m) lines.rows x rows_below h) v.R v.rows)))
+      (increasing_column_set m (odd_times v.C) (increases-odd_times m.width v.C (all_weaker (Contains lines.columns) (λ x. x < m.width) (λ x h. contained_below m.width lines.columns x columns_below h) v.C v.columns)))
       (record { rows = all-odd_times (Contains lines.rows) v.R v.rows; columns = all-odd_times (Contains lines.columns) v.C v.columns })
       (violator-odd_times (entry m) v.R v.C v.violator)
 

@@ -16,7 +16,7 @@ use Rattle.cmr_base.proofs.Entries.{height-with_entry, entry-with_entry_same, en
 use Rattle.cmr_base.proofs.ListedLines.{has_line_from_listed, listed_from_has_line}
 use Rattle.cmr_base.proofs.ListsWithout.{in_from_contains}
 use Rattle.cmr_base.proofs.Places.{contained_below, each_more, placed_before}
-use Rattle.cmr_base.proofs.IncreasingLists.{RisesIn, increasing_row_set, increasing_column_set}
+use Rattle.cmr_base.proofs.IncreasingLists.{IncreasesIn, increasing_row_set, increasing_column_set}
 use Rattle.cmr_base.specs.PlacedPivots.{pivot_entry, replaced_entry, IsPlaceIn}
 use Rattle.ghouila.proofs.PivotLaws.{filled_again}
 use Rattle.cmr_base.specs.declared.placed_pivot.PlacedPivot.{PlacedPivot}
@@ -222,11 +222,11 @@ module _ (m : Matrix) (lines : LineSet) (place : PlacedPivot) (is : IsMatrix m) 
       found : (place.row ≢ get_or lines.rows k 0) × (place.column ≢ column) × IsViolator (entry m) (two_lines place.row (get_or lines.rows k 0)) (two_lines place.column column)
       found = first_two_apart (get_or lines.rows k 0) column there first
 
-      two_rise : (n a b : ℕ) → a ≢ b → a < n → b < n → RisesIn 0 n (two_lines a b)
-      two_rise n a b apart ha hb = (omega arith, omega arith, (omega arith, omega arith, tt))
+      two_increase : (n a b : ℕ) → a ≢ b → a < n → b < n → IncreasesIn 0 n (two_lines a b)
+      two_increase n a b apart ha hb = (omega arith, omega arith, (omega arith, omega arith, tt))
 
-      two_rows : RisesIn 0 (height m) (two_lines place.row (get_or lines.rows k 0))
-      two_rows = two_rise (height m) place.row (get_or lines.rows k 0) found.0 (below place.row place_in.row) (below (get_or lines.rows k 0) there)
+      two_rows : IncreasesIn 0 (height m) (two_lines place.row (get_or lines.rows k 0))
+      two_rows = two_increase (height m) place.row (get_or lines.rows k 0) found.0 (below place.row place_in.row) (below (get_or lines.rows k 0) there)
 
-      two_columns : RisesIn 0 m.width (two_lines place.column column)
-      two_columns = two_rise m.width place.column column found.1 (below' place.column place_in.column) (below' column first.column_in)
+      two_columns : IncreasesIn 0 m.width (two_lines place.column column)
+      two_columns = two_increase m.width place.column column found.1 (below' place.column place_in.column) (below' column first.column_in)

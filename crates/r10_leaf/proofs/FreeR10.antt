@@ -14,7 +14,7 @@ use Rattle.cmr_base.specs.Violator.{HasNoViolator}
 use Rattle.cmr_base.specs.CyclePlaces.{HasNoCycleFault}
 use Rattle.cmr_base.specs.R10.{mark, marks, IsOrder, IsR10, HasTable, circulant_table, bordered_table}
 use Rattle.cmr_base.proofs.Members.{all_in, increasing_are_distinct}
-use Rattle.cmr_base.proofs.IncreasingLists.{row_set_rises, column_set_rises, increasing_below}
+use Rattle.cmr_base.proofs.IncreasingLists.{row_set_increases, column_set_increases, increasing_below}
 use Rattle.cmr_base.proofs.RowLists.{is_eq, is_ne}
 use Rattle.cmr_base.proofs.ListsWithout.{true_is_false}
 use Rattle.cmr_base.proofs.Submatrices.{map_members}
@@ -168,8 +168,8 @@ free_by_table m rectangular ternary tall wide clean supports table rows columns 
 
     no_violator : HasNoViolator (arranged table rows columns)
     no_violator R C row_set column_set = table_clean (entry (arranged table rows columns)) table rows columns row_order column_order five_rows five_columns is free R C
-        (increasing_are_distinct 0 5 R (row_set_rises (arranged table rows columns) R row_set)) (increasing_are_distinct 0 5 C (column_set_rises (arranged table rows columns) C column_set))
-        (all_in (λ x. x < 5) R (increasing_below 0 5 R (row_set_rises (arranged table rows columns) R row_set))) (all_in (λ x. x < 5) C (increasing_below 0 5 C (column_set_rises (arranged table rows columns) C column_set)))
+        (increasing_are_distinct 0 5 R (row_set_increases (arranged table rows columns) R row_set)) (increasing_are_distinct 0 5 C (column_set_increases (arranged table rows columns) C column_set))
+        (all_in (λ x. x < 5) R (increasing_below 0 5 R (row_set_increases (arranged table rows columns) R row_set))) (all_in (λ x. x < 5) C (increasing_below 0 5 C (column_set_increases (arranged table rows columns) C column_set)))
 
 one : IsEntry (pos 1)
 one = record { low = omega (arith, ints); high = omega (arith, ints) }

@@ -14,7 +14,7 @@ use Rattle.cmr_base.proofs.Booleans.{neither}
 use Rattle.ghouila.specs.declared.by_pivots.Pivot.{Pivot}
 use Rattle.cmr_base.specs.PlacedPivots.{reduced}
 use Rattle.ghouila.specs.Pivot.{IsFirstTwoEntry}
-use Rattle.ghouila.specs.SignRuns.{IsPivotNext, IsPutAside, IsPivotMade, IsFirstSquare, IsTakenBack, pivot_sign, SignsBySteps, ViolatesBySteps}
+use Rattle.ghouila.specs.SignRuns.{IsPivotNext, IsPutAside, IsPivotMade, IsFirstSquare, IsPulledBack, pivot_sign, SignsBySteps, ViolatesBySteps}
 use Rattle.ghouila.proofs.PivotSearch.{pivot_there}
 use Rattle.sign_tool.specs.declared.signing.SetSigning.{SetSigning}
 use Rattle.sign_tool.specs.declared.signing.SetSigning.TheVariants.{Signed, Violated}
@@ -220,7 +220,7 @@ square_once rows m m' violator_rows violator_columns violator_rows' violator_col
 -- violators on one set of lines after a pivot are mapped back to violators on one set of lines
 module _ (rows : List ℕ) (m m' after : Matrix) (same : AreSame rows m m') (row column : ℕ) (left : List ℕ) (next : IsPivotNext m rows row column left) (same_width : after.width ≡ m.width)
     (after_rows after_columns violator_rows violator_columns violator_rows' violator_columns' : List ℕ) (lines : AreAmong after left after_rows after_columns)
-    (back : IsTakenBack m row column after_rows after_columns violator_rows violator_columns) (back' : IsTakenBack m' row column after_rows after_columns violator_rows' violator_columns') where
+    (back : IsPulledBack m row column after_rows after_columns violator_rows violator_columns) (back' : IsPulledBack m' row column after_rows after_columns violator_rows' violator_columns') where
   row_sum_same : sum_over after_columns (λ j. if j == column then pos 1 else entry m' row j) ≡ sum_over after_columns (λ j. if j == column then pos 1 else entry m row j)
   row_sum_same = sum_over_same after_columns (λ j. if j == column then pos 1 else entry m' row j) (λ j. if j == column then pos 1 else entry m row j)
       (all_of_members (λ j. (if j == column then pos 1 else entry m' row j) ≡ (if j == column then pos 1 else entry m row j)) after_columns
@@ -280,7 +280,7 @@ violated_aside steps once rows m m' row left (step ∷ steps') violator_rows vio
     first row' (Some column') (left', (next', rest')) = absurd (aside_or_next m rows row row' column' left left' aside (next_same rows m m' same row' column' left' next'))
 
 violated_pivot : (steps : List Pivot) → ViolatesOnce steps → (rows : List ℕ) (m m' after : Matrix) (row column : ℕ) (left : List ℕ) (steps' : List Pivot) (after_rows after_columns violator_rows violator_columns violator_rows' violator_columns' : List ℕ) → AreSame rows m m'
-    → IsPivotNext m rows row column left → IsPivotMade m after row column left → ViolatesBySteps after left steps after_rows after_columns → IsTakenBack m row column after_rows after_columns violator_rows violator_columns
+    → IsPivotNext m rows row column left → IsPivotMade m after row column left → ViolatesBySteps after left steps after_rows after_columns → IsPulledBack m row column after_rows after_columns violator_rows violator_columns
     → ViolatesBySteps m' rows steps' violator_rows' violator_columns' → AreOneViolator (step_at row (Some column) ∷ steps) steps' violator_rows violator_columns violator_rows' violator_columns'
 violated_pivot steps once rows m m' after row column left [] after_rows after_columns violator_rows violator_columns violator_rows' violator_columns' same next made run back s' =
     absurd (square_or_step rows m m' row (Some column) steps violator_rows violator_columns violator_rows' violator_columns' same s' (left, (next, (after, made, (after_rows, after_columns, run, back)))))
@@ -295,11 +295,11 @@ violated_pivot steps once rows m m' after row column left (step ∷ steps') afte
         (subst (λ l. ViolatesBySteps after' l steps' after_rows' after_columns') are.one_left rest') in
         let rows_one : after_rows' ≡ after_rows = increasing_same after_rows' after_rows back'.row_set back.row_set (λ i. (there.rows_are i).0) (λ i. (there.rows_are i).1) in
         let columns_one : after_columns' ≡ after_columns = increasing_same after_columns' after_columns back'.column_set back.column_set (λ j. (there.columns_are j).0) (λ j. (there.columns_are j).1) in
-        let moved : IsTakenBack m' row column after_rows after_columns violator_rows' violator_columns' =
-        subst (λ xs. IsTakenBack m' row column after_rows xs violator_rows' violator_columns') columns_one
-        (subst (λ xs. IsTakenBack m' row column xs after_columns' violator_rows' violator_columns') rows_one
-        (subst (λ c. IsTakenBack m' row c after_rows' after_columns' violator_rows' violator_columns') are.one_column
-        (subst (λ r. IsTakenBack m' r column' after_rows' after_columns' violator_rows' violator_columns') are.one_row back'))) in
+        let moved : IsPulledBack m' row column after_rows after_columns violator_rows' violator_columns' =
+        subst (λ xs. IsPulledBack m' row column after_rows xs violator_rows' violator_columns') columns_one
+        (subst (λ xs. IsPulledBack m' row column xs after_columns' violator_rows' violator_columns') rows_one
+        (subst (λ c. IsPulledBack m' row c after_rows' after_columns' violator_rows' violator_columns') are.one_column
+        (subst (λ r. IsPulledBack m' r column' after_rows' after_columns' violator_rows' violator_columns') are.one_row back'))) in
         let lines = among steps after left after_rows after_columns run in
         record {
           steps_are = pivot_steps row row' column column' steps steps' are.one_row are.one_column there.steps_are;

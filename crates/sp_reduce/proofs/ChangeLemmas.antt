@@ -174,7 +174,7 @@ module _ (m : Matrix) (own new : StayingLines) (place : ℕ) (is : IsSide m own)
   }
 
   pub cut_settled : (binary : Bool) (across : List ℕ) → IsStrictlyIncreasing across → IsSettled binary m own across → IsSettled binary m new across
-  cut_settled binary across rises settled at h e =
+  cut_settled binary across increases settled at h e =
       let w = place_before at h in
       let N = table (entry m) own.kind in
       let line = get_or own.stays.items w.0 0 in
@@ -184,4 +184,4 @@ module _ (m : Matrix) (own new : StayingLines) (place : ℕ) (is : IsSide m own)
       rw (cut.kind, same)
       (none_from_irreducible binary N (line_named own.kind) (cross_named own.kind) new.stays.items across line
       (irreducible_fewer binary N new.stays.items own.stays.items across line within
-      (irreducible_from_none binary N (line_named own.kind) (cross_named own.kind) own.stays.items across line rises (settled w.0 w.1.in_range mark))))
+      (irreducible_from_none binary N (line_named own.kind) (cross_named own.kind) own.stays.items across line increases (settled w.0 w.1.in_range mark))))

@@ -24,7 +24,8 @@ found_there test (y ∷ ys) x e = go (test y) refl e (λ k. found_there test ys 
     go true t e k = let q : y ≡ x = some_same y x e in (inl (sym q), ap test (sym q) ∙ t)
     go false t e k = let w = k e in (inr w.0, w.1)
 
-zero_counted : (xs : List ℕ) (f : ℕ → ℤ) → nonzeros_at xs f ≡ 0 → (x : ℕ) → IsIn x xs → f x ≡ pos 0
+-- a line without nonzeros has only zeros
+pub zero_counted : (xs : List ℕ) (f : ℕ → ℤ) → nonzeros_at xs f ≡ 0 → (x : ℕ) → IsIn x xs → f x ≡ pos 0
 zero_counted xs f e x h = go (is_nonzero (f x)) refl
   where
     go : (b : Bool) → is_nonzero (f x) ≡ b → f x ≡ pos 0
@@ -38,13 +39,13 @@ IsMeant binary M cross R C i reason =
 
 pub meaning : (binary : Bool) (M : ℕ → ℕ → ℤ) (kind cross : ℕ → Line) (R C : List ℕ) (i : ℕ) (reason : Reason) → IsStrictlyIncreasing C
     → first_reason binary M kind cross R C i ≡ Some reason → IsMeant binary M cross R C i reason
-meaning binary M kind cross R C i reason rises e =
+meaning binary M kind cross R C i reason increases e =
     go (eqb (nonzeros_at C (M i)) 0) (eqb (nonzeros_at C (M i)) 1) refl refl (λ a b. twin a b) (λ o a. unit (eqb-true (nonzeros_at C (M i)) 1 a) (find (λ j. is_nonzero (M i j)) C) refl o)
   where
     twin : eqb (nonzeros_at C (M i)) 0 ≡ false → eqb (nonzeros_at C (M i)) 1 ≡ false → IsMeant binary M cross R C i reason
     twin p q = elim (reducible_from_reason binary M kind cross R C i (ap is_some e)) [
       | inl thin ↦
-          let n = count_from_thin C (M i) (increasing_distinct C rises) thin in
+          let n = count_from_thin C (M i) (increasing_distinct C increases) thin in
           let a = eqb-false (nonzeros_at C (M i)) 0 p in
           let b = eqb-false (nonzeros_at C (M i)) 1 q in
           absurd (omega (arith, n, a, b))
@@ -71,7 +72,7 @@ meaning binary M kind cross R C i reason rises e =
 -- ---- no reason
 
 pub irreducible_from_none : (binary : Bool) (M : ℕ → ℕ → ℤ) (kind cross : ℕ → Line) (R C : List ℕ) (i : ℕ) → IsStrictlyIncreasing C → first_reason binary M kind cross R C i ≡ None → ¬ IsReducible binary M R C i
-irreducible_from_none binary M kind cross R C i rises e r = true_is_false (sym (reason_from_reducible binary M kind cross R C i rises r) ∙ ap is_some e)
+irreducible_from_none binary M kind cross R C i increases e r = true_is_false (sym (reason_from_reducible binary M kind cross R C i increases r) ∙ ap is_some e)
 
 pub none_from_irreducible : (binary : Bool) (M : ℕ → ℕ → ℤ) (kind cross : ℕ → Line) (R C : List ℕ) (i : ℕ) → ¬ IsReducible binary M R C i → first_reason binary M kind cross R C i ≡ None
 none_from_irreducible binary M kind cross R C i irreducible =

@@ -13,13 +13,14 @@ use Rattle.cmr_base.specs.Matrix.{Matrix, height, entry, is_nonzero}
 use Rattle.cmr_base.specs.Members.{IsIn}
 use Rattle.cmr_base.specs.Reductions.{HasLine, rows_without, columns_without, first_step, lines_of, nonzeros_at, removal_on, IsSeriesParallel, IsSeriesParallelOn}
 use Rattle.cmr_base.specs.GreedySets.{IsGreedyFrom, IsGreedySet}
+use Rattle.cmr_base.proofs.Booleans.{and_false}
 use Rattle.cmr_base.proofs.Integers.{products}
 use Rattle.cmr_base.proofs.Members.{IsWithin}
 use Rattle.cmr_base.proofs.LineSetLemmas.{first_below}
 use Rattle.cmr_base.proofs.RowLists.{filter_in, in_filter}
 use Rattle.cmr_base.proofs.ListsWithout.{in_from_contains, contains_from_in, in_without, without_increases, increasing_distinct, place_of, place_is, true_is_false}
 use Rattle.cmr_base.proofs.RemovedLines.{IsAmong, among_from_has_line, has_line_from_among, fewer_lines, rows_increase, columns_increase, first_lines_increase, in_first_lines}
-use Rattle.cmr_base.proofs.ThinLines.{thin_from_count, count_from_thin, counted_none, nonzero_is, zero_is}
+use Rattle.cmr_base.proofs.ThinLines.{thin_from_count, count_from_thin}
 use Rattle.cmr_base.proofs.ReducibleLines.{HasTwin, IsReducible, reducible_from_reason, reason_from_reducible}
 use Rattle.sp_reduce.specs.declared.kind.LineKind.{LineKind}
 use Rattle.sp_reduce.specs.declared.kind.LineKind.TheVariants.{Rows, Columns}
@@ -27,6 +28,7 @@ use Rattle.sp_reduce.specs.LineKinds.{table}
 use Rattle.sp_reduce.specs.StayingSides.{IsAcross}
 use Rattle.sp_reduce.specs.NeededLines.{HaveTwoNonzeros, NeedsAllLines}
 use Rattle.sp_reduce.proofs.Embeddings.{series_parallel-within}
+use Rattle.sp_reduce.proofs.Meanings.{zero_counted}
 use Rattle.sp_reduce.proofs.Orders.{put_back, search_is, search_none, after_step, empty_from_length}
 use Rattle.sp_reduce.proofs.Submatrices.{submatrix_from_lines, lines_from_submatrix}
 
@@ -48,28 +50,21 @@ others_in p x xs h e = filter_in (λ y. not (p y)) x xs h (ap not e)
 abbrev IsZeroAt : (ℕ → ℤ) → (ℕ → Bool) → List ℕ → Type 0
 IsZeroAt f q C = (j : ℕ) → IsIn j C → q j ≡ true → f j ≡ pos 0
 
-zero_there : (xs : List ℕ) (f : ℕ → ℤ) → nonzeros_at xs f ≡ 0 → (x : ℕ) → IsIn x xs → f x ≡ pos 0
-zero_there xs f e x h = go (is_nonzero (f x)) refl
-  where
-    go : (b : Bool) → is_nonzero (f x) ≡ b → f x ≡ pos 0
-    go true t = absurd (counted_none xs f e x h (nonzero_is (f x) t))
-    go false t = zero_is (f x) t
-
 module _ (binary : Bool) (M : ℕ → ℕ → ℤ) (R C : List ℕ) (p q : ℕ → Bool) where
   -- a line that is not thin in a part has its two nonzeros there
   zeros_outside : (i : ℕ) → nonzeros_at C (M i) ≡ 2 → ¬ IsReducible binary M (filter p R) (filter q C) i → (j : ℕ) → IsIn j (others q C) → M i j ≡ pos 0
   zeros_outside i two irreducible j h = elim (cases_lt 1 (nonzeros_at (filter q C) (M i))) [
     | inl many ↦
         let both = sum_by-filter_both q (λ x. not (q x)) (λ x. refl) (λ x. cond (is_nonzero (M i x)) 1 0) C in
-        zero_there (others q C) (M i) (omega (arith, both, two, many)) j h
+        zero_counted (others q C) (M i) (omega (arith, both, two, many)) j h
     | inr few ↦ absurd (irreducible (inl (thin_from_count (filter q C) (M i) few)))
   ]
 
   -- a line outside of a part that has only zeros in the part is irreducible outside of it
   outside_irreducible : IsStrictlyIncreasing C → ((i : ℕ) → IsIn i (others p R) → IsZeroAt (M i) q C) → (i : ℕ) → IsIn i (others p R) → nonzeros_at C (M i) ≡ 2 → ¬ HasTwin binary M R C i
       → ¬ IsReducible binary M (others p R) (others q C) i
-  outside_irreducible rises zeros i h two alone (inl thin) =
-      let few = count_from_thin C (M i) (increasing_distinct C rises) (λ x y a b d e. thin x y (place x a d) (place y b e) d e) in
+  outside_irreducible increases zeros i h two alone (inl thin) =
+      let few = count_from_thin C (M i) (increasing_distinct C increases) (λ x y a b d e. thin x y (place x a d) (place y b e) d e) in
       omega (arith, few, two)
     where
       place : (x : ℕ) → IsIn x C → M i x ≢ pos 0 → IsIn x (others q C)
@@ -78,7 +73,7 @@ module _ (binary : Bool) (M : ℕ → ℕ → ℤ) (R C : List ℕ) (p q : ℕ �
           go : (b : Bool) → q x ≡ b → IsIn x (others q C)
           go true e = absurd (d (zeros i h x a e))
           go false e = others_in q x C a e
-  outside_irreducible rises zeros i h two alone (inr t) = alone (record {
+  outside_irreducible increases zeros i h two alone (inr t) = alone (record {
     line = t.line;
     stays = (in_others p t.line R t.stays).0;
     other = t.other;
@@ -135,10 +130,6 @@ all_pass : (xs : List ℕ) → filter (λ x. true) xs ≡ xs
 all_pass [] = refl
 all_pass (x ∷ xs) = ap (λ (ys : List ℕ). x ∷ ys) (all_pass xs)
 
-and_false : (b : Bool) → (b && false) ≡ false
-and_false true = refl
-and_false false = refl
-
 goes : (s : Line → Bool) (x : Line) → left s x x ≡ false
 goes s (Row i) = ap (λ (b : Bool). s (Row i) && not b) (eq-eqb i i refl) ∙ and_false (s (Row i))
 goes s (Column j) = ap (λ (b : Bool). s (Column j) && not b) (eq-eqb j j refl) ∙ and_false (s (Column j))
@@ -191,27 +182,27 @@ module _ (binary : Bool) (M : ℕ → ℕ → ℤ) (R C : List ℕ) (w : IsClose
   column_alone : (j : ℕ) → IsIn j C → ¬ HasTwin binary (λ j i. M i j) C R j
   column_alone j h t = column_stuck binary M R C w.rows_increase w.columns_increase w.none j h (inr t)
 
-  rows_rise : (s : Line → Bool) → IsStrictlyIncreasing (rows_of s R)
-  rows_rise s = IsStrictlyIncreasing-filter (λ i. s (Row i)) R w.rows_increase
+  rows_increase : (s : Line → Bool) → IsStrictlyIncreasing (rows_of s R)
+  rows_increase s = IsStrictlyIncreasing-filter (λ i. s (Row i)) R w.rows_increase
 
-  columns_rise : (s : Line → Bool) → IsStrictlyIncreasing (columns_of s C)
-  columns_rise s = IsStrictlyIncreasing-filter (λ j. s (Column j)) C w.columns_increase
+  columns_increase : (s : Line → Bool) → IsStrictlyIncreasing (columns_of s C)
+  columns_increase s = IsStrictlyIncreasing-filter (λ j. s (Column j)) C w.columns_increase
 
   -- a set without the line is part of the lines that remain without it
   lacking : (s : Line → Bool) → s one ≡ false → IsSeriesParallelOn binary M (rows_of s R) (columns_of s C)
   lacking s e =
-      series_parallel-within binary M (rows_without R one) (columns_without C one) (rows_of s R) (columns_of s C) (rows_rise s) (columns_rise s)
+      series_parallel-within binary M (rows_without R one) (columns_without C one) (rows_of s R) (columns_of s C) (rows_increase s) (columns_increase s)
       (rows_lacking s one R e) (columns_lacking s one C e) sp
 
   -- a set with the line, without another line, has a reducible line: its complement would have none
   module _ (s : Line → Bool) (has : s one ≡ true) (line : Line) (there : HasLine R C line) (out : s line ≡ false) (none : first_step binary M (rows_of s R) (columns_of s C) (lines_of (rows_of s R) (columns_of s C)) ≡ None) where
     row_crosses : (i : ℕ) → IsIn i (rows_of s R) → (j : ℕ) → IsIn j (others (λ j. s (Column j)) C) → M i j ≡ pos 0
     row_crosses i h = zeros_outside binary M R C (λ i. s (Row i)) (λ j. s (Column j)) i (w.rows i (in_filter (λ i. s (Row i)) i R h).0)
-        (row_stuck binary M (rows_of s R) (columns_of s C) (rows_rise s) (columns_rise s) none i h)
+        (row_stuck binary M (rows_of s R) (columns_of s C) (rows_increase s) (columns_increase s) none i h)
 
     column_crosses : (j : ℕ) → IsIn j (columns_of s C) → (i : ℕ) → IsIn i (others (λ i. s (Row i)) R) → M i j ≡ pos 0
     column_crosses j h = zeros_outside binary (λ j i. M i j) C R (λ j. s (Column j)) (λ i. s (Row i)) j (w.columns j (in_filter (λ j. s (Column j)) j C h).0)
-        (column_stuck binary M (rows_of s R) (columns_of s C) (rows_rise s) (columns_rise s) none j h)
+        (column_stuck binary M (rows_of s R) (columns_of s C) (rows_increase s) (columns_increase s) none j h)
 
     other_rows : (i : ℕ) → IsIn i (others (λ i. s (Row i)) R) → ¬ IsReducible binary M (others (λ i. s (Row i)) R) (others (λ j. s (Column j)) C) i
     other_rows i h =

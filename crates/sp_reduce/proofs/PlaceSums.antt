@@ -53,11 +53,11 @@ sum_more f g place more xs distinct there here same =
 
 -- positions with the value 0 can be removed
 sum_within : (f : ℕ → ℕ) (xs ys : List ℕ) → IsDistinct xs → IsStrictlyIncreasing ys → IsWithin xs ys → ((y : ℕ) → IsIn y ys → ¬ IsIn y xs → f y ≡ 0) → sum_by f ys ≡ sum_by f xs
-sum_within f [] ys distinct rises within none = sum_none f ys (λ y i. none y i (λ h. h))
-sum_within f (x ∷ xs) ys distinct rises within none =
-    let e = sum_by-without f x ys (increasing_distinct ys rises) (within x (inl refl)) in
+sum_within f [] ys distinct increases within none = sum_none f ys (λ y i. none y i (λ h. h))
+sum_within f (x ∷ xs) ys distinct increases within none =
+    let e = sum_by-without f x ys (increasing_distinct ys increases) (within x (inl refl)) in
     let e' = sum_by-cons f x xs in
-    let rest = sum_within f xs (without ys x) distinct.1 (without_increases x ys rises)
+    let rest = sum_within f xs (without ys x) distinct.1 (without_increases x ys increases)
     (λ y i. in_without x y ys (within y (inr i)) (λ q. distinct.0 (subst (λ (z : ℕ). IsIn z xs) q i)))
     (λ y i out. let there = without_in x y ys i in none y there.0 (λ h. elim h [ inl q ↦ there.1 q | inr g ↦ out g ])) in
     omega (arith, e, e', rest)
@@ -91,8 +91,8 @@ tally_bound number marks size most p small =
 -- the marked places are these
 pub tally_marked : (number : ℕ → ℕ) (marks : List Bool) (size : ℕ) (lines : List ℕ) (p : ℕ → Bool) → AreMarks size lines marks → IsStrictlyIncreasing lines → ((k : ℕ) → IsIn k lines → k < size)
     → tally number marks size p ≡ sum_by (λ k. cond (p k) (number k) 0) lines
-tally_marked number marks size lines p are rises inside =
-    sum_within (λ k. cond (get_or marks k false && p k) (number k) 0) lines (first_lines size) (increasing_distinct lines rises) (first_lines_increase size)
+tally_marked number marks size lines p are increases inside =
+    sum_within (λ k. cond (get_or marks k false && p k) (number k) 0) lines (first_lines size) (increasing_distinct lines increases) (first_lines_increase size)
     (λ k i. in_first_lines size k (inside k i))
     (λ k i out. unmarked (get_or marks k false) (p k) (number k) (λ e. out ((are.exact k).0 e)))
     ∙ sum_same (λ k. cond (get_or marks k false && p k) (number k) 0) (λ k. cond (p k) (number k) 0) lines

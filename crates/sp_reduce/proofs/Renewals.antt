@@ -69,17 +69,17 @@ module _ (binary : Bool) (N : ℕ → ℕ → ℤ) (cross : ℕ → Line) (R C :
   pub irreducible_after : IsStrictlyIncreasing R → IsIn j C → IsMeant binary (λ k l. N l k) cross R C gone reason → ¬ IsReducible binary N C R j
       → (is_nonzero (N j gone) ≡ true → 1 < nonzeros_at (without R gone) (N j))
       → ((c : ℕ) → reason ≡ One (cross c) → IsIn c C → (j ≢ c) × (is_twin binary N (without R gone) c j ≡ false)) → ¬ IsReducible binary N C (without R gone) j
-  irreducible_after rises there meant irreducible many unit (inl thin) = go (is_nonzero (N j gone)) refl
+  irreducible_after increases there meant irreducible many unit (inl thin) = go (is_nonzero (N j gone)) refl
     where
       go : (b : Bool) → is_nonzero (N j gone) ≡ b → ⊥
       go true e =
-          let few = count_from_thin (without R gone) (N j) (increasing_distinct (without R gone) (without_increases gone R rises)) thin in
+          let few = count_from_thin (without R gone) (N j) (increasing_distinct (without R gone) (without_increases gone R increases)) thin in
           let more = many e in
           omega (arith, few, more)
       go false e =
           let apart : (x : ℕ) → N j x ≢ pos 0 → x ≢ gone = λ x d q. d (ap (N j) q ∙ zero_is (N j gone) e) in
           irreducible (inl (λ x y h g d f. thin x y (in_without gone x R h (apart x d)) (in_without gone y R g (apart y f)) d f))
-  irreducible_after rises there meant irreducible many unit (inr t) = irreducible (inr (record {
+  irreducible_after increases there meant irreducible many unit (inr t) = irreducible (inr (record {
     line = t.line;
     stays = t.stays;
     other = t.other;

@@ -39,7 +39,7 @@ impl StayingLines {
         across: &[u32],
     ) -> Result<StayingLines, Memory>
         requires shape { IsMatrix matrix.now }
-        requires stays_rise { IsStrictlyIncreasing stays.now }
+        requires stays_increase { IsStrictlyIncreasing stays.now }
         requires stays_in { AllBelow (count_of_kind matrix.now kind) stays.now }
         requires across { IsAcross matrix.now kind across.now }
         ensures kind { IfOk result (λ side. side.kind ≡ kind) }

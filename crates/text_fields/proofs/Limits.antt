@@ -51,5 +51,5 @@ module _ {K : Type 0} (name : LimitFault → K) where
   increasing_line_again most before word n h above within increasing =
       let t : leb n most ≡ true = le-leb n most within in
       let some : eqb n 0 ≡ false = grind (arith, nat_tests) in
-      let rises : ltb before n ≡ true = grind (arith, nat_tests) in
-      rw (h, t, some, rises) refl
+      let increases : ltb before n ≡ true = grind (arith, nat_tests) in
+      rw (h, t, some, increases) refl

@@ -166,7 +166,7 @@ module _ (m : Matrix) where
   no_column c q refused s S h g0 =
       let g = subst (λ (z : Seed). IsGoodSeed m z S) (seed_from_first m Concentrated c q s h) g0 in
       elim refused [
-        | inl l ↦ let r = g.0.values.tied.columns_rise in absurd (omega arith)
+        | inl l ↦ let r = g.0.values.tied.columns_increase in absurd (omega arith)
         | inr (inl e) ↦ g.0.values.tied.first_other e
         | inr (inr (ep, eq)) ↦ zero_determinant (entry m c.k c.p) (entry m c.k q) (entry m s.pair.second.other c.p) (entry m s.pair.second.other q) ep eq g.0.values.tied.determinant
       ]
@@ -185,11 +185,11 @@ module _ (m : Matrix) where
   no_row c q o refused s S h g0 =
       let g = subst (λ (z : Seed). IsGoodSeed m z S) (seed_from_second m Concentrated (connectors_at c q o) s h) g0 in
       let tied = g.0.values.tied in
-      refused (record { rises = tied.rows_rise; nonzero = tied.second_other; determinant = tied.determinant })
+      refused (record { increases = tied.rows_increase; nonzero = tied.second_other; determinant = tied.determinant })
 
   -- rows up to k, and rows in which column j is 0
   pub none_to_second : (c : Corners) (q : ℕ) → HasNoneBelow m (corner_prefix Concentrated c ++ q ∷ []) (c.k + 1)
-  none_to_second c q b l = no_row c q b (λ other. let r = other.rises in omega arith)
+  none_to_second c q b l = no_row c q b (λ other. let r = other.increases in omega arith)
 
   pub none_over_zero_rows : (c : Corners) (q from o : ℕ) → HasNoneBelow m (corner_prefix Concentrated c ++ q ∷ []) from → ((row : ℕ) → from ≤ row → row < o → support m row c.j ≡ false) → HasNoneBelow m (corner_prefix Concentrated c ++ q ∷ []) o
   none_over_zero_rows c q from o before zeros b l = elim (cases_lt b from) [
@@ -203,7 +203,7 @@ pair_of m c q o inside corners lq lo column row = record {
   values = record {
     first_corner = corners.first;
     second_corner = corners.second;
-    tied = record { first_other = column.nonzero; second_other = row.nonzero; columns_rise = column.rises; rows_rise = row.rises; determinant = row.determinant };
+    tied = record { first_other = column.nonzero; second_other = row.nonzero; columns_increase = column.increases; rows_increase = row.increases; determinant = row.determinant };
   };
   first_lines = (inside.row_one, (inside.column_one, (lq, tt)));
   second_lines = (inside.row_two, (inside.column_two, (lo, tt)));

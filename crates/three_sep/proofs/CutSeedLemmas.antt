@@ -11,13 +11,12 @@ use Rattle.cmr_base.specs.Matrix.{Matrix, height, entry}
 use Rattle.cmr_base.specs.Separations.{AreEnough, Lines, listed, product_at}
 use Rattle.cmr_base.specs.Seeds.{IsBefore, IsLine, line_number}
 use Rattle.cmr_base.proofs.Booleans.{not_both, same_test}
-use Rattle.cmr_base.proofs.LineCounts.{inside_is, one_beside, same_line}
+use Rattle.cmr_base.proofs.LineCounts.{inside_is, one_beside}
 use Rattle.cmr_base.proofs.Lists.{all_both}
 use Rattle.cmr_base.proofs.ListedLines.{in_from_listed, listed_from_in, first_lines_contain}
 use Rattle.cmr_base.proofs.RemovedLines.{in_first_lines, row_set_from_within, column_set_from_within}
 use Rattle.cmr_base.proofs.RowLists.{same_or_not}
-use Rattle.cmr_base.proofs.SeedLemmas.{enough_lines, good_seed, line_is, outside_grows}
-use Rattle.std.proofs.lemmas.Bool.{false≢true}
+use Rattle.cmr_base.proofs.SeedLemmas.{enough_lines, good_seed, line_is, outside_grows, row_not_column}
 use Rattle.cuts.specs.declared.corners.Corners.{Corners}
 use Rattle.cuts.specs.declared.groups.Groups.{Groups}
 use Rattle.cuts.specs.LineCuts.{HasNames, HoldTogether, IsCut, IsCutAt, name_of}
@@ -33,9 +32,6 @@ use Rattle.three_sep.specs.Searches.{BeginsWith}
 use Rattle.three_sep.proofs.SearchLemmas.{begins_shorter, next_number, not_before, not_before_itself}
 
 -- ---- the side of a good seed is a cut
-
-row_not_column : (r c : ℕ) → Row r ≢ Column c
-row_not_column r c e = false≢true (same_line (Row r) (Column c) e)
 
 module _ (m : Matrix) (s : CutSeed) (S : Lines) (good : IsGoodCut m s S) where
   in_range : AllByRecursion (IsLine (height m) m.width) (s.third ∷ first_corner s.corners)

@@ -9,7 +9,8 @@ use Rattle.three_sep.specs.FirstCuts.{CutSeed, IsFirstCut, IsGoodCut, cut_key}
 use Rattle.three_sep.specs.Searches.{BeginsWith}
 use Rattle.three_sep.proofs.CutSeedLemmas.{cut_seed_at, cut_seed_from_fourth}
 
-same_keys : (xs ys : List ℕ) → length xs ≡ length ys → ¬ (IsBefore xs ys) → ¬ (IsBefore ys xs) → xs ≡ ys
+-- keys of one length, neither of which is before the other, are equal
+pub same_keys : (xs ys : List ℕ) → length xs ≡ length ys → ¬ (IsBefore xs ys) → ¬ (IsBefore ys xs) → xs ≡ ys
 same_keys [] [] e a b = refl
 same_keys [] (y ∷ ys) e a b = absurd (omega arith)
 same_keys (x ∷ xs) [] e a b = absurd (omega arith)

@@ -23,11 +23,11 @@ pub record AreConcentratedCorners (M : ℕ → ℕ → ℤ) (c : Corners) : Type
 
 -- q can be the other column of the first connector, and o the other row of the second connector
 pub record IsOtherColumn (M : ℕ → ℕ → ℤ) (c : Corners) (q : ℕ) : Type 0 where
-  pub rises : c.p < q
+  pub increases : c.p < q
   pub nonzero : M c.i q ≢ pos 0
 
 pub record IsOtherRow (M : ℕ → ℕ → ℤ) (c : Corners) (q o : ℕ) : Type 0 where
-  pub rises : c.k < o
+  pub increases : c.k < o
   pub nonzero : M o c.j ≢ pos 0
   pub determinant : IsSign (core_determinant M (first_at c q) (second_at c o))
 

@@ -221,8 +221,8 @@ module _ (m : Matrix) (is : IsMatrix m) where
       let sizes = keeps.0 rule.Size in
       let all = keeps.0 rule.Lines in (
         record {
-          rows = record { increasing = tree.nodes.1.rows_rise; in_range = subst (λ n. (k : ℕ) → k < length lines.rows → get_or lines.rows k 0 < n) sizes.0 tree.root_rows };
-          columns = record { increasing = tree.nodes.1.columns_rise; in_range = subst (λ n. (k : ℕ) → k < length lines.columns → get_or lines.columns k 0 < n) sizes.1 tree.root_columns };
+          rows = record { increasing = tree.nodes.1.rows_increase; in_range = subst (λ n. (k : ℕ) → k < length lines.rows → get_or lines.rows k 0 < n) sizes.0 tree.root_rows };
+          columns = record { increasing = tree.nodes.1.columns_increase; in_range = subst (λ n. (k : ℕ) → k < length lines.columns → get_or lines.columns k 0 < n) sizes.1 tree.root_columns };
         },
         all.0 ∙ ap first_lines sizes.0,
         all.1 ∙ ap first_lines sizes.1,

@@ -23,7 +23,7 @@ use Rattle.cmr_base.specs.Reductions.{HasLine}
 use Rattle.cmr_base.specs.Separations.{first_is_flat, second_is_flat}
 use Rattle.tree_type.specs.Sides.{HasConnector}
 use Rattle.cmr_base.proofs.Lists.{all_contain, all_weaker, all_of, all-append}
-use Rattle.cmr_base.proofs.IncreasingLists.{rises_in, increasing_count}
+use Rattle.cmr_base.proofs.IncreasingLists.{increases_in, increasing_count}
 use Rattle.cmr_base.proofs.Places.{contained_below}
 use Rattle.text_fields.specs.TextWords.{Text, is_space, text_of, words_from}
 use Rattle.text_fields.specs.Result.{◌>>=◌}
@@ -53,7 +53,7 @@ use Rattle.text_fields.proofs.ReadAgain.{Again, again_done, again_field, again_b
 use Rattle.tree_text.proofs.WordsAgain.{again_lines, limited_again, line_of_again, step_again}
 
 some_lines : (most : ℕ) (whole : Option (List ℕ)) (lines : List ℕ) → most ≤ 1000 → AreSome most whole lines → Again (increasing_lines most whole (length lines)) (map number_of_line lines) lines
-some_lines most whole lines small some = again_lines most whole small [] lines (rises_in 0 most lines some.rise some.below (λ h. zero-le)) some.within
+some_lines most whole lines small some = again_lines most whole small [] lines (increases_in 0 most lines some.increases some.below (λ h. zero-le)) some.within
 
 module _ (sizes : Sizes) (few_rows : sizes.rows ≤ 1000) (few_columns : sizes.columns ≤ 1000) where
   set_again : (whole : Option LineSet) (lines : LineSet) → IsSome sizes whole lines → Again (line_set sizes whole) (set_words lines) lines
@@ -62,8 +62,8 @@ module _ (sizes : Sizes) (few_rows : sizes.rows ≤ 1000) (few_columns : sizes.c
       let whole_columns = option_map (λ (lines : LineSet). lines.columns) whole in
       let p = length lines.rows in
       let q = length lines.columns in
-      let few_p = increasing_count sizes.rows lines.rows some.rows.rise some.rows.below in
-      let few_q = increasing_count sizes.columns lines.columns some.columns.rise some.columns.below in
+      let few_p = increasing_count sizes.rows lines.rows some.rows.increases some.rows.below in
+      let few_q = increasing_count sizes.columns lines.columns some.columns.increases some.columns.below in
       let columns = again_wrap (increasing_lines sizes.columns whole_columns q) (λ (columns : List ℕ). record { rows = lines.rows; columns = columns }) (map number_of_line lines.columns) lines.columns (some_lines sizes.columns whole_columns lines.columns few_columns some.columns) in
       let rows = again_bind (increasing_lines sizes.rows whole_rows p) _ (map number_of_line lines.rows) (map number_of_line lines.columns) lines.rows lines (some_lines sizes.rows whole_rows lines.rows few_rows some.rows) columns in
       let second = again_bind (field Short (limited sizes.columns)) _ (decimal q ∷ []) (map number_of_line lines.rows ++ map number_of_line lines.columns) q lines (again_field Short (limited sizes.columns) (decimal q) q (limited_again sizes.columns q few_q (omega (arith, few_columns)))) rows in
@@ -89,16 +89,16 @@ names_are [] = refl
 names_are (step ∷ steps) = ap (λ ws. line_name step ∷ ws) (names_are steps)
 
 -- the finding of a node
-module _ (sizes : Sizes) (few_rows : sizes.rows ≤ 1000) (few_columns : sizes.columns ≤ 1000) (lines : LineSet) (rise_rows : IsStrictlyIncreasing lines.rows) (rise_columns : IsStrictlyIncreasing lines.columns) (rows_in : AllBelow sizes.rows lines.rows) (columns_in : AllBelow sizes.columns lines.columns) where
+module _ (sizes : Sizes) (few_rows : sizes.rows ≤ 1000) (few_columns : sizes.columns ≤ 1000) (lines : LineSet) (increase_rows : IsStrictlyIncreasing lines.rows) (increase_columns : IsStrictlyIncreasing lines.columns) (rows_in : AllBelow sizes.rows lines.rows) (columns_in : AllBelow sizes.columns lines.columns) where
   some_from : (part : LineSet) → AreLinesOf part lines → IsSome sizes (Some lines) part
   some_from part is = record {
     rows = record {
-      rise = is.rows_rise;
+      increases = is.rows_increase;
       below = λ k l. contained_below sizes.rows lines.rows (get_or part.rows k 0) rows_in (is.rows (get_or part.rows k 0) (k, l, get_or_default part.rows k (get_or part.rows k 0) 0 l));
       within = all_weaker (Contains part.rows) (Contains lines.rows) is.rows part.rows (all_contain part.rows);
     };
     columns = record {
-      rise = is.columns_rise;
+      increases = is.columns_increase;
       below = λ k l. contained_below sizes.columns lines.columns (get_or part.columns k 0) columns_in (is.columns (get_or part.columns k 0) (k, l, get_or_default part.columns k (get_or part.columns k 0) 0 l));
       within = all_weaker (Contains part.columns) (Contains lines.columns) is.columns part.columns (all_contain part.columns);
     };
@@ -143,8 +143,8 @@ module _ (sizes : Sizes) (few_rows : sizes.rows ≤ 1000) (few_columns : sizes.c
 
   few_lines : size_of lines ≤ 2000
   few_lines =
-      let p = increasing_count sizes.rows lines.rows rise_rows rows_in in
-      let q = increasing_count sizes.columns lines.columns rise_columns columns_in in
+      let p = increasing_count sizes.rows lines.rows increase_rows rows_in in
+      let q = increasing_count sizes.columns lines.columns increase_columns columns_in in
       omega (arith, p, q, few_rows, few_columns)
 
   count_again : (n : ℕ) → n ≤ size_of lines → Again (field Short (limited (size_of lines))) (decimal n ∷ []) n
@@ -169,10 +169,10 @@ module _ (sizes : Sizes) (few_rows : sizes.rows ≤ 1000) (few_columns : sizes.c
   own_again OneSum trees fits e = again_wrap (field Short (limited (size_of lines))) (λ (n : ℕ). (OneSum, n)) (decimal (count_trees trees) ∷ []) (count_trees trees) (count_again (count_trees trees) fits)
   own_again (Network n) trees fits e =
       counted (own_part sizes lines kind.Network) (network_words n) (Network n) 0 (count_trees trees) e
-      (again_wrap (network (length lines.rows) (length lines.columns)) (λ (n : net.Network). (Network n, 0)) (network_words n) n (network_again (length lines.rows) (length lines.columns) n (let p = increasing_count sizes.rows lines.rows rise_rows rows_in in omega (arith, p, few_rows)) fits))
+      (again_wrap (network (length lines.rows) (length lines.columns)) (λ (n : net.Network). (Network n, 0)) (network_words n) n (network_again (length lines.rows) (length lines.columns) n (let p = increasing_count sizes.rows lines.rows increase_rows rows_in in omega (arith, p, few_rows)) fits))
   own_again (Conetwork n) trees fits e =
       counted (own_part sizes lines kind.Conetwork) (network_words n) (Conetwork n) 0 (count_trees trees) e
-      (again_wrap (network (length lines.columns) (length lines.rows)) (λ (n : net.Network). (Conetwork n, 0)) (network_words n) n (network_again (length lines.columns) (length lines.rows) n (let q = increasing_count sizes.columns lines.columns rise_columns columns_in in omega (arith, q, few_columns)) fits))
+      (again_wrap (network (length lines.columns) (length lines.rows)) (λ (n : net.Network). (Conetwork n, 0)) (network_words n) n (network_again (length lines.columns) (length lines.rows) n (let q = increasing_count sizes.columns lines.columns increase_columns columns_in in omega (arith, q, few_columns)) fits))
   own_again R10 trees fits e = counted (own_part sizes lines kind.R10) [] R10 0 (count_trees trees) e (again_done (R10, 0))
   own_again (TwoSum t) trees fits e =
       counted (own_part sizes lines kind.TwoSum) (own_words (TwoSum t) trees) (TwoSum t) 2 (count_trees trees) e (again_wrap (two sizes lines) (λ (t : Two). (TwoSum t, 2)) (own_words (TwoSum t) trees) t (two_again t fits.0 fits.1 fits.2))
@@ -306,7 +306,7 @@ module _ (v : Version) (sizes : Sizes) (few_rows : sizes.rows ≤ 1000) (few_col
   opening_again parent lines finding trees has some fits children =
       let head : NodeOpening = record { lines = lines; finding = finding; children = count_trees trees } in
       let own = again_wrap (own_part sizes lines (kind_of finding)) (λ (own : Finding × ℕ). record { lines = lines; finding = own.0; children = own.1 }) (own_words finding trees) (finding, count_trees trees)
-      (own_again sizes few_rows few_columns lines some.rows.rise some.columns.rise some.rows.below some.columns.below finding trees fits children) in
+      (own_again sizes few_rows few_columns lines some.rows.increases some.columns.increases some.rows.below some.columns.below finding trees fits children) in
       let set = again_bind (line_set sizes parent) _ (set_words lines) (own_words finding trees) lines head (set_again sizes few_rows few_columns parent lines some) own in
       again_bind (field Short (kind_in v)) _ (word_of_kind (kind_of finding) ∷ []) (set_words lines ++ own_words finding trees) (kind_of finding) head (again_field Short (kind_in v) (word_of_kind (kind_of finding)) (kind_of finding) (kind_again v (kind_of finding) has)) set
 
@@ -315,7 +315,7 @@ module _ (v : Version) (sizes : Sizes) (few_rows : sizes.rows ≤ 1000) (few_col
     node_again levels parent (Branch lines finding trees) whole known some (l, part, fits, children, below) =
         let more : levels ≡ suc (levels - 1) = omega (arith, l) in
         let head : NodeOpening = record { lines = lines; finding = finding; children = count_trees trees } in
-        let forest = again_wrap (times (another_tree (node header (levels - 1) (Some lines))) (count_trees trees) []) (λ (ts : List Tree). Branch lines finding (trees_from ts)) (forest_words trees) (list_of trees) (forest_again (levels - 1) lines [] trees known.1 some.rows.rise some.columns.rise some.rows.below some.columns.below below) in
+        let forest = again_wrap (times (another_tree (node header (levels - 1) (Some lines))) (count_trees trees) []) (λ (ts : List Tree). Branch lines finding (trees_from ts)) (forest_words trees) (list_of trees) (forest_again (levels - 1) lines [] trees known.1 some.rows.increases some.columns.increases some.rows.below some.columns.below below) in
         let back = ap (Branch lines finding) (trees_back trees) in
         subst (λ k. Again (node header k parent) (opening_words lines finding trees ++ forest_words trees) (Branch lines finding trees)) (sym more)
         (again_bind (opening header parent) (λ (h : NodeOpening × Text). times (another_tree (node header (levels - 1) (Some (h.0).lines))) (h.0).children [] h.1 >>= λ (children : List Tree × Text). Ok (Branch (h.0).lines (h.0).finding (trees_from children.0), children.1)) (opening_words lines finding trees) (forest_words trees) head (Branch lines finding trees) (opening_again parent lines finding trees known.0 some fits children)
@@ -394,8 +394,8 @@ line_for_words (word ∷ words) all = (all, tt)
 module _ (sizes : Sizes) (few_rows : sizes.rows ≤ 1000) (few_columns : sizes.columns ≤ 1000) where
   set_all : (whole : Option LineSet) (lines : LineSet) → IsSome sizes whole lines → AreWords (set_words lines)
   set_all whole lines some =
-      let p = increasing_count sizes.rows lines.rows some.rows.rise some.rows.below in
-      let q = increasing_count sizes.columns lines.columns some.columns.rise some.columns.below in (
+      let p = increasing_count sizes.rows lines.rows some.rows.increases some.rows.below in
+      let q = increasing_count sizes.columns lines.columns some.columns.increases some.columns.below in (
         decimal_word (length lines.rows) (omega (arith, p, few_rows)),
         (
           decimal_word (length lines.columns) (omega (arith, q, few_columns)),
@@ -407,13 +407,13 @@ module _ (sizes : Sizes) (few_rows : sizes.rows ≤ 1000) (few_columns : sizes.c
   own_all whole lines finding trees some fits = go finding fits
     where
       p : length lines.rows ≤ sizes.rows
-      p = increasing_count sizes.rows lines.rows some.rows.rise some.rows.below
+      p = increasing_count sizes.rows lines.rows some.rows.increases some.rows.below
 
       q : length lines.columns ≤ sizes.columns
-      q = increasing_count sizes.columns lines.columns some.columns.rise some.columns.below
+      q = increasing_count sizes.columns lines.columns some.columns.increases some.columns.below
 
       part : (set : LineSet) → AreLinesOf set lines → AreWords (set_words set)
-      part set is = set_all (Some lines) set (some_from sizes few_rows few_columns lines some.rows.rise some.columns.rise some.rows.below some.columns.below set is)
+      part set is = set_all (Some lines) set (some_from sizes few_rows few_columns lines some.rows.increases some.columns.increases some.rows.below some.columns.below set is)
 
       row : (line : ℕ) → Contains lines.rows line → line < 1000
       row line is = let h = contained_below sizes.rows lines.rows line some.rows.below is in omega (arith, h, few_rows)
@@ -453,7 +453,7 @@ module _ (sizes : Sizes) (few_rows : sizes.rows ≤ 1000) (few_columns : sizes.c
     node_all : (levels : ℕ) (parent : Option LineSet) (tree : Tree) (whole : LineSet) → IsSome sizes parent (lines_at_root tree) → IsTreeWithin whole levels tree → AllByRecursion AreWords (node_lines tree)
     node_all levels parent (Branch lines finding trees) whole some (l, part, fits, children, below) = (
       (kind_word (kind_of finding), set_all parent lines some),
-      all-append AreWords (line_for (own_words finding trees)) (forest_lines trees) (line_for_words (own_words finding trees) (own_all parent lines finding trees some fits)) (forest_all (levels - 1) lines trees some.rows.rise some.columns.rise some.rows.below some.columns.below below),
+      all-append AreWords (line_for (own_words finding trees)) (forest_lines trees) (line_for_words (own_words finding trees) (own_all parent lines finding trees some fits)) (forest_all (levels - 1) lines trees some.rows.increases some.columns.increases some.rows.below some.columns.below below),
     )
 
     forest_all : (levels : ℕ) (lines : LineSet) (trees : Trees) → IsStrictlyIncreasing lines.rows → IsStrictlyIncreasing lines.columns → AllBelow sizes.rows lines.rows → AllBelow sizes.columns lines.columns → AreTreesWithin lines levels trees → AllByRecursion AreWords (forest_lines trees)
@@ -508,8 +508,8 @@ tree_again rows columns root is =
     let sizes : Sizes = record { rows = rows; columns = columns } in
     let part = part_of (lines_at_root root) 2001 root is.nodes in
     let some : IsSome sizes None (lines_at_root root) = record {
-      rows = record { rise = part.rows_rise; below = is.root_rows; within = all_of (λ x. Unit {0}) (λ x. tt) (lines_at_root root).rows };
-      columns = record { rise = part.columns_rise; below = is.root_columns; within = all_of (λ x. Unit {0}) (λ x. tt) (lines_at_root root).columns };
+      rows = record { increases = part.rows_increase; below = is.root_rows; within = all_of (λ x. Unit {0}) (λ x. tt) (lines_at_root root).rows };
+      columns = record { increases = part.columns_increase; below = is.root_columns; within = all_of (λ x. Unit {0}) (λ x. tt) (lines_at_root root).columns };
     } in
     let all : AllByRecursion AreWords (tree_lines rows columns root) = (
       (title_is_word (version_of root), (version_is_word (version_of root), tt)),

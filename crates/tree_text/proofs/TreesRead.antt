@@ -18,7 +18,7 @@ use Rattle.cmr_base.specs.Reductions.{HasLine}
 use Rattle.cmr_base.specs.Separations.{first_is_flat, second_is_flat}
 use Rattle.tree_type.specs.Sides.{HasConnector}
 use Rattle.cmr_base.proofs.Lists.{all-append, all_contained}
-use Rattle.cmr_base.proofs.IncreasingLists.{RisesIn, increases_along, increasing_in_range}
+use Rattle.cmr_base.proofs.IncreasingLists.{IncreasesIn, increases_along, increasing_in_range}
 use Rattle.text_fields.specs.TextWords.{Text}
 use Rattle.text_fields.specs.Result.{◌>>=◌}
 use Rattle.text_fields.specs.Reading.{Fault, field, times, fields}
@@ -46,17 +46,17 @@ field_value parse P each text x h = let f = field_ok Short parse text x.0 x.1 h 
 
 -- an increasing list of lines below a bound, all of them among the lines of `whole`
 pub record AreSome (most : ℕ) (whole : Option (List ℕ)) (lines : List ℕ) : Type 0 where
-  pub rise : IsStrictlyIncreasing lines
+  pub increases : IsStrictlyIncreasing lines
   pub below : AllBelow most lines
   pub within : AllByRecursion (IsAmong whole) lines
 
 increasing_ok : (most : ℕ) (whole : Option (List ℕ)) (n : ℕ) (text : Text) (lines : List ℕ × Text) → increasing_lines most whole n text ≡ Ok lines → AreSome most whole lines.0
 increasing_ok most whole n text lines h =
     let read = lines_ok most whole n [] text lines.0 lines.1 h in
-    let rises : RisesIn 0 most lines.0 = subst (RisesIn 0 most) (sym read.lines_are) read.rises in
+    let increases : IncreasesIn 0 most lines.0 = subst (IncreasesIn 0 most) (sym read.lines_are) read.increases in
     record {
-      rise = increases_along 0 most lines.0 rises;
-      below = increasing_in_range 0 most lines.0 rises;
+      increases = increases_along 0 most lines.0 increases;
+      below = increasing_in_range 0 most lines.0 increases;
       within = subst (AllByRecursion (IsAmong whole)) (sym read.lines_are) read.within;
     }
 
@@ -81,8 +81,8 @@ line_set_ok sizes whole text lines h =
 
 lines_of_whole : (sizes : Sizes) (whole lines : LineSet) → IsSome sizes (Some whole) lines → AreLinesOf lines whole
 lines_of_whole sizes whole lines some = record {
-  rows_rise = some.rows.rise;
-  columns_rise = some.columns.rise;
+  rows_increase = some.rows.increases;
+  columns_increase = some.columns.increases;
   rows = λ row h. all_contained (Contains whole.rows) lines.rows row some.rows.within h;
   columns = λ column h. all_contained (Contains whole.columns) lines.columns column some.columns.within h;
 }
@@ -274,7 +274,7 @@ node_ok header (suc levels) parent text tree h =
     subst (IsRead header.sizes (suc levels) parent) e (record { lines = is.lines; within = λ whole part. (omega arith, part, fits.0, fits.1, subst (λ k. AreTreesWithin lines k (trees_from children.0.0)) (sym same) all.1) })
 
 itself : (lines : LineSet) → IsStrictlyIncreasing lines.rows → IsStrictlyIncreasing lines.columns → AreLinesOf lines lines
-itself lines rows columns = record { rows_rise = rows; columns_rise = columns; rows = λ row h. h; columns = λ column h. h }
+itself lines rows columns = record { rows_increase = rows; columns_increase = columns; rows = λ row h. h; columns = λ column h. h }
 
 -- a root that was read is a tree for a matrix of these sizes
 pub root_ok : (version : Version) (rows columns : ℕ) (text : Text) (tree : Tree) (rest : Text) → rows ≤ 1000 → columns ≤ 1000
@@ -285,5 +285,5 @@ root_ok version rows columns text tree rest few_rows few_columns h =
       columns_in = few_columns;
       root_rows = is.lines.rows.below;
       root_columns = is.lines.columns.below;
-      nodes = is.within (lines_at_root tree) (itself (lines_at_root tree) is.lines.rows.rise is.lines.columns.rise);
+      nodes = is.within (lines_at_root tree) (itself (lines_at_root tree) is.lines.rows.increases is.lines.columns.increases);
     }

@@ -12,7 +12,7 @@ use Rattle.cmr_base.specs.declared.line.Line.TheVariants.{Row, Column}
 use Rattle.cmr_base.specs.declared.line_set.LineSet.{LineSet}
 use Rattle.cmr_base.specs.Reductions.{HasLine}
 use Rattle.tree_type.specs.Sides.{is_among}
-use Rattle.cmr_base.proofs.IncreasingLists.{RisesIn}
+use Rattle.cmr_base.proofs.IncreasingLists.{IncreasesIn}
 use Rattle.text_fields.specs.TextWords.{Text}
 use Rattle.text_fields.specs.Reading.{field, times}
 use Rattle.text_fields.proofs.Decimals.{count_of_decimal}
@@ -50,14 +50,14 @@ next_line_again most whole before line above below small is =
     rw (line_in_again most line below small, t) (among_again whole line is)
 
 -- increasing lines
-pub again_lines : (most : ℕ) (whole : Option (List ℕ)) → most ≤ 1000 → (before lines : List ℕ) → RisesIn (last_number before) most lines → AllByRecursion (IsAmong whole) lines
+pub again_lines : (most : ℕ) (whole : Option (List ℕ)) → most ≤ 1000 → (before lines : List ℕ) → IncreasesIn (last_number before) most lines → AllByRecursion (IsAmong whole) lines
     → Again (times (another_line most whole) (length lines) before) (map number_of_line lines) (before ++ lines)
-again_lines most whole small before [] rises within = subst (λ xs. Again {K = TreeKind} (λ text. Ok (before, text)) [] xs) (sym (append-nil before)) (again_done before)
-again_lines most whole small before (line ∷ lines) rises within =
+again_lines most whole small before [] increases within = subst (λ xs. Again {K = TreeKind} (λ text. Ok (before, text)) [] xs) (sym (append-nil before)) (again_done before)
+again_lines most whole small before (line ∷ lines) increases within =
     let last : last_number (before ++ line ∷ []) ≡ line + 1 = fold_push (λ (before line : ℕ). line + 1) 0 before line in
-    let one = again_wrap (field Short (next_line most whole (last_number before))) (λ l. before ++ l ∷ []) (number_of_line line ∷ []) line (again_field Short (next_line most whole (last_number before)) (number_of_line line) line (next_line_again most whole (last_number before) line rises.0 rises.1 small within.0)) in
+    let one = again_wrap (field Short (next_line most whole (last_number before))) (λ l. before ++ l ∷ []) (number_of_line line ∷ []) line (again_field Short (next_line most whole (last_number before)) (number_of_line line) line (next_line_again most whole (last_number before) line increases.0 increases.1 small within.0)) in
     subst (Again (times (another_line most whole) (length (line ∷ lines)) before) (map number_of_line (line ∷ lines))) (append_assoc before (line ∷ []) lines)
-    (again_bind (another_line most whole before) (λ (next : List ℕ × Text). times (another_line most whole) (length lines) next.0 next.1) (number_of_line line ∷ []) (map number_of_line lines) (before ++ line ∷ []) ((before ++ line ∷ []) ++ lines) one (again_lines most whole small (before ++ line ∷ []) lines (subst (λ low. RisesIn low most lines) (sym last) rises.2) within.1))
+    (again_bind (another_line most whole before) (λ (next : List ℕ × Text). times (another_line most whole) (length lines) next.0 next.1) (number_of_line line ∷ []) (map number_of_line lines) (before ++ line ∷ []) ((before ++ line ∷ []) ++ lines) one (again_lines most whole small (before ++ line ∷ []) lines (subst (λ low. IncreasesIn low most lines) (sym last) increases.2) within.1))
 
 pub step_again : (sizes : Sizes) (lines : LineSet) (line : Line) → sizes.rows ≤ 1000 → sizes.columns ≤ 1000 → ((row : ℕ) → Contains lines.rows row → row < sizes.rows) → ((column : ℕ) → Contains lines.columns column → column < sizes.columns)
     → HasLine lines.rows lines.columns line → step_in sizes lines (line_name line) ≡ Ok line

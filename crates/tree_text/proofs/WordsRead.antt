@@ -10,7 +10,7 @@ use Rattle.cmr_base.specs.declared.line_set.LineSet.{LineSet}
 use Rattle.cmr_base.specs.Reductions.{HasLine}
 use Rattle.tree_type.specs.Sides.{is_among}
 use Rattle.tree_type.proofs.Among.{among_contains}
-use Rattle.cmr_base.proofs.IncreasingLists.{RisesIn}
+use Rattle.cmr_base.proofs.IncreasingLists.{IncreasesIn}
 use Rattle.text_fields.specs.TextWords.{Text}
 use Rattle.text_fields.specs.Result.{◌>>=◌, renamed}
 use Rattle.text_fields.specs.Reading.{field, times}
@@ -101,13 +101,13 @@ pub record AreLinesRead (most n : ℕ) (whole : Option (List ℕ)) (before lines
   pub read : List ℕ
   pub lines_are : lines ≡ before ++ read
   pub count : length read ≡ n
-  pub rises : RisesIn (last_number before) most read
+  pub increases : IncreasesIn (last_number before) most read
   pub within : AllByRecursion (IsAmong whole) read
 
 pub lines_ok : (most : ℕ) (whole : Option (List ℕ)) (n : ℕ) (before : List ℕ) (text : Text) (lines : List ℕ) (rest : Text) → times (another_line most whole) n before text ≡ Ok (lines, rest) → AreLinesRead most n whole before lines
 lines_ok most whole zero before text lines rest h =
     let e = ok_same (before, text) (lines, rest) h in
-    record { read = []; lines_are = sym (ap (λ (p : List ℕ × Text). p.0) e) ∙ sym (append-nil before); count = refl; rises = tt; within = tt }
+    record { read = []; lines_are = sym (ap (λ (p : List ℕ × Text). p.0) e) ∙ sym (append-nil before); count = refl; increases = tt; within = tt }
 lines_ok most whole (suc n) before text lines rest h =
     let b = bind_ok (another_line most whole before text) (λ (next : List ℕ × Text). times (another_line most whole) n next.0 next.1) (lines, rest) h in
     let one = bind_ok (field Short (next_line most whole (last_number before)) text) (λ (line : ℕ × Text). Ok (before ++ line.0 ∷ [], line.1)) b.0 b.1 in
@@ -121,6 +121,6 @@ lines_ok most whole (suc n) before text lines rest h =
       read = line ∷ later.read;
       lines_are = later.lines_are ∙ ap (λ opening. opening ++ later.read) opening ∙ append_assoc before (line ∷ []) later.read;
       count = ap suc later.count;
-      rises = (ok.0, ok.1, subst (λ low. RisesIn low most later.read) last later.rises);
+      increases = (ok.0, ok.1, subst (λ low. IncreasesIn low most later.read) last later.increases);
       within = (ok.2, later.within);
     }

@@ -32,16 +32,16 @@ among_contains xs x e = contains_from_in xs x (among_in xs x e)
 not_in : (xs : List ℕ) (x : ℕ) → (IsIn x xs → ⊥) → is_among xs x ≡ false
 not_in xs x h = false_is (is_among xs x) (λ e. h (among_in xs x e))
 
-rises : (xs : List ℕ) → IsStrictlyIncreasing xs → (i j : ℕ) → i ≤ j → j < length xs → get_or xs i 0 ≤ get_or xs j 0
-rises xs up i j le lt = elim (cases_lt i j) [
+increases : (xs : List ℕ) → IsStrictlyIncreasing xs → (i j : ℕ) → i ≤ j → j < length xs → get_or xs i 0 ≤ get_or xs j 0
+increases xs up i j le lt = elim (cases_lt i j) [
   | inl l ↦ let below = increasing_places xs i j up l lt in omega (arith, below)
   | inr l ↦ let same : i ≡ j = omega (arith, l, le) in let e = ap (λ k. get_or xs k 0) same in omega (arith, e)
 ]
 
 -- a binary search finds each member
 pub searched_among : (xs : List ℕ) (x : ℕ) (r : Result ℕ ℕ) → IsStrictlyIncreasing xs → IsBinarySearchResult (λ y. nat_cmp y x) xs r → is_ok r ≡ is_among xs x
-searched_among xs x (Ok i) up h = let at = searched xs x (Ok i) h (rises xs up) in sym (in_among xs x (subst (λ (y : ℕ). IsIn y xs) at.1 (in-get_or xs i at.0)))
-searched_among xs x (Err i) up h = let parted = searched xs x (Err i) h (rises xs up) in sym (not_in xs x (λ g. apart parted.1 parted.2 (place_of x xs) (place_is x xs g).in_range (place_is x xs g).there))
+searched_among xs x (Ok i) up h = let at = searched xs x (Ok i) h (increases xs up) in sym (in_among xs x (subst (λ (y : ℕ). IsIn y xs) at.1 (in-get_or xs i at.0)))
+searched_among xs x (Err i) up h = let parted = searched xs x (Err i) h (increases xs up) in sym (not_in xs x (λ g. apart parted.1 parted.2 (place_of x xs) (place_is x xs g).in_range (place_is x xs g).there))
   where
     apart : ((k : ℕ) → k < i → get_or xs k 0 < x) → ((k : ℕ) → i ≤ k → k < length xs → x < get_or xs k 0) → (k : ℕ) → k < length xs → get_or xs k 0 ≡ x → ⊥
     apart before after k l e = elim (cases_lt k i) [

@@ -26,6 +26,6 @@ in_range xs ys high within below k l =
 
 pub lines_within : (m : Matrix) (child parent : LineSet) → AreLinesOf child parent → AreLines m parent → AreLines m child
 lines_within m child parent h are = record {
-  rows = record { increasing = h.rows_rise; in_range = in_range child.rows parent.rows (height m) h.rows are.rows.in_range };
-  columns = record { increasing = h.columns_rise; in_range = in_range child.columns parent.columns m.width h.columns are.columns.in_range };
+  rows = record { increasing = h.rows_increase; in_range = in_range child.rows parent.rows (height m) h.rows are.rows.in_range };
+  columns = record { increasing = h.columns_increase; in_range = in_range child.columns parent.columns m.width h.columns are.columns.in_range };
 }

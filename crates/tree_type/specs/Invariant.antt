@@ -19,8 +19,8 @@ pub record AreLines (m : Matrix) (lines : LineSet) : Type 0 where
 
 -- increasing lists of rows and of columns that are subsets of the second set
 pub record AreLinesOf (part whole : LineSet) : Type 0 where
-  pub rows_rise : IsStrictlyIncreasing part.rows
-  pub columns_rise : IsStrictlyIncreasing part.columns
+  pub rows_increase : IsStrictlyIncreasing part.rows
+  pub columns_increase : IsStrictlyIncreasing part.columns
   pub rows : (row : ℕ) → Contains part.rows row → Contains whole.rows row
   pub columns : (column : ℕ) → Contains part.columns column → Contains whole.columns column
 

@@ -1,6 +1,6 @@
 use Rattle.std.proofs.Common.{◌∙◌, sym, arith}
 use Rattle.std.proofs.lemmas.Bool.{false≢true}
-use Rattle.balance.proofs.KeptSteps.{above, one_kept, one_left_out, all_kept}
+use Rattle.balance.proofs.KeptSteps.{above, one_kept, one_omitted, all_kept}
 use Rattle.balance.proofs.kept.kept_columns.Goals as goal
 use Rattle.balance.proofs.kept.kept_columns.Goals.{then-is_kept+in_ok-push, else-is_kept}
 
@@ -13,7 +13,7 @@ loop-column-preserved c =
     let rows = c.args.rows.now in
     elim c.if-is_kept.branch [
       | then-is_kept+in_ok-push w ↦ one_kept m rows c.loop-column.column c.loop-column.kept c.if-is_kept.kept c.loop-column.invariant (c.is_kept.ensures.0 w.if-is_kept.true) (w.kept-is ∙ w.in_ok-push.ensures.ok)
-      | else-is_kept w ↦ one_left_out m rows c.loop-column.column c.loop-column.kept c.if-is_kept.kept c.loop-column.invariant (λ least. false≢true (sym w.if-is_kept.false ∙ c.is_kept.ensures.1 least)) w.kept-is
+      | else-is_kept w ↦ one_omitted m rows c.loop-column.column c.loop-column.kept c.if-is_kept.kept c.loop-column.invariant (λ least. false≢true (sym w.if-is_kept.false ∙ c.is_kept.ensures.1 least)) w.kept-is
     ]
 
 pub returns-clause-kept : goal.returns-clause-kept

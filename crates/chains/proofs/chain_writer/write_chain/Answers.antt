@@ -30,7 +30,7 @@ returns-clause-again c =
       few_columns = c.requires.columns;
       few_steps = c.requires.few;
       steps_in = c.requires.steps;
-      steps_rise = subst (AllByRecursion IsIncreasingStep) c.as_slice-steps.ensures c.in_ok-write_steps.ensures.increasing;
+      steps_increase = subst (AllByRecursion IsIncreasingStep) c.as_slice-steps.ensures c.in_ok-write_steps.ensures.increasing;
       violator_in = c.requires.violator;
-      violator_rises = c.in_ok-write_violator.ensures.increasing;
+      violator_increases = c.in_ok-write_violator.ensures.increasing;
     })

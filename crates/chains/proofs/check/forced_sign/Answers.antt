@@ -15,5 +15,5 @@ returns c =
     let column_here = subst (IsIn c.args.column) c.as_slice-else-not-has.ensures.items (c.has-else-not-has.ensures.0 c.if-not-has-2.false) in
     let fits : SFits w32 c.sum.result = search rules in
     forced_option a s c.args.row c.args.column cycle _ c.closing.result c.requires.matrix c.requires.signs (c.is_open.ensures.open.0 c.if-not-is_open.false)
-    (record { increasing = lines.rows_rise; in_range = inside.0 }) (record { increasing = lines.columns_rise; in_range = inside.1 }) row_here column_here
+    (record { increasing = lines.rows_increase; in_range = inside.0 }) (record { increasing = lines.columns_increase; in_range = inside.1 }) row_here column_here
     (c.have_two_each.ensures.0 c.if-not-have_two_each.false) (c.all_signed_but.ensures.0 c.if-not-all_signed_but.false) (to_z-of_z w32 c.sum.result fits ∙ c.sum.ensures) c.closing.ensures

@@ -8,4 +8,4 @@ push-requires c =
     let lines = c.args.lines.now in
     let i = c.loop-line.line-index in
     let same = c.as_slice-line-items.ensures.items in
-    rw same (subst (λ (rest : List ℕ). IsAbove (get_or lines i 0) rest) (sym c.loop-line.invariant) (kept_below (λ line. not (eqb line c.args.gone)) lines i c.as_slice-line-items.ensures.increasing (omega (arith, ap length same))))
+    rw same (subst (λ (rest : List ℕ). IsAbove (get_or lines i 0) rest) (sym c.loop-line.invariant) (kept_below (λ line. not (eqb line c.args.omitted)) lines i c.as_slice-line-items.ensures.increasing (omega (arith, ap length same))))

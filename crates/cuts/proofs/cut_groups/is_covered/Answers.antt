@@ -8,12 +8,12 @@ use Rattle.cuts.proofs.cut_groups.is_covered.Goals as goal
 
 pub returns-clause-one_side : goal.returns-clause-one_side
 returns-clause-one_side c =
-    covered_group c.args.matrix.now c.args.groups.now c.args.name c.args.line (as_set c.in_ok-group.group) c.in_ok-nothing.nothing c.in_ok-first.first c.in_ok-second.second c.in_ok-more.more c.args.search.now.parted c.search.new.self.parted
-    c.search-2.new.self.parted _ c.search-2.result c.requires.line c.requires.together c.in_ok-nothing.ensures.none c.in_ok-first.ensures.lines c.in_ok-group.ensures.named c.in_ok-more.ensures.lines c.in_ok-second.ensures.lines
+    covered_group c.args.matrix.now c.args.groups.now c.args.name c.args.line (as_set c.in_ok-group.group) c.in_ok-nothing.nothing c.in_ok-first.first c.in_ok-second.second c.in_ok-more.more c.args.search.now.separated c.search.new.self.separated
+    c.search-2.new.self.separated _ c.search-2.result c.requires.line c.requires.together c.in_ok-nothing.ensures.none c.in_ok-first.ensures.lines c.in_ok-group.ensures.named c.in_ok-more.ensures.lines c.in_ok-second.ensures.lines
     c.if-not-branch.false c.in_ok-search.ensures c.search-2.ensures
 
 pub search-requires : goal.search-requires
-search-requires c = record { size = c.requires.parted; near = c.in_ok-more.ensures.numbers; far = c.in_ok-nothing.ensures.numbers }
+search-requires c = record { size = c.requires.separated; near = c.in_ok-more.ensures.numbers; far = c.in_ok-nothing.ensures.numbers }
 
 pub search-requires-2 : goal.search-requires-2
 search-requires-2 c = record { size = c.in_ok-search.ensures.size; near = c.in_ok-first.ensures.numbers; far = c.in_ok-second.ensures.numbers }
@@ -27,5 +27,5 @@ returns-then-not-branch-clause-one_side c e = absurd (not_both false e refl)
 pub returns-clause-size : goal.returns-clause-size
 returns-clause-size c =
     let m = c.args.matrix.now in
-    let after = c.search-2.new.self.parted in
-    IfOk-weaker c.search-2.result (HasMarked m c.in_ok-first.first c.in_ok-second.second c.search.new.self.parted after) (λ covered. HasWords m after) (λ covered h. h.size) c.search-2.ensures
+    let after = c.search-2.new.self.separated in
+    IfOk-weaker c.search-2.result (HasMarked m c.in_ok-first.first c.in_ok-second.second c.search.new.self.separated after) (λ covered. HasWords m after) (λ covered h. h.size) c.search-2.ensures

@@ -2,19 +2,9 @@ use Rattle.std.proofs.Common.{◌≡◌, ◌<◌, ◌+◌, ◌∙◌, ℕ, List,
 use Rattle.std.proofs.lemmas.Bool.{cases_lt}
 use Rattle.cmr_base.specs.ColumnSets.{has_column}
 use Rattle.cmr_base.proofs.Booleans.{not_both}
+use Rattle.cmr_base.proofs.ColumnWords.{others_next}
 use Rattle.cuts.proofs.line_words.add_others.Goals as goal
 use Rattle.cuts.proofs.line_words.add_others.Goals.{then-not-has_column, else-not-has_column}
-
--- another line is done
-rest_next : (own old new : List ℕ) (line : ℕ) → ((x : ℕ) → x < line → has_column own x ≡ false → has_column old x ≡ true)
-    → ((x : ℕ) → has_column old x ≡ true → has_column new x ≡ true) → (has_column own line ≡ false → has_column new line ≡ true)
-    → (x : ℕ) → x < line + 1 → has_column own x ≡ false → has_column new x ≡ true
-rest_next own old new line rest kept here x l e = elim (cases_lt x line) [
-  | inl low ↦ kept x (rest x low e)
-  | inr high ↦
-      let is : x ≡ line = omega arith in
-      subst (λ (z : ℕ). has_column new z ≡ true) (sym is) (here (subst (λ (z : ℕ). has_column own z ≡ false) is e))
-]
 
 pub loop-line-preserved : goal.loop-line-preserved
 loop-line-preserved c =
@@ -25,9 +15,9 @@ loop-line-preserved c =
     elim c.if-not-has_column.branch [
       | then-not-has_column w ↦
           let added = w.add_column.ensures in
-          rw w.set-is (added.size ∙ so.0, (λ x e. added.kept x (so.1 x e)), rest_next own old w.add_column.new.set.items line so.2 added.kept (λ e. added.here))
+          rw w.set-is (added.size ∙ so.0, (λ x e. added.kept x (so.1 x e)), others_next own old w.add_column.new.set.items line so.2 added.kept (λ e. added.here))
       | else-not-has_column w ↦
-          rw w.set-is (so.0, so.1, rest_next own old old line so.2 (λ x e. e) (λ e. absurd (not_both (has_column own line) (sym c.has_column.ensures ∙ w.if-not-has_column.false) e)))
+          rw w.set-is (so.0, so.1, others_next own old old line so.2 (λ x e. e) (λ e. absurd (not_both (has_column own line) (sym c.has_column.ensures ∙ w.if-not-has_column.false) e)))
     ]
 
 pub returns-clause-rest : goal.returns-clause-rest

@@ -112,8 +112,8 @@ find-draw_root-requires g t c =
       ),
     )
 
-pub find-taken_back-requires-clause-fault : goal.find-taken_back-requires-clause-fault
-find-taken_back-requires-clause-fault g t c =
+pub find-pulled_back-requires-clause-fault : goal.find-pulled_back-requires-clause-fault
+find-pulled_back-requires-clause-fault g t c =
     let made = subst (IsPivotedPart c.args.matrix.now c.args.lines.now c.in-Some.drawn.place) c.in-Ternary.is c.in_ok-fault.ensures in
     let are = lines_made c.args.limits.lines c.args.pivots c.args.state c.args.matrix.now c.args.lines.now c.in-Some.drawn (sym c.drawn_place.ensures.drawn ∙ c.in-Some.is) c.in-Ternary.after made c.requires.lines in
     fault_drawn c.args.limits.lines (c.args.pivots - 1) c.in-Some.drawn.state c.in-Ternary.after c.args.lines.now (tree_of c.in_ok-tree-in-Ternary.tree) made.shape are c.in_ok-tree-in-Ternary.ensures
@@ -129,10 +129,10 @@ pub find-returns-in_ok-tree-in-Ternary : goal.find-returns-in_ok-tree-in-Ternary
 find-returns-in_ok-tree-in-Ternary g t c =
     let made = subst (IsPivotedPart c.args.matrix.now c.args.lines.now c.in-Some.drawn.place) c.in-Ternary.is c.in_ok-fault.ensures in
     let found = tree_of c.in_ok-tree-in-Ternary.tree in
-    IfOk-weaker c.taken_back.result (λ node. IsToldBeforePivot c.args.matrix.now c.args.lines.now c.in-Some.drawn.place found (verdict_of found) (tree_of node)) _
+    IfOk-weaker c.pulled_back.result (λ node. IsToldBeforePivot c.args.matrix.now c.args.lines.now c.in-Some.drawn.place found (verdict_of found) (tree_of node)) _
     (λ node told. found_after c.args.limits.lines c.args.pivots c.args.state c.args.matrix.now c.args.lines.now c.in-Some.drawn (sym c.drawn_place.ensures.drawn ∙ c.in-Some.is) (tree_of node) found c.in-Ternary.after c.if-pivots-eq0.false made
     c.in_ok-tree-in-Ternary.ensures told)
-    c.taken_back.ensures
+    c.pulled_back.ensures
 
 -- ---- a draft that is settled
 

@@ -10,9 +10,9 @@ use Rattle.cmr_base.specs.Sums.{sum_over, IsEven, IsOdd}
 use Rattle.cmr_base.proofs.Lists.{HasOneMore, all_contained, all_without, contains_first, contains_later}
 use Rattle.cmr_base.specs.PlacedPivots.{reduced}
 use Rattle.ghouila.specs.Pivot.{IsOutside, IsTernaryRow, IsPivot, IsFirstPivot, HasNoPivot, IsFirstTwoEntry, KeepsRowsElsewhere, PivotsRows}
-use Rattle.ghouila.specs.Found.{marked, SignsRows, MarksViolator, MarksAnew}
+use Rattle.ghouila.specs.Found.{marked, SignsRows, MarksViolator, MarksAgain}
 use Rattle.ghouila.specs.MarkedSignings.{IsOutcome, AddsRun}
-use Rattle.ghouila.specs.SignRuns.{IsTakenBack}
+use Rattle.ghouila.specs.SignRuns.{IsPulledBack}
 use Rattle.ghouila.specs.declared.by_pivots.Pivot.{Pivot}
 use Rattle.ghouila.specs.declared.by_pivots.MarkedSigning.TheVariants.{Signed, Violated}
 use Rattle.cmr_base.specs.Members.{IsIn}
@@ -20,12 +20,12 @@ use Rattle.ghouila.proofs.RunSteps.{steps_later, signs_set_aside, signs_set_pivo
 use mathlib.Core.Path.{fun_ext}
 use Rattle.ghouila.proofs.LeftRows.{one_more-remove, row_set-remove, outside-remove, pivot_odd, aside_quiet}
 use Rattle.ghouila.proofs.SignsBack.{signs_before_pivot, signs_with_aside}
-use Rattle.ghouila.proofs.MarksBack.{marks_among_more, marks_before_pivot, taken_back}
+use Rattle.ghouila.proofs.MarksBack.{marks_among_more, marks_before_pivot, pulled_back}
 use Rattle.ghouila.proofs.OutcomeLemmas.{found_reordered, violated_with_row}
 use Rattle.ghouila.proofs.by_pivots.+sign_rows.Goals as goal
 
-anew_by_same : (f g : ℕ → ℤ) (column : ℕ) (old new : List Bool) → ((j : ℕ) → f j ≡ g j) → MarksAnew f column old new → MarksAnew g column old new
-anew_by_same f g column old new same anew = subst (λ h. MarksAnew h column old new) (fun_ext same) anew
+again_by_same : (f g : ℕ → ℤ) (column : ℕ) (old new : List Bool) → ((j : ℕ) → f j ≡ g j) → MarksAgain f column old new → MarksAgain g column old new
+again_by_same f g column old new same again = subst (λ h. MarksAgain h column old new) (fun_ext same) again
 
 nonempty : (n : ℕ) (empty : Bool) → empty ≡ (n == 0) → empty ≡ false → 0 < n
 nonempty n empty e f = grind (arith, nat_tests)
@@ -154,7 +154,7 @@ sign_by_pivot-returns-in-Violated-clause-found t c =
     let same_row : (j : ℕ) → entry last c.args.row j ≡ entry m c.args.row j = λ j. c.sign_left.ensures.others.others c.args.row j c.requires.apart ∙ keeps.others c.args.row j c.requires.apart in
     rw (c.undo_pivot.ensures.rows, c.undo_pivot.ensures.odd)
     (marks_before_pivot m after c.args.row c.args.column left c.requires.row c.requires.column c.requires.apart c.requires.nonzero keeps.same_height keeps.same_width pivots v.rows.items v.columns.items v.odd.items c.undo_pivot.new.self.columns.items found
-    (anew_by_same (entry last c.args.row) (entry m c.args.row) c.args.column v.columns.items c.undo_pivot.new.self.columns.items same_row c.undo_pivot.ensures.columns))
+    (again_by_same (entry last c.args.row) (entry m c.args.row) c.args.column v.columns.items c.undo_pivot.new.self.columns.items same_row c.undo_pivot.ensures.columns))
 
 -- ---- the run
 
@@ -232,9 +232,9 @@ sign_by_pivot-returns-in-Violated-clause-run t c =
     let keeps : KeepsRowsElsewhere m after left = subst (KeepsRowsElsewhere m after) c.deref-2.ensures.value c.make_pivot.ensures.others in
     let small : AllByRecursion (λ other. IsTernaryRow m.width (reduced (entry m) c.args.row c.args.column other)) left = subst (AllByRecursion (λ other. IsTernaryRow m.width (reduced (entry m) c.args.row c.args.column other))) c.deref.ensures.value c.in_default.ensures.none in
     let same_row : (j : ℕ) → entry last c.args.row j ≡ entry m c.args.row j = λ j. c.sign_left.ensures.others.others c.args.row j c.requires.apart ∙ keeps.others c.args.row j c.requires.apart in
-    let back : IsTakenBack m c.args.row c.args.column (marked v.rows.items) (marked v.columns.items) (marked (set v.rows.items c.args.row (get_or v.odd.items c.args.column false))) (marked c.undo_pivot.new.self.columns.items) =
-    taken_back m after c.args.row c.args.column left c.requires.row c.requires.column c.requires.apart c.requires.nonzero keeps.same_height keeps.same_width pivots v.rows.items v.columns.items v.odd.items c.undo_pivot.new.self.columns.items found
-    (anew_by_same (entry last c.args.row) (entry m c.args.row) c.args.column v.columns.items c.undo_pivot.new.self.columns.items same_row c.undo_pivot.ensures.columns) in
+    let back : IsPulledBack m c.args.row c.args.column (marked v.rows.items) (marked v.columns.items) (marked (set v.rows.items c.args.row (get_or v.odd.items c.args.column false))) (marked c.undo_pivot.new.self.columns.items) =
+    pulled_back m after c.args.row c.args.column left c.requires.row c.requires.column c.requires.apart c.requires.nonzero keeps.same_height keeps.same_width pivots v.rows.items v.columns.items v.odd.items c.undo_pivot.new.self.columns.items found
+    (again_by_same (entry last c.args.row) (entry m c.args.row) c.args.column v.columns.items c.undo_pivot.new.self.columns.items same_row c.undo_pivot.ensures.columns) in
     λ rows next. (
       step ∷ run.0,
       run.1 ∙ steps_later c.args.steps.now c.push.new.self step run.0 c.in_ok-push.ensures.ok,
@@ -249,7 +249,7 @@ sign_by_pivot-returns-in-Violated-clause-run t c =
               marked v.rows.items,
               marked v.columns.items,
               run.2,
-              subst (λ marks. IsTakenBack m c.args.row c.args.column (marked v.rows.items) (marked v.columns.items) (marked marks) (marked c.undo_pivot.new.self.columns.items)) (sym c.undo_pivot.ensures.rows) back,
+              subst (λ marks. IsPulledBack m c.args.row c.args.column (marked v.rows.items) (marked v.columns.items) (marked marks) (marked c.undo_pivot.new.self.columns.items)) (sym c.undo_pivot.ensures.rows) back,
             ),
           ),
         ),

@@ -3,14 +3,14 @@ use Rattle.std.proofs.lemmas.List.{take_more}
 use Rattle.cmr_base.specs.Matrix.{Matrix, height, entry, IsEntry}
 use Rattle.cmr_base.specs.LineSets.{IsRowSet}
 use Rattle.cmr_base.proofs.Lists.{all_at, all-take, all_weaker}
-use Rattle.cmr_base.proofs.IncreasingLists.{row_set_rises, increasing_prefix}
+use Rattle.cmr_base.proofs.IncreasingLists.{row_set_increases, increasing_prefix}
 use Rattle.cmr_base.specs.PlacedPivots.{reduced}
 use Rattle.ghouila.specs.Pivot.{IsOutside, IsTernaryRow, KeepsRowsElsewhere, PivotsRows}
 use Rattle.ghouila.proofs.PivotRow.{pivots_more, keeps_more, reduced_same}
 use Rattle.ghouila.proofs.pivots.make_pivot.Goals as goal
 
 before_apart : (m : Matrix) (left : List ℕ) (k : ℕ) → IsRowSet m left → k < length left → IsOutside (get_or left k 0) (take k left)
-before_apart m left k is h = all_weaker (λ x. x < get_or left k 0) (λ x. x ≢ get_or left k 0) (λ x below. omega arith) (take k left) (increasing_prefix 0 (height m) left (row_set_rises m left is) k h)
+before_apart m left k is h = all_weaker (λ x. x < get_or left k 0) (λ x. x ≢ get_or left k 0) (λ x below. omega arith) (take k left) (increasing_prefix 0 (height m) left (row_set_increases m left is) k h)
 
 pub pivot_row-requires-clause-small : goal.pivot_row-requires-clause-small
 pivot_row-requires-clause-small c = λ j h.

@@ -17,30 +17,30 @@ push-requires-clause-pivot c = omega (arith, c.in-Some.ensures.inside)
 pub loop-row-preserved : goal.loop-row-preserved
 loop-row-preserved c =
     let m = c.args.matrix.now in
-    let gone = c.args.sums.now.ones in
+    let excluded = c.args.sums.now.ones in
     let rows = c.args.rows.now in
     let i = c.loop-row.row-index in
     let es = c.loop-row.basis.equations in
-    let before = equations_of m gone (take i rows) in
-    let row = without_columns gone (support_of m (get_or rows i 0)) in
-    let more = sym (equations_more m gone rows i c.loop-row-test.true) in
-    let left : number_of c.reduce.new.columns ≡ reduced_by es row = c.reduce.ensures ∙ ap (reduced_by es) (c.mask_row.ensures ∙ ap (without_columns gone) (number_of-row m is_nonzero (get_or rows i 0) c.support_words.result.now c.requires.shape (c.requires.rows i c.loop-row-test.true) c.support_words.ensures)) in
-    let small = without_columns_lt gone (support_of m (get_or rows i 0)) m.width (support_of-lt m (get_or rows i 0) c.requires.shape (c.requires.rows i c.loop-row-test.true)) in
+    let before = equations_of m excluded (take i rows) in
+    let row = without_columns excluded (support_of m (get_or rows i 0)) in
+    let more = sym (equations_more m excluded rows i c.loop-row-test.true) in
+    let left : number_of c.reduce.new.columns ≡ reduced_by es row = c.reduce.ensures ∙ ap (reduced_by es) (c.mask_row.ensures ∙ ap (without_columns excluded) (number_of-row m is_nonzero (get_or rows i 0) c.support_words.result.now c.requires.shape (c.requires.rows i c.loop-row-test.true) c.support_words.ensures)) in
+    let small = without_columns_lt excluded (support_of m (get_or rows i 0)) m.width (support_of-lt m (get_or rows i 0) c.requires.shape (c.requires.rows i c.loop-row-test.true)) in
     elim c.match-lowest.branch [
       | in-Some+in_ok-push w ↦
           let pivot = w.in-Some.pivot in
           let after : c.match-lowest.basis ≡ record { words = c.loop-row.basis.words; equations = es ++ record { pivot = pivot; columns = reduced_by es row } ∷ [] } =
           w.basis-is ∙ w.in_ok-push.ensures.ok ∙ ap (λ (n : ℕ). record { words = c.loop-row.basis.words; equations = es ++ record { pivot = pivot; columns = n } ∷ [] }) left in
           record {
-            so_far = subst (λ (s : System). IsBasis m.width gone (equations_of m gone (take (i + 1) rows)) s.equations) (sym after)
-                (subst (λ (rs : List ℕ). IsBasis m.width gone rs (es ++ record { pivot = pivot; columns = reduced_by es row } ∷ [])) more
-                (basis_push m.width gone before es row pivot c.loop-row.invariant.so_far (without_columns_apart gone (support_of m (get_or rows i 0))) small (subst (λ (n : ℕ). IsLowest n pivot) left w.in-Some.ensures.some)));
+            so_far = subst (λ (s : System). IsBasis m.width excluded (equations_of m excluded (take (i + 1) rows)) s.equations) (sym after)
+                (subst (λ (rs : List ℕ). IsBasis m.width excluded rs (es ++ record { pivot = pivot; columns = reduced_by es row } ∷ [])) more
+                (basis_push m.width excluded before es row pivot c.loop-row.invariant.so_far (without_columns_apart excluded (support_of m (get_or rows i 0))) small (subst (λ (n : ℕ). IsLowest n pivot) left w.in-Some.ensures.some)));
             words = ap (λ (s : System). s.words) after ∙ c.loop-row.invariant.words;
           }
       | in_default w ↦ record {
-        so_far = subst (λ (s : System). IsBasis m.width gone (equations_of m gone (take (i + 1) rows)) s.equations) (sym w.basis-is)
-            (subst (λ (rs : List ℕ). IsBasis m.width gone rs es) more
-            (basis_skip m.width gone before es row c.loop-row.invariant.so_far (sym left ∙ w.in_default.ensures.none)));
+        so_far = subst (λ (s : System). IsBasis m.width excluded (equations_of m excluded (take (i + 1) rows)) s.equations) (sym w.basis-is)
+            (subst (λ (rs : List ℕ). IsBasis m.width excluded rs es) more
+            (basis_skip m.width excluded before es row c.loop-row.invariant.so_far (sym left ∙ w.in_default.ensures.none)));
         words = ap (λ (s : System). s.words) w.basis-is ∙ c.loop-row.invariant.words;
       }
     ]

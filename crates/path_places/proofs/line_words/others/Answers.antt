@@ -2,19 +2,9 @@ use Rattle.std.proofs.Common.{◌≡◌, ◌<◌, ◌+◌, ◌∙◌, ◌⊎◌,
 use Rattle.std.proofs.lemmas.Bool.{cases_lt}
 use Rattle.cmr_base.specs.ColumnSets.{has_column}
 use Rattle.cmr_base.proofs.Booleans.{not_both}
+use Rattle.cmr_base.proofs.ColumnWords.{others_next}
 use Rattle.path_places.proofs.line_words.others.Goals as goal
 use Rattle.path_places.proofs.line_words.others.Goals.{then-not-has_column, else-not-has_column}
-
--- the lines below the next one
-all_next : (set old new : List ℕ) (line : ℕ) → ((x : ℕ) → x < line → has_column set x ≡ false → has_column old x ≡ true)
-    → ((x : ℕ) → has_column old x ≡ true → has_column new x ≡ true) → (has_column set line ≡ false → has_column new line ≡ true)
-    → (x : ℕ) → x < line + 1 → has_column set x ≡ false → has_column new x ≡ true
-all_next set old new line all kept here x l e = elim (cases_lt x line) [
-  | inl low ↦ kept x (all x low e)
-  | inr high ↦
-      let is : x ≡ line = omega arith in
-      subst (λ (z : ℕ). has_column new z ≡ true) (sym is) (here (subst (λ (z : ℕ). has_column set z ≡ false) is e))
-]
 
 only_next : (set old new : List ℕ) (count line : ℕ) → ((x : ℕ) → has_column old x ≡ true → (x < count) × (has_column set x ≡ false)) → line < count → has_column set line ≡ false
     → ((x : ℕ) → has_column new x ≡ true → (x ≡ line) ⊎ (has_column old x ≡ true)) → (x : ℕ) → has_column new x ≡ true → (x < count) × (has_column set x ≡ false)
@@ -36,9 +26,9 @@ loop-line-preserved c =
       | then-not-has_column w ↦
           let added = w.add_column.ensures in
           let out = sym c.has_column.ensures ∙ w.if-not-has_column.true in
-          rw w.rest-is (added.size ∙ so.0, only_next set old w.add_column.new.set.items c.args.count line so.1 c.loop-line-test.true out added.only, all_next set old w.add_column.new.set.items line so.2 added.kept (λ e. added.here))
+          rw w.rest-is (added.size ∙ so.0, only_next set old w.add_column.new.set.items c.args.count line so.1 c.loop-line-test.true out added.only, others_next set old w.add_column.new.set.items line so.2 added.kept (λ e. added.here))
       | else-not-has_column w ↦
-          rw w.rest-is (so.0, so.1, all_next set old old line so.2 (λ x e. e) (λ e. absurd (not_both (has_column set line) (sym c.has_column.ensures ∙ w.if-not-has_column.false) e)))
+          rw w.rest-is (so.0, so.1, others_next set old old line so.2 (λ x e. e) (λ e. absurd (not_both (has_column set line) (sym c.has_column.ensures ∙ w.if-not-has_column.false) e)))
     ]
 
 pub returns-clause-all : goal.returns-clause-all

@@ -6,7 +6,7 @@ use Rattle.cmr_base.specs.Signing.{IsSign}
 use Rattle.cmr_base.specs.PlacedPivots.{reduced}
 use Rattle.ghouila.specs.Pivot.{IsOutside, IsTernaryRow, KeepsRowsElsewhere, PivotsRows, IsFirstTwoEntry}
 use Rattle.pivots.proofs.LinesBefore.{pivot_place}
-use Rattle.pivots.proofs.MadePivots.{others_below, others_rise, others_outside, made_pivot, first_two}
+use Rattle.pivots.proofs.MadePivots.{others_below, others_increase, others_outside, made_pivot, first_two}
 use Rattle.pivots.proofs.matrix_pivot.pivot.Goals as goal
 
 pub first_square_violator-requires-clause-rows : goal.first_square_violator-requires-clause-rows
@@ -30,7 +30,7 @@ pub make_pivot-requires-clause-rows : goal.make_pivot-requires-clause-rows
 make_pivot-requires-clause-rows c =
     let m = c.args.matrix.now in
     subst (λ (work : Matrix). IsRowSet work c.as_slice-left.result.now) (sym c.in_ok-work.ensures.copy) (subst (IsRowSet m) (sym (c.as_slice-left.ensures.items ∙ c.in_ok-others.ensures.others))
-    (record { increasing = others_rise (height m) c.args.row; in_range = others_below (height m) c.args.row }))
+    (record { increasing = others_increase (height m) c.args.row; in_range = others_below (height m) c.args.row }))
 
 pub make_pivot-requires-clause-apart : goal.make_pivot-requires-clause-apart
 make_pivot-requires-clause-apart c = subst (IsOutside c.args.row) (sym (c.as_slice-left.ensures.items ∙ c.in_ok-others.ensures.others)) (others_outside (height c.args.matrix.now) c.args.row)

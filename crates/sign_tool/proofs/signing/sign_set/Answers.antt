@@ -1,6 +1,6 @@
 use Rattle.std.proofs.Common.{subst}
 use Rattle.cmr_base.specs.Matrix.{height}
-use Rattle.cmr_base.proofs.IncreasingLists.{row_set_rises}
+use Rattle.cmr_base.proofs.IncreasingLists.{row_set_increases}
 use Rattle.cmr_base.proofs.Members.{increasing_are_distinct}
 use Rattle.ghouila.specs.Answer.{IsAnswerOfRun}
 use Rattle.ghouila.specs.declared.by_pivots.SigningOrViolator.TheVariants.{Signed}
@@ -13,4 +13,4 @@ returns-in-Signed-clause-steps c =
     let rows = c.args.rows.now in
     let steps = c.in_ok-steps.field-0.steps in
     let run : IsAnswerOfRun m rows steps (Signed c.in-Signed.signs) = subst (IsAnswerOfRun m rows steps) c.in-Signed.is c.in_ok-steps.ensures.run in
-    names_each_once steps run.0 m rows run.2 (increasing_are_distinct 0 (height m) rows (row_set_rises m rows (record { increasing = c.in_ok-steps.ensures.increasing; in_range = c.requires })))
+    names_each_once steps run.0 m rows run.2 (increasing_are_distinct 0 (height m) rows (row_set_increases m rows (record { increasing = c.in_ok-steps.ensures.increasing; in_range = c.requires })))

@@ -28,7 +28,7 @@ returns-then-has_sign c =
     record {
       inside = transposed_row m n columns_are o c.in-Some.ensures.first.1;
       row = record {
-        rises = let f = c.in-Some.ensures.first.0 in let i = c.loop-o.invariant.1 in omega arith;
+        increases = let f = c.in-Some.ensures.first.0 in let i = c.loop-o.invariant.1 in omega arith;
         nonzero = nonzero_is (entry m o corners.j) (sym (transposed_support m n columns_are o corners.j is) ∙ c.in-Some.ensures.first.2);
         determinant = c.has_sign.ensures.0 c.if-has_sign.true;
       };

@@ -11,7 +11,7 @@ pub note-requires-clause-found : goal.note-requires-clause-found
 note-requires-clause-found c = record {
   groups = c.rename.ensures.names;
   taken = c.add_rest.ensures.size;
-  together = group_named c.args.matrix.now c.args.self.now.groups c.rename.new.self (as_set c.is_covered.new.search.parted) c.args.line c.requires.line c.requires.found.together (c.in_ok-is_covered.ensures.one_side c.if-branch.true) c.rename.ensures.get;
+  together = group_named c.args.matrix.now c.args.self.now.groups c.rename.new.self (as_set c.is_covered.new.search.separated) c.args.line c.requires.line c.requires.found.together (c.in_ok-is_covered.ensures.one_side c.if-branch.true) c.rename.ensures.get;
 }
 
 pub returns : goal.returns

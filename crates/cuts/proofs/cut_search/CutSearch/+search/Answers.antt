@@ -15,7 +15,7 @@ search-returns-in-Some t c =
     let two = c.args.two.now in
     let more = c.in-Some.more in
     let so = subst (λ (v : Option Side). MatchOption v (Unit {0}) (IsForced m one two.lines)) c.in-Some.is c.in_ok-more.ensures in
-    searched_as m one two more two c.args.self.now.parted c.search.new.self.parted c.search.result (λ P h. covers_forced m one more two.lines P so h) c.search.ensures
+    searched_as m one two more two c.args.self.now.separated c.search.new.self.separated c.search.result (λ P h. covers_forced m one more two.lines P so h) c.search.ensures
 
 pub search-returns-in-Some-2 : goal.search-returns-in-Some-2
 search-returns-in-Some-2 t c =
@@ -24,17 +24,17 @@ search-returns-in-Some-2 t c =
     let two = c.args.two.now in
     let more = c.in-Some-2.more in
     let so = subst (λ (v : Option Side). MatchOption v (Unit {0}) (IsForced m two one.lines)) c.in-Some-2.is c.in_ok-more-2.ensures in
-    searched_as m one two one more c.args.self.now.parted c.search-in-Some-2.new.self.parted c.search-in-Some-2.result (λ P h. covers_forced_beside m two more one.lines P so h) c.search-in-Some-2.ensures
+    searched_as m one two one more c.args.self.now.separated c.search-in-Some-2.new.self.separated c.search-in-Some-2.result (λ P h. covers_forced_beside m two more one.lines P so h) c.search-in-Some-2.ensures
 
 pub search_state-returns-then-are_few : goal.search_state-returns-then-are_few
 search_state-returns-then-are_few t c =
-    let parted = c.args.self.now.parted in
-    covered_at_once c.args.matrix.now c.args.one.now c.args.two.now parted c.requires.size (c.are_few.ensures.near c.if-are_few.true (as_set c.args.two.now.lines) (as_set parted))
+    let separated = c.args.self.now.separated in
+    covered_at_once c.args.matrix.now c.args.one.now c.args.two.now separated c.requires.size (c.are_few.ensures.near c.if-are_few.true (as_set c.args.two.now.lines) (as_set separated))
 
 pub search_state-returns-then-are_few-2 : goal.search_state-returns-then-are_few-2
 search_state-returns-then-are_few-2 t c =
-    let parted = c.args.self.now.parted in
-    covered_at_once c.args.matrix.now c.args.one.now c.args.two.now parted c.requires.size (c.are_few-2.ensures.far c.if-are_few-2.true (as_set c.args.one.now.lines) (as_set parted))
+    let separated = c.args.self.now.separated in
+    covered_at_once c.args.matrix.now c.args.one.now c.args.two.now separated c.requires.size (c.are_few-2.ensures.far c.if-are_few-2.true (as_set c.args.one.now.lines) (as_set separated))
 
 pub search_halves-returns-in-Some : goal.search_halves-returns-in-Some
 search_halves-returns-in-Some t c =
@@ -43,7 +43,7 @@ search_halves-returns-in-Some t c =
     let two = c.args.two.now in
     let halves = c.in-Some.halves in
     let found = subst (λ (v : Option Halves). MatchOption v (Unit {0}) (AreHalves m one)) c.in-Some.is c.in_ok-halves.ensures in
-    searched_both m one two halves.one two halves.other two c.args.self.now.parted c.search.new.self.parted c.search-in-Some.new.self.parted _ c.search-in-Some.result
+    searched_both m one two halves.one two halves.other two c.args.self.now.separated c.search.new.self.separated c.search-in-Some.new.self.separated _ c.search-in-Some.result
     (λ P. covers_halves m (as_set one.lines) (as_set two.lines) P (as_set halves.one.lines) (as_set halves.other.lines) found.halved)
     c.if-not-branch.false c.in_ok-search.ensures c.search-in-Some.ensures
 
@@ -54,7 +54,7 @@ search_halves-returns-in-Some-2 t c =
     let two = c.args.two.now in
     let halves = c.in-Some-2.halves in
     let found = subst (λ (v : Option Halves). MatchOption v (Unit {0}) (AreHalves m two)) c.in-Some-2.is c.in_ok-halves-2.ensures in
-    searched_both m one two one halves.one one halves.other c.args.self.now.parted c.search-in-Some-2.new.self.parted c.search-in-Some-2-2.new.self.parted _ c.search-in-Some-2-2.result
+    searched_both m one two one halves.one one halves.other c.args.self.now.separated c.search-in-Some-2.new.self.separated c.search-in-Some-2-2.new.self.separated _ c.search-in-Some-2-2.result
     (λ P. covers_halves_beside m (as_set one.lines) (as_set two.lines) P (as_set halves.one.lines) (as_set halves.other.lines) found.halved)
     c.if-not-branch-2.false c.in_ok-search-2.ensures c.search-in-Some-2-2.ensures
 
@@ -65,7 +65,7 @@ search_by_line-returns t c =
     let two = c.args.two.now in
     let more_one = c.in_ok-more_one.more_one in
     let more_two = c.in_ok-more_two.more_two in
-    searched_both m one two more_one two one more_two c.args.self.now.parted c.search.new.self.parted c.search-2.new.self.parted _ c.search-2.result
+    searched_both m one two more_one two one more_two c.args.self.now.separated c.search.new.self.separated c.search-2.new.self.separated _ c.search-2.result
     (λ P h1 h2. covers_line m (as_set one.lines) (as_set two.lines) P (as_set more_one.lines) (as_set more_two.lines) c.in-Some.line c.in-Some.ensures c.in_ok-more_one.ensures.lines c.in_ok-more_two.ensures.lines h1 h2)
     c.if-not-branch.false c.in_ok-search.ensures c.search-2.ensures
 
@@ -74,13 +74,13 @@ search-returns-then-meets t c =
     let m = c.args.matrix.now in
     let one = c.args.one.now in
     let two = c.args.two.now in
-    let parted = c.args.self.now.parted in
-    covered_at_once m one two parted c.requires.size (covers_shared m one two (as_set parted) (c.meets.ensures c.if-meets.true))
+    let separated = c.args.self.now.separated in
+    covered_at_once m one two separated c.requires.size (covers_shared m one two (as_set separated) (c.meets.ensures c.if-meets.true))
 
 pub search-returns-then-have_all : goal.search-returns-then-have_all
 search-returns-then-have_all t c =
-    let parted = c.args.self.now.parted in
-    marked_rest c.args.matrix.now c.args.one.now c.args.two.now parted parted c.requires.size (λ x l e. e) (c.have_all.ensures c.if-have_all.true)
+    let separated = c.args.self.now.separated in
+    marked_rest c.args.matrix.now c.args.one.now c.args.two.now separated separated c.requires.size (λ x l e. e) (c.have_all.ensures c.if-have_all.true)
 
 pub search-search-requires : goal.search-search-requires
 search-search-requires t c =
@@ -102,7 +102,7 @@ search-search_state-requires t c =
 pub search_by_line-returns-in_default : goal.search_by_line-returns-in_default
 search_by_line-returns-in_default t c =
     let rest = c.add_rest.ensures in
-    marked_rest c.args.matrix.now c.args.one.now c.args.two.now c.args.self.now.parted c.add_rest.new.self rest.size rest.kept rest.rest
+    marked_rest c.args.matrix.now c.args.one.now c.args.two.now c.args.self.now.separated c.add_rest.new.self rest.size rest.kept rest.rest
 
 pub search_by_line-search-requires : goal.search_by_line-search-requires
 search_by_line-search-requires t c =
@@ -110,7 +110,7 @@ search_by_line-search-requires t c =
     (falls, record { size = c.requires.size; near = c.in_ok-more_one.ensures.numbers; far = c.requires.far })
 
 pub search_by_line-returns-then-not-branch : goal.search_by_line-returns-then-not-branch
-search_by_line-returns-then-not-branch t c = gave_up c.args.matrix.now c.args.one.now c.args.two.now c.in_ok-more_one.more_one c.args.two.now c.args.self.now.parted c.search.new.self.parted _ c.in_ok-search.ensures
+search_by_line-returns-then-not-branch t c = gave_up c.args.matrix.now c.args.one.now c.args.two.now c.in_ok-more_one.more_one c.args.two.now c.args.self.now.separated c.search.new.self.separated _ c.in_ok-search.ensures
 
 pub search_by_line-search-requires-2 : goal.search_by_line-search-requires-2
 search_by_line-search-requires-2 t c =
@@ -124,7 +124,7 @@ search_halves-search-requires t c =
     (falls, record { size = c.requires.sides.size; near = found.one; far = c.requires.sides.far })
 
 pub search_halves-returns-then-not-branch : goal.search_halves-returns-then-not-branch
-search_halves-returns-then-not-branch t c = gave_up c.args.matrix.now c.args.one.now c.args.two.now c.in-Some.halves.one c.args.two.now c.args.self.now.parted c.search.new.self.parted _ c.in_ok-search.ensures
+search_halves-returns-then-not-branch t c = gave_up c.args.matrix.now c.args.one.now c.args.two.now c.in-Some.halves.one c.args.two.now c.args.self.now.separated c.search.new.self.separated _ c.in_ok-search.ensures
 
 pub search_halves-search-requires-in-Some : goal.search_halves-search-requires-in-Some
 search_halves-search-requires-in-Some t c =
@@ -140,7 +140,7 @@ search_halves-search-requires-in-Some-2 t c =
 
 pub search_halves-returns-then-not-branch-2 : goal.search_halves-returns-then-not-branch-2
 search_halves-returns-then-not-branch-2 t c =
-    gave_up c.args.matrix.now c.args.one.now c.args.two.now c.args.one.now c.in-Some-2.halves.one c.args.self.now.parted c.search-in-Some-2.new.self.parted _ c.in_ok-search-2.ensures
+    gave_up c.args.matrix.now c.args.one.now c.args.two.now c.args.one.now c.in-Some-2.halves.one c.args.self.now.separated c.search-in-Some-2.new.self.separated _ c.in_ok-search-2.ensures
 
 pub search_halves-search-requires-in-Some-2-2 : goal.search_halves-search-requires-in-Some-2-2
 search_halves-search-requires-in-Some-2-2 t c =
@@ -156,7 +156,7 @@ search_halves-search_by_line-requires t c =
 pub search_state-returns-then-are_enough : goal.search_state-returns-then-are_enough
 search_state-returns-then-are_enough t c =
     let rest = c.add_rest.ensures in
-    marked_rest c.args.matrix.now c.args.one.now c.args.two.now c.args.self.now.parted c.add_rest.new.self rest.size rest.kept rest.rest
+    marked_rest c.args.matrix.now c.args.one.now c.args.two.now c.args.self.now.separated c.add_rest.new.self rest.size rest.kept rest.rest
 
 pub search_state-search_halves-requires : goal.search_state-search_halves-requires
 search_state-search_halves-requires t c =

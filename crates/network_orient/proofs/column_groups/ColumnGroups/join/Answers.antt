@@ -7,8 +7,8 @@ use Rattle.ghouila.proofs.PivotBytes.{kept_sign}
 use Rattle.network_orient.proofs.ForcedSigns.{groups_later, joined_groups, merged_coarser, merged_products}
 use Rattle.network_orient.proofs.column_groups.ColumnGroups.join.Goals as goal
 
-pub returns-then-gone-stays-clause-groups : goal.returns-then-gone-stays-clause-groups
-returns-then-gone-stays-clause-groups c =
+pub returns-then-replaced-stays-clause-groups : goal.returns-then-replaced-stays-clause-groups
+returns-then-replaced-stays-clause-groups c =
     let m = c.args.from.now in
     let n = c.args.to.now in
     let groups = c.args.self.now.groups.items in
@@ -17,7 +17,7 @@ returns-then-gone-stays-clause-groups c =
     let factor = to_z w8 (of_z w8 c.product.result) in
     let by_first = c.row_sign_by-by_first in
     let by_other = c.row_sign_by-by_other in
-    let gone : c.index-gone.result.now ≡ group_of groups c.args.other = get_or_read groups c.args.other c.index-gone.result.now (omega (arith, c.requires.other, all.group_each)) c.index-gone.ensures 0 in
+    let replaced : c.index-replaced.result.now ≡ group_of groups c.args.other = get_or_read groups c.args.other c.index-replaced.result.now (omega (arith, c.requires.other, all.group_each)) c.index-replaced.ensures 0 in
     let stays : c.index-stays.result.now ≡ group_of groups c.args.first = get_or_read groups c.args.first c.index-stays.result.now (omega (arith, c.requires.first, all.group_each)) c.index-stays.ensures 0 in
     let is_factor : factor ≡ row_sign_by m n signs c.args.row c.args.first *ℤ row_sign_by m n signs c.args.row c.args.other =
     kept_entry c.product.result c.product.ensures.small ∙ product_bytes by_first.result by_other.result c.product.result by_first.ensures.small by_other.ensures.small c.product.ensures.value
@@ -25,11 +25,11 @@ returns-then-gone-stays-clause-groups c =
     joined_groups m n c.args.row c.args.first c.args.other groups c.merge.new.self.groups.items signs c.merge.new.self.signs.items factor c.requires.first c.requires.other
     by_first.ensures.entry by_other.ensures.entry
     (kept_sign c.product.result (c.product.ensures.sign (kept_sign by_first.result by_first.ensures.sign) (kept_sign by_other.result by_other.ensures.sign))) is_factor all
-    (subst (λ (g : ℕ). IsMerged groups signs c.merge.new.self.groups.items c.merge.new.self.signs.items g (group_of groups c.args.first) factor) gone
-    (subst (λ (g : ℕ). IsMerged groups signs c.merge.new.self.groups.items c.merge.new.self.signs.items c.index-gone.result.now g factor) stays c.merge.ensures))
+    (subst (λ (g : ℕ). IsMerged groups signs c.merge.new.self.groups.items c.merge.new.self.signs.items g (group_of groups c.args.first) factor) replaced
+    (subst (λ (g : ℕ). IsMerged groups signs c.merge.new.self.groups.items c.merge.new.self.signs.items c.index-replaced.result.now g factor) stays c.merge.ensures))
 
-pub returns-then-gone-stays-clause-coarser : goal.returns-then-gone-stays-clause-coarser
-returns-then-gone-stays-clause-coarser c =
+pub returns-then-replaced-stays-clause-coarser : goal.returns-then-replaced-stays-clause-coarser
+returns-then-replaced-stays-clause-coarser c =
     let groups = c.args.self.now.groups.items in
     let merged = c.merge.new.self in
     let factor_sign = kept_sign c.product.result (c.product.ensures.sign (kept_sign c.row_sign_by-by_first.result c.row_sign_by-by_first.ensures.sign) (kept_sign c.row_sign_by-by_other.result c.row_sign_by-by_other.ensures.sign)) in (

@@ -11,7 +11,7 @@ use Rattle.tree_type.specs.Findings.{finding_shown}
 use Rattle.tree_type.specs.Invariant.{HasChildren}
 use Rattle.tree_type.specs.Verdicts.{Verdict, No, Open, Yes, verdict_of}
 use Rattle.decomp_tree.specs.PivotedShapes.{IsToldBeforePivot, SaysBeforePivot}
-use Rattle.decomp_tree.proofs.taking_back.taken_back.Goals as goal
+use Rattle.decomp_tree.proofs.pulling_back.pulled_back.Goals as goal
 
 none_said : {finding : Held} → None ≡ Some finding → ⊥
 none_said e = cc

@@ -3,7 +3,7 @@ use Rattle.tree_type.specs.DecompositionTrees.{tree_of}
 use Rattle.tree_type.specs.Verdicts.{No, Open, Yes, verdict_of, verdict_shown}
 use Rattle.tree_type.specs.declared.finding.Finding.TheVariants as held
 use Rattle.decomp_tree.specs.PivotedShapes.{SaysBeforePivot}
-use Rattle.decomp_tree.proofs.taking_back.finding_before.Goals as goal
+use Rattle.decomp_tree.proofs.pulling_back.finding_before.Goals as goal
 
 pub returns-in-Yes : goal.returns-in-Yes
 returns-in-Yes c =

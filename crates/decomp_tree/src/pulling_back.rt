@@ -14,7 +14,7 @@ use tree_type::{Finding, Node, VerdictOf, copy_of, join_node, verdict_at};
 
 /// The node on these lines that tells what the tree of their submatrix says after a pivot: it stands above a tree that says
 /// yes, names the lines before the pivot of a fault that the tree names, and is undecided where the tree is.
-pub fn taken_back(
+pub fn pulled_back(
     alloc: Global,
     matrix: &Matrix,
     lines: &LineSet,
