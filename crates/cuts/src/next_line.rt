@@ -77,7 +77,11 @@ fn next_row(
     let mut best = Candidate { line: 0, value: 0 };
     for row in 0..matrix.rows() {
         if !has_column(one, row) && !has_column(two, row) {
-            let value = value_of(matrix.support_words(row), crossing, has_column(separated, row));
+            let value = value_of(
+                matrix.support_words(row),
+                crossing,
+                has_column(separated, row),
+            );
             if value > best.value {
                 best = Candidate { line: row, value };
             }

@@ -8,10 +8,10 @@ pub mod laws;
 mod looking;
 mod naming;
 mod obstructions;
+mod pulling_back;
 mod search_limits;
 mod searched_node;
 mod seen;
 mod settling;
-mod pulling_back;
 
 pub use drawing::decompose;

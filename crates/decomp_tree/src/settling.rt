@@ -10,8 +10,8 @@ ghost use Rattle.decomp_tree.specs.Sketches.{IsDrafted, lines_of_sketch, sketch_
 
 use crate::drafts::{Draft, Opening, draft_root};
 use crate::faults::late_fault;
-use crate::search_limits::SearchLimits;
 use crate::pulling_back::{leaf, pulled_back};
+use crate::search_limits::SearchLimits;
 use cmr_base::{LineSet, Matrix, Memory, RowsAndColumns};
 use pivots::{PivotedPart, drawn_place, pivot_part};
 use std::alloc::Global;
