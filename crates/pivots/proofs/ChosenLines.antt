@@ -59,7 +59,7 @@ high_is_member x bound xs h l = filter_in (λ y. nat_lt bound y) x xs h (test bo
     test : (x n : ℕ) → x < n → nat_lt x n ≡ true
     test x n l = grind (arith, nat_tests)
 
--- the next line that is added is above those that are there
+-- the next line that is added is above the lines of the set
 pub next_above : (made lines : List ℕ) (bound i : ℕ) → IsStrictlyIncreasing lines → i < length lines → bound < get_or lines i 0 → ((x : ℕ) → IsIn x made → x ≤ bound)
     → IsAbove (get_or lines i 0) (made ++ filter (λ y. nat_lt bound y) (take i lines))
 next_above made lines bound i increases inside higher low = above_members (get_or lines i 0) (made ++ filter (λ y. nat_lt bound y) (take i lines))

@@ -63,7 +63,7 @@ module _ (m : Matrix) (rows columns : List ℕ) (k left : ℕ) (inside : k < len
       → slice_get (places_on m (drop (k + 1) rows) columns) (left - length (row_places m columns (get_or rows k 0))) ≡ slice_get (places_on m (drop k rows) columns) left
   place_later h = sym (get_back row (places_on m (drop (k + 1) rows) columns) left h) ∙ sym (ap (λ (xs : List PlacedPivot). slice_get xs left) more)
 
--- ---- where there is none
+-- ---- a zero submatrix
 
 module _ (m : Matrix) (columns : List ℕ) (i j : ℕ) (there : IsIn j columns) (nonzero : is_nonzero (entry m i j) ≡ true) where
   some_in_row : 0 < length (row_places m columns i)
@@ -90,7 +90,7 @@ none_placed m rows columns none i j i_in j_in = go (is_nonzero (entry m i j)) re
     go false e = zero_is (entry m i j) e
     go true e = absurd (let some = some_place m columns i j (in_from_contains columns j j_in) e rows (in_from_contains rows i i_in) in omega (arith, none, some))
 
--- ---- the place that is drawn
+-- ---- the drawn position
 
 record IsNonzeroOf (m : Matrix) (rows columns : List ℕ) (place : PlacedPivot) : Type 0 where
   pub row_in : IsIn place.row rows

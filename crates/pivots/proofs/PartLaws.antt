@@ -36,9 +36,9 @@ use Rattle.cmr_base.specs.declared.placed_pivot.PlacedPivot.{PlacedPivot}
 use Rattle.pivots.specs.PartLaws.{HasNoViolatorAmong, PartPivotsTakeViolatorsBack, PartPivotsKeepViolators, PartPivotsStayMatrices}
 use Rattle.pivots.specs.PivotedParts.{AreAmong}
 
--- ---- a violator of a pivot, whose lines may stand more than once
+-- ---- a violator of a pivot, whose lines may occur more than once
 
--- the item with the others, or these alone
+-- the item with the others, or only the others
 chosen : (P : ℕ → Type 0) (x : ℕ) (b there : Bool) (xs fewer : List ℕ) → P x → IsJoined there x fewer xs → AllByRecursion P xs → (more : List ℕ) × IsJoined b x fewer more × AllByRecursion P more
 chosen P x true there xs fewer p join all = (x ∷ fewer, one_more_first x fewer, (p, all_fewer P there x fewer xs join all))
 chosen P x false there xs fewer p join all = (fewer, refl, all_fewer P there x fewer xs join all)
@@ -100,7 +100,7 @@ module _ (m : Matrix) (lines : LineSet) (place : PlacedPivot) (is_rows : IsRowSe
       (λ i j hi hj. entry_among i j hi hj ∙ sym (entry-filled (height m) m.width (pivot_entry (entry m) place.row place.column) i j
       (contained_below (height m) lines.rows i is_rows.in_range hi) (contained_below m.width lines.columns j is_columns.in_range hj))) v
 
-  -- no violator stands among these lines exactly where none stands among them after the pivot
+  -- no violator is among these lines if and only if none is among them after the pivot
   module _ (small : IsEntry (entry m place.row place.column)) (place_in : IsPlaceIn m lines place) where
     sign : IsSign (entry m place.row place.column)
     sign = sign_of_entry (entry m place.row place.column) small place_in.nonzero
@@ -133,7 +133,7 @@ module _ (m : Matrix) (lines : LineSet) where
       (record { rows = all-odd_times (Contains lines.rows) v.R v.rows; columns = all-odd_times (Contains lines.columns) v.C v.columns })
       (violator-odd_times (entry m) v.R v.C v.violator)
 
--- lines that are the same but for one of these stay among them
+-- lines that are the same except one of these stay among them
 stay : (lines : List ℕ) (line : ℕ) (xs made : List ℕ) → Contains lines line → AllByRecursion (Contains lines) xs → ((x : ℕ) → x ≢ line → IsIn x made ↔ IsIn x xs) → AllByRecursion (Contains lines) made
 stay lines line xs made there all others = all_of_members (Contains lines) made (λ x h. elim (cases_eq x line) [
   | inl e ↦ subst (Contains lines) (sym e) there

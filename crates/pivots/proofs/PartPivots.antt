@@ -22,7 +22,7 @@ use Rattle.pivots.proofs.PartLaws.{entry_among, replaced_is_small}
 
 -- ---- lines by their places
 
--- two places are one exactly if the lines there are
+-- two positions are equal if and only if the lines at them are
 test_of_places : (lines : List ℕ) (x y : ℕ) → IsStrictlyIncreasing lines → x < length lines → y < length lines → eqb x y ≡ eqb (get_or lines x 0) (get_or lines y 0)
 test_of_places lines x y increasing hx hy = same_test (eqb x y) (eqb (get_or lines x 0) (get_or lines y 0))
     (λ e. eq-eqb (get_or lines x 0) (get_or lines y 0) (ap (λ k. get_or lines k 0) (eqb-true x y e)))

@@ -17,7 +17,7 @@ module _ (M : ℕ → ℕ → ℤ) (r c : ℕ) where
   pub entry_apart : (i j : ℕ) → i ≢ r → j ≢ c → pivot_entry M r c i j ≡ M i j -ℤ M r c *ℤ (M i c *ℤ M r j)
   entry_apart i j other apart = entry_elsewhere M r c i j other ∙ pivoted_apart M r c i j apart
 
-  -- in its row and in its column there is no 2 and no -2
+  -- the row and the column of the pivot have no 2 and no -2
   module _ (small : (i j : ℕ) → IsEntry (M i j)) where
     pub row_stays_small : (j : ℕ) → IsEntry (pivot_entry M r c r j)
     row_stays_small j = elim (cases_eq j c) [
@@ -32,7 +32,7 @@ module _ (M : ℕ → ℕ → ℤ) (r c : ℕ) where
           (negative_is_entry (M r c *ℤ M i c) (product_is_entry (M r c) (M i c) (small r c) (small i c)))
     ]
 
--- where the pivot has a 2 or a -2, the entry's lines and the pivot's are a violator
+-- if an entry of the pivot is a 2 or a -2, its lines and those of the pivot are a violator
 pub two_is_violator : (m : Matrix) (r c i j : ℕ) → IsPivotPlace m r c → ((i j : ℕ) → IsEntry (entry m i j)) → i < height m → j < m.width → ¬ (IsEntry (pivot_entry (entry m) r c i j))
     → (r ≢ i) × (c ≢ j) × IsViolator (entry m) (two_lines r i) (two_lines c j)
 two_is_violator m r c i j place small i_in j_in two =

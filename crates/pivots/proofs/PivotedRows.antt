@@ -26,13 +26,13 @@ use Rattle.pivots.specs.PivotedRows.{IsPivotedRow, IsFirstTwoOfRow}
 use Rattle.pivots.proofs.LinesBefore.{pivot_place}
 use Rattle.pivots.proofs.PivotEntries.{two_is_violator}
 
--- what holds of each item of a list holds of what it contains
+-- what holds for each item of a list holds for a number that it contains
 each_contained : (P : ℕ → Type 0) (xs : List ℕ) (k : ℕ) → length xs ≤ k → ((p : ℕ) → p < k → P (get_or xs p 0)) → (x : ℕ) → Contains xs x → P x
 each_contained P xs k whole each x (p, l, e) = subst P (get_or_default xs p 0 x l ∙ e) (each p (omega arith))
 
 -- ---- one row
 
--- the row has the pivot's entries in the first of these columns
+-- the row has the entries of the pivot in the first of these columns
 pub record IsRowPivotedTo (m before now : Matrix) (columns : List ℕ) (place : PlacedPivot) (row k : ℕ) : Type 0 where
   pub shape : IsMatrix now
   pub same_height : height now ≡ height before
@@ -102,7 +102,7 @@ module _ (m before : Matrix) (columns : List ℕ) (place : PlacedPivot) (row : �
 
 -- ---- row by row
 
--- the first rows of the submatrix have the pivot's entries, and nothing else has changed
+-- the first rows of the submatrix have the entries of the pivot, and all other entries are unchanged
 pub record ArePivotedTo (m now : Matrix) (lines : LineSet) (place : PlacedPivot) (k : ℕ) : Type 0 where
   pub within : k ≤ length lines.rows
   pub shape : IsMatrix now
@@ -164,7 +164,7 @@ module _ (m : Matrix) (lines : LineSet) (place : PlacedPivot) where
       replaced i j true false e f = h.others i j (inr (λ there. true_is_false (sym (listed_from_has_line lines.rows lines.columns (Column j) there) ∙ f)))
       replaced i j false t e f = h.others i j (inl (λ p lt q. true_is_false (sym (listed_from_has_line lines.rows lines.columns (Row i) (row_there i p (let w = h.within in omega arith) q)) ∙ e)))
 
--- the same of lists that are the submatrix's
+-- the same for the lists of the submatrix
 pub first_two_of : (m : Matrix) (lines : LineSet) (place : PlacedPivot) (rows columns : List ℕ) (k column : ℕ) → rows ≡ lines.rows → columns ≡ lines.columns
     → IsFirstTwoOfRow m columns place (get_or rows k 0) column → IsFirstTwoOfRow m lines.columns place (get_or lines.rows k 0) column
 first_two_of m lines place rows columns k column e f first =

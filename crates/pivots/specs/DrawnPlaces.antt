@@ -1,4 +1,4 @@
--- Places for pivots that are drawn by chance.
+-- Drawn positions of pivots.
 use Rattle.std.specs.Prelude.{ℕ, List, map, filter, length, slice_get, Option}
 use Rattle.std.specs.List.{flat_map}
 use Rattle.std.specs.Option.{option_map}

@@ -1,4 +1,4 @@
--- The pivot of a submatrix in its place, or what shows that it has a 2 or a -2.
+-- The pivot of a submatrix in its place, or a violator if the pivot has a 2 or a -2.
 use Rattle.std.specs.Prelude.{◌≡◌, ◌<◌, ℕ, List, Contains}
 use Rattle.std.specs.List.{AllByRecursion}
 use Rattle.cmr_base.specs.declared.line_set.LineSet.{LineSet}
@@ -16,8 +16,8 @@ pub record AreAmong (lines : LineSet) (chosen_rows chosen_columns : List ℕ) : 
   pub rows : AllByRecursion (Contains lines.rows) chosen_rows
   pub columns : AllByRecursion (Contains lines.columns) chosen_columns
 
--- Lines that the pivot of the submatrix shows: the first entry of it, by the submatrix's rows and then by its columns, that is not -1, 0
--- or 1; its lines and the pivot's are a violator of the matrix
+-- The first entry of the pivot of the submatrix, by the submatrix's rows and then by its columns, that is not -1, 0 or 1. Its lines and
+-- those of the pivot are a violator of the matrix.
 pub record ShowsFirstTwoIn (m : Matrix) (lines : LineSet) (place : PlacedPivot) (rows columns : List ℕ) : Type 0 where
   pub other_row : ℕ
   pub other_column : ℕ
@@ -39,7 +39,7 @@ pub record IsMadePart (m : Matrix) (lines : LineSet) (place : PlacedPivot) (afte
   pub is : after ≡ pivoted_part m lines place
   pub shape : IsMatrix after
 
--- the answer is right
+-- the answer is correct
 abbrev pub IsPivotedPart : Matrix → LineSet → PlacedPivot → PivotedPart → Type 0
 IsPivotedPart m lines place (Ternary after) = IsMadePart m lines place after
 IsPivotedPart m lines place (Violated found) = ShowsFirstTwoIn m lines place found.rows found.columns

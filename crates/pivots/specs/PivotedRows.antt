@@ -4,7 +4,7 @@ use Rattle.cmr_base.specs.Matrix.{Matrix, height, entry, IsEntry, IsMatrix}
 use Rattle.cmr_base.specs.PlacedPivots.{pivot_entry}
 use Rattle.cmr_base.specs.declared.placed_pivot.PlacedPivot.{PlacedPivot}
 
--- the row has the pivot's entries in these columns, which are -1, 0 and 1, and nothing else has changed
+-- the row has the entries of the pivot in these columns, which are -1, 0 and 1, and all other entries are unchanged
 pub record IsPivotedRow (m before after : Matrix) (columns : List ℕ) (place : PlacedPivot) (row : ℕ) : Type 0 where
   pub shape : IsMatrix after
   pub same_height : height after ≡ height before

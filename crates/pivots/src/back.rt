@@ -13,8 +13,9 @@ ghost use Rattle.pivots.specs.PivotedParts.{AreAmong};
 use cmr_base::{Indices, LineSet, MAX_COLUMNS, MAX_ROWS, Matrix, Memory, PlacedPivot};
 use std::alloc::Global;
 
-/// From a violator of the pivot at a nonzero one of the matrix, on the same lines but perhaps the pivot's. Its row is there
-/// where the violator's rows have an odd sum in its column, and its column where the violator's columns have one in its row.
+/// Maps a violator of the pivot at a nonzero back to a violator of the matrix. The two have the same lines, except the row and
+/// the column of the pivot: the row is in the set if the sum of its column over the violator's rows is odd, and the column if
+/// the sum of its row over the violator's columns is odd.
 pub fn violator_before(
     alloc: Global,
     matrix: &Matrix,
@@ -47,7 +48,8 @@ pub fn violator_before(
     })
 }
 
-/// The same of the pivot of a submatrix in its place, with a violator among its lines: so are the lines before.
+/// Maps a violator of the pivot of a submatrix in its place back to a violator of the matrix. Both have lines of the
+/// submatrix.
 pub fn violator_before_part(
     alloc: Global,
     matrix: &Matrix,
@@ -78,7 +80,7 @@ fn is_odd(sum: i32) -> bool
     sum.rem_euclid(2) == 1
 }
 
-// The set with a line, or without it.
+// The set with a line or without it.
 fn with_or_without(alloc: Global, lines: &Indices, line: u32, has: bool) -> Result<Indices, Memory>
     ensures lines { IfOk result (λ made. made ≡ with_or_without lines.now line has) }
     ensures increasing { IfOk result IsStrictlyIncreasing }
@@ -89,7 +91,7 @@ fn with_or_without(alloc: Global, lines: &Indices, line: u32, has: bool) -> Resu
     Ok(made)
 }
 
-// The lines below a line, and that line or not.
+// The lines below a line, with or without that line.
 fn lines_up_to(alloc: Global, lines: &Indices, line: u32, has: bool) -> Result<Indices, Memory>
     ensures { IfOk result (λ made. made ≡ filter (λ other. nat_lt other line) lines.now
         ++ (if has then line ∷ [] else [])) }
@@ -113,7 +115,7 @@ fn lines_below(alloc: Global, lines: &Indices, bound: u32) -> Result<Indices, Me
     Ok(made)
 }
 
-// Adds the lines above a bound to lines up to it.
+// Appends the lines above a bound to lines that are not above it.
 fn push_above(made: &mut Indices, lines: &Indices, bound: u32) -> Result<(), Memory>
     requires { (line : ℕ) → IsIn line made.old → line ≤ bound }
     ensures { OnOk result (made.new ≡ made.old ++ filter (λ line. nat_lt bound line) lines.now) }

@@ -1,4 +1,4 @@
-// Places for pivots that are drawn by chance.
+// Drawn positions of pivots.
 ghost use Rattle.std.specs.Prelude.{◌≡◌, ◌<◌, ◌≤◌, ◌^◌, Contains, IfNone, IfSome, length, slice_get, ℕ, pos};
 ghost use Rattle.cmr_base.specs.LineSets.{AllBelow, IsRowSet, IsColumnSet};
 ghost use Rattle.cmr_base.specs.Matrix.{height, entry};
@@ -7,15 +7,15 @@ ghost use Rattle.cmr_base.specs.PlacedPivots.{IsPlaceIn};
 
 use cmr_base::{LineSet, MAX_COLUMNS, MAX_ROWS, Matrix, PlacedPivot, draw_below};
 
-/// A place that is drawn by chance, and the state after it.
+/// The position of a pivot, and the state after it.
 #[derive(Clone, Copy, Debug, PartialEq, Eq)]
 pub struct DrawnPlace {
     pub place: PlacedPivot,
     pub state: u32,
 }
 
-/// The nonzero of the submatrix on these lines whose number is drawn from a state, with the next state; none where the
-/// submatrix is zero. Nonzeros are numbered from 0, by rows and then by columns.
+/// The nonzero of the submatrix on these lines whose number is drawn from a state, with the next state. `None` if and only if
+/// the submatrix is zero. Nonzeros are numbered from 0, by rows and then by columns.
 pub fn drawn_place(matrix: &Matrix, lines: &LineSet, state: u32) -> Option<DrawnPlace>
     requires rows { IsRowSet matrix.now lines.now.rows }
     requires columns { IsColumnSet matrix.now lines.now.columns }
@@ -42,7 +42,7 @@ pub fn drawn_place(matrix: &Matrix, lines: &LineSet, state: u32) -> Option<Drawn
     })
 }
 
-// How many nonzeros the submatrix has.
+// The number of nonzeros of the submatrix.
 fn count_places(matrix: &Matrix, rows: &[u32], columns: &[u32]) -> u32
     requires rows { AllBelow (height matrix.now) rows.now }
     requires columns { AllBelow matrix.now.width columns.now }
@@ -73,7 +73,7 @@ fn count_in_row(matrix: &Matrix, row: u32, columns: &[u32]) -> u32
     count
 }
 
-// The nonzero with a number.
+// The nonzero with this number.
 fn place_numbered(
     matrix: &Matrix,
     rows: &[u32],

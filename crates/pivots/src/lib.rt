@@ -1,5 +1,5 @@
-//! The pivot of a matrix, or of a submatrix in its place, at a nonzero: it decides no less than the matrix, and violators are
-//! taken back through it.
+//! The pivot of a matrix, or of a submatrix in its place, at a nonzero. The pivot has a violator if and only if the matrix has
+//! one, and violators are mapped back through it.
 #![tactic(auto)]
 
 mod back;

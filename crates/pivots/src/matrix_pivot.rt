@@ -10,17 +10,18 @@ use cmr_base::{Indices, LineSet, Matrix, Memory, product};
 use ghouila::{first_square_violator, make_pivot};
 use std::alloc::Global;
 
-/// What the pivot at a nonzero of a matrix is.
+/// The pivot at a nonzero of a matrix, or a violator of the matrix.
 #[derive(Debug, Drop)]
 pub enum Pivoted {
-    /// The pivot, where its entries are -1, 0 and 1.
+    /// The pivot, if its entries are -1, 0 and 1.
     Ternary(Matrix),
-    /// A violator of the matrix where the pivot has a 2 or a -2: the pivot's row and column with those of the first one, row by row.
+    /// A violator of the matrix, if the pivot has a 2 or a -2: the lines of the pivot and those of the first such entry, row by
+    /// row.
     Violated(LineSet),
 }
 
-/// The pivot of a matrix at a nonzero, or a violator of two rows and two columns. It takes time for each nonzero of the
-/// row in each row with a nonzero in the column, and a copy of the matrix.
+/// The pivot of a matrix at a nonzero, or a violator of two rows and two columns. The time is that of a copy of the matrix, and
+/// a constant for each nonzero of the pivot's row in each row with a nonzero in the pivot's column.
 pub fn pivot(alloc: Global, matrix: &Matrix, row: u32, column: u32) -> Result<Pivoted, Memory>
     requires row { row < height matrix.now }
     requires column { column < matrix.now.width }
@@ -50,7 +51,7 @@ fn other_rows(alloc: Global, matrix: &Matrix, row: u32) -> Result<Indices, Memor
     Ok(lines.without_row(alloc, row)?.rows)
 }
 
-// Multiplies the other entries of a row by one of them.
+// Multiplies the other entries of a row by one of its entries.
 fn multiply_row(work: &mut Matrix, row: u32, column: u32)
     requires row { row < height work.old }
     requires column { column < work.old.width }

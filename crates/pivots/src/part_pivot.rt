@@ -10,19 +10,18 @@ use crate::matrix_pivot::two_lines;
 use cmr_base::{LineSet, Matrix, Memory, PlacedPivot, product};
 use std::alloc::Global;
 
-/// What the pivot of a submatrix makes of the matrix.
+/// The matrix after the pivot of a submatrix, or a violator of the matrix.
 #[derive(Debug, Drop)]
 pub enum PivotedPart {
-    /// The matrix with the pivot in the place of the submatrix, where the pivot's entries are -1, 0 and 1.
+    /// The matrix with the pivot in the place of the submatrix, if the entries of the pivot are -1, 0 and 1.
     Ternary(Matrix),
-    /// A violator of the matrix where the pivot has a 2 or a -2: the pivot's row and column with those of the first one, by
-    /// the rows of the submatrix and then by its columns.
+    /// A violator of the matrix, if the pivot has a 2 or a -2: the lines of the pivot and those of the first such entry, by the
+    /// rows of the submatrix and then by its columns.
     Violated(LineSet),
 }
 
-/// The matrix of the same size in which the submatrix on these lines is replaced by its pivot, or a violator of two rows
-/// and two columns among them. All other entries stay. It takes time for each entry of the submatrix, and a copy of the
-/// matrix.
+/// Replaces the submatrix on these lines by its pivot in a copy of the matrix, or gives a violator of two rows and two columns
+/// among these lines. The time is that of the copy, and a constant for each entry of the submatrix.
 pub fn pivot_part(
     alloc: Global,
     matrix: &Matrix,
@@ -47,7 +46,7 @@ pub fn pivot_part(
     Ok(PivotedPart::Ternary(work))
 }
 
-// Writes the entries of the pivot into a row, up to the first that is a 2 or a -2.
+// Writes the entries of the pivot into a row, up to the first 2 or -2, and gives its column.
 fn pivot_row(
     matrix: &Matrix,
     work: &mut Matrix,
