@@ -12,5 +12,6 @@ pub mod Endings
 pub mod Files
 pub mod Numbers
 pub mod OneReports
+pub mod AlikeReports
 pub mod MinimalSets
 pub mod HeldTexts

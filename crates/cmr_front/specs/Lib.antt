@@ -5,6 +5,7 @@ pub mod Outcome
 pub mod SinkLines
 pub mod Inputs
 pub mod Tool
+pub mod AlikeReports
 pub mod Texts
 pub mod MatrixText
 pub mod OneText

@@ -3,11 +3,11 @@ use Rattle.cmr_front.specs.Tool.{IsLawful}
 use Rattle.cmr_tools.specs.ToolOrders.{Order, tool_of, tu, regular, series_parallel, test, generate, check, upgrade, camion, sign, balanced, parts, compose}
 use Rattle.cmr_unimodular.proofs.TuAnswers.{tu_lawful}
 use Rattle.cmr_unimodular.proofs.RegularAnswers.{regular_lawful}
-use Rattle.cmr_unimodular.proofs.SeriesParallelAnswers.{series_parallel_lawful}
-use Rattle.cmr_unimodular.proofs.GraphMatrixAnswers.{test_lawful}
+use Rattle.cmr_classes.proofs.SeriesParallelAnswers.{series_parallel_lawful}
+use Rattle.cmr_classes.proofs.GraphMatrixAnswers.{test_lawful}
 use Rattle.cmr_unimodular.proofs.GenerateAnswers.{generate_lawful}
-use Rattle.cmr_unimodular.proofs.CheckAnswers.{check_lawful}
-use Rattle.cmr_unimodular.proofs.UpgradeAnswers.{upgrade_lawful}
+use Rattle.cmr_evidence.proofs.CheckAnswers.{check_lawful}
+use Rattle.cmr_evidence.proofs.UpgradeAnswers.{upgrade_lawful}
 use Rattle.cmr_reach.proofs.CamionAnswers.{camion_lawful}
 use Rattle.cmr_reach.proofs.SignAnswers.{sign_lawful}
 use Rattle.cmr_reach.proofs.BalancedAnswers.{balanced_lawful}

@@ -1,20 +1,25 @@
 -- What the arguments and the texts determine of a report, tool by tool.
 use Rattle.std.proofs.Common.{◌≡◌, ℕ, true, inl, inr, refl, subst, sym}
+use Rattle.cmr_front.specs.AlikeReports.{HasAlikeReports}
 use Rattle.cmr_front.specs.Tool.{HasOneReport}
-use Rattle.cmr_unimodular.specs.AlikeReports.{HasAlikeReports}
-use Rattle.cmr_unimodular.specs.GraphMatrix.{either_tool, graph_matrix_tool, test_tool}
-use Rattle.cmr_unimodular.specs.GraphicNetwork.{TestOrder, path_tool}
-use Rattle.cmr_unimodular.specs.declared.tools.graphic_network.TestedProperty.{TestedProperty}
-use Rattle.cmr_unimodular.proofs.AlikeReports.{generate_has_one_report, one_is_alike, regular_alike, regular_has_one_report, series_parallel_has_one_report, test_alike, test_has_one_report, tu_alike, tu_has_one_report}
-use Rattle.cmr_unimodular.proofs.GraphMatrixAnswers.{one_graph_matrix}
-use Rattle.cmr_unimodular.proofs.OneCheck.{check_has_one_report}
-use Rattle.cmr_unimodular.proofs.UpgradeAnswers.{upgrade_has_one_report}
+use Rattle.cmr_front.proofs.AlikeReports.{one_is_alike, reports_wider}
+use Rattle.cmr_classes.specs.AlikeNetworks.{HoldAlikeNetworks}
+use Rattle.cmr_classes.specs.GraphMatrix.{either_tool, graph_matrix_tool, test_tool}
+use Rattle.cmr_classes.specs.GraphicNetwork.{TestOrder, path_tool}
+use Rattle.cmr_classes.specs.declared.tools.graphic_network.TestedProperty.{TestedProperty}
+use Rattle.cmr_classes.proofs.AlikeNetworks.{test_alike, test_has_one_report}
+use Rattle.cmr_classes.proofs.GraphMatrixAnswers.{one_graph_matrix}
+use Rattle.cmr_classes.proofs.SeriesParallelAnswers.{series_parallel_has_one_report}
+use Rattle.cmr_unimodular.specs.AlikeTrees.{HoldAlikeTrees}
+use Rattle.cmr_unimodular.proofs.AlikeTrees.{generate_has_one_report, regular_alike, regular_has_one_report, same_file, tu_alike, tu_has_one_report}
+use Rattle.cmr_evidence.proofs.OneCheck.{check_has_one_report}
+use Rattle.cmr_evidence.proofs.UpgradeAnswers.{upgrade_has_one_report}
 use Rattle.cmr_unimodular.proofs.WorkersOfTests.{generate_workers, regular_workers}
 use Rattle.cmr_reach.proofs.ComposeAnswers.{compose_has_one_report}
 use Rattle.cmr_reach.proofs.FaultReports.{balanced_has_one_report, balanced_workers, camion_has_one_report}
 use Rattle.cmr_reach.proofs.PartsAnswers.{parts_has_one_report}
 use Rattle.cmr_reach.proofs.SignAnswers.{sign_has_one_report}
-use Rattle.cmr_tools.specs.ReportLaws.{AreReportedAlike, ReportsAreAlike, ReportsAreOne, WorkersChangeNothing}
+use Rattle.cmr_tools.specs.ReportLaws.{AreReportedAlike, HoldAlike, ReportsAreAlike, ReportsAreOne, WorkersChangeNothing, networks, trees}
 use Rattle.cmr_tools.specs.ToolOrders.{Order, balanced, camion, check, compose, generate, parts, regular, series_parallel, sign, test, tool_of, tu, upgrade}
 
 -- with `-c`, or without a file for the graph
@@ -36,14 +41,20 @@ reports_are_one (balanced o) none = balanced_has_one_report o
 reports_are_one (parts o) none = parts_has_one_report o
 reports_are_one (compose o) none = compose_has_one_report o
 
-alike_where_one : (order : Order) → HasOneReport (tool_of order) → HasAlikeReports (tool_of order)
-alike_where_one order one = one_is_alike (tool_of order) one
+alike_where_one : (order : Order) → HasOneReport (tool_of order) → HasAlikeReports HoldAlike (tool_of order)
+alike_where_one order one = one_is_alike HoldAlike (λ file. trees (same_file file)) (tool_of order) one
+
+alike_trees : (order : Order) → HasAlikeReports HoldAlikeTrees (tool_of order) → HasAlikeReports HoldAlike (tool_of order)
+alike_trees order alike = reports_wider HoldAlikeTrees HoldAlike (λ f g. trees) (tool_of order) alike
+
+alike_networks : (order : Order) → HasAlikeReports HoldAlikeNetworks (tool_of order) → HasAlikeReports HoldAlike (tool_of order)
+alike_networks order alike = reports_wider HoldAlikeNetworks HoldAlike (λ f g. networks) (tool_of order) alike
 
 pub reports_are_alike : ReportsAreAlike
-reports_are_alike (tu o) = tu_alike o
-reports_are_alike (regular o) = regular_alike o
+reports_are_alike (tu o) = alike_trees (tu o) (tu_alike o)
+reports_are_alike (regular o) = alike_trees (regular o) (regular_alike o)
 reports_are_alike (series_parallel o) = alike_where_one (series_parallel o) (series_parallel_has_one_report o)
-reports_are_alike (test p o) = test_alike p o
+reports_are_alike (test p o) = alike_networks (test p o) (test_alike p o)
 reports_are_alike (generate o) = alike_where_one (generate o) (generate_has_one_report o)
 reports_are_alike (check o) = alike_where_one (check o) (check_has_one_report o)
 reports_are_alike (upgrade o) = alike_where_one (upgrade o) (upgrade_has_one_report o)

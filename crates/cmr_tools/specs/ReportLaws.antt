@@ -1,13 +1,21 @@
 -- What the arguments and the texts determine of a report, and what the workers change.
 use Rattle.std.specs.Prelude.{◌≡◌, ◌↔◌, ◌⊎◌, ℕ, List, None, true}
-use Rattle.cmr_front.specs.Report.{Report}
+use Rattle.cmr_front.specs.AlikeReports.{HasAlikeReports}
+use Rattle.cmr_front.specs.Report.{File, Report}
 use Rattle.cmr_front.specs.Tool.{HasOneReport, Tool}
-use Rattle.cmr_unimodular.specs.AlikeReports.{HasAlikeReports}
+use Rattle.cmr_classes.specs.AlikeNetworks.{HoldAlikeNetworks}
+use Rattle.cmr_unimodular.specs.AlikeTrees.{HoldAlikeTrees}
 use Rattle.cmr_tools.specs.ToolOrders.{Order, balanced, camion, check, compose, generate, parts, regular, series_parallel, sign, test, tool_of, tu, upgrade}
+
+-- Two files of one name are equal, or hold two trees that differ only in their networks, or two networks that show the property of one
+-- matrix.
+pub data HoldAlike (f g : File) : Type 0 where
+  trees : HoldAlikeTrees f g → HoldAlike f g
+  networks : HoldAlikeNetworks f g → HoldAlike f g
 
 -- two reports on the same texts can differ only in which networks realise a matrix
 abbrev pub ReportsAreAlike : Type 0
-ReportsAreAlike = (order : Order) → HasAlikeReports (tool_of order)
+ReportsAreAlike = (order : Order) → HasAlikeReports HoldAlike (tool_of order)
 
 -- no file of a tree or a graph of the tested matrix is requested
 abbrev pub WritesNoNetwork : Order → Type 0

@@ -5,12 +5,12 @@ use Rattle.cmr_tools.specs.declared.command.Command.{Command}
 use Rattle.cmr_tools.specs.declared.command.Command.TheVariants as command
 use Rattle.cmr_tools.specs.declared.command.ToolName.{ToolName}
 use Rattle.cmr_tools.specs.declared.command.ToolName.TheVariants as tool
-use Rattle.cmr_unimodular.specs.declared.tools.graphic_network.TestedProperty.{TestedProperty}
-use Rattle.cmr_unimodular.specs.declared.tools.graphic_network.TestedProperty.TheVariants.{Graphic, Network}
-use Rattle.cmr_unimodular.specs.Check.{CheckOrder, check_order, check_order_of, check_tool}
-use Rattle.cmr_unimodular.specs.Upgrade.{UpgradeOrder, upgrade_order, upgrade_order_of, upgrade_tool}
-use Rattle.cmr_unimodular.specs.SeriesParallel.{SeriesParallelOrder, series_parallel_order, series_parallel_order_of, series_parallel_tool}
-use Rattle.cmr_unimodular.specs.GraphicNetwork.{TestOrder, test_order, test_order_of}
+use Rattle.cmr_classes.specs.declared.tools.graphic_network.TestedProperty.{TestedProperty}
+use Rattle.cmr_classes.specs.declared.tools.graphic_network.TestedProperty.TheVariants.{Graphic, Network}
+use Rattle.cmr_evidence.specs.Check.{CheckOrder, check_order, check_order_of, check_tool}
+use Rattle.cmr_evidence.specs.Upgrade.{UpgradeOrder, upgrade_order, upgrade_order_of, upgrade_tool}
+use Rattle.cmr_classes.specs.SeriesParallel.{SeriesParallelOrder, series_parallel_order, series_parallel_order_of, series_parallel_tool}
+use Rattle.cmr_classes.specs.GraphicNetwork.{TestOrder, test_order, test_order_of}
 use Rattle.cmr_reach.specs.Balanced.{BalancedOrder, balanced_order, balanced_order_of, balanced_tool}
 use Rattle.cmr_reach.specs.Camion.{CamionOrder, camion_order, camion_order_of, camion_tool}
 use Rattle.cmr_reach.specs.Compose.{ComposeOrder, compose_order, compose_order_of, compose_tool}
@@ -21,7 +21,7 @@ use Rattle.cmr_unimodular.specs.Regular.{RegularOrder, regular_order, regular_or
 use Rattle.cmr_unimodular.specs.Generate.{GenerateOrder, generate_order, generate_order_of, generate_tool}
 use Rattle.cmr_front.specs.Run.{Ordered, nothing, work}
 use Rattle.cmr_front.specs.Words.ReadWords.{◌>>=◌}
-use Rattle.cmr_unimodular.specs.GraphMatrix.{test_tool}
+use Rattle.cmr_classes.specs.GraphMatrix.{test_tool}
 use Rattle.cmr_front.specs.Tool.{Tool}
 
 -- a tool with its options

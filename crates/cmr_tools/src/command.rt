@@ -8,6 +8,10 @@ ghost use Rattle.cmr_front.specs.declared.status.Answer.{Answer};
 ghost use Rattle.cmr_tools.specs.ToolOrders.{order, order_of, order_with, tool_named, tool_of};
 
 use cmr_base::{Word, WordList};
+use cmr_classes::tools::graphic_network::{PropertyTest, TestedProperty, read_test};
+use cmr_classes::tools::series_parallel::{SpOptions, read_series_parallel};
+use cmr_evidence::tools::check::{CheckOptions, read_check};
+use cmr_evidence::tools::upgrade::{UpgradeOptions, read_upgrade};
 use cmr_front::tool::Tool;
 use cmr_front::words::WordsError;
 use cmr_io::{Shelf, Sink};
@@ -16,13 +20,9 @@ use cmr_reach::tools::camion::{CamionOptions, read_camion};
 use cmr_reach::tools::compose_tool::{ComposeOptions, read_compose};
 use cmr_reach::tools::parts::{PartsOptions, read_parts};
 use cmr_reach::tools::sign::{SignOptions, read_sign};
-use cmr_unimodular::tools::check::{CheckOptions, read_check};
 use cmr_unimodular::tools::generate_tool::{GenerateOptions, read_generate};
-use cmr_unimodular::tools::graphic_network::{PropertyTest, TestedProperty, read_test};
 use cmr_unimodular::tools::regular::{RegularOptions, read_regular};
-use cmr_unimodular::tools::series_parallel::{SpOptions, read_series_parallel};
 use cmr_unimodular::tools::tu::{TuOptions, read_tu};
-use cmr_unimodular::tools::upgrade::{UpgradeOptions, read_upgrade};
 use std::alloc::Global;
 use std::thread::Threads;
 

@@ -1,20 +1,6 @@
 //! Laws about the definitions only. Each is a function that does nothing: its contract is the law.
-ghost use Rattle.cmr_tools.specs.Laws.{
-  FaultsAreOfFiles,
-  GraphFilesGiveBack,
-  GraphsGiveBack,
-  HeldGraphsGiveBack,
-};
+ghost use Rattle.cmr_tools.specs.Laws.{FaultsAreOfFiles};
 ghost use Rattle.cmr_tools.specs.ReportLaws.{ReportsAreAlike, ReportsAreOne, WorkersChangeNothing};
-
-/// If `graphic` or `network` without `-t` says yes for a matrix and writes a graph, the same tool with `-c` writes the
-/// canonical dense text of the matrix from that graph, and can report nothing else. This holds for the text, and for the
-/// file when the text is in it. For the file, the matrix is the matrix whose text was in the file that was read.
-pub fn graphs_give_back()
-    ensures texts { GraphsGiveBack }
-    ensures files { GraphFilesGiveBack }
-    ensures held { HeldGraphsGiveBack }
-{}
 
 /// For all texts, a report with the status of a text fault is the line on a file that the tool reads.
 pub fn faults_are_of_files()

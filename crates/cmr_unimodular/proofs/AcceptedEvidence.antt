@@ -39,15 +39,15 @@ use Rattle.cmr_front.proofs.HeldTexts.{both_given, read_alone, read_same, read_w
 use Rattle.cmr_front.proofs.MatrixText.{read_is_matrix}
 use Rattle.cmr_front.proofs.Statuses.{answered_or_failed, status_of}
 use Rattle.cmr_front.proofs.Texts.{answered, read_reported}
-use Rattle.cmr_unimodular.specs.declared.tools.check.EvidenceKind.TheVariants as kinds
+use Rattle.cmr_evidence.specs.declared.tools.check.EvidenceKind.TheVariants as kinds
 use Rattle.cmr_unimodular.specs.AcceptedEvidence.{ChecksTo, HoldsEvidence, IsAcceptedSigning, IsAcceptedTest, SigningsAreAccepted, TestsAreAccepted, check_of, tree_bytes}
-use Rattle.cmr_unimodular.specs.Check.{ChainDecides, CheckReports, CheckReportsBy, EvidenceReports, TreeDecides, ViolatorDecides, accepted, accepted_report, check_tool, evidence_kind, irregular_report}
+use Rattle.cmr_evidence.specs.Check.{ChainDecides, CheckReports, CheckReportsBy, EvidenceReports, TreeDecides, ViolatorDecides, accepted, accepted_report, check_tool, evidence_kind, irregular_report}
 use Rattle.cmr_unimodular.specs.Regular.{IsSignedTo, RegularDecides, RegularMeans, RegularOrder, chain_with, regular_source, regular_tool}
 use Rattle.cmr_unimodular.specs.Tu.{TuMeans, TuOrder, tu_source, tu_tool, tu_verdict}
 use Rattle.cmr_unimodular.specs.Verdict.{Decides, IsDecomposition, verdict_in}
-use Rattle.cmr_unimodular.proofs.CheckAnswers.{chain_sign_matrix, shows_irregular}
-use Rattle.cmr_unimodular.proofs.EvidenceKinds.{kind_of_chain, kind_of_lines, kind_of_tree}
-use Rattle.cmr_unimodular.proofs.OneCheck.{check_has_one_report}
+use Rattle.cmr_evidence.proofs.CheckAnswers.{chain_sign_matrix, shows_irregular}
+use Rattle.cmr_evidence.proofs.EvidenceKinds.{kind_of_chain, kind_of_lines, kind_of_tree}
+use Rattle.cmr_evidence.proofs.OneCheck.{check_has_one_report}
 use Rattle.cmr_unimodular.proofs.RegularAnswers.{lines_in_matrix, sound}
 
 -- ---- the reports of `check` on two texts

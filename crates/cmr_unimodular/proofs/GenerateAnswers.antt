@@ -19,7 +19,8 @@ use Rattle.cmr_front.specs.Status.{answer_status}
 use Rattle.cmr_front.specs.Tool.{IsLawful}
 use Rattle.cmr_front.proofs.Statuses.{IsAnswered, no_fault, status_of}
 use Rattle.cmr_unimodular.specs.Generate.{GenerateDecides, GenerateMeans, IsMade, generate_report, generate_tool, generate_verdict, GenerateOrder, most_size, IsInRange, generate_app, generate_order, generate_order_in, make_kind_in, number_in, size_in}
-use Rattle.cmr_unimodular.specs.Verdict.{Decides, answer_of, verdict_in}
+use Rattle.cmr_evidence.specs.VerdictWords.{answer_of}
+use Rattle.cmr_unimodular.specs.Verdict.{Decides, verdict_in}
 use Rattle.cmr_unimodular.proofs.OneVerdict.{one_verdict}
 use Rattle.cmr_unimodular.proofs.UnimodularAnswers.{unimodular_means}
 use Rattle.clap.specs.Words.{Row, Text, first_of}

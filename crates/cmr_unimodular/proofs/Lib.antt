@@ -1,6 +1,4 @@
-pub mod TransposedBinary
 pub mod OneVerdict
-pub mod OtherDeterminants
 pub mod Outlines
 pub mod OpenParts
 pub mod Told
@@ -9,14 +7,7 @@ pub mod TuAnswers
 pub mod GenerateAnswers
 pub mod OneSigning
 pub mod RegularAnswers
-pub mod CheckAnswers
-pub mod UpgradeAnswers
-pub mod SeriesParallelAnswers
-pub mod GraphicNetworkAnswers
-pub mod GraphMatrixAnswers
 pub mod PlainOutlines
-pub mod AlikeReports
-pub mod OneCheck
-pub mod EvidenceKinds
+pub mod AlikeTrees
 pub mod AcceptedEvidence
 pub mod WorkersOfTests

@@ -6,7 +6,8 @@ use Rattle.tree_type.specs.DecompositionTrees.{SizedTree, tree_of}
 use Rattle.decomp_tree.proofs.OneVerdict as decompositions
 use Rattle.cmr_front.specs.Report.{Report}
 use Rattle.cmr_front.specs.Status.{answer_status}
-use Rattle.cmr_unimodular.specs.Verdict.{Decides, IsDecomposition, VerdictOrder, answer_of, verdict_in}
+use Rattle.cmr_evidence.specs.VerdictWords.{answer_of}
+use Rattle.cmr_unimodular.specs.Verdict.{Decides, IsDecomposition, VerdictOrder, verdict_in}
 use Rattle.cmr_front.proofs.Statuses.{status_of}
 
 pub tree_for : (budget pivots : ℕ) (m : Matrix) (tree : SizedTree) → IsDecomposition budget pivots m tree → IsTreeFor (height m) m.width (tree_of tree.root)

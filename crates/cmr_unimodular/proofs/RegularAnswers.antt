@@ -24,7 +24,8 @@ use Rattle.cmr_front.proofs.MatrixText.{lawful}
 use Rattle.cmr_front.proofs.Statuses.{status_of}
 use Rattle.cmr_unimodular.specs.Regular.{HasLinesIn, IsSignedTo, RegularDecides, RegularMeans, RegularSays, chain_with, regular_report, regular_source, regular_tool, regular_verdict, RegularOrder, regular_app, regular_order, regular_order_in}
 use Rattle.cmr_unimodular.specs.Tu.{UnimodularMeans}
-use Rattle.cmr_unimodular.specs.Verdict.{Decides, IsDecomposition, IsTold, answer_of, verdict_in, verdict_report}
+use Rattle.cmr_evidence.specs.VerdictWords.{answer_of}
+use Rattle.cmr_unimodular.specs.Verdict.{Decides, IsDecomposition, IsTold, verdict_in, verdict_report}
 use Rattle.cmr_unimodular.proofs.OneSigning.{one_signing}
 use Rattle.cmr_unimodular.proofs.OneVerdict.{one_verdict}
 use Rattle.cmr_unimodular.proofs.UnimodularAnswers.{unimodular_means}

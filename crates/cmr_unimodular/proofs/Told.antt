@@ -1,8 +1,7 @@
 -- The verdict of a decomposition is right.
-use Rattle.std.proofs.Common.{◌≡◌, ◌∙◌, ℕ, length, Option, Some, None, refl, ap, sym, subst}
+use Rattle.std.proofs.Common.{◌≡◌, ◌∙◌, ℕ, length, Option, Some, None, refl, ap, sym}
 use Rattle.std.proofs.lemmas.List.FromFn.{length-range_with_len}
 use Rattle.cmr_base.specs.declared.line_set.LineSet.{LineSet}
-use Rattle.cmr_base.specs.LineSets.{AllBelow}
 use Rattle.cmr_base.specs.Matrix.{Matrix, height, IsMatrix}
 use Rattle.decomp_tree.specs.PivotedShapes.{IsShapeWith}
 use Rattle.decomp_tree.proofs.PivotedRoots.{root_is_whole}
@@ -35,10 +34,3 @@ told budget pivots m is tree d = go (verdict_in tree) refl (tells m is tree.rows
 pub root_height : (budget pivots : ℕ) (m : Matrix) (root : Node) → IsShapeWith budget pivots m (tree_of root) → length root.lines.rows ≡ height m
 root_height budget pivots m root shape =
     ap (λ (lines : LineSet). length lines.rows) (sym (lines_is root)) ∙ ap length (root_is_whole budget pivots m (tree_of root) shape).0 ∙ length-range_with_len 0 (height m)
-
--- the fault that a verdict names has lines of the matrix
-pub fault_rows : (m : Matrix) (v : Verdict) (fault : LineSet) → v ≡ verdicts.No fault → Tells m v → AllBelow (height m) fault.rows
-fault_rows m v fault e right = (subst (Tells m) e right).row_set.in_range
-
-pub fault_columns : (m : Matrix) (v : Verdict) (fault : LineSet) → v ≡ verdicts.No fault → Tells m v → AllBelow m.width fault.columns
-fault_columns m v fault e right = (subst (Tells m) e right).column_set.in_range

@@ -8,7 +8,8 @@ use Rattle.cmr_front.specs.Tool.{IsLawful}
 use Rattle.cmr_front.proofs.MatrixText.{lawful}
 use Rattle.cmr_front.proofs.Statuses.{status_of}
 use Rattle.cmr_unimodular.specs.Tu.{TuMeans, tu_tool, tu_verdict, tu_source, TuOrder, tu_app, tu_order, tu_order_in}
-use Rattle.cmr_unimodular.specs.Verdict.{Decides, answer_of, verdict_in}
+use Rattle.cmr_evidence.specs.VerdictWords.{answer_of}
+use Rattle.cmr_unimodular.specs.Verdict.{Decides, verdict_in}
 use Rattle.cmr_unimodular.proofs.OneVerdict.{one_verdict}
 use Rattle.cmr_unimodular.proofs.UnimodularAnswers.{unimodular_means}
 use Rattle.clap.specs.Words.{Row, Text, first_of}

@@ -1,29 +1,16 @@
 -- The meaning of the verdict of a decomposition for the matrix.
 use Rattle.std.proofs.Common.{◌≡◌, ℕ, subst, refl, arith}
 use Rattle.cmr_base.specs.Matrix.{Matrix}
-use Rattle.cmr_base.specs.Signing.{IsTotallyUnimodular}
-use Rattle.cmr_base.specs.declared.line_set.LineSet.{LineSet}
-use Rattle.tree_laws.specs.Laws.{IsRefuted}
-use Rattle.ghouila.proofs.DeterminantLaw.{ghouila_houri}
-use Rattle.ghouila.proofs.HoffmanKruskal.{hoffman_kruskal}
 use Rattle.tree_type.specs.DecompositionTrees.{SizedTree}
 use Rattle.tree_type.specs.Verdicts as verdicts
 use Rattle.tree_type.specs.Verdicts.{Verdict}
 use Rattle.cmr_front.specs.declared.status.Answer.{Answer}
 use Rattle.cmr_front.specs.declared.status.Answer.TheVariants.{Yes, No, Undecided, Refused}
 use Rattle.cmr_front.specs.Status.{answer_status}
-use Rattle.cmr_unimodular.specs.Tu.{IsNotUnimodular, IsUnimodular, UnimodularMeans}
-use Rattle.cmr_unimodular.specs.Verdict.{IsDecomposition, IsTold, answer_of, verdict_in}
-use Rattle.cmr_unimodular.proofs.OtherDeterminants.{other_determinant}
-
-pub unimodular : (m : Matrix) → IsTotallyUnimodular m → IsUnimodular m
-unimodular m all = record { signings = all; minors = (ghouila_houri m).0 all; vertices = (hoffman_kruskal m).0 all }
-
-pub not_unimodular : (m : Matrix) (fault : LineSet) → IsRefuted m fault → IsNotUnimodular m fault
-not_unimodular m fault refuted = record {
-  refuted = refuted;
-  minor = other_determinant m fault.rows fault.columns (record { row_set = refuted.row_set; column_set = refuted.column_set; violator = refuted.violator });
-}
+use Rattle.cmr_unimodular.specs.Tu.{UnimodularMeans}
+use Rattle.cmr_evidence.specs.VerdictWords.{answer_of}
+use Rattle.cmr_unimodular.specs.Verdict.{IsDecomposition, IsTold, verdict_in}
+use Rattle.cmr_evidence.proofs.Unimodular.{not_unimodular, unimodular}
 
 module _ (budget pivots : ℕ) (m : Matrix) (tree : SizedTree) (decomposition : IsDecomposition budget pivots m tree) (told : IsTold budget m (verdict_in tree)) where
   by_verdict : (v : Verdict) → verdict_in tree ≡ v → (answer : Answer) → answer_status (answer_of v) ≡ answer_status answer → UnimodularMeans budget pivots m answer

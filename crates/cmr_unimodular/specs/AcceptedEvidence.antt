@@ -17,7 +17,7 @@ use Rattle.cmr_front.specs.MatrixText.{matrix_file, matrix_in}
 use Rattle.cmr_front.specs.Report.{Held, Report}
 use Rattle.cmr_front.specs.Run.{ReportsHeld}
 use Rattle.cmr_front.specs.Status.{answer_status}
-use Rattle.cmr_unimodular.specs.Check.{CheckOrder, accepted_report, check_tool, irregular_report}
+use Rattle.cmr_evidence.specs.Check.{CheckOrder, accepted_report, check_tool, irregular_report}
 use Rattle.cmr_unimodular.specs.Regular.{IsSignedTo, RegularOrder, chain_with, regular_report, regular_tool}
 use Rattle.cmr_unimodular.specs.Tu.{TuOrder, tu_tool, tu_verdict}
 use Rattle.cmr_unimodular.specs.Verdict.{IsDecomposition, verdict_in, verdict_report}

@@ -3,10 +3,5 @@ pub mod Verdict
 pub mod Tu
 pub mod Regular
 pub mod Generate
-pub mod SeriesParallel
-pub mod GraphicNetwork
-pub mod GraphMatrix
-pub mod Check
-pub mod Upgrade
-pub mod AlikeReports
+pub mod AlikeTrees
 pub mod AcceptedEvidence

@@ -21,7 +21,7 @@ use Rattle.cmr_front.specs.declared.status.Answer.TheVariants.{Yes, No, Undecide
 use Rattle.cmr_front.specs.MatrixText.{Source, matrix_tool, source}
 use Rattle.cmr_front.specs.Report.{File, Report, asked_file}
 use Rattle.cmr_front.specs.Tool.{Tool}
-use Rattle.cmr_unimodular.specs.Tu.{IsNotUnimodular, IsUnimodular}
+use Rattle.cmr_evidence.specs.Unimodular.{IsNotUnimodular, IsUnimodular}
 use Rattle.cmr_unimodular.specs.Verdict.{VerdictOrder, IsDecomposition, IsOpenPart, IsTold, verdict_in, verdict_report}
 use Rattle.clap.specs.Words.{App, Row, Text, first_of}
 use Rattle.cmr_front.specs.declared.matrix_file.MatrixForm.{MatrixForm}

@@ -1,17 +1,13 @@
 -- The order of the arguments of `tu`, its reports, and the meaning of its answers.
-use Rattle.std.specs.Prelude.{◌≡◌, ◌≤◌, ℕ, false, List, codes, length, [], ◌∷◌, Option, Some, option_map}
+use Rattle.std.specs.Prelude.{◌≡◌, ◌≤◌, ℕ, false, List, codes, [], ◌∷◌, Option, Some, option_map}
 use Rattle.cmr_base.specs.declared.limits.TheConstants.{MAX_LINES}
-use Rattle.cmr_base.specs.Matrix.{Matrix, entry, IsEntry}
-use Rattle.cmr_base.specs.Determinants.{HasUnimodularMinors, determinant}
-use Rattle.cmr_base.specs.LineSets.{IsRowSet, IsColumnSet}
-use Rattle.cmr_base.specs.Signing.{IsTotallyUnimodular}
-use Rattle.ghouila.specs.IntegralLaws.{HasIntegralVertices}
+use Rattle.cmr_base.specs.Matrix.{Matrix}
 use Rattle.cmr_front.specs.declared.status.Answer.{Answer}
 use Rattle.cmr_front.specs.declared.status.Answer.TheVariants.{Yes, No, Undecided, Refused}
 use Rattle.cmr_front.specs.MatrixText.{Source, matrix_tool, source}
 use Rattle.cmr_front.specs.Tool.{Tool}
+use Rattle.cmr_evidence.specs.Unimodular.{IsNotUnimodular, IsUnimodular}
 use Rattle.cmr_unimodular.specs.Verdict.{VerdictOrder, Decides, IsDecomposition, IsOpenPart, verdict_in}
-use Rattle.tree_laws.specs.Laws.{IsRefuted}
 use Rattle.tree_type.specs.DecompositionTrees.{SizedTree}
 use Rattle.tree_type.specs.Verdicts as verdicts
 use Rattle.cmr_base.specs.declared.line_set.LineSet.{LineSet}
@@ -67,27 +63,6 @@ tu_verdict o = record { label = codes "totally unimodular"; lines = o.lines; piv
 
 abbrev pub tu_source : TuOrder → Source
 tu_source o = source o.form false o.file
-
--- Each set of rows has a signing, each square submatrix the determinant -1, 0 or 1, and for every integral b the vertices of
--- A x ≤ b, x ≥ 0 are integral.
-pub record IsUnimodular (m : Matrix) : Type 0 where
-  pub signings : IsTotallyUnimodular m
-  pub minors : HasUnimodularMinors m
-  pub vertices : HasIntegralVertices m
-
--- a square submatrix whose determinant is none of -1, 0 and 1
-pub record HasOtherDeterminant (m : Matrix) : Type 0 where
-  pub rows : List ℕ
-  pub columns : List ℕ
-  pub row_set : IsRowSet m rows
-  pub column_set : IsColumnSet m columns
-  pub square : length rows ≡ length columns
-  pub determinant : ¬ (IsEntry (determinant (entry m) rows columns))
-
--- these lines are a violator, whose rows have no signing
-pub record IsNotUnimodular (m : Matrix) (fault : LineSet) : Type 0 where
-  pub refuted : IsRefuted m fault
-  pub minor : HasOtherDeterminant m
 
 -- A yes has a tree that the checker accepts. A no names a violator. Undecided names a submatrix that is neither recognised nor
 -- separated and whose shorter side exceeds the budget.

@@ -1,10 +1,9 @@
 -- The reports on total unimodularity, under the label of a tool and within a budget of lines.
-use Rattle.std.specs.Prelude.{◌≡◌, ◌<◌, ◌++◌, ℕ, false, min, List, [], length, Option, option_map, codes}
+use Rattle.std.specs.Prelude.{◌≡◌, ◌<◌, ◌++◌, ℕ, false, min, List, [], length, Option, option_map}
 use Rattle.cmr_base.specs.declared.line_set.LineSet.{LineSet}
 use Rattle.cmr_base.specs.Matrix.{Matrix, height, entry}
 use Rattle.cmr_base.specs.Components.{AreComponents}
 use Rattle.cmr_base.specs.CyclePlaces.{HasNoCycleFault}
-use Rattle.cmr_base.specs.LineSets.{submatrix_sum}
 use Rattle.cmr_base.specs.R10.{IsR10}
 use Rattle.cmr_base.specs.Trees.{IsNetworkMatrix, IsConetworkMatrix}
 use Rattle.matrix_text.specs.CanonicalMatrices.{submatrix_text}
@@ -18,11 +17,9 @@ use Rattle.tree_type.specs.Verdicts.{Verdict, verdict_of}
 use Rattle.tree_text.specs.CanonicalTrees.{tree_text}
 use Rattle.decomp_tree.specs.PivotedShapes.{IsShapeWith}
 use Rattle.tree_laws.specs.Laws.{Tells}
-use Rattle.cmr_front.specs.declared.status.Answer.{Answer}
-use Rattle.cmr_front.specs.declared.status.Answer.TheVariants.{Yes, No, Undecided}
+use Rattle.cmr_evidence.specs.VerdictWords.{answer_of, answer_word, named_line}
 use Rattle.cmr_unimodular.specs.declared.verdict.VerdictOptions.{VerdictOptions}
 use Rattle.cmr_unimodular.specs.Outline.{outline_from}
-use Rattle.cmr_front.specs.Printed.{open_line, violator_line}
 use Rattle.cmr_front.specs.Report.{File, Report, asked_file}
 use Rattle.cmr_front.specs.Status.{answer_status}
 
@@ -79,22 +76,6 @@ pub record IsOpenPart (budget : ℕ) (m : Matrix) (lines : LineSet) : Type 0 whe
   pub left : IsLeftOpen budget (part m lines)
 
 -- ---- the report
-
-abbrev pub answer_of : Verdict → Answer
-answer_of verdicts.Yes = Yes
-answer_of (verdicts.No fault) = No
-answer_of (verdicts.Open lines) = Undecided
-
-abbrev pub answer_word : Verdict → List ℕ
-answer_word verdicts.Yes = codes ": yes\n"
-answer_word (verdicts.No fault) = codes ": no\n"
-answer_word (verdicts.Open lines) = codes ": undecided\n"
-
--- the violator that a no names, and the open lines
-abbrev pub named_line : Matrix → Verdict → List ℕ
-named_line m verdicts.Yes = []
-named_line m (verdicts.No fault) = violator_line fault.rows fault.columns (submatrix_sum m fault.rows fault.columns)
-named_line m (verdicts.Open lines) = open_line lines.rows lines.columns
 
 abbrev pub verdict_output : List ℕ → Matrix → SizedTree → List ℕ
 verdict_output label m tree = label ++ answer_word (verdict_in tree) ++ named_line m (verdict_in tree) ++ outline_from 0 (tree_of tree.root)

@@ -1,4 +1,4 @@
-//! The tools of total unimodularity and its evidence: the tests, the checker, and the tools that rewrite and generate evidence.
+//! The tools that decompose a matrix: the tests of total unimodularity and regularity, and the tool that generates a matrix and tests it.
 #![tactic(auto)]
 
 pub mod laws;

@@ -2,15 +2,14 @@
 ghost use Rattle.std.specs.Prelude.{◌≡◌, ◌≤◌, ◌++◌, IfOk, OnOk, map, option_map};
 ghost use Rattle.tree_laws.specs.Laws.{Tells};
 ghost use Rattle.cmr_front.specs.Outcome.{file_of, outcome_report};
-ghost use Rattle.cmr_unimodular.specs.Verdict.{Decides, IsDecomposition, IsTold, answer_of, answer_word, fault_file, named_line, tree_file, verdict_in, verdict_order_of, verdict_output, verdict_report};
+ghost use Rattle.cmr_unimodular.specs.Verdict.{Decides, IsDecomposition, IsTold, fault_file, tree_file, verdict_in, verdict_order_of, verdict_output, verdict_report};
 ghost use Rattle.tree_type.specs.Verdicts.{verdict_shown};
 
 use crate::outline::push_outline;
 use cmr_base::{MAX_LINES, Matrix, Memory};
+use cmr_evidence::verdict_words::{answer_of, answer_word, push_named_line};
 use cmr_front::asked::push_submatrix;
 use cmr_front::outcome::{Outcome, OutputFile};
-use cmr_front::printed::{push_open_line, push_violator_line};
-use cmr_front::status::Answer;
 use decomp_tree::decompose;
 use first_hit::Workers;
 use std::alloc::Global;
@@ -103,28 +102,6 @@ pub fn report_tree<'a>(
     })
 }
 
-/// The answer for a verdict.
-pub fn answer_of(verdict: &VerdictOf<'_>) -> Answer
-    ensures { result ≡ answer_of (verdict_shown verdict.now) }
-{
-    match verdict {
-        VerdictOf::Yes => Answer::Yes,
-        VerdictOf::No(_) => Answer::No,
-        VerdictOf::Undecided(_) => Answer::Undecided,
-    }
-}
-
-/// The answer in words, which follows the label.
-pub fn answer_word(verdict: &VerdictOf<'_>) -> &'static [u8]
-    ensures { result.now ≡ answer_word (verdict_shown verdict.now) }
-{
-    match verdict {
-        VerdictOf::Yes => b": yes\n",
-        VerdictOf::No(_) => b": no\n",
-        VerdictOf::Undecided(_) => b": undecided\n",
-    }
-}
-
 fn verdict_text(
     alloc: Global,
     label: &[u8],
@@ -141,23 +118,6 @@ fn verdict_text(
     push_named_line(&mut text, matrix, verdict)?;
     push_outline(&mut text, tree)?;
     Ok(text)
-}
-
-/// Appends the line of the violator or of the open lines that a verdict names.
-pub fn push_named_line(
-    text: &mut Vec<u8>,
-    matrix: &Matrix,
-    verdict: &VerdictOf<'_>,
-) -> Result<(), Memory>
-    requires { Tells matrix.now (verdict_shown verdict.now) }
-    ensures { OnOk result (text.new.items
-        ≡ text.old.items ++ named_line matrix.now (verdict_shown verdict.now)) }
-{
-    match verdict {
-        VerdictOf::Yes => Ok(()),
-        VerdictOf::No(fault) => push_violator_line(text, fault, matrix.sum(fault)),
-        VerdictOf::Undecided(lines) => push_open_line(text, lines),
-    }
 }
 
 fn push_tree<'a>(

@@ -1,4 +1,4 @@
-use Rattle.cmr_unimodular.proofs.AlikeReports.{regular_alike, test_alike, tu_alike}
+use Rattle.cmr_unimodular.proofs.AlikeTrees.{regular_alike, tu_alike}
 use Rattle.cmr_unimodular.proofs.laws.reports_are_alike.Goals as goal
 
 pub returns-clause-tu : goal.returns-clause-tu
@@ -6,6 +6,3 @@ returns-clause-tu c = tu_alike
 
 pub returns-clause-regular : goal.returns-clause-regular
 returns-clause-regular c = regular_alike
-
-pub returns-clause-test : goal.returns-clause-test
-returns-clause-test c = test_alike

@@ -1,6 +1,6 @@
 use Rattle.std.proofs.Common.{ap}
 use Rattle.tree_type.specs.Verdicts.{verdict_shown}
-use Rattle.cmr_unimodular.proofs.Told.{fault_rows, fault_columns}
+use Rattle.cmr_evidence.proofs.VerdictWords.{fault_rows, fault_columns}
 use Rattle.cmr_unimodular.proofs.verdict.push_fault.Goals as goal
 
 pub push_submatrix-requires-clause-rows : goal.push_submatrix-requires-clause-rows

@@ -1,0 +1,5 @@
+pub mod SeriesParallel
+pub mod GraphicNetwork
+pub mod GraphMatrix
+pub mod AlikeNetworks
+pub mod GraphsGiveBack

@@ -1,0 +1,4 @@
+pub mod Unimodular
+pub mod VerdictWords
+pub mod Check
+pub mod Upgrade

@@ -1,6 +1,0 @@
-use Rattle.cmr_unimodular.specs.SeriesParallel.{series_parallel_order_of}
-use Rattle.cmr_unimodular.proofs.SeriesParallelAnswers.{series_parallel_lawful}
-use Rattle.cmr_unimodular.proofs.tools.series_parallel.SpOptionsTool.lawful.Goals as goal
-
-pub returns : goal.returns
-returns c = series_parallel_lawful (series_parallel_order_of c.args.self.now)
