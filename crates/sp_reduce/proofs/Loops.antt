@@ -7,7 +7,7 @@ use Rattle.cmr_base.specs.Matrix.{Matrix, entry}
 use Rattle.sp_reduce.specs.declared.side.StayingLines.{StayingLines}
 use Rattle.sp_reduce.specs.LineKinds.{table, is_twin}
 use Rattle.sp_reduce.specs.StayingSides.{weight}
-use Rattle.sp_reduce.specs.Changes.{crosses, HasForgotten, IsSameAt, IsUnsettled}
+use Rattle.sp_reduce.specs.Changes.{crosses, has_minus, IsHeldAt, HasForgotten, IsSameAt, IsUnsettled}
 
 -- ---- the numbers of the lines so far
 
@@ -22,30 +22,45 @@ pushed_each xs ys x f count long e here each at h = elim (cases_eq at count) [
 
 -- ---- a crossing line is forgotten
 
-module _ (m : Matrix) (start now new : StayingLines) (gone place : ℕ) (same : now ≡ record start { counts = now.counts; sums = now.sums; settled = now.settled }) (rest : (at : ℕ) → place ≤ at → IsSameAt start now at) where
-  crosses_same : (at : ℕ) → crosses m now gone at ≡ crosses m start gone at
-  crosses_same at = ap (λ (s : StayingLines). crosses m s gone at) same
+module _ (m : Matrix) (start now new : StayingLines) (removed place : ℕ) (same : now ≡ record start { counts = now.counts; sums = now.sums; minus_sums = now.minus_sums; settled = now.settled }) (rest : (at : ℕ) → place ≤ at → IsSameAt start now at) where
+  crosses_same : (at : ℕ) → crosses m now removed at ≡ crosses m start removed at
+  crosses_same at = ap (λ (s : StayingLines). crosses m s removed at) same
 
-  forgotten_here : HasForgotten m now new gone place → HasForgotten m start new gone place
+  minus_same : (at : ℕ) → has_minus m now removed at ≡ has_minus m start removed at
+  minus_same at = ap (λ (s : StayingLines). has_minus m s removed at) same
+
+  forgotten_here : HasForgotten m now new removed place → HasForgotten m start new removed place
   forgotten_here h =
       let was = rest place (omega arith) in
       record {
         count = ap (λ (b : Bool). get_or new.counts.items place 0 + cond b 1 0) (sym (crosses_same place)) ∙ h.count ∙ was.count;
-        sum = ap (λ (b : Bool). get_or new.sums.items place 0 + cond b (weight gone) 0) (sym (crosses_same place)) ∙ h.sum ∙ was.sum;
+        sum = ap (λ (b : Bool). get_or new.sums.items place 0 + cond b (weight removed) 0) (sym (crosses_same place)) ∙ h.sum ∙ was.sum;
+        minus_sum = ap (λ (b : Bool). get_or new.minus_sums.items place 0 + cond b (weight removed) 0) (sym (minus_same place)) ∙ h.minus_sum ∙ was.minus_sum;
         was = λ e. sym was.settled ∙ h.was e;
         many = λ e c. h.many e (crosses_same place ∙ c);
       }
 
-  pub forgotten_more : ((at : ℕ) → at < place → HasForgotten m start now gone at) → HasForgotten m now new gone place → ((at : ℕ) → (at ≡ place → ⊥) → IsSameAt now new at)
-      → (at : ℕ) → at < place + 1 → HasForgotten m start new gone at
+  -- what the line at this position includes is as it was
+  pub held_left : IsHeldAt m start removed place → IsHeldAt m now removed place
+  held_left h =
+      let was = rest place (omega arith) in
+      record {
+        count = λ e. subst (λ (n : ℕ). 1 ≤ n) (sym was.count) (h.count (sym (crosses_same place) ∙ e));
+        sum = λ e. subst (λ (n : ℕ). weight removed ≤ n) (sym was.sum) (h.sum (sym (crosses_same place) ∙ e));
+        minus_sum = λ e. subst (λ (n : ℕ). weight removed ≤ n) (sym was.minus_sum) (h.minus_sum (sym (minus_same place) ∙ e));
+      }
+
+  pub forgotten_more : ((at : ℕ) → at < place → HasForgotten m start now removed at) → HasForgotten m now new removed place → ((at : ℕ) → (at ≡ place → ⊥) → IsSameAt now new at)
+      → (at : ℕ) → at < place + 1 → HasForgotten m start new removed at
   forgotten_more done here others at h = elim (cases_eq at place) [
-    | inl q ↦ subst (λ (k : ℕ). HasForgotten m start new gone k) (sym q) (forgotten_here here)
+    | inl q ↦ subst (λ (k : ℕ). HasForgotten m start new removed k) (sym q) (forgotten_here here)
     | inr d ↦
         let was = done at (omega (arith, h, d)) in
         let is = others at d in
         record {
-          count = ap (λ (n : ℕ). n + cond (crosses m start gone at) 1 0) is.count ∙ was.count;
-          sum = ap (λ (n : ℕ). n + cond (crosses m start gone at) (weight gone) 0) is.sum ∙ was.sum;
+          count = ap (λ (n : ℕ). n + cond (crosses m start removed at) 1 0) is.count ∙ was.count;
+          sum = ap (λ (n : ℕ). n + cond (crosses m start removed at) (weight removed) 0) is.sum ∙ was.sum;
+          minus_sum = ap (λ (n : ℕ). n + cond (has_minus m start removed at) (weight removed) 0) is.minus_sum ∙ was.minus_sum;
           was = λ e. was.was (sym is.settled ∙ e);
           many = λ e c. subst (λ (n : ℕ). 1 < n) (sym is.count) (was.many (sym is.settled ∙ e) c);
         }
@@ -55,7 +70,7 @@ module _ (m : Matrix) (start now new : StayingLines) (gone place : ℕ) (same : 
   others_left others at h =
       let was = rest at (omega (arith, h)) in
       let is = others at (λ e. omega (arith, h, e)) in
-      record { count = is.count ∙ was.count; sum = is.sum ∙ was.sum; settled = is.settled ∙ was.settled }
+      record { count = is.count ∙ was.count; sum = is.sum ∙ was.sum; minus_sum = is.minus_sum ∙ was.minus_sum; settled = is.settled ∙ was.settled }
 
 -- ---- lines are settled no more
 

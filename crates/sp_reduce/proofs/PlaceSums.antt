@@ -105,25 +105,30 @@ tally_marked number marks size lines p are increases inside =
 -- ---- one place more passes
 
 module _ (number : ℕ → ℕ) (marks : List Bool) (size own place : ℕ) (before after : ℕ → ℕ → Bool) (inside : place < size)
-    (apart : (l k : ℕ) → (l ≡ own → k ≡ place → ⊥) → before l k ≡ after l k) (was_not : before own place ≡ false) (is : after own place ≡ true) where
-  own_more : tally number marks size (after own) ≡ tally number marks size (before own) + cond (get_or marks place false) (number place) 0
+    (apart : (l k : ℕ) → (l ≡ own → k ≡ place → ⊥) → before l k ≡ after l k) (was_not : before own place ≡ false) (counts : Bool) (is : after own place ≡ counts) where
+  abbrev more : ℕ
+  more = cond counts (cond (get_or marks place false) (number place) 0) 0
+
+  own_more : tally number marks size (after own) ≡ tally number marks size (before own) + more
   own_more =
-      sum_more (λ k. cond (get_or marks k false && before own k) (number k) 0) (λ k. cond (get_or marks k false && after own k) (number k) 0) place (cond (get_or marks place false) (number place) 0)
-      (first_lines size) (increasing_distinct (first_lines size) (first_lines_increase size)) (in_first_lines size place inside) (here (get_or marks place false))
+      sum_more (λ k. cond (get_or marks k false && before own k) (number k) 0) (λ k. cond (get_or marks k false && after own k) (number k) 0) place more
+      (first_lines size) (increasing_distinct (first_lines size) (first_lines_increase size)) (in_first_lines size place inside) (here (get_or marks place false) counts is)
       (λ k d. ap (λ (b : Bool). cond (get_or marks k false && b) (number k) 0) (apart own k (λ e q. d q)))
     where
-      here : (b : Bool) → cond (b && after own place) (number place) 0 ≡ cond (b && before own place) (number place) 0 + cond b (number place) 0
-      here true = rw (was_not, is) (omega arith)
-      here false = refl
+      here : (b v : Bool) → after own place ≡ v → cond (b && after own place) (number place) 0 ≡ cond (b && before own place) (number place) 0 + cond v (cond b (number place) 0) 0
+      here true true e = rw (was_not, e) (omega arith)
+      here true false e = rw (was_not, e) refl
+      here false true e = refl
+      here false false e = refl
 
-  pub one_more : (lines : ℕ) (xs ys : List ℕ) → own < length xs → own < lines → ys ≡ set xs own (get_or xs own 0 + cond (get_or marks place false) (number place) 0)
+  pub one_more : (lines : ℕ) (xs ys : List ℕ) → own < length xs → own < lines → ys ≡ set xs own (get_or xs own 0 + more)
       → ((l : ℕ) → l < lines → get_or xs l 0 ≡ tally number marks size (before l)) → (l : ℕ) → l < lines → get_or ys l 0 ≡ tally number marks size (after l)
   one_more lines xs ys long among changed each l h =
-      let value = get_or xs own 0 + cond (get_or marks place false) (number place) 0 in
+      let value = get_or xs own 0 + more in
       elim (cases_eq l own) [
         | inl q ↦
             ap (λ (zs : List ℕ). get_or zs l 0) changed ∙ ap (λ (k : ℕ). get_or (set xs own value) k 0) q ∙ get_or-set_same xs own value 0 long
-            ∙ ap (λ (n : ℕ). n + cond (get_or marks place false) (number place) 0) (each own among) ∙ sym own_more ∙ ap (λ (k : ℕ). tally number marks size (after k)) (sym q)
+            ∙ ap (λ (n : ℕ). n + more) (each own among) ∙ sym own_more ∙ ap (λ (k : ℕ). tally number marks size (after k)) (sym q)
         | inr d ↦
             ap (λ (zs : List ℕ). get_or zs l 0) changed ∙ get_or-set_other xs own l value 0 d ∙ each l h
             ∙ tally_same number marks size (before l) (after l) (λ k g. apart l k (λ q e. d q))

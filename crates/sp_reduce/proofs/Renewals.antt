@@ -51,42 +51,42 @@ cancel binary a b u v (inr (f, e)) h =
     flip : (a b : ℤ) → neg_ℤ a ≡ neg_ℤ b → a ≡ b
     flip a b e = omega (arith, sums, e)
 
-module _ (binary : Bool) (N : ℕ → ℕ → ℤ) (cross : ℕ → Line) (R C : List ℕ) (gone j : ℕ) (reason : Reason) where
-  at_gone : IsIn j C → IsMeant binary (λ k l. N l k) cross R C gone reason → (t : HasTwin binary N C (without R gone) j)
-      → ((c : ℕ) → reason ≡ One (cross c) → IsIn c C → (j ≢ c) × (is_twin binary N (without R gone) c j ≡ false)) → N t.line gone ≡ t.factor *ℤ N j gone
-  at_gone there (inl zeros) t unit = both_zero (N t.line gone) (N j gone) t.factor (zeros t.line t.stays) (zeros j there)
-  at_gone there (inr (inl w)) t unit =
-      cancel binary (N t.line gone) (N j gone) t.factor w.factor w.is_factor
-      (sym (w.same t.line t.stays) ∙ t.same w.line (in_without gone w.line R w.stays w.other) ∙ ap (λ (z : ℤ). t.factor *ℤ z) (w.same j there))
-  at_gone there (inr (inr (c, is, in_, only))) t unit =
+module _ (binary : Bool) (N : ℕ → ℕ → ℤ) (cross : ℕ → Line) (R C : List ℕ) (removed j : ℕ) (reason : Reason) where
+  at_removed : IsIn j C → IsMeant binary (λ k l. N l k) cross R C removed reason → (t : HasTwin binary N C (without R removed) j)
+      → ((c : ℕ) → reason ≡ One (cross c) → IsIn c C → (j ≢ c) × (is_twin binary N (without R removed) c j ≡ false)) → N t.line removed ≡ t.factor *ℤ N j removed
+  at_removed there (inl zeros) t unit = both_zero (N t.line removed) (N j removed) t.factor (zeros t.line t.stays) (zeros j there)
+  at_removed there (inr (inl w)) t unit =
+      cancel binary (N t.line removed) (N j removed) t.factor w.factor w.is_factor
+      (sym (w.same t.line t.stays) ∙ t.same w.line (in_without removed w.line R w.stays w.other) ∙ ap (λ (z : ℤ). t.factor *ℤ z) (w.same j there))
+  at_removed there (inr (inr (c, is, in_, only))) t unit =
       let other = unit c is in_ in
-      let here : N j gone ≡ pos 0 = zero_by (N j gone) (λ d. other.0 (only j there d)) in
+      let here : N j removed ≡ pos 0 = zero_by (N j removed) (λ d. other.0 (only j there d)) in
       elim (cases_eq t.line c) [
-        | inl q ↦ true_is_false (sym (twin_is binary N (without R gone) c j t.factor other.0 t.is_factor (λ k h. ap (λ (l : ℕ). N l k) (sym q) ∙ t.same k h)) ∙ other.1)
-        | inr d ↦ both_zero (N t.line gone) (N j gone) t.factor (zero_by (N t.line gone) (λ e. d (only t.line t.stays e))) here
+        | inl q ↦ true_is_false (sym (twin_is binary N (without R removed) c j t.factor other.0 t.is_factor (λ k h. ap (λ (l : ℕ). N l k) (sym q) ∙ t.same k h)) ∙ other.1)
+        | inr d ↦ both_zero (N t.line removed) (N j removed) t.factor (zero_by (N t.line removed) (λ e. d (only t.line t.stays e))) here
       ]
 
-  pub irreducible_after : IsStrictlyIncreasing R → IsIn j C → IsMeant binary (λ k l. N l k) cross R C gone reason → ¬ IsReducible binary N C R j
-      → (is_nonzero (N j gone) ≡ true → 1 < nonzeros_at (without R gone) (N j))
-      → ((c : ℕ) → reason ≡ One (cross c) → IsIn c C → (j ≢ c) × (is_twin binary N (without R gone) c j ≡ false)) → ¬ IsReducible binary N C (without R gone) j
-  irreducible_after increases there meant irreducible many unit (inl thin) = go (is_nonzero (N j gone)) refl
+  pub irreducible_after : IsStrictlyIncreasing R → IsIn j C → IsMeant binary (λ k l. N l k) cross R C removed reason → ¬ IsReducible binary N C R j
+      → (is_nonzero (N j removed) ≡ true → 1 < nonzeros_at (without R removed) (N j))
+      → ((c : ℕ) → reason ≡ One (cross c) → IsIn c C → (j ≢ c) × (is_twin binary N (without R removed) c j ≡ false)) → ¬ IsReducible binary N C (without R removed) j
+  irreducible_after increases there meant irreducible many unit (inl thin) = go (is_nonzero (N j removed)) refl
     where
-      go : (b : Bool) → is_nonzero (N j gone) ≡ b → ⊥
+      go : (b : Bool) → is_nonzero (N j removed) ≡ b → ⊥
       go true e =
-          let few = count_from_thin (without R gone) (N j) (increasing_distinct (without R gone) (without_increases gone R increases)) thin in
+          let few = count_from_thin (without R removed) (N j) (increasing_distinct (without R removed) (without_increases removed R increases)) thin in
           let more = many e in
           omega (arith, few, more)
       go false e =
-          let apart : (x : ℕ) → N j x ≢ pos 0 → x ≢ gone = λ x d q. d (ap (N j) q ∙ zero_is (N j gone) e) in
-          irreducible (inl (λ x y h g d f. thin x y (in_without gone x R h (apart x d)) (in_without gone y R g (apart y f)) d f))
+          let apart : (x : ℕ) → N j x ≢ pos 0 → x ≢ removed = λ x d q. d (ap (N j) q ∙ zero_is (N j removed) e) in
+          irreducible (inl (λ x y h g d f. thin x y (in_without removed x R h (apart x d)) (in_without removed y R g (apart y f)) d f))
   irreducible_after increases there meant irreducible many unit (inr t) = irreducible (inr (record {
     line = t.line;
     stays = t.stays;
     other = t.other;
     factor = t.factor;
     is_factor = t.is_factor;
-    same = λ k h. elim (cases_eq k gone) [
-      | inl q ↦ subst (λ (v : ℕ). N t.line v ≡ t.factor *ℤ N j v) (sym q) (at_gone there meant t unit)
-      | inr d ↦ t.same k (in_without gone k R h d)
+    same = λ k h. elim (cases_eq k removed) [
+      | inl q ↦ subst (λ (v : ℕ). N t.line v ≡ t.factor *ℤ N j v) (sym q) (at_removed there meant t unit)
+      | inr d ↦ t.same k (in_without removed k R h d)
     ];
   }))

@@ -16,11 +16,11 @@ pub side_marked : (m : Matrix) (side side' : StayingLines) → side' ≡ record 
 side_marked m side side' e long is = subst (λ (s : StayingLines). IsSide m s) (sym e) (record {
   increasing = is.increasing;
   in_range = is.in_range;
-  parallel = record { counts = is.parallel.counts; sums = is.parallel.sums; settled = long };
+  parallel = record { counts = is.parallel.counts; sums = is.parallel.sums; minus_sums = is.parallel.minus_sums; settled = long };
 })
 
 pub counted_marked : (m : Matrix) (side side' : StayingLines) (across : List ℕ) → side' ≡ record side { settled = side'.settled } → AreNonzerosCounted m side across → AreNonzerosCounted m side' across
-counted_marked m side side' across e is = subst (λ (s : StayingLines). AreNonzerosCounted m s across) (sym e) (record { counts = is.counts; sums = is.sums })
+counted_marked m side side' across e is = subst (λ (s : StayingLines). AreNonzerosCounted m s across) (sym e) (record { counts = is.counts; sums = is.sums; minus_sums = is.minus_sums })
 
 pub across_marked : (m : Matrix) (side side' : StayingLines) (across : List ℕ) → side' ≡ record side { settled = side'.settled } → IsAcross m side.kind across → IsAcross m side'.kind across
 across_marked m side side' across e is = subst (λ (s : StayingLines). IsAcross m s.kind across) (sym e) is

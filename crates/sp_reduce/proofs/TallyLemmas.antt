@@ -1,5 +1,5 @@
 -- The nonzeros of all lines of a kind, while the rows are visited.
-use Rattle.std.proofs.Common.{◌≡◌, ◌≢◌, ◌<◌, ◌≤◌, ◌+◌, ◌*◌, ◌^◌, ◌&&◌, ◌∙◌, inl, inr, ℕ, Bool, true, false, cond, ltb, eqb, List, length, get_or, set, sum_by, replicate, eq-eqb, ne_eqb, refl, ap, sym, subst, arith}
+use Rattle.std.proofs.Common.{◌≡◌, ◌≢◌, ◌<◌, ◌≤◌, ◌+◌, ◌*◌, ◌^◌, ◌&&◌, ◌∙◌, inl, inr, ℕ, zero, suc, ℤ, pos, negsuc, Bool, true, false, cond, ltb, eqb, List, length, get_or, set, sum_by, replicate, eq-eqb, ne_eqb, refl, ap, sym, subst, arith}
 use Rattle.std.proofs.lemmas.Bool.{cases_lt, cases_eq, lt-ltb, le-ltb}
 use Rattle.std.proofs.lemmas.List.{get_or-replicate, length-replicate, length-set}
 use Rattle.std.proofs.Math.Nat.{le_trans, mul-le-mul_right}
@@ -7,14 +7,15 @@ use Rattle.cmr_base.specs.Matrix.{Matrix, height, entry, is_nonzero, IsMatrix}
 use Rattle.cmr_base.specs.Trees.{support}
 use Rattle.cmr_base.specs.Reductions.{nonzeros_at}
 use Rattle.cmr_base.specs.LineSets.{AllBelow}
+use Rattle.cmr_base.specs.Planes.{is_minus}
 use Rattle.cmr_base.specs.Members.{IsIn}
 use Rattle.cmr_base.proofs.ListsWithout.{place_of, place_is}
 use Rattle.sp_reduce.specs.declared.kind.LineKind.{LineKind}
 use Rattle.sp_reduce.specs.declared.kind.LineKind.TheVariants.{Rows, Columns}
 use Rattle.sp_reduce.specs.declared.tallies.Tallies.{Tallies}
 use Rattle.sp_reduce.specs.LineKinds.{count_of_kind, cross_size, other_kind, own_line, table}
-use Rattle.sp_reduce.specs.StayingSides.{weight, weight_at, IsAcross}
-use Rattle.sp_reduce.specs.Tallies.{AreMarks, AreTallies, AreTalliesAt, AreTalliesOf, AreWeights, is_passed, by_kind}
+use Rattle.sp_reduce.specs.StayingSides.{weight, weight_at, minus_weight_at, IsAcross}
+use Rattle.sp_reduce.specs.Tallies.{AreMarks, AreTallies, AreTalliesAt, AreTalliesOf, AreWeights, is_passed, is_passed_minus, by_kind}
 use Rattle.sp_reduce.proofs.PlaceSums.{tally_same, tally_none, tally_bound, tally_marked, one_more}
 use Rattle.sp_reduce.proofs.Weights.{weight_small}
 
@@ -128,6 +129,24 @@ by_kind_all m Columns l k h g = all_passed m k l g
 
 -- ---- the counts and the sums
 
+-- at the same places there are the same entries -1
+minus_same : (m : Matrix) (i j : ℕ) {b c : Bool} → b ≡ c → (b && is_minus (entry m i j)) ≡ (c && is_minus (entry m i j))
+minus_same m i j e = ap (λ (passed : Bool). passed && is_minus (entry m i j)) e
+
+-- all entries -1 were passed: they are nonzeros
+all_minus_passed : (m : Matrix) (i j : ℕ) → i < height m → is_passed_minus m (height m) 0 i j ≡ is_minus (entry m i j)
+all_minus_passed m i j h = minus_same m i j (all_passed m i j h) ∙ nonzero_too (entry m i j)
+  where
+    nonzero_too : (z : ℤ) → (is_nonzero z && is_minus z) ≡ is_minus z
+    nonzero_too (pos zero) = refl
+    nonzero_too (pos (suc n)) = refl
+    nonzero_too (negsuc n) = refl
+
+by_kind_all_minus : (m : Matrix) (kind : LineKind) (l k : ℕ) → l < count_of_kind m kind → k < cross_size m kind
+    → by_kind (is_passed_minus m (height m) 0) kind l k ≡ by_kind (λ i j. is_minus (entry m i j)) kind l k
+by_kind_all_minus m Rows l k h g = all_minus_passed m l k h
+by_kind_all_minus m Columns l k h g = all_minus_passed m k l g
+
 pub tallies_same : (m : Matrix) (kind : LineKind) (marks : List Bool) (row column row' column' : ℕ) (t : Tallies) → ((i j : ℕ) → is_passed m row column i j ≡ is_passed m row' column' i j)
     → AreTallies m kind marks row column t → AreTallies m kind marks row' column' t
 tallies_same m kind marks row column row' column' t same are =
@@ -136,19 +155,30 @@ tallies_same m kind marks row column row' column' t same are =
     record {
       many_counts = are.many_counts;
       many_sums = are.many_sums;
+      many_minus_sums = are.many_minus_sums;
       counts = λ l h. are.counts l h ∙ tally_same (λ _. 1) marks (cross_size m kind) (by_kind p kind l) (by_kind q kind l) (λ k g. by_kind_same kind p q same l k);
       sums = λ l h. are.sums l h ∙ tally_same weight marks (cross_size m kind) (by_kind p kind l) (by_kind q kind l) (λ k g. by_kind_same kind p q same l k);
+      minus_sums = λ l h.
+          are.minus_sums l h
+          ∙ tally_same weight marks (cross_size m kind) (by_kind (is_passed_minus m row column) kind l) (by_kind (is_passed_minus m row' column') kind l)
+          (λ k g. by_kind_same kind (is_passed_minus m row column) (is_passed_minus m row' column') (λ i j. minus_same m i j (same i j)) l k);
     }
 
-pub tallies_start : (m : Matrix) (kind : LineKind) (marks : List Bool) (t : Tallies) → t.counts.items ≡ replicate (count_of_kind m kind) 0 → t.sums.items ≡ replicate (count_of_kind m kind) 0 → AreTallies m kind marks 0 0 t
-tallies_start m kind marks t counts sums =
+pub tallies_start : (m : Matrix) (kind : LineKind) (marks : List Bool) (t : Tallies) → t.counts.items ≡ replicate (count_of_kind m kind) 0 → t.sums.items ≡ replicate (count_of_kind m kind) 0
+    → t.minus_sums.items ≡ replicate (count_of_kind m kind) 0 → AreTallies m kind marks 0 0 t
+tallies_start m kind marks t counts sums minus_sums =
     let p = is_passed m 0 0 in
     let none = λ (l k : ℕ). by_kind_none kind p (none_passed m) l k in
     record {
       many_counts = ap (λ (xs : List ℕ). length xs) counts ∙ length-replicate (count_of_kind m kind) 0;
       many_sums = ap (λ (xs : List ℕ). length xs) sums ∙ length-replicate (count_of_kind m kind) 0;
+      many_minus_sums = ap (λ (xs : List ℕ). length xs) minus_sums ∙ length-replicate (count_of_kind m kind) 0;
       counts = λ l h. zero_at t.counts.items counts l h ∙ sym (tally_none (λ _. 1) marks (cross_size m kind) (by_kind p kind l) (none l));
       sums = λ l h. zero_at t.sums.items sums l h ∙ sym (tally_none weight marks (cross_size m kind) (by_kind p kind l) (none l));
+      minus_sums = λ l h.
+          zero_at t.minus_sums.items minus_sums l h
+          ∙ sym (tally_none weight marks (cross_size m kind) (by_kind (is_passed_minus m 0 0) kind l)
+          (by_kind_none kind (is_passed_minus m 0 0) (λ i j. minus_same m i j (none_passed m i j)) l));
     }
   where
     zero_at : (xs : List ℕ) → xs ≡ replicate (count_of_kind m kind) 0 → (l : ℕ) → l < count_of_kind m kind → get_or xs l 0 ≡ 0
@@ -167,13 +197,21 @@ module _ (m : Matrix) (kind : LineKind) (marks : List Bool) (row column : ℕ) (
       at_most (cross_size m kind) (1000 ^ 5) (cross_small m kind shape) (are.sums l h)
       (tally_bound weight marks (cross_size m kind) (1000 ^ 5) (by_kind (is_passed m row column) kind l) (λ k g. let few = cross_small m kind shape in weight_small (k + 1) (omega (arith, few, g))))
 
+  pub minus_sums_small : (l : ℕ) → l < count_of_kind m kind → get_or t.minus_sums.items l 0 ≤ 1000 * 1000 ^ 5
+  minus_sums_small l h =
+      at_most (cross_size m kind) (1000 ^ 5) (cross_small m kind shape) (are.minus_sums l h)
+      (tally_bound weight marks (cross_size m kind) (1000 ^ 5) (by_kind (is_passed_minus m row column) kind l) (λ k g. let few = cross_small m kind shape in weight_small (k + 1) (omega (arith, few, g))))
+
 pub tallies_step : (m : Matrix) (kind : LineKind) (marks : List Bool) (row from next : ℕ) (t t' : Tallies) → AreTallies m kind marks row from t → row < height m → next < m.width
     → from ≤ next → support m row next ≡ true → ((c : ℕ) → from ≤ c → c < next → support m row c ≡ false)
     → t'.counts.items ≡ set t.counts.items (own_line kind row next) (get_or t.counts.items (own_line kind row next) 0 + cond (get_or marks (own_line (other_kind kind) row next) false) 1 0)
     → t'.sums.items ≡ set t.sums.items (own_line kind row next)
     (get_or t.sums.items (own_line kind row next) 0 + cond (get_or marks (own_line (other_kind kind) row next) false) (weight (own_line (other_kind kind) row next)) 0)
+    → t'.minus_sums.items ≡ set t.minus_sums.items (own_line kind row next)
+    (get_or t.minus_sums.items (own_line kind row next) 0
+    + cond (is_minus (entry m row next)) (cond (get_or marks (own_line (other_kind kind) row next) false) (weight (own_line (other_kind kind) row next)) 0) 0)
     → AreTallies m kind marks row (next + 1) t'
-tallies_step m kind marks row from next t t' are h g ordered found none counts sums =
+tallies_step m kind marks row from next t t' are h g ordered found none counts sums minus_sums =
     let p = is_passed m row from in
     let q = is_passed m row (next + 1) in
     let own = own_line kind row next in
@@ -181,15 +219,24 @@ tallies_step m kind marks row from next t t' are h g ordered found none counts s
     let apart = by_kind_apart kind p q row next (passed_apart m row from next ordered found none) in
     let was_not = by_kind_at kind p row next ∙ not_passed m row from next ordered found none in
     let is = by_kind_at kind q row next ∙ now_passed m row from next ordered found none in
+    let minus = is_minus (entry m row next) in
+    let p' = is_passed_minus m row from in
+    let q' = is_passed_minus m row (next + 1) in
+    let apart' = by_kind_apart kind p' q' row next (λ i j d. minus_same m i j (passed_apart m row from next ordered found none i j d)) in
+    let was_not' = by_kind_at kind p' row next ∙ minus_same m row next (not_passed m row from next ordered found none) in
+    let is' = by_kind_at kind q' row next ∙ minus_same m row next (now_passed m row from next ordered found none) in
     let among = own_in m kind row next h g in
     let crossing = other_in m kind row next h g in
     record {
       many_counts = ap (λ (xs : List ℕ). length xs) counts ∙ long t.counts.items own _ ∙ are.many_counts;
       many_sums = ap (λ (xs : List ℕ). length xs) sums ∙ long t.sums.items own _ ∙ are.many_sums;
-      counts = one_more (λ _. 1) marks (cross_size m kind) own other (by_kind p kind) (by_kind q kind) crossing apart was_not is (count_of_kind m kind) t.counts.items t'.counts.items
+      many_minus_sums = ap (λ (xs : List ℕ). length xs) minus_sums ∙ long t.minus_sums.items own _ ∙ are.many_minus_sums;
+      counts = one_more (λ _. 1) marks (cross_size m kind) own other (by_kind p kind) (by_kind q kind) crossing apart was_not true is (count_of_kind m kind) t.counts.items t'.counts.items
           (omega (arith, among, are.many_counts)) among counts are.counts;
-      sums = one_more weight marks (cross_size m kind) own other (by_kind p kind) (by_kind q kind) crossing apart was_not is (count_of_kind m kind) t.sums.items t'.sums.items
+      sums = one_more weight marks (cross_size m kind) own other (by_kind p kind) (by_kind q kind) crossing apart was_not true is (count_of_kind m kind) t.sums.items t'.sums.items
           (omega (arith, among, are.many_sums)) among sums are.sums;
+      minus_sums = one_more weight marks (cross_size m kind) own other (by_kind p' kind) (by_kind q' kind) crossing apart' was_not' minus is' (count_of_kind m kind) t.minus_sums.items t'.minus_sums.items
+          (omega (arith, among, are.many_minus_sums)) among minus_sums are.minus_sums;
     }
   where
     long : (xs : List ℕ) (i x : ℕ) → length (set xs i x) ≡ length xs
@@ -220,11 +267,26 @@ module _ (m : Matrix) (kind : LineKind) (marks : List Bool) (across : List ℕ) 
       are.sums l h ∙ tally_same weight marks (cross_size m kind) (by_kind (is_passed m (height m) 0) kind l) (by_kind (support m) kind l) (λ k g. by_kind_all m kind l k h g)
       ∙ tally_marked weight marks (cross_size m kind) across (by_kind (support m) kind l) marked is.increasing inside ∙ by_table l weight
 
+  by_table_minus : (l : ℕ) → sum_of weight (by_kind (λ i j. is_minus (entry m i j)) kind l) ≡ sum_of weight (λ k. is_minus (table (entry m) kind l k))
+  by_table_minus l = go kind
+    where
+      go : (x : LineKind) → sum_of weight (by_kind (λ i j. is_minus (entry m i j)) x l) ≡ sum_of weight (λ k. is_minus (table (entry m) x l k))
+      go Rows = refl
+      go Columns = refl
+
+  minus_sums_are : (l : ℕ) → l < count_of_kind m kind → get_or t.minus_sums.items l 0 ≡ minus_weight_at across (table (entry m) kind l)
+  minus_sums_are l h =
+      are.minus_sums l h
+      ∙ tally_same weight marks (cross_size m kind) (by_kind (is_passed_minus m (height m) 0) kind l) (by_kind (λ i j. is_minus (entry m i j)) kind l) (λ k g. by_kind_all_minus m kind l k h g)
+      ∙ tally_marked weight marks (cross_size m kind) across (by_kind (λ i j. is_minus (entry m i j)) kind l) marked is.increasing inside ∙ by_table_minus l
+
   -- and only of some lines
   pub tallies_of : (lines : List ℕ) (some : Tallies) → AllBelow (count_of_kind m kind) lines → AreTalliesAt lines (length lines) t some → AreTalliesOf m kind lines across some
   tallies_of lines some below at = record {
     many_counts = at.many_counts;
     many_sums = at.many_sums;
+    many_minus_sums = at.many_minus_sums;
     counts = λ k h. at.counts k h ∙ counts_are (get_or lines k 0) (below k h);
     sums = λ k h. at.sums k h ∙ sums_are (get_or lines k 0) (below k h);
+    minus_sums = λ k h. at.minus_sums k h ∙ minus_sums_are (get_or lines k 0) (below k h);
   }

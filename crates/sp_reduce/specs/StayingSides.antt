@@ -1,5 +1,5 @@
--- The lines of one kind that remain, with the count, the sum and the mark of each.
-use Rattle.std.specs.Prelude.{◌≡◌, ◌<◌, ◌+◌, ◌^◌, ◌&&◌, ◌==◌, not, if◌then◌else◌, Bool, true, false, ℕ, ℤ, neg_ℤ, List, [], ◌∷◌, length, slice_index, slice_index_or, sum_by, find, Option, Some, None, option_map}
+-- The lines of one kind that remain, with the count, the two sums and the mark of each.
+use Rattle.std.specs.Prelude.{◌≡◌, ◌<◌, ◌+◌, ◌-◌, ◌^◌, ◌&&◌, ◌==◌, not, if◌then◌else◌, Bool, true, false, ℕ, ℤ, neg_ℤ, List, [], ◌∷◌, length, slice_index, slice_index_or, sum_by, find, Option, Some, None, option_map}
 use Rattle.std.specs.Option.{option_or}
 use Rattle.std.specs.List.Sorted.{IsStrictlyIncreasing}
 use Rattle.cmr_base.specs.declared.line.Reason.{Reason}
@@ -7,6 +7,7 @@ use Rattle.cmr_base.specs.declared.line.Reason.TheVariants.{Copy, Negative}
 use Rattle.cmr_base.specs.declared.line.Step.{Step}
 use Rattle.cmr_base.specs.Matrix.{Matrix, entry, is_nonzero}
 use Rattle.cmr_base.specs.LineSets.{AllBelow}
+use Rattle.cmr_base.specs.Planes.{is_minus}
 use Rattle.cmr_base.specs.Reductions.{nonzeros_at, equal_at}
 use Rattle.sp_reduce.specs.declared.kind.LineKind.{LineKind}
 use Rattle.sp_reduce.specs.declared.side.Found.{Found}
@@ -21,10 +22,15 @@ weight number = (number + 1) ^ 5
 abbrev pub weight_at : List ℕ → (ℕ → ℤ) → ℕ
 weight_at places f = sum_by (λ k. if is_nonzero (f k) then weight k else 0) places
 
--- each remaining line has a count, a sum and a mark
+-- the sum of the weights of the positions of entries -1
+abbrev pub minus_weight_at : List ℕ → (ℕ → ℤ) → ℕ
+minus_weight_at places f = sum_by (λ k. if is_minus (f k) then weight k else 0) places
+
+-- each remaining line has a count, two sums and a mark
 pub record IsParallel (side : StayingLines) : Type 0 where
   pub counts : length side.counts.items ≡ length side.stays.items
   pub sums : length side.sums.items ≡ length side.stays.items
+  pub minus_sums : length side.minus_sums.items ≡ length side.stays.items
   pub settled : length side.settled.items ≡ length side.stays.items
 
 -- increasing numbers of lines of the matrix
@@ -43,6 +49,15 @@ abbrev pub may_be_twins : StayingLines → ℕ → ℕ → Bool
 may_be_twins side place other =
     slice_index side.sums.items other == slice_index side.sums.items place && not (slice_index side.stays.items other == slice_index side.stays.items place)
 
+-- the same, and the entries -1 have the sum of those of a copy
+abbrev pub may_be_copy : StayingLines → ℕ → ℕ → Bool
+may_be_copy side place other = may_be_twins side place other && slice_index side.minus_sums.items other == slice_index side.minus_sums.items place
+
+-- the same, and the entries -1 have the sum of those of the negative: the entries 1 become entries -1
+abbrev pub may_be_negative : StayingLines → ℕ → ℕ → Bool
+may_be_negative side place other =
+    may_be_twins side place other && slice_index side.minus_sums.items other == slice_index side.sums.items place - slice_index side.minus_sums.items place
+
 -- no other line has the sum of the line at a position
 abbrev pub IsAlone : StayingLines → ℕ → Type 0
 IsAlone side place = (other : ℕ) → other < length side.stays.items → may_be_twins side place other ≡ false
@@ -53,6 +68,8 @@ pub record AreNonzerosCounted (m : Matrix) (side : StayingLines) (across : List 
       → slice_index side.counts.items at ≡ nonzeros_at across (table (entry m) side.kind (slice_index side.stays.items at))
   pub sums : (at : ℕ) → at < length side.stays.items
       → slice_index side.sums.items at ≡ weight_at across (table (entry m) side.kind (slice_index side.stays.items at))
+  pub minus_sums : (at : ℕ) → at < length side.stays.items
+      → slice_index side.minus_sums.items at ≡ minus_weight_at across (table (entry m) side.kind (slice_index side.stays.items at))
 
 -- a marked line is not reducible
 abbrev pub IsSettled : Bool → Matrix → StayingLines → List ℕ → Type 0

@@ -6,7 +6,7 @@ ghost use Rattle.sp_reduce.specs.LineKinds.{cross_size};
 ghost use Rattle.sp_reduce.specs.StayingSides.{IsParallel, IsSide, IsAcross, AreNonzerosCounted, IsSettled};
 ghost use Rattle.sp_reduce.specs.Changes.{WasRightBefore, IsRemovedAt, IsHeld, IsHeldAt, HasForgotten, IsSameAt, IsForgetting, IsUnsettled};
 
-use crate::kind::{index_of_line, is_nonzero};
+use crate::kind::{entry, index_of_line, is_minus, is_nonzero};
 use crate::side::StayingLines;
 use crate::tallies::weight;
 use cmr_base::{Matrix, Reason};
@@ -16,21 +16,21 @@ impl StayingLines {
     pub fn renew(
         &mut self,
         matrix: &Matrix,
-        gone: u32,
+        removed: u32,
         reason: Reason,
         across: &[u32],
         binary: bool,
     )
         requires shape { IsMatrix matrix.now }
         requires side { IsSide matrix.now self.old }
-        requires before { WasRightBefore binary matrix.now self.old across.now gone reason }
+        requires before { WasRightBefore binary matrix.now self.old across.now removed reason }
         ensures kind { self.new.kind ≡ self.old.kind }
         ensures stays { self.new.stays.items ≡ self.old.stays.items }
         ensures side { IsSide matrix.now self.new }
         ensures counted { AreNonzerosCounted matrix.now self.new across.now }
         ensures settled { IsSettled binary matrix.now self.new across.now }
     {
-        self.forget(matrix, gone);
+        self.forget(matrix, removed);
         if let Reason::Unit(line) = reason {
             if let Some(place) = self.place_of(index_of_line(line)) {
                 self.unsettle(matrix, place, across, binary);
@@ -56,41 +56,46 @@ impl StayingLines {
     {
         self.counts.remove(place);
         self.sums.remove(place);
+        self.minus_sums.remove(place);
         self.settled.remove(place);
         self.stays.remove(place)
     }
 
     // Updates the counts and the sums for a crossing line that is removed.
-    pub fn forget(&mut self, matrix: &Matrix, gone: u32)
+    pub fn forget(&mut self, matrix: &Matrix, removed: u32)
         requires shape { IsMatrix matrix.now }
         requires side { IsSide matrix.now self.old }
-        requires gone { gone < cross_size matrix.now self.old.kind }
-        requires held { IsHeld matrix.now self.old gone }
-        ensures forgetting { IsForgetting matrix.now self.old self.new gone }
+        requires removed { removed < cross_size matrix.now self.old.kind }
+        requires held { IsHeld matrix.now self.old removed }
+        ensures forgetting { IsForgetting matrix.now self.old self.new removed }
     {
         'places: for place in 0..self.stays.len() {
-            self.forget_at(matrix, place, gone);
+            self.forget_at(matrix, place, removed);
         }
     }
 
-    fn forget_at(&mut self, matrix: &Matrix, place: usize, gone: u32)
+    fn forget_at(&mut self, matrix: &Matrix, place: usize, removed: u32)
         requires shape { IsMatrix matrix.now }
         requires side { IsSide matrix.now self.old }
-        requires gone { gone < cross_size matrix.now self.old.kind }
+        requires removed { removed < cross_size matrix.now self.old.kind }
         requires place { place < length self.old.stays.items }
-        requires held { IsHeldAt matrix.now self.old gone place }
+        requires held { IsHeldAt matrix.now self.old removed place }
         ensures same { self.new ≡ record self.old {
           counts = self.new.counts;
           sums = self.new.sums;
+          minus_sums = self.new.minus_sums;
           settled = self.new.settled;
         } }
         ensures parallel { IsParallel self.new }
-        ensures here { HasForgotten matrix.now self.old self.new gone place }
+        ensures here { HasForgotten matrix.now self.old self.new removed place }
         ensures others { (at : ℕ) → (at ≡ place → ⊥) → IsSameAt self.old self.new at }
     {
-        if is_nonzero(matrix, self.kind, self.stays[place], gone) {
+        if is_nonzero(matrix, self.kind, self.stays[place], removed) {
             self.counts[place] -= 1;
-            self.sums[place] -= weight(gone);
+            self.sums[place] -= weight(removed);
+            if is_minus(entry(matrix, self.kind, self.stays[place], removed)) {
+                self.minus_sums[place] -= weight(removed);
+            }
             if self.counts[place] <= 1 {
                 self.settled[place] = false;
             }

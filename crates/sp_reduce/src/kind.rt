@@ -3,6 +3,7 @@ ghost use Rattle.std.specs.Prelude.{◌≡◌, ◌<◌, neg_ℤ};
 ghost use Rattle.std.specs.Ordering.{int_eq};
 ghost use Rattle.cmr_base.specs.Matrix.{entry, is_nonzero, IsEntry};
 ghost use Rattle.cmr_base.specs.LineSets.{AllBelow};
+ghost use Rattle.cmr_base.specs.Planes.{is_minus};
 ghost use Rattle.cmr_base.specs.Reductions.{nonzeros_at, equal_at};
 ghost use Rattle.sp_reduce.specs.LineKinds.{index_of_line, line_named, cross_named, other_kind, own_line, count_of_kind, cross_size, table};
 
@@ -95,6 +96,13 @@ pub fn is_nonzero(matrix: &Matrix, kind: LineKind, line: u32, other: u32) -> boo
         LineKind::Rows => matrix.is_nonzero(line, other),
         LineKind::Columns => matrix.is_nonzero(other, line),
     }
+}
+
+// Whether an entry is -1.
+pub fn is_minus(entry: i8) -> bool
+    ensures { result ≡ is_minus entry }
+{
+    entry < 0
 }
 
 fn is_equal(matrix: &Matrix, kind: LineKind, line: u32, twin: u32, other: u32) -> bool

@@ -1,24 +1,26 @@
-// The lines of one kind that remain, with the count, the sum and the mark of each.
+// The lines of one kind that remain, with the count, the two sums and the mark of each.
 ghost use Rattle.std.specs.Prelude.{IfOk, Bool, ℕ, false, ◌≡◌, ◌≢◌, ◌<◌, ◌≤◌, length, slice_index, find, Some, None, MatchOption};
 ghost use Rattle.std.specs.List.Sorted.{IsStrictlyIncreasing};
 ghost use Rattle.cmr_base.specs.Matrix.{entry, is_nonzero, IsMatrix};
 ghost use Rattle.cmr_base.specs.LineSets.{AllBelow};
 ghost use Rattle.sp_reduce.specs.LineKinds.{count_of_kind, cross_size, table, reason_for, is_twin};
-ghost use Rattle.sp_reduce.specs.StayingSides.{is_copy, is_negative, twin_reason, may_be_twins, IsAlone, IsParallel, IsSide, IsAcross, AreNonzerosCounted, IsSettled, IsFirstReducible, first_step_of};
+ghost use Rattle.sp_reduce.specs.StayingSides.{is_copy, is_negative, twin_reason, may_be_twins, may_be_copy, may_be_negative, IsAlone, IsParallel, IsSide, IsAcross, AreNonzerosCounted, IsSettled, IsFirstReducible, first_step_of};
 
 use crate::kind::{LineKind, are_equal, are_opposite, is_nonzero};
 use crate::tallies::Tallies;
 use cmr_base::{Matrix, Memory, Reason};
 use std::alloc::Global;
 
-// Each remaining line has the count of its nonzeros in the remaining crossing lines, and the sum of the weights of these
-// crossing lines. Lines with different sums are no twins. A settled line is not reducible.
+// Each remaining line has the count of its nonzeros in the remaining crossing lines, the sum of the weights of these
+// crossing lines, and the sum of the weights of the crossing lines in which its entry is -1. Copies have the same two sums.
+// A line and its negative have the same sum, and their sums of the entries -1 add up to it. A settled line is not reducible.
 #[derive(Debug, Drop)]
 pub struct StayingLines {
     pub kind: LineKind,
     pub stays: Vec<u32>,
     pub counts: Vec<u32>,
     pub sums: Vec<u64>,
+    pub minus_sums: Vec<u64>,
     pub settled: Vec<bool>,
 }
 
@@ -55,6 +57,7 @@ impl StayingLines {
             stays: Vec::from_slice(alloc, stays)?,
             counts: tallies.counts,
             sums: tallies.sums,
+            minus_sums: tallies.minus_sums,
             settled: vec![in alloc; false; stays.len()]?,
         })
     }
@@ -253,6 +256,29 @@ impl StayingLines {
         self.sums[other] == self.sums[place] && self.stays[other] != self.stays[place]
     }
 
+    // Whether the sums allow that the line at another position is a copy.
+    fn may_be_copy(&self, place: usize, other: usize) -> bool
+        requires parallel { IsParallel self.now }
+        requires place { place < length self.now.stays.items }
+        requires other { other < length self.now.stays.items }
+        ensures { result ≡ may_be_copy self.now place other }
+    {
+        self.may_be_twins(place, other) && self.minus_sums[other] == self.minus_sums[place]
+    }
+
+    // Whether the sums allow that the line at another position is the negative.
+    fn may_be_negative(&self, place: usize, other: usize) -> bool
+        requires parallel { IsParallel self.now }
+        requires light { slice_index self.now.minus_sums.items place
+            ≤ slice_index self.now.sums.items place }
+        requires place { place < length self.now.stays.items }
+        requires other { other < length self.now.stays.items }
+        ensures { result ≡ may_be_negative self.now place other }
+    {
+        self.may_be_twins(place, other)
+            && self.minus_sums[other] == self.sums[place] - self.minus_sums[place]
+    }
+
     fn is_copy(&self, matrix: &Matrix, place: usize, other: usize, across: &[u32]) -> bool
         requires side { IsSide matrix.now self.now }
         requires across { IsAcross matrix.now self.now.kind across.now }
@@ -262,7 +288,7 @@ impl StayingLines {
         ensures { result ≡ is_copy (table (entry matrix.now) self.now.kind) across.now
             (slice_index self.now.stays.items place) (slice_index self.now.stays.items other) }
     {
-        self.may_be_twins(place, other)
+        self.may_be_copy(place, other)
             && are_equal(
                 matrix,
                 self.kind,
@@ -281,7 +307,7 @@ impl StayingLines {
         ensures { result ≡ is_negative (table (entry matrix.now) self.now.kind) across.now
             (slice_index self.now.stays.items place) (slice_index self.now.stays.items other) }
     {
-        self.may_be_twins(place, other)
+        self.may_be_negative(place, other)
             && are_opposite(
                 matrix,
                 self.kind,

@@ -6,16 +6,17 @@ ghost use Rattle.sp_reduce.specs.LineKinds.{count_of_kind, cross_size};
 ghost use Rattle.sp_reduce.specs.StayingSides.{weight, IsAcross};
 ghost use Rattle.sp_reduce.specs.Tallies.{AreMarks, AreTallies, AreTalliesAt, AreTalliesOf, AreWeights};
 
-use crate::kind::LineKind;
+use crate::kind::{LineKind, is_minus};
 use cmr_base::{MAX_ROWS, Matrix, Memory};
 use std::alloc::Global;
 
-// For each line of a kind, the count of its nonzeros in marked crossing lines, and the sum of the weights of these
-// crossing lines.
+// For each line of a kind, the count of its nonzeros in marked crossing lines, the sum of the weights of these crossing
+// lines, and the sum of the weights of the crossing lines in which the entry is -1.
 #[derive(Debug, Drop)]
 pub struct Tallies {
     pub counts: Vec<u32>,
     pub sums: Vec<u64>,
+    pub minus_sums: Vec<u64>,
 }
 
 pub fn weight(number: u32) -> u64
@@ -60,15 +61,18 @@ impl Tallies {
     fn at(&self, alloc: Global, lines: &[u32]) -> Result<Tallies, Memory>
         requires counts { AllBelow (length self.now.counts.items) lines.now }
         requires sums { AllBelow (length self.now.sums.items) lines.now }
+        requires minus_sums { AllBelow (length self.now.minus_sums.items) lines.now }
         ensures { IfOk result (AreTalliesAt lines.now (length lines.now) self.now) }
     {
         let mut tallies = Tallies {
             counts: Vec::with_capacity(alloc, lines.len())?,
             sums: Vec::with_capacity(alloc, lines.len())?,
+            minus_sums: Vec::with_capacity(alloc, lines.len())?,
         };
         'lines: for line in lines {
             tallies.counts.push(self.counts[*line as usize])?;
             tallies.sums.push(self.sums[*line as usize])?;
+            tallies.minus_sums.push(self.minus_sums[*line as usize])?;
         }
         Ok(tallies)
     }
@@ -89,6 +93,7 @@ impl Tallies {
         let mut tallies = Tallies {
             counts: vec![in alloc; 0u32; size]?,
             sums: vec![in alloc; 0u64; size]?,
+            minus_sums: vec![in alloc; 0u64; size]?,
         };
         'rows: for row in 0..matrix.rows() {
             tallies.add_row(matrix, kind, marks, &weights, row);
@@ -115,26 +120,34 @@ impl Tallies {
         'columns: while let Some(column) = matrix.next_nonzero(row, from) {
             let line = kind.own(row, column);
             let other = kind.other().own(row, column) as usize;
-            self.add(line, marks[other], weights[other]);
+            let minus = is_minus(matrix.entry(row, column));
+            self.add(line, marks[other], weights[other], minus);
             from = column + 1;
         }
     }
 
     // Adds a nonzero in a crossing line to the tallies of a line. An unmarked crossing line does not count.
-    fn add(&mut self, line: u32, is_marked: bool, weight: u64)
+    fn add(&mut self, line: u32, is_marked: bool, weight: u64, is_minus: bool)
         requires in_counts { line < length self.old.counts.items }
         requires in_sums { line < length self.old.sums.items }
+        requires in_minus_sums { line < length self.old.minus_sums.items }
         requires few { slice_index self.old.counts.items line ≤ MAX_ROWS }
         requires light { slice_index self.old.sums.items line ≤ MAX_ROWS * MAX_ROWS ^ 5 }
+        requires minus_light { slice_index self.old.minus_sums.items line
+            ≤ MAX_ROWS * MAX_ROWS ^ 5 }
         requires small { weight ≤ MAX_ROWS ^ 5 }
         ensures counts { self.new.counts.items
             ≡ set self.old.counts.items line (slice_index self.old.counts.items line
             + (if is_marked then 1 else 0)) }
         ensures sums { self.new.sums.items
             ≡ set self.old.sums.items line (slice_index self.old.sums.items line + weight) }
+        ensures minus_sums { self.new.minus_sums.items
+            ≡ set self.old.minus_sums.items line (slice_index self.old.minus_sums.items line
+            + (if is_minus then weight else 0)) }
     {
         self.counts[line as usize] += if is_marked { 1 } else { 0 };
         self.sums[line as usize] += weight;
+        self.minus_sums[line as usize] += if is_minus { weight } else { 0 };
     }
 }
 

@@ -13,11 +13,11 @@ returns-in-Some-clause-step c =
     let C = c.args.columns.now.stays.items in
     let step = c.in-Some.step in
     let made = c.in-Some.ensures.step in
-    let gone = without_row R C c.remove_first.new.own.stays.items c.remove_first.new.across.stays.items step.line
+    let removed = without_row R C c.remove_first.new.own.stays.items c.remove_first.new.across.stays.items step.line
     (subst (λ (kind : LineKind). step.line ≡ line_named kind (index_of_line step.line)) c.requires.kind c.in-Some.ensures.named) made.1 c.remove_first.ensures.across in (
       by_row c.args.binary M R C step (ap (λ (kind : LineKind). first_step_of c.args.binary M kind R C R) (sym c.requires.kind) ∙ made.0),
-      gone.0,
-      gone.1,
+      removed.0,
+      removed.1,
     )
 
 pub returns-in-None-clause-step : goal.returns-in-None-clause-step

@@ -68,15 +68,15 @@ returns-clause-step c =
     let reason = c.in_ok-found.found.reason in
     let same = c.first_reducible.ensures.same in
     let first = c.in_ok-found.ensures.found in
-    let gone = get_or start.stays.items place 0 in
+    let removed = get_or start.stays.items place 0 in
     let stays : own.stays.items ≡ start.stays.items = ap (λ (s : StayingLines). s.stays.items) same in
     let kind : c.remove-line.new.self.kind ≡ start.kind = c.remove-line.ensures.cut.kind ∙ ap (λ (s : StayingLines). s.kind) same in
-    let number : c.remove-line.result ≡ gone = c.remove-line.ensures.line ∙ ap (λ (lines : List ℕ). get_or lines place 0) stays in
-    let line : c.line.result ≡ line_named start.kind gone = c.line.ensures ∙ ap₂ line_named kind number in
+    let number : c.remove-line.result ≡ removed = c.remove-line.ensures.line ∙ ap (λ (lines : List ℕ). get_or lines place 0) stays in
+    let line : c.line.result ≡ line_named start.kind removed = c.line.ensures ∙ ap₂ line_named kind number in
     let inside : place < length own.stays.items = subst (λ (s : StayingLines). place < length s.stays.items) (sym same) first.in_range in (
       ap (λ (lines : List ℕ). first_step_of c.args.binary M start.kind start.stays.items lines start.stays.items) (sym c.deref.ensures.value)
           ∙ first.step ∙ ap (λ (l : Line). Some (record { line = l; reason = reason })) (sym line),
       cut_without c.args.matrix.now own c.remove-line.new.self place
           (side_marked c.args.matrix.now start own same c.first_reducible.ensures.long c.requires.paired.own_side) inside c.remove-line.ensures.cut
-          ∙ ap₂ without stays (ap (λ (lines : List ℕ). get_or lines place 0) stays ∙ sym (ap index_of_line line ∙ number-line_named start.kind gone)),
+          ∙ ap₂ without stays (ap (λ (lines : List ℕ). get_or lines place 0) stays ∙ sym (ap index_of_line line ∙ number-line_named start.kind removed)),
     )

@@ -2,7 +2,7 @@ use Rattle.std.proofs.Common.{◌∙◌, ℕ, List, length, get_or, ap, sym, ari
 use Rattle.cmr_base.specs.Matrix.{entry}
 use Rattle.cmr_base.specs.Reductions.{nonzeros_at}
 use Rattle.sp_reduce.specs.LineKinds.{table}
-use Rattle.sp_reduce.specs.StayingSides.{weight_at}
+use Rattle.sp_reduce.specs.StayingSides.{weight_at, minus_weight_at}
 use Rattle.sp_reduce.proofs.side.StayingLines.new.Goals as goal
 
 pub returns-clause-counted : goal.returns-clause-counted
@@ -15,4 +15,5 @@ returns-clause-counted c =
     record {
       counts = λ at h. are.counts at (omega (arith, h, long)) ∙ ap (λ (xs : List ℕ). nonzeros_at across (M (get_or xs at 0))) (sym items);
       sums = λ at h. are.sums at (omega (arith, h, long)) ∙ ap (λ (xs : List ℕ). weight_at across (M (get_or xs at 0))) (sym items);
+      minus_sums = λ at h. are.minus_sums at (omega (arith, h, long)) ∙ ap (λ (xs : List ℕ). minus_weight_at across (M (get_or xs at 0))) (sym items);
     }

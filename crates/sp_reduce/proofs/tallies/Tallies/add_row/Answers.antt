@@ -1,7 +1,8 @@
-use Rattle.std.proofs.Common.{◌≡◌, ◌+◌, ◌<◌, ◌≤◌, ◌^◌, ◌*◌, ◌∙◌, ℕ, cond, false, get_or, length, set, ap, ap₂, subst, sym, arith}
+use Rattle.std.proofs.Common.{◌≡◌, ◌+◌, ◌<◌, ◌≤◌, ◌^◌, ◌*◌, ◌∙◌, ℕ, Bool, cond, false, get_or, length, set, ap, ap₂, subst, sym, arith}
+use Rattle.cmr_base.specs.Planes.{is_minus}
 use Rattle.sp_reduce.specs.LineKinds.{own_line, other_kind}
 use Rattle.sp_reduce.specs.declared.kind.LineKind.{LineKind}
-use Rattle.sp_reduce.proofs.TallyLemmas.{tallies_same, tallies_step, passed_row, counts_small, cross_small, sums_small, own_in, other_in, weights_small}
+use Rattle.sp_reduce.proofs.TallyLemmas.{tallies_same, tallies_step, passed_row, counts_small, cross_small, sums_small, minus_sums_small, own_in, other_in, weights_small}
 use Rattle.sp_reduce.proofs.tallies.Tallies.add_row.Goals as goal
 
 pub returns : goal.returns
@@ -25,6 +26,15 @@ add-requires-clause-light c =
     subst (λ (n : ℕ). get_or c.columns.self.sums.items n 0 ≤ 1000 * 1000 ^ 5) (sym c.own-line.ensures)
     (sums_small m c.args.kind c.args.marks.now row c.columns.from c.columns.self c.requires.shape c.columns.invariant.are (own_line c.args.kind row next) (own_in m c.args.kind row next c.requires.row c.in-Some.ensures.first.1))
 
+pub add-requires-clause-minus_light : goal.add-requires-clause-minus_light
+add-requires-clause-minus_light c =
+    let m = c.args.matrix.now in
+    let row = c.args.row in
+    let next = c.in-Some.column in
+    subst (λ (n : ℕ). get_or c.columns.self.minus_sums.items n 0 ≤ 1000 * 1000 ^ 5) (sym c.own-line.ensures)
+    (minus_sums_small m c.args.kind c.args.marks.now row c.columns.from c.columns.self c.requires.shape c.columns.invariant.are (own_line c.args.kind row next)
+    (own_in m c.args.kind row next c.requires.row c.in-Some.ensures.first.1))
+
 pub add-requires-clause-small : goal.add-requires-clause-small
 add-requires-clause-small c =
     let m = c.args.matrix.now in
@@ -45,6 +55,7 @@ columns-preserved c =
     let next = c.in-Some.column in
     let counts = c.columns.self.counts.items in
     let sums = c.columns.self.sums.items in
+    let minus_sums = c.columns.self.minus_sums.items in
     let found = c.in-Some.ensures.first in
     let small = c.in-Some.ensures.small in
     let other : c.own-other.result ≡ own_line (other_kind kind) row next = c.own-other.ensures ∙ ap (λ (k : LineKind). own_line k row next) c.other.ensures in
@@ -55,5 +66,8 @@ columns-preserved c =
       are = tallies_step c.args.matrix.now kind marks row c.columns.from next c.columns.self c.add.new.self c.columns.invariant.are c.requires.row found.1 found.0 found.2 found.3
           (c.add.ensures.counts ∙ ap₂ (λ (l o : ℕ). set counts l (get_or counts l 0 + cond (get_or marks o false) 1 0)) c.own-line.ensures other)
           (c.add.ensures.sums ∙ ap₂ (λ (l o : ℕ). set sums l (get_or sums l 0 + get_or weights o 0)) c.own-line.ensures other
-          ∙ ap (λ (n : ℕ). set sums (own_line kind row next) (get_or sums (own_line kind row next) 0 + n)) (c.requires.weights.exact (own_line (other_kind kind) row next) in_marks));
+          ∙ ap (λ (n : ℕ). set sums (own_line kind row next) (get_or sums (own_line kind row next) 0 + n)) (c.requires.weights.exact (own_line (other_kind kind) row next) in_marks))
+          (c.add.ensures.minus_sums ∙ ap₂ (λ (l o : ℕ). set minus_sums l (get_or minus_sums l 0 + cond c.is_minus-minus.result (get_or weights o 0) 0)) c.own-line.ensures other
+          ∙ ap₂ (λ (b : Bool) (n : ℕ). set minus_sums (own_line kind row next) (get_or minus_sums (own_line kind row next) 0 + cond b n 0))
+          (c.is_minus-minus.ensures ∙ ap is_minus c.entry.ensures.value) (c.requires.weights.exact (own_line (other_kind kind) row next) in_marks));
     }

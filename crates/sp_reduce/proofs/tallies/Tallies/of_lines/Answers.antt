@@ -20,6 +20,9 @@ at-requires-clause-counts c = subst (λ (n : ℕ). AllBelow n c.args.lines.now) 
 pub at-requires-clause-sums : goal.at-requires-clause-sums
 at-requires-clause-sums c = subst (λ (n : ℕ). AllBelow n c.args.lines.now) (sym c.in_ok-all.ensures.many_sums) c.requires.lines
 
+pub at-requires-clause-minus_sums : goal.at-requires-clause-minus_sums
+at-requires-clause-minus_sums c = subst (λ (n : ℕ). AllBelow n c.args.lines.now) (sym c.in_ok-all.ensures.many_minus_sums) c.requires.lines
+
 pub returns : goal.returns
 returns c =
     let m = c.args.matrix.now in
