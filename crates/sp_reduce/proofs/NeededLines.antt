@@ -182,27 +182,27 @@ module _ (binary : Bool) (M : ℕ → ℕ → ℤ) (R C : List ℕ) (w : IsClose
   column_alone : (j : ℕ) → IsIn j C → ¬ HasTwin binary (λ j i. M i j) C R j
   column_alone j h t = column_stuck binary M R C w.rows_increase w.columns_increase w.none j h (inr t)
 
-  rows_increase : (s : Line → Bool) → IsStrictlyIncreasing (rows_of s R)
-  rows_increase s = IsStrictlyIncreasing-filter (λ i. s (Row i)) R w.rows_increase
+  kept_rows_increase : (s : Line → Bool) → IsStrictlyIncreasing (rows_of s R)
+  kept_rows_increase s = IsStrictlyIncreasing-filter (λ i. s (Row i)) R w.rows_increase
 
-  columns_increase : (s : Line → Bool) → IsStrictlyIncreasing (columns_of s C)
-  columns_increase s = IsStrictlyIncreasing-filter (λ j. s (Column j)) C w.columns_increase
+  kept_columns_increase : (s : Line → Bool) → IsStrictlyIncreasing (columns_of s C)
+  kept_columns_increase s = IsStrictlyIncreasing-filter (λ j. s (Column j)) C w.columns_increase
 
   -- a set without the line is part of the lines that remain without it
   lacking : (s : Line → Bool) → s one ≡ false → IsSeriesParallelOn binary M (rows_of s R) (columns_of s C)
   lacking s e =
-      series_parallel-within binary M (rows_without R one) (columns_without C one) (rows_of s R) (columns_of s C) (rows_increase s) (columns_increase s)
+      series_parallel-within binary M (rows_without R one) (columns_without C one) (rows_of s R) (columns_of s C) (kept_rows_increase s) (kept_columns_increase s)
       (rows_lacking s one R e) (columns_lacking s one C e) sp
 
   -- a set with the line, without another line, has a reducible line: its complement would have none
   module _ (s : Line → Bool) (has : s one ≡ true) (line : Line) (there : HasLine R C line) (out : s line ≡ false) (none : first_step binary M (rows_of s R) (columns_of s C) (lines_of (rows_of s R) (columns_of s C)) ≡ None) where
     row_crosses : (i : ℕ) → IsIn i (rows_of s R) → (j : ℕ) → IsIn j (others (λ j. s (Column j)) C) → M i j ≡ pos 0
     row_crosses i h = zeros_outside binary M R C (λ i. s (Row i)) (λ j. s (Column j)) i (w.rows i (in_filter (λ i. s (Row i)) i R h).0)
-        (row_stuck binary M (rows_of s R) (columns_of s C) (rows_increase s) (columns_increase s) none i h)
+        (row_stuck binary M (rows_of s R) (columns_of s C) (kept_rows_increase s) (kept_columns_increase s) none i h)
 
     column_crosses : (j : ℕ) → IsIn j (columns_of s C) → (i : ℕ) → IsIn i (others (λ i. s (Row i)) R) → M i j ≡ pos 0
     column_crosses j h = zeros_outside binary (λ j i. M i j) C R (λ j. s (Column j)) (λ i. s (Row i)) j (w.columns j (in_filter (λ j. s (Column j)) j C h).0)
-        (column_stuck binary M (rows_of s R) (columns_of s C) (rows_increase s) (columns_increase s) none j h)
+        (column_stuck binary M (rows_of s R) (columns_of s C) (kept_rows_increase s) (kept_columns_increase s) none j h)
 
     other_rows : (i : ℕ) → IsIn i (others (λ i. s (Row i)) R) → ¬ IsReducible binary M (others (λ i. s (Row i)) R) (others (λ j. s (Column j)) C) i
     other_rows i h =
