@@ -97,7 +97,7 @@ class Models(AnswerTest):
         self.assertIn("`pivots=100`", str(undecided(asked_once("balanced", rows, lines=0))))
 
     def test_an_open_part_of_a_large_matrix(self) -> None:
-        """The matrix has the maximum size, and 29 of its lines are open."""
+        """The matrix has the maximum size, and 22 of its lines are open."""
         goods = two_goods(6)
         height, width = len(goods), len(goods[0])
         rows = [row + [0] * (1000 - width) for row in goods]
