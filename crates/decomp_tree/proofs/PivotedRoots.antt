@@ -97,8 +97,8 @@ module _ (limit : ℕ) (m : Matrix) (tree : Tree) where
     shallow = d.shallow;
     most = λ more other low high drawn. elim (cases_lt more pivots) [
       | inl less ↦ d.most more other low (omega (arith, less, e)) drawn
-      | inr no ↦
-          let same : more ≡ pivots = omega (arith, no, high) in
+      | inr equal ↦
+          let same : more ≡ pivots = omega (arith, equal, high) in
           same_levels 2001 other deep (drawn_with_same limit pivots 1 m (all_lines m) other deep (subst (λ k. IsDrawnWith limit k 1 m (all_lines m) other) same drawn) is) ∙ too_deep
     ];
   }
