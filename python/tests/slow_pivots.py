@@ -13,7 +13,7 @@ from tests.support import asked_once
 
 __all__ = ["Draws", "slow_tree", "violator_before"]
 
-MOST_LEVELS = 2000
+MOST_DEPTH = 2000
 
 
 @dataclass(frozen=True)
@@ -41,9 +41,14 @@ def violator_before(matrix: Matrix, row: int, column: int, fault: LineSet) -> Li
 
 
 def slow_tree(matrix: Matrix, pivots: int, lines: int) -> tuple[Tree, int]:
-    """The decomposition with up to `pivots` pivots on the path to a node and the budget `lines`, and the most pivots that a path has."""
+    """The decomposition with up to `pivots` pivots on the path to a node and the budget `lines`, and the most pivots that a path has.
+
+    It has the most pivots with which no node is deeper than 2,000.
+    """
     search = _Search(lines)
-    tree = search.tree(matrix, min(pivots, MOST_LEVELS - sum(matrix.shape)), Draws())
+    tree = search.tree(matrix, pivots, Draws())
+    if pivots and max(depth for depth, _ in tree.walk()) > MOST_DEPTH:
+        return slow_tree(matrix, pivots - 1, lines)
     return tree, search.deepest
 
 

@@ -96,6 +96,17 @@ class Models(AnswerTest):
         self.assertTrue(asked_once("balanced", rows, lines=0, pivots=20))
         self.assertIn("`pivots=100`", str(undecided(asked_once("balanced", rows, lines=0))))
 
+    def test_an_open_part_of_a_large_matrix(self) -> None:
+        """The matrix has the maximum size, and 22 of its lines are open."""
+        goods = two_goods(6)
+        height, width = len(goods), len(goods[0])
+        rows = [row + [0] * (1000 - width) for row in goods]
+        rows += [[int(column == width + place) for column in range(1000)] for place in range(1000 - height)]
+        self.assertTrue(asked_once("totally unimodular", rows, lines=0).is_undecided)
+        answer = asked_once("totally unimodular", rows, lines=0, pivots=20)
+        self.assertTrue(answer)
+        self.assertEqual(cmr.check(rows, answer.tree).says, "yes")
+
     def test_latin_squares(self) -> None:
         for order in (3, 4):
             with self.subTest(order=order):

@@ -24,6 +24,7 @@ pub mod OneCycleFault
 pub mod OneLeast
 pub mod OneTree
 pub mod PlainVerdicts
+pub mod LevelLemmas
 pub mod OnePivoted
 pub mod OneVerdict
 pub mod NoNetworks

@@ -1,10 +1,10 @@
 -- More pivots lose no answer: a yes stays with its tree, and a no stays a no.
-use Rattle.std.proofs.Common.{◌≡◌, ◌≤◌, ◌+◌, ◌-◌, ◌∙◌, inl, inr, ℕ, zero, suc, min, Option, Some, None, refl, ap, ap₂, sym, subst, arith}
+use Rattle.std.proofs.Common.{◌≡◌, ◌<◌, ◌≤◌, ◌∙◌, inl, inr, ℕ, zero, suc, Option, Some, None, refl, ap, ap₂, sym, subst, arith}
 use Rattle.std.specs.Option.{option_or}
-use Rattle.std.proofs.Math.Nat.{min-le_left, min-le_right, le-min}
+use Rattle.std.proofs.lemmas.Bool.{cases_lt}
 use Rattle.cmr_base.specs.declared.line_set.LineSet.{LineSet}
-use Rattle.cmr_base.specs.Matrix.{Matrix, height}
-use Rattle.cmr_base.proofs.Booleans.{true_is_false}
+use Rattle.cmr_base.specs.Matrix.{Matrix}
+use Rattle.cmr_base.proofs.Booleans.{not_both, true_is_false}
 use Rattle.cmr_base.proofs.Options.{some_or}
 use Rattle.tree_laws.proofs.SoundTrees.{none_or}
 use Rattle.pivots.specs.declared.drawn.DrawnPlace.{DrawnPlace}
@@ -17,7 +17,7 @@ use Rattle.decomp_tree.specs.PlainTrees.{plain_finding, plain_tree, plain_trees}
 use Rattle.decomp_tree.specs.Shapes.{IsShapeOn}
 use Rattle.decomp_tree.specs.Refined.{is_undecided, Refines, AllRefine}
 use Rattle.decomp_tree.specs.PivotedLaws.{KeepsAnswer, MorePivotsKeepAnswers}
-use Rattle.decomp_tree.specs.PivotedShapes.{IsToldBeforePivot, IsFoundAt, IsFound, IsDrawnWith, all_lines, pivots_within, undecided}
+use Rattle.decomp_tree.specs.PivotedShapes.{IsToldBeforePivot, IsFoundAt, IsFound, IsDrawnWith, IsShapeWith, all_lines, is_shallow, undecided}
 use Rattle.decomp_tree.proofs.OnePivoted.{shape_same, told_same, undecided_same}
 use Rattle.decomp_tree.proofs.PlainVerdicts.{fault_plain, verdict_plain}
 use Rattle.decomp_tree.proofs.RefinedTrees.{RefinedNode, replaced, kept, refined_node}
@@ -173,11 +173,18 @@ answer_kept tree other k None None e u = k.yes e u
 answer_kept tree other k None (Some left) e u = tt
 answer_kept tree other k (Some fault) left e u = ((k.no fault e).0, ap (λ (f : Option LineSet). verdict_from f (first_in open_at other)) (k.no fault e).1)
 
-within_more : (pivots more n : ℕ) → pivots ≤ more → min pivots n ≤ min more n
-within_more pivots more n few = le-min (let a = min-le_left pivots n in omega (arith, a, few)) (min-le_right pivots n)
+-- if more pivots may be made, no fewer are made
+no_fewer : (limit pivots more : ℕ) (m : Matrix) (tree other : Tree) → pivots ≤ more → (d : IsShapeWith limit pivots m tree) (d' : IsShapeWith limit more m other) → d.made ≤ d'.made
+no_fewer limit pivots more m tree other few d d' = elim (cases_lt d'.made d.made) [
+  | inl fewer ↦ elim d.shallow [
+    | inl none ↦ absurd (omega (arith, fewer, none))
+    | inr shallow ↦ absurd (not_both (is_shallow tree) shallow (d'.most d.made tree fewer (let low = d.few in omega (arith, low, few)) d.drawn))
+  ]
+  | inr enough ↦ enough
+]
 
 pub more_pivots_keep_answers : MorePivotsKeepAnswers
 more_pivots_keep_answers limit pivots more m tree other few d d' =
     answer_kept tree other
-    (drawn_keeps limit (pivots_within m pivots) (pivots_within m more) (found_keeps limit (pivots_within m pivots) (pivots_within m more) (within_more pivots more (2000 - (height m + m.width)) few)) 1 m (all_lines m) tree other d d')
+    (drawn_keeps limit d.made d'.made (found_keeps limit d.made d'.made (no_fewer limit pivots more m tree other few d d')) 1 m (all_lines m) tree other d.drawn d'.drawn)
     (first_in fault_at tree) (first_in open_at tree) refl refl

@@ -1,10 +1,10 @@
 -- There is one decomposition of a matrix with what pivots find, but for what its networks say.
-use Rattle.std.proofs.Common.{◌≡◌, ◌<◌, ◌-◌, ◌∙◌, inl, inr, ℕ, zero, suc, List, [], Contains, Option, Some, None, refl, ap, ap₂, sym, subst}
+use Rattle.std.proofs.Common.{◌≡◌, ◌<◌, ◌-◌, ◌∙◌, inl, inr, ℕ, zero, suc, List, [], Contains, Option, Some, None, refl, ap, ap₂, sym, subst, arith}
 use Rattle.cmr_base.specs.declared.line_set.LineSet.{LineSet}
 use Rattle.cmr_base.specs.Matrix.{Matrix, entry, IsEntry}
 use Rattle.cmr_base.specs.PlacedPivots.{pivot_entry, pivoted_part}
 use Rattle.cmr_base.specs.Members.{IsIn}
-use Rattle.cmr_base.proofs.Booleans.{neither, same_or_not, true_is_false}
+use Rattle.cmr_base.proofs.Booleans.{neither, not_both, same_or_not, true_is_false}
 use Rattle.cmr_base.proofs.Places.{increasing_same}
 use Rattle.pivots.specs.declared.drawn.DrawnPlace.{DrawnPlace}
 use Rattle.cmr_base.specs.declared.placed_pivot.PlacedPivot.{PlacedPivot}
@@ -18,7 +18,7 @@ use Rattle.decomp_tree.specs.PlainTrees.{plain_finding, plain_tree, plain_trees}
 use Rattle.decomp_tree.specs.Shapes.{IsShapeOn}
 use Rattle.decomp_tree.specs.Refined.{is_undecided, Refines, AllRefine}
 use Rattle.decomp_tree.specs.PivotedLaws.{OnePivotedShape}
-use Rattle.decomp_tree.specs.PivotedShapes.{AreBefore, IsToldBeforePivot, IsFoundAt, IsFound, IsDrawnWith, all_lines, pivots_within}
+use Rattle.decomp_tree.specs.PivotedShapes.{AreBefore, IsToldBeforePivot, IsFoundAt, IsFound, IsDrawnWith, IsShapeWith, all_lines, is_shallow}
 use Rattle.decomp_tree.proofs.OneTree.{one_tree}
 use Rattle.decomp_tree.proofs.PlainVerdicts.{verdict_plain}
 use Rattle.decomp_tree.proofs.RefinedTrees.{RefinedNode, replaced, kept, refined_node}
@@ -155,5 +155,16 @@ module _ (limit : ℕ) where
   pub drawn_with_same : (pivots state : ℕ) (m : Matrix) (lines : LineSet) (tree tree' : Tree) → IsDrawnWith limit pivots state m lines tree → IsDrawnWith limit pivots state m lines tree' → plain_tree tree ≡ plain_tree tree'
   drawn_with_same pivots state m lines tree tree' d d' = drawn_same pivots (found_same pivots) state m lines tree tree' d d'
 
+-- no more pivots are made in one decomposition than in another
+no_more : (limit pivots : ℕ) (m : Matrix) (tree other : Tree) (d : IsShapeWith limit pivots m tree) (d' : IsShapeWith limit pivots m other) → ¬ (d.made < d'.made)
+no_more limit pivots m tree other d d' fewer = elim d'.shallow [
+  | inl none ↦ omega (arith, fewer, none)
+  | inr shallow ↦ not_both (is_shallow other) shallow (d.most d'.made other fewer d'.few d'.drawn)
+]
+
+made_same : (limit pivots : ℕ) (m : Matrix) (tree other : Tree) (d : IsShapeWith limit pivots m tree) (d' : IsShapeWith limit pivots m other) → d.made ≡ d'.made
+made_same limit pivots m tree other d d' = neither d.made d'.made (no_more limit pivots m tree other d d') (no_more limit pivots m other tree d' d)
+
 pub one_pivoted_shape : OnePivotedShape
-one_pivoted_shape limit pivots m tree other d d' = drawn_with_same limit (pivots_within m pivots) 1 m (all_lines m) tree other d d'
+one_pivoted_shape limit pivots m tree other d d' =
+    drawn_with_same limit d'.made 1 m (all_lines m) tree other (subst (λ made. IsDrawnWith limit made 1 m (all_lines m) tree) (made_same limit pivots m tree other d d') d.drawn) d'.drawn

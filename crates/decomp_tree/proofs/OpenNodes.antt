@@ -17,7 +17,7 @@ use Rattle.tree_type.specs.Verdicts.{Verdict, Yes, No, Open, first_in, first_amo
 use Rattle.tree_type.proofs.PlacedLines.{lines_within}
 use Rattle.decomp_tree.specs.Refined.{is_undecided, Refines, AllRefine}
 use Rattle.decomp_tree.specs.Shapes.{Case, HasNoLines, HasFault, IsReducible, IsApart, IsNetwork, IsConetwork, IsR10Matrix, IsTwoSum, IsThreeSum, IsShort, IsLeft, IsFirstCase, NodeSays, finding_in, IsShapedAt, IsShapeOn}
-use Rattle.decomp_tree.specs.PivotedShapes.{IsToldBeforePivot, IsFoundAt, IsFound, all_lines, pivots_within, undecided}
+use Rattle.decomp_tree.specs.PivotedShapes.{IsToldBeforePivot, IsFoundAt, IsFound, all_lines, undecided}
 use Rattle.decomp_tree.specs.PivotedLaws.{OpenLinesAreLeft}
 use Rattle.decomp_tree.proofs.FaultLines.{lines_themselves}
 use Rattle.decomp_tree.proofs.PivotedRoots.{all_are_lines}
@@ -147,6 +147,9 @@ pub open_case : OpenLinesAreLeft
 open_case limit pivots m tree lines is d first =
     let all = all_lines m in
     let are = all_are_lines m is in
-    open_refined limit m (IsFound limit (pivots_within m pivots) 1 m) (λ some t found stands e. found_open limit (pivots_within m pivots) 1 m some t found stands e)
-    [] (These all) all (suc (size_of (lines_at_root d.shape))) d.shape tree lines are
-    (shape_within limit m is [] (These all) all (suc (size_of (lines_at_root d.shape))) d.shape d.drawn are (subst (λ some. AreLinesOf some all) (sym (shape_lines limit m all d.shape d.drawn)) (lines_themselves m all are)) (omega arith)) d.drawn d.refines first
+    let made = d.made in
+    let shape = d.drawn.shape in
+    let shaped = d.drawn.drawn in
+    open_refined limit m (IsFound limit made 1 m) (λ some t found stands e. found_open limit made 1 m some t found stands e)
+    [] (These all) all (suc (size_of (lines_at_root shape))) shape tree lines are
+    (shape_within limit m is [] (These all) all (suc (size_of (lines_at_root shape))) shape shaped are (subst (λ some. AreLinesOf some all) (sym (shape_lines limit m all shape shaped)) (lines_themselves m all are)) (omega arith)) shaped d.drawn.refines first

@@ -1,6 +1,6 @@
 -- Decompositions of whole matrices with what pivots find.
-use Rattle.std.proofs.Common.{◌≡◌, ◌≤◌, ◌<◌, ◌+◌, ◌-◌, ◌∙◌, ℕ, Bool, true, false, min, List, [], refl, ap, ap₂, sym, subst, arith}
-use Rattle.std.proofs.Math.Nat.{min-le_right, zero-min}
+use Rattle.std.proofs.Common.{◌≡◌, ◌≤◌, ◌<◌, ◌+◌, ◌∙◌, ◌⊎◌, inl, inr, ℕ, suc, Bool, true, false, List, [], refl, ap, ap₂, sym, subst, arith}
+use Rattle.std.proofs.lemmas.Bool.{cases_lt}
 use Rattle.std.proofs.lemmas.List.FromFn.{length-range_with_len}
 use Rattle.cmr_base.specs.declared.line_set.LineSet.{LineSet}
 use Rattle.cmr_base.specs.Matrix.{Matrix, height, IsMatrix}
@@ -12,11 +12,13 @@ use Rattle.tree_type.specs.Soundness.{IsSoundTree}
 use Rattle.decomp_tree.specs.Laws.{ShapesAreTrees, ShapesAreSound}
 use Rattle.decomp_tree.specs.Refined.{is_undecided, Refines, AllRefine}
 use Rattle.decomp_tree.specs.Shapes.{IsShape, IsShapeOn}
-use Rattle.decomp_tree.specs.PivotedShapes.{IsDrawnWith, IsFound, IsShapeWith, all_lines, pivots_within}
+use Rattle.decomp_tree.specs.PivotedShapes.{IsDrawnWith, IsFound, IsShapeWith, all_lines, is_shallow}
 use Rattle.decomp_tree.specs.PivotedLaws.{PivotedShapesAreTrees, PivotedShapesAreSound, NoPivotsChangeNothing}
 use Rattle.decomp_tree.proofs.FaultLines.{lines_themselves}
 use Rattle.decomp_tree.proofs.FoundTrees.{drawn_with_lines, drawn_with_within}
 use Rattle.decomp_tree.proofs.FoundSound.{drawn_with_sound}
+use Rattle.decomp_tree.proofs.LevelLemmas.{same_levels, within_levels}
+use Rattle.decomp_tree.proofs.OnePivoted.{drawn_with_same}
 use Rattle.decomp_tree.proofs.Roots.{root_lines}
 use Rattle.decomp_tree.proofs.OneTree.{due_here}
 use Rattle.decomp_tree.proofs.RefinedTrees.{RefinedNode, replaced, kept, refined_node, refined_kept}
@@ -29,30 +31,26 @@ all_are_lines m is = root_lines m is (all_lines m) refl refl
 -- the root has all lines
 pub root_is_whole : (limit pivots : ℕ) (m : Matrix) (tree : Tree) → IsShapeWith limit pivots m tree → ((lines_at_root tree).rows ≡ first_lines (height m)) × ((lines_at_root tree).columns ≡ first_lines m.width)
 root_is_whole limit pivots m tree d =
-    let same = drawn_with_lines limit (pivots_within m pivots) 1 m (all_lines m) tree d in
+    let same = drawn_with_lines limit d.made 1 m (all_lines m) tree d.drawn in
     (ap (λ (lines : LineSet). lines.rows) same, ap (λ (lines : LineSet). lines.columns) same)
 
--- no more pivots than lines are left of 2,000
-few_pivots : (m : Matrix) (pivots : ℕ) → IsMatrix m → (height m + m.width) + pivots_within m pivots ≤ 2000
-few_pivots m pivots is =
+-- the tree has lines of the matrix, on enough levels
+drawn_with_all : (limit made levels : ℕ) (m : Matrix) (tree : Tree) → IsMatrix m → IsDrawnWith limit made 1 m (all_lines m) tree → size_of (all_lines m) + made < levels → IsTreeWithin (all_lines m) levels tree
+drawn_with_all limit made levels m tree is d few =
+    let are = all_are_lines m is in
+    drawn_with_within limit made 1 m (all_lines m) tree (all_lines m) levels is d are (lines_themselves m (all_lines m) are) few
+
+few_lines : (m : Matrix) → IsMatrix m → size_of (all_lines m) + 0 < 2001
+few_lines m is =
     let a = is.height_in in
     let b = is.width_in in
-    let c = min-le_right pivots (2000 - (height m + m.width)) in
-    omega (arith, a, b, c)
-
-few_levels : (m : Matrix) (pivots : ℕ) → IsMatrix m → size_of (all_lines m) + pivots_within m pivots < 2001
-few_levels m pivots is =
     let rows = length-range_with_len 0 (height m) in
     let columns = length-range_with_len 0 m.width in
-    let few = few_pivots m pivots is in
-    omega (arith, rows, columns, few)
-
-none_of : (n : ℕ) → min 0 n ≡ 0
-none_of n = zero-min n
+    omega (arith, a, b, rows, columns)
 
 pub pivoted_shapes_are_trees : PivotedShapesAreTrees
 pivoted_shapes_are_trees limit pivots m tree is d =
-    let same = drawn_with_lines limit (pivots_within m pivots) 1 m (all_lines m) tree d in
+    let same = drawn_with_lines limit d.made 1 m (all_lines m) tree d.drawn in
     let are = all_are_lines m is in
     record {
       rows_in = is.height_in;
@@ -60,26 +58,50 @@ pivoted_shapes_are_trees limit pivots m tree is d =
       root_rows = subst (λ (lines : LineSet). AllBelow (height m) lines.rows) (sym same) are.rows.in_range;
       root_columns = subst (λ (lines : LineSet). AllBelow m.width lines.columns) (sym same) are.columns.in_range;
       nodes = subst (λ (lines : LineSet). IsTreeWithin lines 2001 tree) (sym same)
-          (drawn_with_within limit (pivots_within m pivots) 1 m (all_lines m) tree (all_lines m) 2001 is d are (lines_themselves m (all_lines m) are) (few_levels m pivots is));
+          (elim d.shallow [
+            | inl none ↦ drawn_with_all limit 0 2001 m tree is (subst (λ made. IsDrawnWith limit made 1 m (all_lines m) tree) none d.drawn) (few_lines m is)
+            | inr shallow ↦
+                let levels = suc (size_of (all_lines m) + d.made) in
+                within_levels (all_lines m) levels 2001 tree (drawn_with_all limit d.made levels m tree is d.drawn (omega arith)) shallow
+          ]);
     }
 
 pub pivoted_shapes_are_sound : PivotedShapesAreSound
 pivoted_shapes_are_sound limit pivots m tree few is d =
-    drawn_with_sound limit few (pivots_within m pivots) 1 m (all_lines m) tree is d (all_are_lines m is) [] (AllLines (height m) m.width) (refl, refl) (root_is_whole limit pivots m tree d)
+    drawn_with_sound limit few d.made 1 m (all_lines m) tree is d.drawn (all_are_lines m is) [] (AllLines (height m) m.width) (refl, refl) (root_is_whole limit pivots m tree d)
 
--- the tree of all lines
-module _ (limit pivots within : ℕ) (m : Matrix) (lines : LineSet) (rows : lines.rows ≡ first_lines (height m)) (columns : lines.columns ≡ first_lines m.width) (is_within : within ≡ pivots_within m pivots) (tree : Tree) where
-  pub whole_shape : IsDrawnWith limit within 1 m lines tree → IsShapeWith limit pivots m tree
-  whole_shape d =
-      let all : lines ≡ all_lines m = ap₂ (λ (r c : List ℕ). let set : LineSet = record { rows = r; columns = c } in set) rows columns in
-      subst (λ (some : LineSet). IsDrawnWith limit (pivots_within m pivots) 1 m some tree) all (subst (λ k. IsDrawnWith limit k 1 m lines tree) is_within d)
+-- a set of all lines
+pub all_lines_are : (m : Matrix) (lines : LineSet) → lines.rows ≡ first_lines (height m) → lines.columns ≡ first_lines m.width → lines ≡ all_lines m
+all_lines_are m lines rows columns = ap₂ (λ (r c : List ℕ). let set : LineSet = record { rows = r; columns = c } in set) rows columns
 
-  module _ (is : IsMatrix m) (r w : ℕ) (e : r ≡ height m) (f : w ≡ m.width) where
-    pub whole_tree : IsDrawnWith limit within 1 m lines tree → IsTreeFor r w tree
-    whole_tree d = subst (λ k. IsTreeFor k w tree) (sym e) (subst (λ k. IsTreeFor (height m) k tree) (sym f) (pivoted_shapes_are_trees limit pivots m tree is (whole_shape d)))
+-- the tree of a matrix of these sizes
+module _ (limit pivots : ℕ) (m : Matrix) (tree : Tree) (is : IsMatrix m) (r w : ℕ) (e : r ≡ height m) (f : w ≡ m.width) (d : IsShapeWith limit pivots m tree) where
+  pub whole_tree : IsTreeFor r w tree
+  whole_tree = subst (λ k. IsTreeFor k w tree) (sym e) (subst (λ k. IsTreeFor (height m) k tree) (sym f) (pivoted_shapes_are_trees limit pivots m tree is d))
 
-    pub whole_sound : limit ≤ 24 → IsDrawnWith limit within 1 m lines tree → IsSoundTree m r w tree
-    whole_sound few d = subst (λ k. IsSoundTree m k w tree) (sym e) (subst (λ k. IsSoundTree m (height m) k tree) (sym f) (pivoted_shapes_are_sound limit pivots m tree few is (whole_shape d)))
+  pub whole_sound : limit ≤ 24 → IsSoundTree m r w tree
+  whole_sound few = subst (λ k. IsSoundTree m k w tree) (sym e) (subst (λ k. IsSoundTree m (height m) k tree) (sym f) (pivoted_shapes_are_sound limit pivots m tree few is d))
+
+-- ---- the greatest number of pivots with which no node is too deep
+
+module _ (limit : ℕ) (m : Matrix) (tree : Tree) where
+  pub shape_with_all : (pivots : ℕ) → IsDrawnWith limit pivots 1 m (all_lines m) tree → (pivots ≡ 0) ⊎ (is_shallow tree ≡ true) → IsShapeWith limit pivots m tree
+  shape_with_all pivots d shallow = record { made = pivots; few = omega arith; drawn = d; shallow = shallow; most = λ more other low high drawn. absurd (omega (arith, low, high)) }
+
+  -- if some node is too deep with one pivot more
+  pub shape_with_fewer : (pivots fewer : ℕ) → pivots ≡ suc fewer → (deep : Tree) → IsDrawnWith limit pivots 1 m (all_lines m) deep → is_shallow deep ≡ false → IsShapeWith limit fewer m tree → IsShapeWith limit pivots m tree
+  shape_with_fewer pivots fewer e deep is too_deep d = record {
+    made = d.made;
+    few = let few = d.few in omega (arith, few, e);
+    drawn = d.drawn;
+    shallow = d.shallow;
+    most = λ more other low high drawn. elim (cases_lt more pivots) [
+      | inl less ↦ d.most more other low (omega (arith, less, e)) drawn
+      | inr equal ↦
+          let same : more ≡ pivots = omega (arith, equal, high) in
+          same_levels 2001 other deep (drawn_with_same limit pivots 1 m (all_lines m) other deep (subst (λ k. IsDrawnWith limit k 1 m (all_lines m) other) same drawn) is) ∙ too_deep
+    ];
+  }
 
 -- where nothing is found each undecided node stays
 module _ (limit state : ℕ) (m : Matrix) where
@@ -122,16 +144,18 @@ no_pivots_change_nothing limit m tree = (plain, pivoted)
   where
     plain : IsShapeWith limit 0 m tree → IsShape limit m tree
     plain d =
-        let found : Refines (IsFound limit 0 1 m) d.shape tree = subst (λ pivots. Refines (IsFound limit pivots 1 m) d.shape tree) (none_of (2000 - (height m + m.width))) d.refines in
-        let same = refined_is_same limit 1 m d.shape tree (counts limit m [] [] (These (all_lines m)) d.shape d.drawn) found in
-        shape_moved limit m [] (AllLines (height m) m.width) (all_lines m) tree (refl, refl) (subst (IsShapeOn limit m (all_lines m)) (sym same) d.drawn)
+        let few = d.few in
+        let none : d.made ≡ 0 = omega (arith, few) in
+        let drawn = subst (λ made. IsDrawnWith limit made 1 m (all_lines m) tree) none d.drawn in
+        let same = refined_is_same limit 1 m drawn.shape tree (counts limit m [] [] (These (all_lines m)) drawn.shape drawn.drawn) drawn.refines in
+        shape_moved limit m [] (AllLines (height m) m.width) (all_lines m) tree (refl, refl) (subst (IsShapeOn limit m (all_lines m)) (sym same) drawn.drawn)
 
     pivoted : IsShape limit m tree → IsShapeWith limit 0 m tree
-    pivoted shape = record {
+    pivoted shape = shape_with_all limit m tree 0 (record {
       shape = tree;
       drawn = shape_from limit m (AllLines (height m) m.width) (all_lines m) tree (due_here limit m [] [] (AllLines (height m) m.width) tree shape) shape;
-      refines = subst (λ pivots. Refines (IsFound limit pivots 1 m) tree tree) (sym (none_of (2000 - (height m + m.width)))) (refines_itself limit 1 m tree (counts limit m [] [] (AllLines (height m) m.width) tree shape));
-    }
+      refines = refines_itself limit 1 m tree (counts limit m [] [] (AllLines (height m) m.width) tree shape);
+    }) (inl refl)
 
 pub shapes_are_trees : ShapesAreTrees
 shapes_are_trees limit m tree is shape = pivoted_shapes_are_trees limit 0 m tree is ((no_pivots_change_nothing limit m tree).1 shape)

@@ -5,6 +5,7 @@ pub mod Nodes
 pub mod Openings
 pub mod Sketches
 pub mod PlainTrees
+pub mod Levels
 pub mod Refined
 pub mod PivotedShapes
 pub mod PivotedLaws

@@ -1,5 +1,5 @@
 -- The shape of a decomposition that makes pivots where nothing else decides.
-use Rattle.std.specs.Prelude.{◌≡◌, ◌+◌, ◌-◌, ◌++◌, ◌⊎◌, ℕ, zero, suc, min, List, [], ◌∷◌, Option, Some, None}
+use Rattle.std.specs.Prelude.{◌≡◌, ◌<◌, ◌≤◌, ◌+◌, ◌++◌, ◌⊎◌, ℕ, zero, suc, Bool, true, false, List, [], ◌∷◌, Option, Some, None}
 use Rattle.cmr_base.specs.declared.limits.TheConstants.{MAX_DEPTH}
 use Rattle.cmr_base.specs.declared.line_set.LineSet.{LineSet}
 use Rattle.cmr_base.specs.Matrix.{Matrix, height}
@@ -14,6 +14,7 @@ use Rattle.tree_type.specs.declared.finding.Finding.{Finding as Held}
 use Rattle.tree_type.specs.declared.finding.Finding.TheVariants as held
 use Rattle.tree_type.specs.DecompositionTrees.{Tree, Branch, NoTrees, Undecided, Violator, Pivoted, one_tree}
 use Rattle.tree_type.specs.Verdicts.{Verdict, Yes, No, Open, verdict_of}
+use Rattle.decomp_tree.specs.Levels.{is_on_levels}
 use Rattle.decomp_tree.specs.Refined.{Refines}
 use Rattle.decomp_tree.specs.Shapes.{IsShapeOn}
 
@@ -71,16 +72,25 @@ pub record IsDrawnWith (limit pivots state : ℕ) (m : Matrix) (lines : LineSet)
   pub drawn : IsShapeOn limit m lines shape
   pub refines : Refines (IsFound limit pivots state m) shape tree
 
--- so many pivots that no node stands deeper than 2,000, also where each line is a level
-abbrev pub pivots_within : Matrix → ℕ → ℕ
-pivots_within m pivots = min pivots (MAX_DEPTH - (height m + m.width))
-
 abbrev pub all_lines : Matrix → LineSet
 all_lines m = record { rows = first_lines (height m); columns = first_lines m.width }
 
--- The tree is a decomposition of the matrix with this budget of lines, in which so many pivots may be made on the way to a node.
-abbrev pub IsShapeWith : ℕ → ℕ → Matrix → Tree → Type 0
-IsShapeWith limit pivots m tree = IsDrawnWith limit (pivots_within m pivots) 1 m (all_lines m) tree
+-- no node is deeper than 2,000
+abbrev pub is_shallow : Tree → Bool
+is_shallow = is_on_levels (MAX_DEPTH + 1)
+
+-- with more pivots than are made, at most this number, some node is deeper than 2,000
+abbrev pub AreTooDeep : (limit made pivots : ℕ) → Matrix → Type 0
+AreTooDeep limit made pivots m = (more : ℕ) (other : Tree) → made < more → more ≤ pivots → IsDrawnWith limit more 1 m (all_lines m) other → is_shallow other ≡ false
+
+-- The tree is a decomposition of the matrix with this budget of lines. Of the numbers of pivots on the path to a node up to this one, it is
+-- made with the greatest with which no node is deeper than 2,000, and with 0 if there is none.
+pub record IsShapeWith (limit pivots : ℕ) (m : Matrix) (tree : Tree) : Type 0 where
+  pub made : ℕ
+  pub few : made ≤ pivots
+  pub drawn : IsDrawnWith limit made 1 m (all_lines m) tree
+  pub shallow : (made ≡ 0) ⊎ (is_shallow tree ≡ true)
+  pub most : AreTooDeep limit made pivots m
 
 -- a tree stands behind some others
 pub record IsBehind (Stands : Tree → Type 0) (before after : List Tree) : Type 0 where

@@ -5,6 +5,7 @@ mod drafts;
 mod drawing;
 mod faults;
 pub mod laws;
+mod levels;
 mod looking;
 mod naming;
 mod obstructions;

@@ -1,0 +1,5 @@
+use Rattle.std.proofs.Common.{ℕ}
+use Rattle.decomp_tree.proofs.drawing.+shallow_root.Given as goal
+
+abbrev pub decreases-shallow_root : goal.decreases-shallow_root
+decreases-shallow_root g l = l.pivots
