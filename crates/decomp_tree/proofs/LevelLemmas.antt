@@ -1,8 +1,8 @@
 -- Trees with a number of levels.
-use Rattle.std.proofs.Common.{◌≡◌, ◌<◌, ◌-◌, ◌&&◌, ◌∙◌, ℕ, true, Bool, nat_lt, refl, ap, ap₂, sym}
+use Rattle.std.proofs.Common.{◌≡◌, ◌-◌, ◌&&◌, ◌∙◌, ℕ, true, Bool, nat_lt, refl, ap, ap₂, sym}
 use Rattle.cmr_base.specs.declared.line_set.LineSet.{LineSet}
 use Rattle.cmr_base.proofs.Booleans.{and_is, lt_of}
-use Rattle.tree_type.specs.DecompositionTrees.{Finding, Tree, Trees, Branch, NoTrees, MoreTrees}
+use Rattle.tree_type.specs.DecompositionTrees.{Tree, Trees, Branch, NoTrees, MoreTrees}
 use Rattle.tree_type.specs.Invariant.{IsTreeWithin, AreTreesWithin}
 use Rattle.decomp_tree.specs.Levels.{is_on_levels, are_on_levels}
 use Rattle.decomp_tree.specs.PlainTrees.{plain_tree, plain_trees}

@@ -1,5 +1,5 @@
 -- There is one decomposition of a matrix with what pivots find, but for what its networks say.
-use Rattle.std.proofs.Common.{◌≡◌, ◌<◌, ◌-◌, ◌∙◌, inl, inr, ℕ, zero, suc, List, [], Contains, Option, Some, None, refl, ap, ap₂, sym, subst, arith}
+use Rattle.std.proofs.Common.{◌≡◌, ◌<◌, ◌∙◌, inl, inr, ℕ, zero, suc, List, [], Contains, Option, Some, None, refl, ap, ap₂, sym, subst, arith}
 use Rattle.cmr_base.specs.declared.line_set.LineSet.{LineSet}
 use Rattle.cmr_base.specs.Matrix.{Matrix, entry, IsEntry}
 use Rattle.cmr_base.specs.PlacedPivots.{pivot_entry, pivoted_part}

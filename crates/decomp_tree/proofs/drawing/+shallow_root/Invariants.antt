@@ -1,4 +1,3 @@
-use Rattle.std.proofs.Common.{ℕ}
 use Rattle.decomp_tree.proofs.drawing.+shallow_root.Given as goal
 
 abbrev pub decreases-shallow_root : goal.decreases-shallow_root
