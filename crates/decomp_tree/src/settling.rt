@@ -13,7 +13,8 @@ use crate::faults::late_fault;
 use crate::pulling_back::{leaf, pulled_back};
 use crate::search_limits::SearchLimits;
 use cmr_base::{LineSet, Matrix, Memory, RowsAndColumns};
-use pivots::{PivotedPart, drawn_place, pivot_part};
+use pivots::{PivotedPart, pivot_part};
+use separating_places::chosen_place;
 use std::alloc::Global;
 use std::thread::Threads;
 use tree_type::{Finding, Node, join_node};
@@ -130,14 +131,14 @@ fn find<R: Threads + Sync>(
     if pivots == 0 {
         return leaf(alloc, lines, Finding::Undecided);
     }
-    let Some(drawn) = drawn_place(matrix, lines, state) else {
+    let Some(chosen) = chosen_place(alloc, matrix, lines, state)? else {
         return leaf(alloc, lines, Finding::Undecided);
     };
-    match pivot_part(alloc, matrix, lines, drawn.place)? {
+    match pivot_part(alloc, matrix, lines, chosen.place)? {
         PivotedPart::Violated(fault) => leaf(alloc, lines, Finding::Violator(fault)),
         PivotedPart::Ternary(after) => {
-            let tree = draw_root(rt, alloc, &after, lines, limits, pivots - 1, drawn.state)?;
-            pulled_back(alloc, matrix, lines, drawn.place, tree)
+            let tree = draw_root(rt, alloc, &after, lines, limits, pivots - 1, chosen.state)?;
+            pulled_back(alloc, matrix, lines, chosen.place, tree)
         }
     }
 }
