@@ -1,5 +1,5 @@
 -- There is one separation of the first good seed.
-use Rattle.std.proofs.Common.{◌≡◌, ◌∙◌, inl, inr, ℕ, ℤ, List, [], ◌∷◌, length, refl, ap, sym, subst, arith}
+use Rattle.std.proofs.Common.{◌≡◌, ◌∙◌, ℕ, ℤ, refl, ap, sym, subst}
 use Rattle.cmr_base.specs.declared.line.Line.{Line}
 use Rattle.cmr_base.specs.declared.line_set.LineSet.{LineSet}
 use Rattle.cmr_base.specs.declared.separation.Connector.{Connector}
@@ -8,7 +8,7 @@ use Rattle.cmr_base.specs.declared.separation.Two.{Two}
 use Rattle.cmr_base.specs.declared.separation.Three.{Three}
 use Rattle.cmr_base.specs.Matrix.{Matrix, height, entry}
 use Rattle.cmr_base.specs.Separations.{Lines}
-use Rattle.cmr_base.specs.Seeds.{IsBefore, IsGoodTwo, IsGoodThree, form_number, line_number, two_key, three_key}
+use Rattle.cmr_base.specs.Seeds.{IsGoodTwo, IsGoodThree, form_number, line_number, two_key, three_key}
 use Rattle.cmr_base.proofs.SeedLemmas.{line_is, form_is}
 use Rattle.two_sep.specs.FirstSeeds.{IsFirstTwoSeparation}
 use Rattle.three_sep.specs.ThreeSeparations.{IsFirstThreeSeparation}

@@ -41,7 +41,6 @@ module _ (limit pivots state : ℕ) (m : Matrix) (lines : LineSet) where
         let there = subst (λ n. IsDrawnWith limit (pivots - 1) chosen.state n lines found) made.is d in
         found_there tree some (inr (made.ternary, found, (there.shape, there.drawn, there.refines), told))
 
-
 -- the lines are lines of the matrix after the pivot
 pub lines_made : (m : Matrix) (lines : LineSet) (place : PlacedPivot) (after : Matrix) → IsMadePart m lines place after → AreLines m lines → AreLines after lines
 lines_made m lines place after made are = subst (λ n. AreLines n lines) (sym made.is) (lines_pivoted m lines place lines are)

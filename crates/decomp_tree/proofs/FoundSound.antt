@@ -87,6 +87,6 @@ module _ (limit : ℕ) (few : limit ≤ 24) where
   found_sound (suc pivots) m made state lines tree is (chosen, choice, found) are may =
       found_at_sound pivots (found_sound pivots) m made lines is are chosen (choice_in (matrix_after m made) lines state chosen choice) tree found may
 
-  -- a decomposition with what pivots find keeps all rules
+  -- a decomposition with what replaces its undecided nodes keeps all rules
   pub drawn_with_sound : (pivots state : ℕ) (m : Matrix) (lines : LineSet) (tree : Tree) → IsMatrix m → IsDrawnWith limit pivots state m lines tree → AreLines m lines → IsSoundBelow m [] tree
   drawn_with_sound pivots state m lines tree is d are = drawn_sound pivots (found_sound pivots) m [] state lines tree is d are (inl refl)

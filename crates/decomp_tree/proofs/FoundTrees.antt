@@ -112,7 +112,7 @@ module _ (limit : ℕ) where
   abbrev IsWithin : ℕ → Type 0
   IsWithin pivots = (state : ℕ) (m : Matrix) (lines : LineSet) (tree : Tree) (parent : LineSet) (levels : ℕ) → IsMatrix m → IsFound limit pivots state m lines tree → AreLines m parent → AreLinesOf lines parent → size_of lines + pivots < levels → IsTreeWithin parent levels tree
 
-  -- a decomposition with what is found
+  -- a decomposition with what replaces its undecided nodes
   drawn_within : (pivots : ℕ) → IsWithin pivots → (state : ℕ) (m : Matrix) (lines : LineSet) (tree : Tree) (parent : LineSet) (levels : ℕ) → IsMatrix m → IsDrawnWith limit pivots state m lines tree → AreLines m parent → AreLinesOf lines parent → size_of lines + pivots < levels → IsTreeWithin parent levels tree
   drawn_within pivots found state m lines tree parent levels is d parent_are are l =
       let root = shape_lines limit m lines d.shape d.drawn in

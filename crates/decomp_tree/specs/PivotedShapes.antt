@@ -67,24 +67,24 @@ IsFound limit (suc pivots) state m lines tree =
     × Refines (IsFound limit pivots next after) shape found)
     m lines chosen tree
 
--- the decomposition of the submatrix on some lines, with what is found by pivots in the places of its undecided nodes
+-- the decomposition of the submatrix on some lines, with what replaces its undecided nodes
 pub record IsDrawnWith (limit pivots state : ℕ) (m : Matrix) (lines : LineSet) (tree : Tree) : Type 0 where
   pub shape : Tree
   pub drawn : IsShapeOn limit m lines shape
   pub refines : Refines (IsFound limit pivots state m) shape tree
 
--- so many pivots that no node stands deeper than 2,000, also where each line is a level
+-- the number of pivots, or a smaller one so that no node is deeper than 2,000 even if each line is a level
 abbrev pub pivots_within : Matrix → ℕ → ℕ
 pivots_within m pivots = min pivots (MAX_DEPTH - (height m + m.width))
 
 abbrev pub all_lines : Matrix → LineSet
 all_lines m = record { rows = first_lines (height m); columns = first_lines m.width }
 
--- The tree is a decomposition of the matrix with this budget of lines, in which so many pivots may be made on the way to a node.
+-- The tree is a decomposition of the matrix with this budget of lines and at most this number of pivots on the path to a node.
 abbrev pub IsShapeWith : ℕ → ℕ → Matrix → Tree → Type 0
 IsShapeWith limit pivots m tree = IsDrawnWith limit (pivots_within m pivots) 1 m (all_lines m) tree
 
--- a tree stands behind some others
+-- one more tree, after some others
 pub record IsBehind (Stands : Tree → Type 0) (before after : List Tree) : Type 0 where
   pub tree : Tree
   pub order : after ≡ before ++ tree ∷ []

@@ -1,6 +1,6 @@
 use Rattle.std.proofs.Common.{◌≡◌, ◌∙◌, None, Some, ap, refl, sym, subst}
 use Rattle.tree_type.specs.DecompositionTrees.{tree_of}
-use Rattle.tree_type.specs.Verdicts.{No, Open, Yes, verdict_of, verdict_shown}
+use Rattle.tree_type.specs.Verdicts.{No, Yes, verdict_of, verdict_shown}
 use Rattle.tree_type.specs.declared.finding.Finding.TheVariants as held
 use Rattle.decomp_tree.specs.PivotedShapes.{SaysBeforePivot}
 use Rattle.decomp_tree.proofs.pulling_back.finding_before.Goals as goal
