@@ -1,6 +1,7 @@
 """A plain slow program for decompositions with pivots. It asks the program itself only for the tree of each pivoted submatrix.
 
-It follows the rule of docs/DEFINITIONS.md, with its own pivots, draws and inverse map of violators. Tests compare the results.
+It follows the rule of docs/DEFINITIONS.md, with its own pivots, positions of first cuts (`slow_separating`), draws and inverse map of
+violators. Tests compare the results.
 """
 
 from __future__ import annotations
@@ -9,6 +10,7 @@ from dataclasses import dataclass, replace
 
 from cmr_matrices import BadEntry, Line, LineSet, Matrix, Node, Tree
 from cmr_matrices.line_orders import LineOrder
+from tests.slow_separating import Place, separating_place
 from tests.support import asked_once
 
 __all__ = ["Draws", "slow_tree", "violator_before"]
@@ -67,13 +69,12 @@ class _Search:
         return replace(tree, root=tree.root.rebuilt(_Exchanged(found)))
 
     def _found(self, matrix: Matrix, node: Node, left: int, draws: Draws, made: int) -> Node:
-        """What stands in the place of an undecided node. Its submatrix has a nonzero, as it is not reducible."""
+        """What replaces an undecided node."""
         if not left:
             return node
         order = LineOrder(matrix, node.rows, node.columns)
         part = order.reordered()
-        number, after = draws.below(len(part.nonzeros))
-        row, column, _ = part.nonzeros[number]
+        (row, column), after = _next_place(part, draws)
         try:
             pivoted = part.pivoted(row, column)
         except BadEntry as entry:
@@ -88,6 +89,16 @@ class _Search:
             fault = violator_before(part, row, column, faults[0])
             return Node("violator", node.lines, fault=order.lines(fault))
         return node
+
+
+def _next_place(part: Matrix, draws: Draws) -> tuple[Place, Draws]:
+    """The position of the next pivot, drawn if the first cut has none. The matrix has a nonzero, as it is not reducible."""
+    position = separating_place(part)
+    if position is not None:
+        return position, draws
+    number, after = draws.below(len(part.nonzeros))
+    row, column, _ = part.nonzeros[number]
+    return (row, column), after
 
 
 @dataclass(frozen=True)

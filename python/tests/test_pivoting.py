@@ -6,19 +6,20 @@ import random
 import unittest
 from collections import Counter
 from collections.abc import Callable
-from itertools import product
+from itertools import combinations, product
 
 import cmr_matrices as cmr
 from cmr_matrices import Answer, BadInput, Line, LineSet, Matrix, Tree
 from tests import independent
 from tests.open_matrices import RING, latin_square, models, shared_flows, two_goods
 from tests.slow_pivots import Draws, slow_tree, violator_before
+from tests.slow_separating import cut_place, first_cut
 from tests.support import FANO, asked_once, needs_program
 from tests.test_random import drawn, network
 
 Rows = list[list[int]]
 
-MOST_NONZEROS, MOST_SLOW = 1000, 150
+MOST_NONZEROS, MOST_SLOW = 1000, 60
 """Models with more nonzeros are for `bench/pivots.py`, and the slow program has those with up to `MOST_SLOW`."""
 
 
@@ -33,6 +34,31 @@ class Rules(unittest.TestCase):
             state = (1103515245 * state + 12345) % 2147483648
             self.assertEqual(number, state // 1024 % bound)
         self.assertEqual(Draws().below(1000), (1103527590 // 1024 % 1000, Draws(1103527590)))
+
+    def test_first_cuts(self) -> None:
+        """The first cut is a cut, and there is one if and only if some set of lines is a cut."""
+        draw, seen = random.Random(3), Counter[bool]()
+        for _ in range(150):
+            rows = [[draw.choice((-1, 0, 1)) for _ in range(5)] for _ in range(4)]
+            side = first_cut(rows)
+            seen[side is not None] += 1
+            if side is None:
+                sets = (frozenset(lines) for size in (4, 5) for lines in combinations(range(9), size))
+                self.assertFalse(any(is_cut(rows, lines) for lines in sets))
+            else:
+                self.assertTrue(is_cut(rows, side))
+        self.assertGreater(min(seen.values()), 10)
+
+    def test_positions(self) -> None:
+        """In side one if it is not fit, otherwise in side two; none if both are fit or there is no path."""
+        one = frozenset((0, 1, 4, 5))
+        for rows, place in (
+            ([[1, 1, 1, 0], [1, 1, 0, 0], [0, 0, 1, 1], [1, 0, 1, 1]], (0, 1)),
+            ([[1, 0, 1, 0], [1, 1, 0, 0], [0, 0, 1, 1], [1, 0, 1, 1]], None),
+            ([[1, 0, 1, 0], [0, 1, 1, 0], [1, 0, 1, 1], [0, 0, 1, 1]], (2, 3)),
+            ([[1, 0, 1, 0], [0, 1, 1, 0], [1, 0, 0, 1], [1, 0, 1, 1]], None),
+        ):
+            self.assertEqual(cut_place(rows, one), place)
 
     def test_violators_before_a_pivot(self) -> None:
         """Each violator of a pivot comes from one of the matrix, and the lines beside the pivot's stay."""
@@ -253,6 +279,19 @@ def pivoted_goods(draw: random.Random) -> Rows:
         line = draw.choice(lists)
         line[draw.randrange(len(line))] = draw.choice((-1, 0, 1))
     return lists
+
+
+def is_cut(rows: Rows, side: frozenset[int]) -> bool:
+    """Whether a set of lines and the other lines, four of each at least, have products between them that are not 0."""
+    own, far = ({line for line in range(len(rows) + len(rows[0])) if (line in side) == is_one} for is_one in (True, False))
+    return min(len(own), len(far)) >= 4 and is_product(rows, own, far) and is_product(rows, far, own)
+
+
+def is_product(rows: Rows, one: set[int], two: set[int]) -> bool:
+    """Whether the rows of a set of lines and the columns of another cross in a block of rank one."""
+    block = [[rows[r][c] for c in range(len(rows[0])) if len(rows) + c in two] for r in range(len(rows)) if r in one]
+    kept = [row for row in block if any(row)]
+    return bool(kept) and all(row in (kept[0], [-entry for entry in kept[0]]) for row in kept)
 
 
 def undecided(answer: Answer) -> cmr.Undecided:

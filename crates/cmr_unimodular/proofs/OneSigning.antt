@@ -16,7 +16,7 @@ use Rattle.chains.proofs.ChainViolators.{sign_four, unsigned_signs}
 use Rattle.camion_sign.proofs.ForcedCycles.{sum_more}
 use Rattle.chains.proofs.GivenSigns.{signs_more}
 use Rattle.camion_sign.proofs.FirstFaults.{place_unique}
-use Rattle.decomp_tree.proofs.SameSets.{same_numbers}
+use Rattle.separating_places.proofs.SameSets.{same_numbers}
 
 -- ---- one cycle
 

@@ -10,7 +10,7 @@ use Rattle.cmr_base.specs.Seeds.{IsLine}
 use Rattle.cmr_base.specs.Components.{IsApart, IsComponent, AreComponents, part_at, first_number}
 use Rattle.cmr_base.proofs.Booleans.{is_and}
 use Rattle.cmr_base.proofs.ListedLines.{listed_from_has_line}
-use Rattle.decomp_tree.proofs.SameSets.{HasAllOf, lines_in, same_sets}
+use Rattle.separating_places.proofs.SameSets.{HasAllOf, lines_in, same_sets}
 
 -- parts with a line of both are one
 module _ (m : Matrix) (some others : Lines) where

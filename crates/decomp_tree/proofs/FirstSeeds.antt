@@ -13,7 +13,7 @@ use Rattle.cmr_base.proofs.SeedLemmas.{line_is, form_is}
 use Rattle.two_sep.specs.FirstSeeds.{IsFirstTwoSeparation}
 use Rattle.three_sep.specs.ThreeSeparations.{IsFirstThreeSeparation}
 use Rattle.three_sep.proofs.OneFirstCut.{same_keys}
-use Rattle.decomp_tree.proofs.SameSets.{HasAllOf, lines_in, same_sets}
+use Rattle.separating_places.proofs.SameSets.{HasAllOf, lines_in, same_sets}
 
 -- ---- two-separations
 

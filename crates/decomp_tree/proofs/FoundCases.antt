@@ -1,9 +1,9 @@
--- What pivots find, by cases: no place, a 2, and the tree of the submatrix after the pivot.
-use Rattle.std.proofs.Common.{◌≡◌, ◌≢◌, ◌+◌, ◌-◌, inl, inr, ℕ, suc, Some, None, sym, subst, arith}
+-- What pivots find, by cases: no position, a 2, and the tree of the submatrix after the pivot.
+use Rattle.std.proofs.Common.{◌≡◌, ◌≢◌, ◌+◌, ◌-◌, inl, inr, ℕ, suc, Option, Some, None, sym, subst, arith}
 use Rattle.cmr_base.specs.declared.line_set.LineSet.{LineSet}
 use Rattle.cmr_base.specs.Matrix.{Matrix, IsMatrix}
+use Rattle.cmr_base.specs.declared.placed_pivot.PlacedPivot.{PlacedPivot}
 use Rattle.pivots.specs.declared.drawn.DrawnPlace.{DrawnPlace}
-use Rattle.pivots.specs.DrawnPlaces.{drawn_place}
 use Rattle.pivots.specs.PivotedParts.{IsMadePart, ShowsFirstTwoIn}
 use Rattle.tree_type.specs.DecompositionTrees.{Tree, Branch, NoTrees, Violator}
 use Rattle.tree_type.specs.Invariant.{AreLines, size_of}
@@ -11,37 +11,39 @@ use Rattle.tree_type.specs.Verdicts.{verdict_of}
 use Rattle.tree_laws.proofs.PivotedMatrices.{lines_pivoted}
 use Rattle.decomp_tree.specs.Refined.{Refines}
 use Rattle.decomp_tree.specs.Shapes.{IsShapeOn}
+use Rattle.separating_places.specs.SeparatingPlaces.{HasNoChosenPlace, IsChoice, IsChosenPlace}
 use Rattle.decomp_tree.specs.PivotedShapes.{HasFaultAmong, IsDrawnWith, IsFound, IsFoundAt, IsToldBeforePivot, undecided}
 use Rattle.decomp_tree.proofs.FaultLines.{fault_among, lines_themselves}
 use Rattle.decomp_tree.proofs.FoundTrees.{drawn_with_lines, drawn_with_within}
 
 module _ (limit pivots state : ℕ) (m : Matrix) (lines : LineSet) where
   -- some pivot may be made
-  found_at : (some : pivots ≢ 0) (tree : Tree) → IsFoundAt (λ next after found. (shape : Tree) × IsShapeOn limit after lines shape × Refines (IsFound limit (pivots - 1) next after) shape found) m lines (drawn_place m lines state) tree
+  found_at : (some : pivots ≢ 0) (tree : Tree) (chosen : Option DrawnPlace) → IsChoice m lines state chosen
+      → IsFoundAt (λ next after found. (shape : Tree) × IsShapeOn limit after lines shape × Refines (IsFound limit (pivots - 1) next after) shape found) m lines chosen tree
       → IsFound limit pivots state m lines tree
-  found_at some tree found = subst (λ k. IsFound limit k state m lines tree) (let more : suc (pivots - 1) ≡ pivots = omega (arith, some) in more) found
+  found_at some tree chosen choice found = subst (λ k. IsFound limit k state m lines tree) (let more : suc (pivots - 1) ≡ pivots = omega (arith, some) in more) (chosen, choice, found)
 
   pub found_none : (tree : Tree) → pivots ≡ 0 → tree ≡ undecided lines → IsFound limit pivots state m lines tree
   found_none tree none e = subst (λ k. IsFound limit k state m lines tree) (sym none) e
 
-  pub found_no_place : (tree : Tree) → pivots ≢ 0 → drawn_place m lines state ≡ None → tree ≡ undecided lines → IsFound limit pivots state m lines tree
-  found_no_place tree some none e = found_at some tree (subst (λ o. IsFoundAt (λ next after found. (shape : Tree) × IsShapeOn limit after lines shape × Refines (IsFound limit (pivots - 1) next after) shape found) m lines o tree) (sym none) e)
+  pub found_no_place : (tree : Tree) → pivots ≢ 0 → HasNoChosenPlace m lines state → tree ≡ undecided lines → IsFound limit pivots state m lines tree
+  found_no_place tree some none e = found_at some tree None none e
 
-  module _ (drawn : DrawnPlace) (is_drawn : drawn_place m lines state ≡ Some drawn) where
-    found_there : (tree : Tree) → pivots ≢ 0 → IsFoundAt (λ next after found. (shape : Tree) × IsShapeOn limit after lines shape × Refines (IsFound limit (pivots - 1) next after) shape found) m lines (Some drawn) tree → IsFound limit pivots state m lines tree
-    found_there tree some found = found_at some tree (subst (λ o. IsFoundAt (λ next after t. (shape : Tree) × IsShapeOn limit after lines shape × Refines (IsFound limit (pivots - 1) next after) shape t) m lines o tree) (sym is_drawn) found)
+  module _ (chosen : DrawnPlace) (at : IsChosenPlace m lines state chosen) where
+    found_there : (tree : Tree) → pivots ≢ 0 → IsFoundAt (λ next after found. (shape : Tree) × IsShapeOn limit after lines shape × Refines (IsFound limit (pivots - 1) next after) shape found) m lines (Some chosen) tree → IsFound limit pivots state m lines tree
+    found_there tree some found = found_at some tree (Some chosen) at found
 
-    pub found_two : (tree : Tree) (fault : LineSet) → pivots ≢ 0 → ShowsFirstTwoIn m lines drawn.place fault.rows fault.columns → tree ≡ Branch lines (Violator fault) NoTrees → IsFound limit pivots state m lines tree
+    pub found_two : (tree : Tree) (fault : LineSet) → pivots ≢ 0 → ShowsFirstTwoIn m lines chosen.place fault.rows fault.columns → tree ≡ Branch lines (Violator fault) NoTrees → IsFound limit pivots state m lines tree
     found_two tree fault some shows e = found_there tree some (inl (fault, shows, e))
 
-    pub found_after : (tree found : Tree) (after : Matrix) → pivots ≢ 0 → IsMadePart m lines drawn.place after → IsDrawnWith limit (pivots - 1) drawn.state after lines found → IsToldBeforePivot m lines drawn.place found (verdict_of found) tree → IsFound limit pivots state m lines tree
+    pub found_after : (tree found : Tree) (after : Matrix) → pivots ≢ 0 → IsMadePart m lines chosen.place after → IsDrawnWith limit (pivots - 1) chosen.state after lines found → IsToldBeforePivot m lines chosen.place found (verdict_of found) tree → IsFound limit pivots state m lines tree
     found_after tree found after some made d told =
-        let there = subst (λ n. IsDrawnWith limit (pivots - 1) drawn.state n lines found) made.is d in
+        let there = subst (λ n. IsDrawnWith limit (pivots - 1) chosen.state n lines found) made.is d in
         found_there tree some (inr (made.ternary, found, (there.shape, there.drawn, there.refines), told))
 
-    -- the lines are lines of the matrix after the pivot
-    pub lines_made : (after : Matrix) → IsMadePart m lines drawn.place after → AreLines m lines → AreLines after lines
-    lines_made after made are = subst (λ n. AreLines n lines) (sym made.is) (lines_pivoted m lines drawn.place lines are)
+-- the lines are lines of the matrix after the pivot
+pub lines_made : (m : Matrix) (lines : LineSet) (place : PlacedPivot) (after : Matrix) → IsMadePart m lines place after → AreLines m lines → AreLines after lines
+lines_made m lines place after made are = subst (λ n. AreLines n lines) (sym made.is) (lines_pivoted m lines place lines are)
 
 -- a fault of a decomposition has lines of its root
 pub fault_drawn : (limit pivots state : ℕ) (m : Matrix) (lines : LineSet) (tree : Tree) → IsMatrix m → AreLines m lines → IsDrawnWith limit pivots state m lines tree → HasFaultAmong lines (verdict_of tree)

@@ -5,7 +5,6 @@ use Rattle.cmr_base.specs.Matrix.{Matrix, entry, IsMatrix}
 use Rattle.cmr_base.specs.Violator.{IsViolator}
 use Rattle.pivots.specs.declared.drawn.DrawnPlace.{DrawnPlace}
 use Rattle.cmr_base.specs.declared.placed_pivot.PlacedPivot.{PlacedPivot}
-use Rattle.pivots.specs.DrawnPlaces.{drawn_place}
 use Rattle.cmr_base.specs.PlacedPivots.{IsPlaceIn, IsTernaryPivot, pivoted_part}
 use Rattle.pivots.proofs.PartLaws.{part_pivots_take_violators_back}
 use Rattle.tree_type.specs.DecompositionTrees.{Tree, lines_at_root}
@@ -20,7 +19,7 @@ use Rattle.decomp_tree.specs.Shapes.{IsShapeOn}
 use Rattle.decomp_tree.specs.Refined.{Refines}
 use Rattle.decomp_tree.specs.PivotedShapes.{AreBefore, IsToldBeforePivot, IsFoundAt, IsFound, IsDrawnWith}
 use Rattle.decomp_tree.proofs.FaultLines.{among_lines, fault_in, fault_of_verdict, lines_themselves}
-use Rattle.decomp_tree.proofs.FoundTrees.{found_lines, drawn_with_lines, drawn_with_within, place_drawn}
+use Rattle.decomp_tree.proofs.FoundTrees.{found_lines, drawn_with_lines, drawn_with_within, choice_in}
 use Rattle.decomp_tree.proofs.YesTrees.{MayBelow, says_yes}
 use Rattle.decomp_tree.proofs.PivotNodes.{IsSoundBelow, undecided_sound, violator_sound, pivot_sound}
 use Rattle.decomp_tree.proofs.RefinedSound.{refined_sound}
@@ -76,18 +75,18 @@ module _ (limit : ℕ) (few : limit ≤ 24) where
       told_sound (No fault) e tree (before, b, told) may = subst (IsSoundBelow m made) (sym told) (violator_sound m made lines before (fault_before fault before e b) (subst (MayBelow made) told may))
       told_sound (Open left) e tree told may = subst (IsSoundBelow m made) (sym told) (undecided_sound m made lines (subst (MayBelow made) told may))
 
-    found_at_sound : (drawn : Option DrawnPlace) → ((some : DrawnPlace) → drawn ≡ Some some → IsPlaceIn n lines some.place) → (tree : Tree)
-        → IsFoundAt (λ next after found. (shape : Tree) × IsShapeOn limit after lines shape × Refines (IsFound limit pivots next after) shape found) n lines drawn tree → MayBelow made tree → IsSoundBelow m made tree
+    found_at_sound : (chosen : Option DrawnPlace) → ((some : DrawnPlace) → chosen ≡ Some some → IsPlaceIn n lines some.place) → (tree : Tree)
+        → IsFoundAt (λ next after found. (shape : Tree) × IsShapeOn limit after lines shape × Refines (IsFound limit pivots next after) shape found) n lines chosen tree → MayBelow made tree → IsSoundBelow m made tree
     found_at_sound None at tree e may = subst (IsSoundBelow m made) (sym e) (undecided_sound m made lines (subst (MayBelow made) e may))
-    found_at_sound (Some drawn) at tree (inl (fault, shows, e)) may = subst (IsSoundBelow m made) (sym e) (violator_sound m made lines fault shows.violator (subst (MayBelow made) e may))
-    found_at_sound (Some drawn) at tree (inr (ternary, after, (shape, is_drawn, refines), told)) may =
-        told_sound drawn.place (at drawn refl) ternary drawn.state after (record { shape = shape; drawn = is_drawn; refines = refines }) (verdict_of after) refl tree told may
+    found_at_sound (Some chosen) at tree (inl (fault, shows, e)) may = subst (IsSoundBelow m made) (sym e) (violator_sound m made lines fault shows.violator (subst (MayBelow made) e may))
+    found_at_sound (Some chosen) at tree (inr (ternary, after, (shape, is_drawn, refines), told)) may =
+        told_sound chosen.place (at chosen refl) ternary chosen.state after (record { shape = shape; drawn = is_drawn; refines = refines }) (verdict_of after) refl tree told may
 
   found_sound : (pivots : ℕ) → FoundIsSound pivots
   found_sound zero m made state lines tree is e are may = subst (IsSoundBelow m made) (sym e) (undecided_sound m made lines (subst (MayBelow made) e may))
-  found_sound (suc pivots) m made state lines tree is found are may =
-      found_at_sound pivots (found_sound pivots) m made lines is are (drawn_place (matrix_after m made) lines state) (place_drawn (matrix_after m made) lines state) tree found may
+  found_sound (suc pivots) m made state lines tree is (chosen, choice, found) are may =
+      found_at_sound pivots (found_sound pivots) m made lines is are chosen (choice_in (matrix_after m made) lines state chosen choice) tree found may
 
-  -- a decomposition with what pivots find keeps all rules
+  -- a decomposition with what replaces its undecided nodes keeps all rules
   pub drawn_with_sound : (pivots state : ℕ) (m : Matrix) (lines : LineSet) (tree : Tree) → IsMatrix m → IsDrawnWith limit pivots state m lines tree → AreLines m lines → IsSoundBelow m [] tree
   drawn_with_sound pivots state m lines tree is d are = drawn_sound pivots (found_sound pivots) m [] state lines tree is d are (inl refl)

@@ -1,15 +1,13 @@
--- What pivots find in the place of an undecided node: its lines and its levels.
-use Rattle.std.proofs.Common.{◌≡◌, ◌<◌, ◌≤◌, ◌+◌, ◌-◌, ◌∙◌, inl, inr, ℕ, zero, suc, [], Contains, Option, Some, None, IfSome, refl, ap, sym, subst, arith}
+-- What replaces undecided nodes: its lines and its levels.
+use Rattle.std.proofs.Common.{◌≡◌, ◌<◌, ◌≤◌, ◌+◌, ◌-◌, ◌∙◌, inl, inr, ℕ, zero, suc, [], Contains, Option, Some, None, refl, ap, sym, subst, arith}
 use Rattle.cmr_base.specs.declared.line_set.LineSet.{LineSet}
 use Rattle.cmr_base.specs.Matrix.{Matrix, IsMatrix}
 use Rattle.cmr_base.specs.LineSets.{IsRowSet, IsColumnSet}
 use Rattle.cmr_base.proofs.Lists.{all_contained}
 use Rattle.pivots.specs.declared.drawn.DrawnPlace.{DrawnPlace}
 use Rattle.cmr_base.specs.declared.placed_pivot.PlacedPivot.{PlacedPivot}
-use Rattle.pivots.specs.DrawnPlaces.{drawn_place}
 use Rattle.cmr_base.specs.PlacedPivots.{IsPlaceIn, IsTernaryPivot, pivoted_part}
 use Rattle.pivots.specs.PivotedParts.{AreAmong}
-use Rattle.pivots.proofs.DrawnPlaces.{drawn_in}
 use Rattle.pivots.proofs.PartLaws.{lines_before_among}
 use Rattle.tree_type.specs.DecompositionTrees.{Finding, Empty, Cycle, Reduced, OneSum, Network, Conetwork, R10, TwoSum, ThreeSum, Enumerated, Violator, Undecided, Pivoted, Tree, Trees, Branch, NoTrees, MoreTrees, count_trees, lines_at_root}
 use Rattle.tree_type.specs.Invariant.{AreLines, AreLinesOf, size_of, FitsLines, HasChildren, IsTreeWithin, AreTreesWithin}
@@ -18,6 +16,8 @@ use Rattle.tree_type.specs.Verdicts.{Verdict, Yes, No, Open, verdict_of}
 use Rattle.tree_type.proofs.PlacedLines.{lines_within}
 use Rattle.tree_laws.proofs.PivotedMatrices.{lines_pivoted, pivoted_is_matrix}
 use Rattle.decomp_tree.specs.Shapes.{IsShapeOn}
+use Rattle.separating_places.specs.SeparatingPlaces.{IsChoice}
+use Rattle.separating_places.proofs.ChosenPlaces.{chosen_place_in}
 use Rattle.decomp_tree.specs.Refined.{Refines, AllRefine}
 use Rattle.decomp_tree.specs.PivotedShapes.{IsToldBeforePivot, IsFoundAt, IsFound, IsDrawnWith, HasFaultAmong, undecided}
 use Rattle.decomp_tree.proofs.FaultLines.{fault_among, lines_of_lines_of}
@@ -32,23 +32,23 @@ told_lines m lines place after Yes tree e = ap lines_at_root e
 told_lines m lines place after (No fault) tree told = ap lines_at_root told.2
 told_lines m lines place after (Open left) tree e = ap lines_at_root e
 
-found_at_lines : (IsTree : ℕ → Matrix → Tree → Type 0) (m : Matrix) (lines : LineSet) (drawn : Option DrawnPlace) (tree : Tree) → IsFoundAt IsTree m lines drawn tree → lines_at_root tree ≡ lines
+found_at_lines : (IsTree : ℕ → Matrix → Tree → Type 0) (m : Matrix) (lines : LineSet) (chosen : Option DrawnPlace) (tree : Tree) → IsFoundAt IsTree m lines chosen tree → lines_at_root tree ≡ lines
 found_at_lines IsTree m lines None tree e = ap lines_at_root e
-found_at_lines IsTree m lines (Some drawn) tree (inl shown) = ap lines_at_root shown.2
-found_at_lines IsTree m lines (Some drawn) tree (inr made) = told_lines m lines drawn.place made.1 (verdict_of made.1) tree made.3
+found_at_lines IsTree m lines (Some chosen) tree (inl shown) = ap lines_at_root shown.2
+found_at_lines IsTree m lines (Some chosen) tree (inr made) = told_lines m lines chosen.place made.1 (verdict_of made.1) tree made.3
 
--- what is found stands on the lines of the node
+-- what replaces a node is on the lines of the node
 pub found_lines : (limit pivots state : ℕ) (m : Matrix) (lines : LineSet) (tree : Tree) → IsFound limit pivots state m lines tree → lines_at_root tree ≡ lines
 found_lines limit zero state m lines tree e = ap lines_at_root e
-found_lines limit (suc pivots) state m lines tree found = found_at_lines (λ next after found. (shape : Tree) × IsShapeOn limit after lines shape × Refines (IsFound limit pivots next after) shape found) m lines (drawn_place m lines state) tree found
+found_lines limit (suc pivots) state m lines tree (chosen, choice, found) = found_at_lines (λ next after found. (shape : Tree) × IsShapeOn limit after lines shape × Refines (IsFound limit pivots next after) shape found) m lines chosen tree found
 
--- and so does the decomposition with what is found
+-- and so is the decomposition with what replaces its nodes
 pub drawn_with_lines : (limit pivots state : ℕ) (m : Matrix) (lines : LineSet) (tree : Tree) → IsDrawnWith limit pivots state m lines tree → lines_at_root tree ≡ lines
 drawn_with_lines limit pivots state m lines tree d = refined_lines (IsFound limit pivots state m) (found_lines limit pivots state m) d.shape tree d.refines ∙ shape_lines limit m lines d.shape d.drawn
 
--- a place that is drawn is one of the submatrix
-pub place_drawn : (m : Matrix) (lines : LineSet) (state : ℕ) (drawn : DrawnPlace) → drawn_place m lines state ≡ Some drawn → IsPlaceIn m lines drawn.place
-place_drawn m lines state drawn e = subst (λ o. IfSome o (λ (found : DrawnPlace). IsPlaceIn m lines found.place)) e (drawn_in m lines state)
+-- the position is a nonzero of the submatrix
+pub choice_in : (m : Matrix) (lines : LineSet) (state : ℕ) (chosen : Option DrawnPlace) → IsChoice m lines state chosen → (some : DrawnPlace) → chosen ≡ Some some → IsPlaceIn m lines some.place
+choice_in m lines state chosen choice some e = chosen_place_in m lines state some (subst (IsChoice m lines state) e choice)
 
 -- ---- levels
 
@@ -112,7 +112,7 @@ module _ (limit : ℕ) where
   abbrev IsWithin : ℕ → Type 0
   IsWithin pivots = (state : ℕ) (m : Matrix) (lines : LineSet) (tree : Tree) (parent : LineSet) (levels : ℕ) → IsMatrix m → IsFound limit pivots state m lines tree → AreLines m parent → AreLinesOf lines parent → size_of lines + pivots < levels → IsTreeWithin parent levels tree
 
-  -- a decomposition with what is found
+  -- a decomposition with what replaces its undecided nodes
   drawn_within : (pivots : ℕ) → IsWithin pivots → (state : ℕ) (m : Matrix) (lines : LineSet) (tree : Tree) (parent : LineSet) (levels : ℕ) → IsMatrix m → IsDrawnWith limit pivots state m lines tree → AreLines m parent → AreLinesOf lines parent → size_of lines + pivots < levels → IsTreeWithin parent levels tree
   drawn_within pivots found state m lines tree parent levels is d parent_are are l =
       let root = shape_lines limit m lines d.shape d.drawn in
@@ -139,18 +139,18 @@ module _ (limit : ℕ) where
             (violator_within lines before parent levels are (lines_among m lines before is.row_set is.column_set (lines_before_among m lines place fault.rows fault.columns before.rows before.columns at h is.lines)) (omega (arith, l)))
         go (Open left) h e = subst (IsTreeWithin parent levels) (sym e) (undecided_within lines parent levels are (omega (arith, l)))
 
-    found_at_within : (drawn : Option DrawnPlace) → ((some : DrawnPlace) → drawn ≡ Some some → IsPlaceIn m lines some.place) → (tree : Tree)
-        → IsFoundAt (λ next after found. (shape : Tree) × IsShapeOn limit after lines shape × Refines (IsFound limit pivots next after) shape found) m lines drawn tree → IsTreeWithin parent levels tree
+    found_at_within : (chosen : Option DrawnPlace) → ((some : DrawnPlace) → chosen ≡ Some some → IsPlaceIn m lines some.place) → (tree : Tree)
+        → IsFoundAt (λ next after found. (shape : Tree) × IsShapeOn limit after lines shape × Refines (IsFound limit pivots next after) shape found) m lines chosen tree → IsTreeWithin parent levels tree
     found_at_within None at tree e = subst (IsTreeWithin parent levels) (sym e) (undecided_within lines parent levels are (omega (arith, l)))
-    found_at_within (Some drawn) at tree (inl (fault, shows, e)) = subst (IsTreeWithin parent levels) (sym e)
+    found_at_within (Some chosen) at tree (inl (fault, shows, e)) = subst (IsTreeWithin parent levels) (sym e)
         (violator_within lines fault parent levels are (lines_among m lines fault shows.row_set shows.column_set shows.among) (omega (arith, l)))
-    found_at_within (Some drawn) at tree (inr (ternary, after, (shape, is, refines), told)) =
-        told_within drawn.state drawn.place (at drawn refl) ternary after (record { shape = shape; drawn = is; refines = refines }) tree told
+    found_at_within (Some chosen) at tree (inr (ternary, after, (shape, is, refines), told)) =
+        told_within chosen.state chosen.place (at chosen refl) ternary after (record { shape = shape; drawn = is; refines = refines }) tree told
 
   pub found_within : (pivots : ℕ) → IsWithin pivots
   found_within zero state m lines tree parent levels is e parent_are are l = subst (IsTreeWithin parent levels) (sym e) (undecided_within lines parent levels are (omega (arith, l)))
-  found_within (suc pivots) state m lines tree parent levels is found parent_are are l =
-      found_at_within pivots (found_within pivots) m lines parent levels is parent_are are l (drawn_place m lines state) (place_drawn m lines state) tree found
+  found_within (suc pivots) state m lines tree parent levels is (chosen, choice, found) parent_are are l =
+      found_at_within pivots (found_within pivots) m lines parent levels is parent_are are l chosen (choice_in m lines state chosen choice) tree found
 
   -- the tree has at most as many levels as lines, pivots and one more
   pub drawn_with_within : (pivots state : ℕ) (m : Matrix) (lines : LineSet) (tree : Tree) (parent : LineSet) (levels : ℕ) → IsMatrix m → IsDrawnWith limit pivots state m lines tree → AreLines m parent → AreLinesOf lines parent → size_of lines + pivots < levels → IsTreeWithin parent levels tree

@@ -17,7 +17,6 @@ pub mod NoFaults
 pub mod FreeNodes
 pub mod DraftLemmas
 pub mod Settled
-pub mod SameSets
 pub mod FirstSeeds
 pub mod Components
 pub mod OneCycleFault

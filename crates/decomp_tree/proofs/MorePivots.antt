@@ -9,7 +9,6 @@ use Rattle.cmr_base.proofs.Options.{some_or}
 use Rattle.tree_laws.proofs.SoundTrees.{none_or}
 use Rattle.pivots.specs.declared.drawn.DrawnPlace.{DrawnPlace}
 use Rattle.cmr_base.specs.declared.placed_pivot.PlacedPivot.{PlacedPivot}
-use Rattle.pivots.specs.DrawnPlaces.{drawn_place}
 use Rattle.cmr_base.specs.PlacedPivots.{pivoted_part}
 use Rattle.tree_type.specs.DecompositionTrees.{Finding, Violator, Tree, Trees, Branch, NoTrees, MoreTrees}
 use Rattle.tree_type.specs.Verdicts.{Yes, first_in, first_among, fault_at, open_at, verdict_from, verdict_of}
@@ -18,6 +17,7 @@ use Rattle.decomp_tree.specs.Shapes.{IsShapeOn}
 use Rattle.decomp_tree.specs.Refined.{is_undecided, Refines, AllRefine}
 use Rattle.decomp_tree.specs.PivotedLaws.{KeepsAnswer, MorePivotsKeepAnswers}
 use Rattle.decomp_tree.specs.PivotedShapes.{IsToldBeforePivot, IsFoundAt, IsFound, IsDrawnWith, IsShapeWith, all_lines, is_shallow, undecided}
+use Rattle.separating_places.proofs.ChosenPlaces.{one_choice}
 use Rattle.decomp_tree.proofs.OnePivoted.{shape_same, told_same, undecided_same}
 use Rattle.decomp_tree.proofs.PlainVerdicts.{fault_plain, verdict_plain}
 use Rattle.decomp_tree.proofs.RefinedTrees.{RefinedNode, replaced, kept, refined_node}
@@ -151,22 +151,25 @@ module _ (limit : ℕ) where
       refined_keeps (IsFound limit pivots state m) (IsFound limit more state m) (λ some t t' f f'. keep state m some t t' f f') d.shape d'.shape tree tree'
       (shape_same limit m lines d.shape d'.shape d.drawn d'.drawn) d.refines d'.refines
 
-  found_at_keeps : (pivots more : ℕ) → Keep pivots more → (m : Matrix) (lines : LineSet) (drawn : Option DrawnPlace) (tree tree' : Tree)
-      → IsFoundAt (λ next after found. (shape : Tree) × IsShapeOn limit after lines shape × Refines (IsFound limit pivots next after) shape found) m lines drawn tree
-      → IsFoundAt (λ next after found. (shape : Tree) × IsShapeOn limit after lines shape × Refines (IsFound limit more next after) shape found) m lines drawn tree' → Keeps tree tree'
+  found_at_keeps : (pivots more : ℕ) → Keep pivots more → (m : Matrix) (lines : LineSet) (chosen : Option DrawnPlace) (tree tree' : Tree)
+      → IsFoundAt (λ next after found. (shape : Tree) × IsShapeOn limit after lines shape × Refines (IsFound limit pivots next after) shape found) m lines chosen tree
+      → IsFoundAt (λ next after found. (shape : Tree) × IsShapeOn limit after lines shape × Refines (IsFound limit more next after) shape found) m lines chosen tree' → Keeps tree tree'
   found_at_keeps pivots more keep m lines None tree tree' e e' = undecided_keeps lines tree tree' e
-  found_at_keeps pivots more keep m lines (Some drawn) tree tree' (inl (fault, shows, e)) (inl (fault', shows', e')) = violators_keep lines fault fault' tree tree' e e'
-  found_at_keeps pivots more keep m lines (Some drawn) tree tree' (inl (fault, shows, e)) (inr (ternary, after', is', told')) = absurd (shows.two (ternary shows.other_row shows.other_column shows.row_in shows.column_in))
-  found_at_keeps pivots more keep m lines (Some drawn) tree tree' (inr (ternary, after, is, told)) (inl (fault', shows', e')) = absurd (shows'.two (ternary shows'.other_row shows'.other_column shows'.row_in shows'.column_in))
-  found_at_keeps pivots more keep m lines (Some drawn) tree tree' (inr (ternary, after, (shape, is, refines), told)) (inr (ternary', after', (shape', is', refines'), told')) =
-      told_keeps m lines drawn.place after after'
-      (drawn_keeps pivots more keep drawn.state (pivoted_part m lines drawn.place) lines after after' (record { shape = shape; drawn = is; refines = refines }) (record { shape = shape'; drawn = is'; refines = refines' }))
+  found_at_keeps pivots more keep m lines (Some chosen) tree tree' (inl (fault, shows, e)) (inl (fault', shows', e')) = violators_keep lines fault fault' tree tree' e e'
+  found_at_keeps pivots more keep m lines (Some chosen) tree tree' (inl (fault, shows, e)) (inr (ternary, after', is', told')) = absurd (shows.two (ternary shows.other_row shows.other_column shows.row_in shows.column_in))
+  found_at_keeps pivots more keep m lines (Some chosen) tree tree' (inr (ternary, after, is, told)) (inl (fault', shows', e')) = absurd (shows'.two (ternary shows'.other_row shows'.other_column shows'.row_in shows'.column_in))
+  found_at_keeps pivots more keep m lines (Some chosen) tree tree' (inr (ternary, after, (shape, is, refines), told)) (inr (ternary', after', (shape', is', refines'), told')) =
+      told_keeps m lines chosen.place after after'
+      (drawn_keeps pivots more keep chosen.state (pivoted_part m lines chosen.place) lines after after' (record { shape = shape; drawn = is; refines = refines }) (record { shape = shape'; drawn = is'; refines = refines' }))
       (first_in fault_at after) (first_in open_at after) (first_in fault_at after') (first_in open_at after') refl refl refl refl tree tree' told told'
 
   found_keeps : (pivots more : ℕ) → pivots ≤ more → Keep pivots more
   found_keeps zero more few state m lines tree tree' e f' = undecided_keeps lines tree tree' e
   found_keeps (suc pivots) zero few state m lines tree tree' f f' = absurd (omega (arith, few))
-  found_keeps (suc pivots) (suc more) few state m lines tree tree' f f' = found_at_keeps pivots more (found_keeps pivots more (omega (arith, few))) m lines (drawn_place m lines state) tree tree' f f'
+  found_keeps (suc pivots) (suc more) few state m lines tree tree' (chosen, choice, found) (chosen', choice', found') =
+      let one = one_choice m lines state chosen' chosen choice' choice in
+      found_at_keeps pivots more (found_keeps pivots more (omega (arith, few))) m lines chosen tree tree' found
+      (subst (λ (some : Option DrawnPlace). IsFoundAt (λ next after found. (shape : Tree) × IsShapeOn limit after lines shape × Refines (IsFound limit more next after) shape found) m lines some tree') one found')
 
 answer_kept : (tree other : Tree) → Keeps tree other → (fault left : Option LineSet) → first_in fault_at tree ≡ fault → first_in open_at tree ≡ left → KeepsAnswer (verdict_from fault left) tree other
 answer_kept tree other k None None e u = k.yes e u

@@ -5,7 +5,7 @@ use Rattle.cmr_base.specs.Members.{IsIn}
 use Rattle.cmr_base.specs.CyclePlaces.{IsCyclePlace, IsEarlierPlace, IsCycleFault, cycle_rows, cycle_columns}
 use Rattle.cmr_base.proofs.Booleans.{neither}
 use Rattle.camion_sign.proofs.FirstFaults.{place_unique}
-use Rattle.decomp_tree.proofs.SameSets.{same_numbers}
+use Rattle.separating_places.proofs.SameSets.{same_numbers}
 
 -- places of which neither is earlier
 same_place : (t c d t' c' d' : ℕ) → ¬ (IsEarlierPlace t c d t' c' d') → ¬ (IsEarlierPlace t' c' d' t c d) → (t ≡ t') × (c ≡ c') × (d ≡ d')

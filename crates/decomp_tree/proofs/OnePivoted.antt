@@ -1,4 +1,4 @@
--- There is one decomposition of a matrix with what pivots find, but for what its networks say.
+-- A matrix has one decomposition with pivots, except for its networks.
 use Rattle.std.proofs.Common.{◌≡◌, ◌<◌, ◌∙◌, inl, inr, ℕ, zero, suc, List, [], Contains, Option, Some, None, refl, ap, ap₂, sym, subst, arith}
 use Rattle.cmr_base.specs.declared.line_set.LineSet.{LineSet}
 use Rattle.cmr_base.specs.Matrix.{Matrix, entry, IsEntry}
@@ -8,7 +8,6 @@ use Rattle.cmr_base.proofs.Booleans.{neither, not_both, same_or_not, true_is_fal
 use Rattle.cmr_base.proofs.Places.{increasing_same}
 use Rattle.pivots.specs.declared.drawn.DrawnPlace.{DrawnPlace}
 use Rattle.cmr_base.specs.declared.placed_pivot.PlacedPivot.{PlacedPivot}
-use Rattle.pivots.specs.DrawnPlaces.{drawn_place}
 use Rattle.pivots.specs.PivotedParts.{ShowsFirstTwoIn}
 use Rattle.pivots.specs.ChosenLines.{two_lines}
 use Rattle.tree_type.specs.DecompositionTrees.{Finding, Empty, Cycle, Reduced, OneSum, Network, Conetwork, R10, TwoSum, ThreeSum, Enumerated, Violator, Undecided, Pivoted, Tree, Trees, Branch, NoTrees, MoreTrees}
@@ -19,6 +18,7 @@ use Rattle.decomp_tree.specs.Shapes.{IsShapeOn}
 use Rattle.decomp_tree.specs.Refined.{is_undecided, Refines, AllRefine}
 use Rattle.decomp_tree.specs.PivotedLaws.{OnePivotedShape}
 use Rattle.decomp_tree.specs.PivotedShapes.{AreBefore, IsToldBeforePivot, IsFoundAt, IsFound, IsDrawnWith, IsShapeWith, all_lines, is_shallow}
+use Rattle.separating_places.proofs.ChosenPlaces.{one_choice}
 use Rattle.decomp_tree.proofs.OneTree.{one_tree}
 use Rattle.decomp_tree.proofs.PlainVerdicts.{verdict_plain}
 use Rattle.decomp_tree.proofs.RefinedTrees.{RefinedNode, replaced, kept, refined_node}
@@ -134,24 +134,27 @@ module _ (limit : ℕ) where
   drawn_same pivots one state m lines tree tree' d d' =
       refined_same (IsFound limit pivots state m) (λ some t t' f f'. one state m some t t' f f') d.shape d'.shape tree tree' (shape_same m lines d.shape d'.shape d.drawn d'.drawn) d.refines d'.refines
 
-  found_at_same : (pivots : ℕ) → IsOne pivots → (m : Matrix) (lines : LineSet) (drawn : Option DrawnPlace) (tree tree' : Tree)
-      → IsFoundAt (λ next after found. (shape : Tree) × IsShapeOn limit after lines shape × Refines (IsFound limit pivots next after) shape found) m lines drawn tree
-      → IsFoundAt (λ next after found. (shape : Tree) × IsShapeOn limit after lines shape × Refines (IsFound limit pivots next after) shape found) m lines drawn tree' → plain_tree tree ≡ plain_tree tree'
+  found_at_same : (pivots : ℕ) → IsOne pivots → (m : Matrix) (lines : LineSet) (chosen : Option DrawnPlace) (tree tree' : Tree)
+      → IsFoundAt (λ next after found. (shape : Tree) × IsShapeOn limit after lines shape × Refines (IsFound limit pivots next after) shape found) m lines chosen tree
+      → IsFoundAt (λ next after found. (shape : Tree) × IsShapeOn limit after lines shape × Refines (IsFound limit pivots next after) shape found) m lines chosen tree' → plain_tree tree ≡ plain_tree tree'
   found_at_same pivots one m lines None tree tree' e e' = ap plain_tree (e ∙ sym e')
-  found_at_same pivots one m lines (Some drawn) tree tree' (inl (fault, shows, e)) (inl (fault', shows', e')) =
-      ap plain_tree e ∙ ap (λ (f : LineSet). Branch lines (Violator f) NoTrees) (one_two m lines drawn.place fault fault' shows shows') ∙ sym (ap plain_tree e')
-  found_at_same pivots one m lines (Some drawn) tree tree' (inl (fault, shows, e)) (inr (ternary, after', is', told')) = absurd (shows.two (ternary shows.other_row shows.other_column shows.row_in shows.column_in))
-  found_at_same pivots one m lines (Some drawn) tree tree' (inr (ternary, after, is, told)) (inl (fault', shows', e')) = absurd (shows'.two (ternary shows'.other_row shows'.other_column shows'.row_in shows'.column_in))
-  found_at_same pivots one m lines (Some drawn) tree tree' (inr (ternary, after, (shape, is, refines), told)) (inr (ternary', after', (shape', is', refines'), told')) =
-      let same = drawn_same pivots one drawn.state (pivoted_part m lines drawn.place) lines after after' (record { shape = shape; drawn = is; refines = refines }) (record { shape = shape'; drawn = is'; refines = refines' }) in
-      told_same m lines drawn.place after after' same (verdict_of after) tree tree' told
-      (subst (λ v. IsToldBeforePivot m lines drawn.place after' v tree') (verdict_plain after' ∙ ap verdict_of (sym same) ∙ sym (verdict_plain after)) told')
+  found_at_same pivots one m lines (Some chosen) tree tree' (inl (fault, shows, e)) (inl (fault', shows', e')) =
+      ap plain_tree e ∙ ap (λ (f : LineSet). Branch lines (Violator f) NoTrees) (one_two m lines chosen.place fault fault' shows shows') ∙ sym (ap plain_tree e')
+  found_at_same pivots one m lines (Some chosen) tree tree' (inl (fault, shows, e)) (inr (ternary, after', is', told')) = absurd (shows.two (ternary shows.other_row shows.other_column shows.row_in shows.column_in))
+  found_at_same pivots one m lines (Some chosen) tree tree' (inr (ternary, after, is, told)) (inl (fault', shows', e')) = absurd (shows'.two (ternary shows'.other_row shows'.other_column shows'.row_in shows'.column_in))
+  found_at_same pivots one m lines (Some chosen) tree tree' (inr (ternary, after, (shape, is, refines), told)) (inr (ternary', after', (shape', is', refines'), told')) =
+      let same = drawn_same pivots one chosen.state (pivoted_part m lines chosen.place) lines after after' (record { shape = shape; drawn = is; refines = refines }) (record { shape = shape'; drawn = is'; refines = refines' }) in
+      told_same m lines chosen.place after after' same (verdict_of after) tree tree' told
+      (subst (λ v. IsToldBeforePivot m lines chosen.place after' v tree') (verdict_plain after' ∙ ap verdict_of (sym same) ∙ sym (verdict_plain after)) told')
 
   found_same : (pivots : ℕ) → IsOne pivots
   found_same zero state m lines tree tree' e e' = ap plain_tree (e ∙ sym e')
-  found_same (suc pivots) state m lines tree tree' f f' = found_at_same pivots (found_same pivots) m lines (drawn_place m lines state) tree tree' f f'
+  found_same (suc pivots) state m lines tree tree' (chosen, choice, found) (chosen', choice', found') =
+      let one = one_choice m lines state chosen' chosen choice' choice in
+      found_at_same pivots (found_same pivots) m lines chosen tree tree' found
+      (subst (λ (some : Option DrawnPlace). IsFoundAt (λ next after found. (shape : Tree) × IsShapeOn limit after lines shape × Refines (IsFound limit pivots next after) shape found) m lines some tree') one found')
 
-  -- two decompositions differ at most in what their networks say
+  -- two decompositions differ at most in their networks
   pub drawn_with_same : (pivots state : ℕ) (m : Matrix) (lines : LineSet) (tree tree' : Tree) → IsDrawnWith limit pivots state m lines tree → IsDrawnWith limit pivots state m lines tree' → plain_tree tree ≡ plain_tree tree'
   drawn_with_same pivots state m lines tree tree' d d' = drawn_same pivots (found_same pivots) state m lines tree tree' d d'
 

@@ -8,7 +8,6 @@ use Rattle.cmr_base.proofs.Lists.{all_prefix, all_back}
 use Rattle.cmr_base.proofs.Options.{some_or, some_same}
 use Rattle.pivots.specs.declared.drawn.DrawnPlace.{DrawnPlace}
 use Rattle.cmr_base.specs.declared.placed_pivot.PlacedPivot.{PlacedPivot}
-use Rattle.pivots.specs.DrawnPlaces.{drawn_place}
 use Rattle.tree_type.specs.DecompositionTrees.{Finding, Empty, Cycle, Reduced, OneSum, Network, Conetwork, R10, TwoSum, ThreeSum, Enumerated, Violator, Undecided, Pivoted, Tree, Trees, Branch, NoTrees, MoreTrees, lines_at_root}
 use Rattle.tree_type.specs.Invariant.{AreLines, AreLinesOf, size_of, IsTreeWithin, AreTreesWithin}
 use Rattle.tree_type.specs.Places.{Due, These, Place, places_from, places_below, due_child, lines_of_each}
@@ -63,7 +62,7 @@ left_here limit m place e shaped =
     let says = subst (λ f. NodeSays shaped.case (part m place.lines) f shaped.parts) found shaped.says in
     subst (IsFirstCase limit (part m place.lines)) (left_case (part m place.lines) shaped.case shaped.parts says) shaped.first
 
--- ---- what pivots find is open only where nothing is found
+-- ---- what replaces a node is open only if it is undecided
 
 none_is_some : {A B : Type 0} (x : A) → None ≡ Some x → B
 none_is_some x e = absurd (cc)
@@ -81,15 +80,15 @@ told_open m lines place after Yes is tree found e first =
 told_open m lines place after (No fault) is tree found (before, b, e) first = none_is_some found (sym (ap (first_in open_at) e) ∙ first)
 told_open m lines place after (Open left) is tree found e first = undecided_open lines found (sym (ap (first_in open_at) e) ∙ first)
 
-found_at_open : (IsTree : ℕ → Matrix → Tree → Type 0) (m : Matrix) (lines : LineSet) (drawn : Option DrawnPlace) (tree : Tree) (found : LineSet) → IsFoundAt IsTree m lines drawn tree → first_in open_at tree ≡ Some found → found ≡ lines
+found_at_open : (IsTree : ℕ → Matrix → Tree → Type 0) (m : Matrix) (lines : LineSet) (chosen : Option DrawnPlace) (tree : Tree) (found : LineSet) → IsFoundAt IsTree m lines chosen tree → first_in open_at tree ≡ Some found → found ≡ lines
 found_at_open IsTree m lines None tree found e first = undecided_open lines found (sym (ap (first_in open_at) e) ∙ first)
-found_at_open IsTree m lines (Some drawn) tree found (inl (fault, shows, e)) first = none_is_some found (sym (ap (first_in open_at) e) ∙ first)
-found_at_open IsTree m lines (Some drawn) tree found (inr (ternary, after, is, told)) first = told_open m lines drawn.place after (verdict_of after) refl tree found told first
+found_at_open IsTree m lines (Some chosen) tree found (inl (fault, shows, e)) first = none_is_some found (sym (ap (first_in open_at) e) ∙ first)
+found_at_open IsTree m lines (Some chosen) tree found (inr (ternary, after, is, told)) first = told_open m lines chosen.place after (verdict_of after) refl tree found told first
 
 found_open : (limit pivots state : ℕ) (m : Matrix) (lines : LineSet) (tree : Tree) (found : LineSet) → IsFound limit pivots state m lines tree → first_in open_at tree ≡ Some found → found ≡ lines
 found_open limit zero state m lines tree found e first = undecided_open lines found (sym (ap (first_in open_at) e) ∙ first)
-found_open limit (suc pivots) state m lines tree found is first =
-    found_at_open (λ next after t. (shape : Tree) × IsShapeOn limit after lines shape × Refines (IsFound limit pivots next after) shape t) m lines (drawn_place m lines state) tree found is first
+found_open limit (suc pivots) state m lines tree found (chosen, choice, is) first =
+    found_at_open (λ next after t. (shape : Tree) × IsShapeOn limit after lines shape × Refines (IsFound limit pivots next after) shape t) m lines chosen tree found is first
 
 -- ---- the nodes of a decomposition
 

@@ -24,7 +24,7 @@ use Rattle.decomp_tree.proofs.Drawn.{AreDrawn, drawn as drawn_node, drawn_more}
 use Rattle.decomp_tree.proofs.RefinedTrees.{count_refined, refined_kept, refined_more}
 use Rattle.decomp_tree.proofs.Said.{seen_fault}
 
--- the trees of some sets of lines, with what pivots find
+-- the trees of some sets of lines, with what replaces undecided nodes
 abbrev pub AreSettled : ℕ → ℕ → ℕ → Matrix → List LineSet → List Tree → Type 0
 AreSettled limit pivots state m children trees = (shapes : List Tree) × AreDrawn limit m children shapes × AllRefine (IsFound limit pivots state m) (trees_from shapes) (trees_from trees)
 

@@ -7,7 +7,7 @@ use Rattle.tree_type.specs.Invariant.{IsTreeFor}
 use Rattle.tree_type.specs.Soundness.{IsSoundTree}
 use Rattle.decomp_tree.specs.Shapes.{IsShape}
 
--- a decomposition is a tree: its nodes have lines of their parents and fit them, and none stands deeper than 2,000
+-- a decomposition is a tree: its nodes have lines of their parents and fit them, and none is deeper than 2,000
 abbrev pub ShapesAreTrees : Type 0
 ShapesAreTrees = (limit : ℕ) (m : Matrix) (tree : Tree) → IsMatrix m → IsShape limit m tree → IsTreeFor (height m) m.width tree
 

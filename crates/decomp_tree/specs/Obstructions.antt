@@ -1,4 +1,4 @@
--- Lines by which submatrices are known to be no network matrices.
+-- Lines that show that a submatrix is not a network matrix.
 use Rattle.std.specs.Prelude.{ℕ, List, IfSome}
 use Rattle.std.specs.List.Sorted.{IsStrictlyIncreasing}
 use Rattle.cmr_base.specs.declared.line_set.LineSet.{LineSet}
@@ -9,11 +9,11 @@ use Rattle.tree_type.specs.Invariant.{AreLines}
 use Rattle.tree_type.specs.Soundness.{part}
 use Rattle.decomp_tree.specs.declared.obstructions.Obstruction.{Obstruction}
 
--- neither the matrix nor the transposed one has a graphic support
+-- neither the matrix nor its transpose has a graphic support
 abbrev pub HasNoGraphicSupport : Matrix → Type 0
 HasNoGraphicSupport m = (¬ (HasGraphicSupport m)) × (¬ (HasGraphicSupport (transposed m)))
 
--- the matrix is no network matrix, and neither is the transposed one
+-- neither the matrix nor its transpose is a network matrix
 abbrev pub IsNoNetwork : Matrix → Type 0
 IsNoNetwork m = (¬ (IsNetworkMatrix m)) × (¬ (IsConetworkMatrix m))
 

@@ -1,4 +1,4 @@
--- What is known of a node before its children are drawn.
+-- What is known of a node before its children are drafted.
 use Rattle.std.specs.Prelude.{◌≡◌, ℕ}
 use Rattle.cmr_base.specs.declared.line_set.LineSet.{LineSet}
 use Rattle.cmr_base.specs.Matrix.{Matrix}

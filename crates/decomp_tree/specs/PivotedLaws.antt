@@ -1,4 +1,4 @@
--- Laws of decompositions that make pivots where nothing else decides.
+-- Laws of decompositions that make pivots if nothing else decides.
 use Rattle.std.specs.Prelude.{◌≡◌, ◌≤◌, ◌↔◌, ℕ, Some}
 use Rattle.cmr_base.specs.declared.limits.TheConstants.{MAX_LINES}
 use Rattle.cmr_base.specs.declared.line_set.LineSet.{LineSet}
@@ -11,7 +11,7 @@ use Rattle.decomp_tree.specs.PlainTrees.{plain_tree}
 use Rattle.decomp_tree.specs.Shapes.{IsFirstCase, IsLeft, IsShape}
 use Rattle.decomp_tree.specs.PivotedShapes.{IsShapeWith}
 
--- no node stands deeper than 2,000, however many pivots are made
+-- no node is deeper than 2,000, with any number of pivots
 abbrev pub PivotedShapesAreTrees : Type 0
 PivotedShapesAreTrees = (limit pivots : ℕ) (m : Matrix) (tree : Tree) → IsMatrix m → IsShapeWith limit pivots m tree → IsTreeFor (height m) m.width tree
 
@@ -20,23 +20,23 @@ abbrev pub PivotedShapesAreSound : Type 0
 PivotedShapesAreSound =
     (limit pivots : ℕ) (m : Matrix) (tree : Tree) → limit ≤ MAX_LINES → IsMatrix m → IsShapeWith limit pivots m tree → IsSoundTree m (height m) m.width tree
 
--- two of them differ at most in what their networks say
+-- two of them differ at most in their networks
 abbrev pub OnePivotedShape : Type 0
 OnePivotedShape =
     (limit pivots : ℕ) (m : Matrix) (tree other : Tree) → IsShapeWith limit pivots m tree → IsShapeWith limit pivots m other → plain_tree tree ≡ plain_tree other
 
--- where no pivot may be made they are the decompositions that make none, and no others
+-- if no pivot may be made, they are exactly the decompositions without pivots
 abbrev pub NoPivotsChangeNothing : Type 0
 NoPivotsChangeNothing = (limit : ℕ) (m : Matrix) (tree : Tree) → IsShapeWith limit 0 m tree ↔ IsShape limit m tree
 
--- the lines that they leave open come to the last case, as where no pivot is made
+-- the lines that they leave open reach the last case, as without pivots
 abbrev pub OpenLinesAreLeft : Type 0
 OpenLinesAreLeft =
     (limit pivots : ℕ) (m : Matrix) (tree : Tree) (lines : LineSet) → IsMatrix m → IsShapeWith limit pivots m tree → first_in open_at tree ≡ Some lines
     → AreLines m lines × IsFirstCase limit (part m lines) IsLeft
 
--- What a decomposition says is kept by another: a yes by the same tree, but for what its networks say, and a no by a no, which may name
--- another fault.
+-- Another decomposition keeps the answer of a decomposition: a yes by the same tree, except for its networks, and a no by a no, which may
+-- name another fault.
 abbrev pub KeepsAnswer : Verdict → Tree → Tree → Type 0
 KeepsAnswer Yes tree other = plain_tree tree ≡ plain_tree other
 KeepsAnswer (No fault) tree other = (named : LineSet) × (verdict_of other ≡ No named)

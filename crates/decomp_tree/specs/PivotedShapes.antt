@@ -1,4 +1,4 @@
--- The shape of a decomposition that makes pivots where nothing else decides.
+-- The shape of a decomposition that makes pivots if nothing else decides.
 use Rattle.std.specs.Prelude.{◌≡◌, ◌<◌, ◌≤◌, ◌+◌, ◌++◌, ◌⊎◌, ℕ, zero, suc, Bool, true, false, List, [], ◌∷◌, Option, Some, None}
 use Rattle.cmr_base.specs.declared.limits.TheConstants.{MAX_DEPTH}
 use Rattle.cmr_base.specs.declared.line_set.LineSet.{LineSet}
@@ -7,7 +7,6 @@ use Rattle.cmr_base.specs.LineSets.{IsRowSet, IsColumnSet, first_lines}
 use Rattle.ghouila.specs.PivotLaws.{AreLinesBefore}
 use Rattle.pivots.specs.declared.drawn.DrawnPlace.{DrawnPlace}
 use Rattle.cmr_base.specs.declared.placed_pivot.PlacedPivot.{PlacedPivot}
-use Rattle.pivots.specs.DrawnPlaces.{drawn_place}
 use Rattle.cmr_base.specs.PlacedPivots.{pivoted_part, IsTernaryPivot}
 use Rattle.pivots.specs.PivotedParts.{AreAmong, ShowsFirstTwoIn}
 use Rattle.tree_type.specs.declared.finding.Finding.{Finding as Held}
@@ -16,6 +15,7 @@ use Rattle.tree_type.specs.DecompositionTrees.{Tree, Branch, NoTrees, Undecided,
 use Rattle.tree_type.specs.Verdicts.{Verdict, Yes, No, Open, verdict_of}
 use Rattle.decomp_tree.specs.Levels.{is_on_levels}
 use Rattle.decomp_tree.specs.Refined.{Refines}
+use Rattle.separating_places.specs.SeparatingPlaces.{IsChoice}
 use Rattle.decomp_tree.specs.Shapes.{IsShapeOn}
 
 abbrev pub undecided : LineSet → Tree
@@ -32,41 +32,43 @@ pub record AreBefore (m : Matrix) (place : PlacedPivot) (fault before : LineSet)
   pub column_set : IsColumnSet m before.columns
   pub lines : AreLinesBefore m place.row place.column fault.rows fault.columns before.rows before.columns
 
--- What the tree of the submatrix after a pivot says, told of the submatrix: a yes by a pivoted node above that tree, a no by
--- its fault taken back to the lines before the pivot, and nothing where it is undecided.
+-- What the tree of the submatrix after a pivot says of the submatrix: for a yes a pivoted node above that tree, for a no its fault mapped
+-- back to the lines before the pivot, and otherwise an undecided node.
 abbrev pub IsToldBeforePivot : Matrix → LineSet → PlacedPivot → Tree → Verdict → Tree → Type 0
 IsToldBeforePivot m lines place after Yes tree = tree ≡ Branch lines (Pivoted place) (one_tree after)
 IsToldBeforePivot m lines place after (No fault) tree =
     (before : LineSet) × AreBefore m place fault before × (tree ≡ Branch lines (Violator before) NoTrees)
 IsToldBeforePivot m lines place after (Open left) tree = tree ≡ undecided lines
 
--- What is said of the lines before a pivot where the tree after it has this verdict: nothing where it is a yes.
+-- What is said of the lines before a pivot if the tree after it has this verdict: nothing if the verdict is a yes.
 abbrev pub SaysBeforePivot : Matrix → PlacedPivot → Verdict → Option Held → Type 0
 SaysBeforePivot m place Yes said = said ≡ None
 SaysBeforePivot m place (No fault) said = (before : LineSet) × AreBefore m place fault before × (said ≡ Some (held.Violator before))
 SaysBeforePivot m place (Open left) said = said ≡ Some held.Undecided
 
--- A pivot at a place that is drawn, if there is one, and then the tree of the submatrix after it, which goes on from the next
--- state.
+-- A pivot at a position, and then the tree of the submatrix after it, whose pivots go on from the next state. Without a position the node
+-- stays undecided.
 abbrev pub IsFoundAt : (ℕ → Matrix → Tree → Type 0) → Matrix → LineSet → Option DrawnPlace → Tree → Type 0
 IsFoundAt IsTree m lines None tree = tree ≡ undecided lines
-IsFoundAt IsTree m lines (Some drawn) tree =
-    ShowsTwoAfterPivot m lines drawn.place tree
-    ⊎ (IsTernaryPivot m lines drawn.place
-    × (after : Tree) × IsTree drawn.state (pivoted_part m lines drawn.place) after
-    × IsToldBeforePivot m lines drawn.place after (verdict_of after) tree)
+IsFoundAt IsTree m lines (Some chosen) tree =
+    ShowsTwoAfterPivot m lines chosen.place tree
+    ⊎ (IsTernaryPivot m lines chosen.place
+    × (after : Tree) × IsTree chosen.state (pivoted_part m lines chosen.place) after
+    × IsToldBeforePivot m lines chosen.place after (verdict_of after) tree)
 
--- What stands in the place of an undecided node on these lines where so many pivots may still be made, of which the first is
--- drawn from this state. The submatrix after a pivot has a decomposition of its own, in which one pivot fewer may be made.
+-- What replaces an undecided node on these lines if at most this number of pivots may still be made. The first pivot is made at the
+-- position that the submatrix and this state have. The submatrix after it has a decomposition of its own, in which one pivot fewer may be
+-- made.
 abbrev pub IsFound : ℕ → ℕ → ℕ → Matrix → LineSet → Tree → Type 0
 IsFound limit zero state m lines tree = tree ≡ undecided lines
 IsFound limit (suc pivots) state m lines tree =
-    IsFoundAt
+    (chosen : Option DrawnPlace) × IsChoice m lines state chosen
+    × IsFoundAt
     (λ next after found. (shape : Tree) × IsShapeOn limit after lines shape
     × Refines (IsFound limit pivots next after) shape found)
-    m lines (drawn_place m lines state) tree
+    m lines chosen tree
 
--- the decomposition of the submatrix on some lines, with what is found by pivots in the places of its undecided nodes
+-- the decomposition of the submatrix on some lines, with what replaces its undecided nodes
 pub record IsDrawnWith (limit pivots state : ℕ) (m : Matrix) (lines : LineSet) (tree : Tree) : Type 0 where
   pub shape : Tree
   pub drawn : IsShapeOn limit m lines shape
@@ -92,7 +94,7 @@ pub record IsShapeWith (limit pivots : ℕ) (m : Matrix) (tree : Tree) : Type 0 
   pub shallow : (made ≡ 0) ⊎ (is_shallow tree ≡ true)
   pub most : AreTooDeep limit made pivots m
 
--- a tree stands behind some others
+-- one more tree, after some others
 pub record IsBehind (Stands : Tree → Type 0) (before after : List Tree) : Type 0 where
   pub tree : Tree
   pub order : after ≡ before ++ tree ∷ []

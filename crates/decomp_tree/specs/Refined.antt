@@ -1,4 +1,4 @@
--- Trees in which others stand in the places of undecided nodes.
+-- Trees in which other trees replace undecided nodes.
 use Rattle.std.specs.Prelude.{◌≡◌, Bool, true, false}
 use Rattle.cmr_base.specs.declared.line_set.LineSet.{LineSet}
 use Rattle.tree_type.specs.DecompositionTrees.{Finding, Undecided, Tree, Trees, Branch, NoTrees, MoreTrees}
@@ -8,8 +8,7 @@ is_undecided Undecided = true
 is_undecided finding = false
 
 abbrev mutual
-  -- The second tree is the first, but for what stands in the place of each undecided node: there it is any tree of these for
-  -- the node's lines.
+  -- The second tree is the first one, except that each undecided node is replaced by one of these trees for the lines of the node.
   pub Refines : (LineSet → Tree → Type 0) → Tree → Tree → Type 0
   Refines Stands (Branch lines Undecided trees) tree = Stands lines tree
   Refines Stands (Branch lines finding trees) tree =

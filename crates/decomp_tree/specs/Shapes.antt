@@ -72,7 +72,7 @@ pub record IsFirstCase (limit : ℕ) (m : Matrix) (case : Case) : Type 0 where
   pub applies : Applies limit m case
   pub first : (earlier : Case) → case_number earlier < case_number case → ¬ (Applies limit m earlier)
 
--- What a node says of a matrix in a case. The parts are those of a one-sum.
+-- The finding of a node in a case. The parts are the parts of a one-sum.
 abbrev pub NodeSays : Case → Matrix → Finding → List LineSet → Type 0
 NodeSays HasNoLines m Empty parts = Unit {0}
 NodeSays HasFault m (Cycle fault) parts = IsCycleFault m fault.rows fault.columns
@@ -88,7 +88,7 @@ NodeSays IsShort m Enumerated parts = HasNoViolator m
 NodeSays IsLeft m Undecided parts = Unit {0}
 NodeSays case m finding parts = ⊥
 
--- Lines of a submatrix by their numbers in the whole matrix, where it has these lines.
+-- Lines of a submatrix by their numbers in the whole matrix.
 
 abbrev pub numbered : List ℕ → ℕ → ℕ
 numbered lines k = slice_index_or lines k 0
@@ -114,7 +114,7 @@ three_in lines t = record {
   second = connector_in (second_is_flat t.form) lines t.second;
 }
 
--- what is said of the submatrix, by the numbers in the whole matrix
+-- the finding on the submatrix, by the numbers in the whole matrix
 abbrev pub finding_in : LineSet → Finding → Finding
 finding_in lines (Cycle fault) = Cycle (set_in lines fault)
 finding_in lines (Reduced steps) = Reduced (map (numbered_line lines) steps)
@@ -128,8 +128,8 @@ abbrev pub HasParts : Finding → List LineSet → List LineSet → Type 0
 HasParts OneSum children parts = children ≡ parts
 HasParts finding children parts = Unit {0}
 
--- A node has the lines that it is to have, stands below no pivot, says what the first case that applies to its submatrix has it say, and
--- has as many children as it is to have.
+-- A node has the lines that its parent gives it, is below no pivot, has the finding of the first case that applies to its submatrix, and
+-- has as many children as the finding needs.
 pub record IsShapedAt (limit : ℕ) (m : Matrix) (place : Place) : Type 0 where
   pub lines : HasItsLines place.due place.lines
   pub unpivoted : place.pivots ≡ []

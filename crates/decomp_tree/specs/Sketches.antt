@@ -1,4 +1,4 @@
--- Trees as they are drawn before cycle faults are looked for late.
+-- Drafts: trees before the late search for cycle faults.
 use Rattle.std.specs.Prelude.{◌≡◌, ◌++◌, Bool, true, ℕ, List, [], ◌∷◌, IsTrue}
 use Rattle.cmr_base.specs.declared.line_set.LineSet.{LineSet}
 use Rattle.cmr_base.specs.CyclePlaces.{HasNoCycleFault}
@@ -13,7 +13,7 @@ use Rattle.decomp_tree.specs.Seen.{HasNoneAmong, is_unsearched}
 use Rattle.decomp_tree.specs.Openings.{IsOpeningOf}
 
 mutual
-  -- what a node says, whether it is known that no violator stands among its lines, and its children
+  -- the finding of a node, whether its lines are known to contain no violator, and its children
   pub data Sketch : Type 0 where
     Sketched : Opening → Bool → Sketches → Sketch
 
@@ -32,7 +32,7 @@ draft_step draft = Sketched draft.opening.value draft.is_free (sketches_from dra
 abbrev pub sketch_of : Draft → Sketch
 sketch_of = fold-Draft Sketch draft_step
 
--- what stands in a draft
+-- the contents of a draft
 abbrev pub opening_in : Draft → Opening
 opening_in draft = (out-Draft draft).opening.value
 
@@ -46,7 +46,7 @@ abbrev pub lines_of_sketch : Sketch → LineSet
 lines_of_sketch (Sketched opening is_free below) = opening.lines
 
 abbrev mutual
-  -- each node says what it is to say but for late cycle faults, and no violator stands where none is said to
+  -- each node has its finding, except for late cycle faults, and the lines of a free node contain no violator
   pub IsDrafted : ℕ → Matrix → Sketch → Type 0
   IsDrafted limit m (Sketched opening is_free below) =
       IsOpeningOf limit m opening.lines opening × (IsTrue is_free → HasNoneAmong m opening.lines) × AreDrafted limit m opening.children below
@@ -56,13 +56,13 @@ abbrev mutual
   AreDrafted limit m (lines ∷ children) (MoreSketches sketch sketches) = (lines_of_sketch sketch ≡ lines) × IsDrafted limit m sketch × AreDrafted limit m children sketches
   AreDrafted limit m children others = ⊥
 
--- a draft of these lines stands behind some others
+-- one more draft, of these lines, after some others
 pub record IsDraftedBehind (limit : ℕ) (m : Matrix) (lines : LineSet) (before after : List Sketch) : Type 0 where
   pub sketch : Sketch
   pub order : after ≡ before ++ sketch ∷ []
   pub lines_are : lines_of_sketch sketch ≡ lines
   pub drafted : IsDrafted limit m sketch
 
--- a node that says this has no cycle fault among its lines, where none was looked for yet
+-- a node with this finding has no cycle fault among its lines, if none was searched for yet
 abbrev pub HasNoLateFault : Matrix → LineSet → Finding → Type 0
 HasNoLateFault m lines finding = is_unsearched finding ≡ true → HasNoCycleFault (entry (part m lines))

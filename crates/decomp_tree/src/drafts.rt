@@ -1,4 +1,4 @@
-// Trees that are drawn as if no submatrix had a cycle fault that is looked for late.
+// The first pass: drafts of trees, without the late search for cycle faults.
 ghost use Rattle.std.specs.Prelude.{◌≡◌, ◌≤◌, ◌++◌, ◌∷◌, ◌&&◌, [], map, IfOk, OnOk};
 ghost use Rattle.std.specs.List.{list_all};
 ghost use Rattle.cmr_base.specs.Matrix.{IsMatrix};
@@ -19,7 +19,7 @@ use std::alloc::Global;
 use std::thread::Threads;
 use tree_type::{Finding, copy_of};
 
-/// What a node says, before its children are drawn.
+/// The finding of a node, before its children are drafted.
 #[derive(Drop)]
 pub struct Opening {
     pub lines: LineSet,
@@ -27,13 +27,13 @@ pub struct Opening {
     pub children: LineSetList,
 }
 
-/// A node over its children, as it is drawn before cycle faults are looked for.
+/// A node with its children, before the late search for cycle faults.
 #[derive(Drop)]
 #[cycle(tree)]
 pub struct Draft {
     pub opening: Box<Opening>,
     pub children: Vec<Draft>,
-    /// Whether it is known that no violator stands among its lines.
+    /// Whether its lines are known to contain no violator.
     pub is_free: bool,
 }
 
@@ -59,8 +59,8 @@ pub fn draft_root<R: Threads + Sync>(
     Ok(drawn)
 }
 
-/// Draws the submatrix on these lines, with what is known of some of them, and puts it behind the drafts that are there. Each child has fewer lines, so no
-/// node stands deeper than there are lines. The recursion goes by the ordinary stack: what is large stands on the heap.
+/// Drafts the submatrix on these lines, with a known obstruction, and appends the draft. Each child has fewer lines, so no
+/// node is deeper than the number of lines. The recursion uses the ordinary stack; large values are on the heap.
 pub fn draw<R: Threads + Sync>(
     rt: &R,
     alloc: Global,
@@ -110,7 +110,7 @@ fn opening_of<R: Threads + Sync>(
     Ok(Box::new(alloc, opening)?)
 }
 
-// A node that keeps free is free where all its children are.
+// A node whose finding keeps free is free if all its children are.
 #[inline(never)]
 fn push_draft(
     alloc: Global,

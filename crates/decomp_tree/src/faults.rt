@@ -1,4 +1,4 @@
-// Cycle faults, which are not looked for where there can be none.
+// Cycle faults, which are searched for only if there may be one.
 ghost use Rattle.std.specs.Prelude.{◌≡◌, true, MatchOption, IfOk, IfSome, IsTrue};
 ghost use Rattle.cmr_base.specs.Matrix.{entry, transposed, IsMatrix};
 ghost use Rattle.cmr_base.specs.CyclePlaces.{HasNoCycleFault};
@@ -17,8 +17,8 @@ use network_orient::{Orientation, rows_of_transposed};
 use std::alloc::Global;
 use tree_type::Finding;
 
-/// The cycle fault of the submatrix on these lines, by its numbers in the whole matrix, where the rows of the submatrix
-/// before one have none.
+/// The cycle fault of the submatrix on these lines, by its numbers in the whole matrix, if the rows of the submatrix before a
+/// given row have none.
 pub fn fault_from(
     alloc: Global,
     _matrix: &Matrix,
@@ -40,9 +40,9 @@ pub fn fault_from(
     }
 }
 
-/// The cycle fault of the submatrix on these lines, looked for only where there must be one: where a tree has the supports
-/// of the columns as paths, but no directed tree has the signs. The signs of a matrix without cycle fault are those of a
-/// network, but for lines that are negated; the first rows, whose signs are, are passed over.
+/// The cycle fault of the submatrix on these lines, searched for only if there must be one: if a tree has the supports of the
+/// columns as paths, but no directed tree has the signs. The signs of a matrix without cycle fault are the signs of a network
+/// with some lines negated. The search skips the first rows, whose signs are of this kind.
 pub fn certain_fault(
     alloc: Global,
     matrix: &Matrix,
@@ -62,7 +62,7 @@ pub fn certain_fault(
     }
 }
 
-/// The same where a tree has the supports of the rows as paths.
+/// The same if a tree has the supports of the rows as paths.
 pub fn certain_fault_transposed(
     alloc: Global,
     matrix: &Matrix,
@@ -85,7 +85,7 @@ pub fn certain_fault_transposed(
     }
 }
 
-/// The cycle fault of a node's submatrix, where none was looked for when the node was drawn and there may be one.
+/// The cycle fault of a node's submatrix, if the first pass did not search for one and there may be one.
 #[inline(never)]
 pub fn late_fault(
     alloc: Global,
@@ -130,7 +130,7 @@ fn fault_of(
     }
 }
 
-// Whether no cycle fault is looked for when a node that says this is drawn.
+// Whether the first pass drafts a node with this finding without a search for a cycle fault.
 fn is_unsearched(finding: &Finding) -> bool
     ensures { result ≡ is_unsearched (finding_shown finding.now) }
 {
@@ -151,7 +151,7 @@ fn is_unsearched(finding: &Finding) -> bool
     }
 }
 
-/// Whether a node that says this has no violator among its lines where none of its children has one.
+/// Whether a node with this finding has no violator among its lines if none of its children has one.
 pub fn keeps_free(finding: &Finding) -> bool
     ensures { result ≡ keeps_free (finding_shown finding.now) }
 {

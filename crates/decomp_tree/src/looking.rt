@@ -30,7 +30,7 @@ use three_sep::three_separation_of;
 use tree_type::{Finding, three_one, three_two, two_one, two_two};
 use two_sep::{components_of, two_separation_of};
 
-/// What a node on these lines is to say, where no cycle fault of the submatrix is looked for unless nothing else helps.
+/// The finding of a node on these lines. A cycle fault is searched for only if no cheaper case applies.
 #[inline(never)]
 pub fn look<R: Threads + Sync>(
     rt: &R,
@@ -61,7 +61,7 @@ pub fn look<R: Threads + Sync>(
     look_filled(rt, alloc, &node, obstruction)
 }
 
-// The cases of a matrix with lines. Lines are removed only where a first look does not tell that none is reducible.
+// The cases of a matrix with lines. Lines are removed only if a first look does not show that none is reducible.
 fn look_filled<R: Threads + Sync>(
     rt: &R,
     alloc: Global,
@@ -78,7 +78,7 @@ fn look_filled<R: Threads + Sync>(
     }
 }
 
-// The same where some line may be reducible.
+// The same if some line may be reducible.
 fn look_unclear<R: Threads + Sync>(
     rt: &R,
     alloc: Global,
@@ -96,7 +96,7 @@ fn look_unclear<R: Threads + Sync>(
     look_irreducible(rt, alloc, node, obstruction)
 }
 
-// The removed lines, and those that are left.
+// The removed lines and the other lines.
 fn seen_reduced(
     alloc: Global,
     node: &SearchedNode<'_>,
@@ -137,8 +137,8 @@ fn look_irreducible<R: Threads + Sync>(
     look_connected(rt, alloc, node, obstruction)
 }
 
-// The cases of a connected matrix without reducible line. Where it has the lines of the obstruction, it is no network
-// matrix and not the transposed matrix of one.
+// The cases of a connected matrix without reducible line. If it has the lines of the obstruction, neither it nor its
+// transpose is a network matrix.
 fn look_connected<R: Threads + Sync>(
     rt: &R,
     alloc: Global,
@@ -155,7 +155,7 @@ fn look_connected<R: Threads + Sync>(
     look_tested(rt, alloc, node)
 }
 
-// The same by tests. Where there must be a cycle fault one is looked for.
+// The same by tests. If there must be a cycle fault, it is searched for.
 fn look_tested<R: Threads + Sync>(
     rt: &R,
     alloc: Global,
@@ -174,7 +174,7 @@ fn look_tested<R: Threads + Sync>(
     look_transposed(rt, alloc, node)
 }
 
-// The cases of a matrix that is no network matrix.
+// The cases of a matrix that is not a network matrix.
 fn look_transposed<R: Threads + Sync>(
     rt: &R,
     alloc: Global,
@@ -200,7 +200,7 @@ fn look_transposed<R: Threads + Sync>(
     look_no_network(rt, alloc, node)
 }
 
-// The cases of a matrix that is no network matrix and not the transposed matrix of one.
+// The cases of a matrix if neither it nor its transpose is a network matrix.
 fn look_no_network<R: Threads + Sync>(
     rt: &R,
     alloc: Global,
@@ -215,7 +215,7 @@ fn look_no_network<R: Threads + Sync>(
     look_separated(rt, alloc, node)
 }
 
-// An R10 matrix, which has no violator but where it has a cycle fault.
+// An R10 matrix, which has a violator only if it has a cycle fault.
 fn look_r10(alloc: Global, node: &SearchedNode<'_>) -> Result<Seen, Memory>
     requires none { HasNoCaseBefore IsR10Matrix node.now }
     requires r10 { IsR10 (submatrix_of node.now) }
@@ -227,7 +227,7 @@ fn look_r10(alloc: Global, node: &SearchedNode<'_>) -> Result<Seen, Memory>
     Ok(leaf(alloc, Finding::R10))
 }
 
-// The cases of a matrix that is no network matrix, no transposed one and no R10.
+// The cases of a matrix that is not R10, if neither it nor its transpose is a network matrix.
 fn look_separated<R: Threads + Sync>(
     rt: &R,
     alloc: Global,

@@ -11,7 +11,7 @@ use cmr_base::{
 };
 use std::alloc::Global;
 
-// The numbers that stand at some places of a list.
+// The numbers at some positions of a list.
 fn named(alloc: Global, lines: &Indices, places: &Indices) -> Result<Indices, Memory>
     requires { AllBelow (length lines.now) places.now }
     ensures { IfOk result (λ named. named ≡ map (numbered lines.now) places.now) }
@@ -35,7 +35,7 @@ pub fn named_set(alloc: Global, lines: &LineSet, set: &LineSet) -> Result<LineSe
     })
 }
 
-/// Some sets of lines, in their order.
+/// A list of sets of lines.
 pub fn named_parts(alloc: Global, lines: &LineSet, parts: &[LineSet]) -> Result<LineSetList, Memory>
     requires { AllByRecursion (IsPlacedSet lines.now) parts.now }
     ensures { IfOk result (λ named. named ≡ map (set_in lines.now) parts.now) }
@@ -57,7 +57,7 @@ fn named_line(lines: &LineSet, line: Line) -> Line
     }
 }
 
-/// The lines of some removals, in their order.
+/// The lines of a list of removals.
 pub fn named_steps(alloc: Global, lines: &LineSet, steps: &[Step]) -> Result<LineList, Memory>
     requires { AllByRecursion (λ step. IsPlace lines.now step.line) steps.now }
     ensures { IfOk result (λ named. named ≡ map (numbered_line lines.now)

@@ -1,4 +1,4 @@
-// Lines by which submatrices are known to be no network matrices.
+// Lines that show that a submatrix is not a network matrix.
 ghost use Rattle.std.specs.Prelude.{◌≡◌, ◌≤◌, ◌+◌, true, drop, length, take, IfOk, IsTrue};
 ghost use Rattle.std.specs.List.{AllByRecursion};
 ghost use Rattle.cmr_base.specs.Matrix.{IsMatrix};
@@ -12,18 +12,18 @@ use network_orient::has_graphic_support;
 use std::alloc::Global;
 use tree_type::{Finding, copy_of};
 
-// The fewest lines of a submatrix in which an obstruction is sought. Smaller ones are tested themselves.
+// The least number of lines of a submatrix in which an obstruction is searched for. Smaller submatrices are tested instead.
 const LEAST_LINES: u32 = 40;
 
 /// More lines than any matrix has.
 pub const MORE_LINES: u32 = 4000;
 
-/// Lines on which neither the matrix nor the transposed one has a graphic support, where such are known. So no submatrix that
-/// has all these lines is a network matrix or the transposed matrix of one, and no test of it is needed.
+/// Lines on which neither the matrix nor its transpose has a graphic support, if such lines are known. A submatrix that has all
+/// these lines is not a network matrix, and neither is its transpose, so it needs no test.
 #[derive(Drop)]
 pub struct Obstruction {
     pub lines: Option<LineSet>,
-    /// How many lines the submatrix had in which they were sought last.
+    /// The number of lines of the submatrix in which they were last searched for.
     pub sought: u32,
 }
 
@@ -39,8 +39,8 @@ impl Obstruction {
         }
     }
 
-    /// Whether these lines have all that are known, so that the submatrix on them is no network matrix and not the
-    /// transposed matrix of one.
+    /// Whether these lines contain all lines of the obstruction, so that neither the submatrix on them nor its transpose is a
+    /// network matrix.
     pub fn stands_in(&self, _matrix: &Matrix, lines: &LineSet) -> bool
         requires shape { IsMatrix _matrix.now }
         requires known { IsKnown _matrix.now self.now }
@@ -53,8 +53,8 @@ impl Obstruction {
         false
     }
 
-    /// What is known for a child of a node that says this. Where the child has not all of these lines, others are sought
-    /// in it, though only in children of two-sums, and not again until a quarter of the lines is gone.
+    /// The obstruction for a child of a node with this finding. If the child does not have all of these lines, another
+    /// obstruction is searched for, but only in children of two-sums, and not again until a quarter of the lines is removed.
     pub fn in_child(
         &self,
         alloc: Global,
@@ -105,7 +105,7 @@ fn is_two_sum(finding: &Finding) -> bool {
     matches!(finding, Finding::TwoSum(_))
 }
 
-// How many lines there are.
+// The number of lines.
 fn size_of(_matrix: &Matrix, lines: &LineSet) -> u32
     requires shape { IsMatrix _matrix.now }
     requires lines { AreLines _matrix.now lines.now }
@@ -114,7 +114,7 @@ fn size_of(_matrix: &Matrix, lines: &LineSet) -> u32
     lines.size()
 }
 
-// Whether these are among some lines.
+// Whether the lines of the obstruction are among some lines.
 fn has_lines(lines: &LineSet, own: &LineSet) -> bool
     ensures rows { IsTrue result
         → AllByRecursion (λ line. is_among lines.now.rows line ≡ true) own.now.rows }
@@ -124,7 +124,7 @@ fn has_lines(lines: &LineSet, own: &LineSet) -> bool
     has_all(&lines.rows, own.rows.as_slice()) && has_all(&lines.columns, own.columns.as_slice())
 }
 
-// Whether a set has all these lines. Both rise, so it is gone through once.
+// Whether a set has all these lines. Both lists increase, so one pass is enough.
 fn has_all(set: &Indices, lines: &[u32]) -> bool
     ensures { IsTrue result → AllByRecursion (λ line. is_among set.now line ≡ true) lines.now }
 {
@@ -145,7 +145,7 @@ fn stands_at(numbers: &[u32], place: usize, line: u32) -> bool
     place < numbers.len() && numbers[place] == line
 }
 
-// The first place from one on whose number is not below a line.
+// The first position from `place` on whose number is not below a line.
 fn place_from(numbers: &[u32], from: usize, line: u32) -> usize
     ensures { result ≤ length numbers.now }
 {
@@ -157,8 +157,8 @@ fn place_from(numbers: &[u32], from: usize, line: u32) -> usize
     numbers.len()
 }
 
-// An obstruction in the middle of some lines, where it is one: it stands in what is left of a chain of sums until much of
-// the chain is gone, whichever end is taken first.
+// The middle of some lines, if it is an obstruction. It remains in the rest of a chain of sums until most of the chain is
+// removed, from either end.
 fn obstruction_in(
     alloc: Global,
     matrix: &Matrix,
@@ -188,7 +188,7 @@ fn obstruction_in(
     })
 }
 
-// Whether neither the matrix nor the transposed one has a graphic support.
+// Whether neither the matrix nor its transpose has a graphic support.
 fn has_no_graphic_support(alloc: Global, matrix: &Matrix) -> Result<bool, Memory>
     ensures { IfOk result (λ yes. IsTrue yes → HasNoGraphicSupport matrix.now) }
 {
@@ -199,7 +199,7 @@ fn has_no_graphic_support(alloc: Global, matrix: &Matrix) -> Result<bool, Memory
     Ok(!has_graphic_support(alloc, &transposed)?)
 }
 
-// The lines but for the first and the last quarter.
+// The lines without the first and the last quarter.
 fn middle_of(alloc: Global, lines: &Indices) -> Result<Indices, Memory>
     ensures { IfOk result (λ middle. IsSomeOf lines.now middle) }
 {
@@ -212,7 +212,7 @@ fn middle_of(alloc: Global, lines: &Indices) -> Result<Indices, Memory>
     Ok(middle)
 }
 
-// So many lines from a place on.
+// The lines from a position on, at most `count`.
 fn run_of(lines: &[u32], from: usize, count: usize) -> &[u32]
     requires { from + count ≤ length lines.now }
     ensures { result.now ≡ take count (drop from lines.now) }

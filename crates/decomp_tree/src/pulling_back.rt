@@ -12,8 +12,8 @@ use pivots::violator_before_part;
 use std::alloc::Global;
 use tree_type::{Finding, Node, VerdictOf, copy_of, join_node, verdict_at};
 
-/// The node on these lines that tells what the tree of their submatrix says after a pivot: it stands above a tree that says
-/// yes, names the lines before the pivot of a fault that the tree names, and is undecided where the tree is.
+/// The node on these lines, by the tree of their submatrix after a pivot: a pivoted node above a tree that says yes, a
+/// violator on the lines before the pivot if the tree names a fault, and otherwise an undecided node.
 pub fn pulled_back(
     alloc: Global,
     matrix: &Matrix,
@@ -33,7 +33,7 @@ pub fn pulled_back(
     }
 }
 
-// What the tree says of the lines before the pivot, where it says anything but yes.
+// The finding on the lines before the pivot, if the tree does not say yes.
 fn finding_before(
     alloc: Global,
     matrix: &Matrix,
@@ -72,7 +72,7 @@ fn above(alloc: Global, lines: &LineSet, place: PlacedPivot, after: Node) -> Res
     )
 }
 
-/// The leaf that says this of some lines.
+/// The leaf on these lines with this finding.
 pub fn leaf(alloc: Global, lines: &LineSet, finding: Finding) -> Result<Node, Memory>
     requires { HasChildren (finding_shown finding) 0 }
     ensures { IfOk result (λ node. tree_of node

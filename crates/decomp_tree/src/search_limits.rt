@@ -1,11 +1,11 @@
-// How much may be searched.
+// The limits of a search.
 ghost use Rattle.std.specs.Prelude.{◌≡◌, ◌≤◌};
 ghost use Rattle.cmr_base.specs.declared.limits.TheConstants.{MAX_LINES};
 
 use cmr_base::MAX_LINES;
 use first_hit::Workers;
 
-/// The most lines on the shorter side of a matrix whose sets of them are gone through, and how many workers share that.
+/// The maximum number of lines on the shorter side of a matrix whose line sets are enumerated, and the number of workers.
 #[derive(Clone, Copy, Debug)]
 pub struct SearchLimits {
     lines: u32,
@@ -14,7 +14,7 @@ pub struct SearchLimits {
 }
 
 impl SearchLimits {
-    /// So many lines, and these workers.
+    /// The limits with this number of lines and these workers.
     pub fn new(lines: u32, workers: Workers) -> SearchLimits
         requires { lines ≤ MAX_LINES }
         ensures lines { result.lines ≡ lines }
@@ -23,14 +23,14 @@ impl SearchLimits {
         SearchLimits { lines, workers }
     }
 
-    /// How many lines.
+    /// The number of lines.
     pub fn lines(self) -> u32
         ensures { result ≡ self.lines }
     {
         self.lines
     }
 
-    /// How many workers.
+    /// The number of workers.
     pub fn workers(self) -> Workers
         ensures { result ≡ self.workers }
     {

@@ -1,4 +1,4 @@
-// What is looked at.
+// A node that is searched.
 ghost use Rattle.std.specs.Prelude.{◌≡◌};
 ghost use Rattle.cmr_base.specs.Matrix.{IsMatrix};
 ghost use Rattle.tree_type.specs.Invariant.{AreLines};
@@ -7,7 +7,7 @@ ghost use Rattle.tree_type.specs.Soundness.{part};
 use crate::search_limits::SearchLimits;
 use cmr_base::{LineSet, Matrix, RowsAndColumns};
 
-/// Some lines of a matrix, the submatrix on them, and how much may be searched there.
+/// Some lines of a matrix, the submatrix on them, and the limits of the search.
 #[derive(Clone, Copy)]
 pub struct SearchedNode<'a> {
     pub matrix: &'a Matrix,

@@ -1,11 +1,11 @@
-// What is seen at a node.
+// What a search finds at a node.
 ghost use Rattle.std.specs.Prelude.{◌≡◌, ◌∷◌, [], IfOk};
 
 use cmr_base::{LineSet, LineSetList, Memory};
 use std::alloc::Global;
 use tree_type::Finding;
 
-/// What a node is to say, and the lines of its children.
+/// The finding of a node, and the lines of its children.
 #[derive(Drop)]
 pub struct Seen {
     pub finding: Finding,

@@ -1,4 +1,4 @@
-// Drafts that are settled: cycle faults are looked for late, from the root down, and pivots are made where nothing decides.
+// The second pass over a draft: late cycle faults are searched for from the root down, and pivots replace undecided nodes.
 ghost use Rattle.std.specs.Prelude.{◌≡◌, ◌<◌, ◌^◌, ◌++◌, ◌∷◌, [], length, map, IfOk, OnOk};
 ghost use Rattle.cmr_base.specs.Matrix.{IsMatrix};
 ghost use Rattle.tree_type.specs.DecompositionTrees.{Branch, Cycle, NoTrees, tree_of, trees_from};
@@ -13,13 +13,14 @@ use crate::faults::late_fault;
 use crate::pulling_back::{leaf, pulled_back};
 use crate::search_limits::SearchLimits;
 use cmr_base::{LineSet, Matrix, Memory, RowsAndColumns};
-use pivots::{PivotedPart, drawn_place, pivot_part};
+use pivots::{PivotedPart, pivot_part};
+use separating_places::chosen_place;
 use std::alloc::Global;
 use std::thread::Threads;
 use tree_type::{Finding, Node, join_node};
 
-/// The tree of the submatrix on these lines. It is drawn first as if no submatrix had a cycle fault, since where nothing
-/// below a node has a violator, none stands among its lines and none need be looked for.
+/// The tree of the submatrix on these lines. The first pass ignores late cycle faults: if no node below a node has a
+/// violator, its lines contain none, and the search is not needed.
 #[cycle(settling)]
 pub fn draw_root<R: Threads + Sync>(
     rt: &R,
@@ -47,9 +48,8 @@ pub fn draw_root<R: Threads + Sync>(
     Ok(root)
 }
 
-// Settles a drawn node, and puts its tree behind the nodes that are there. Where a cycle fault is found late, the node is
-// a leaf that names it, and what was drawn below it is dropped. An undecided node is replaced by what pivots find. Else its
-// children are settled.
+// Settles a draft and appends its tree. A node with a late cycle fault becomes a leaf that names it, without the drafts
+// below it. An undecided node is replaced by what pivots find. Otherwise the children are settled.
 #[cycle(settling)]
 fn settle<R: Threads + Sync>(
     rt: &R,
@@ -110,7 +110,7 @@ fn is_undecided(finding: &Finding) -> bool
     matches!(finding, Finding::Undecided)
 }
 
-// What is found of an undecided node: by a pivot of its submatrix at a place that is drawn, and by the tree of the pivot.
+// What replaces an undecided node: its submatrix is pivoted at the next position, and the tree of the pivot decides.
 #[cycle(settling)]
 fn find<R: Threads + Sync>(
     rt: &R,
@@ -130,19 +130,19 @@ fn find<R: Threads + Sync>(
     if pivots == 0 {
         return leaf(alloc, lines, Finding::Undecided);
     }
-    let Some(drawn) = drawn_place(matrix, lines, state) else {
+    let Some(chosen) = chosen_place(alloc, matrix, lines, state)? else {
         return leaf(alloc, lines, Finding::Undecided);
     };
-    match pivot_part(alloc, matrix, lines, drawn.place)? {
+    match pivot_part(alloc, matrix, lines, chosen.place)? {
         PivotedPart::Violated(fault) => leaf(alloc, lines, Finding::Violator(fault)),
         PivotedPart::Ternary(after) => {
-            let tree = draw_root(rt, alloc, &after, lines, limits, pivots - 1, drawn.state)?;
-            pulled_back(alloc, matrix, lines, drawn.place, tree)
+            let tree = draw_root(rt, alloc, &after, lines, limits, pivots - 1, chosen.state)?;
+            pulled_back(alloc, matrix, lines, chosen.place, tree)
         }
     }
 }
 
-// Joins a node from what it says and its children, and puts it behind others.
+// Joins a node from its finding and its children, and appends it.
 #[inline(never)]
 fn push_node(
     alloc: Global,
@@ -162,7 +162,7 @@ fn push_node(
     Ok(())
 }
 
-// The lines of a opening alone.
+// The lines of an opening.
 fn lines_of(opening: Box<Opening>) -> LineSet
     ensures { result ≡ opening.value.lines }
 {
@@ -170,7 +170,7 @@ fn lines_of(opening: Box<Opening>) -> LineSet
     lines
 }
 
-// Puts the leaf of some lines with a cycle fault behind others.
+// Appends the leaf of some lines with a cycle fault.
 #[inline(never)]
 fn push_fault(
     alloc: Global,

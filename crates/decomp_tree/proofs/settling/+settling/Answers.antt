@@ -1,11 +1,14 @@
-use Rattle.std.proofs.Common.{rules, ◌≡◌, ◌<◌, ◌+◌, ◌-◌, ◌*◌, ◌∙◌, ◌++◌, true, false, Option, MatchOption, List, [], ◌∷◌, length, map, append_assoc, append-nil, refl, ap, sym, subst, arith}
+use Rattle.std.proofs.Common.{rules, ◌≡◌, ◌<◌, ◌+◌, ◌-◌, ◌*◌, ◌^◌, ◌∙◌, ◌++◌, ℕ, true, false, Option, Some, None, MatchOption, IfSome, List, [], ◌∷◌, length, map, append_assoc, append-nil, refl, ap, sym, subst, arith}
 use Rattle.std.proofs.lemmas.List.{length-map, map-append}
 use Rattle.std.proofs.lemmas.Result.{IfOk-weaker}
 use Rattle.std.specs.Vec.Iter.{into_iter_items}
 use Rattle.cmr_base.specs.declared.line_set.LineSet.{LineSet}
 use Rattle.cmr_base.specs.Matrix.{Matrix, IsMatrix}
 use Rattle.cmr_base.proofs.Lists.{no_items}
+use Rattle.cmr_base.specs.PlacedPivots.{IsPlaceIn}
+use Rattle.pivots.specs.declared.drawn.DrawnPlace.{DrawnPlace}
 use Rattle.pivots.specs.PivotedParts.{IsPivotedPart}
+use Rattle.separating_places.specs.SeparatingPlaces.{IsChoice}
 use Rattle.tree_type.specs.Findings.{finding_shown}
 use Rattle.tree_type.specs.Invariant.{AreLines, size_of}
 use Rattle.tree_type.specs.DecompositionTrees.{Tree, Branch, Cycle, NoTrees, Violator, tree_of}
@@ -81,19 +84,28 @@ draw_root-returns g t c =
 
 -- ---- what pivots find
 
+-- the answer for a submatrix
+choice_is : (m : Matrix) (lines : LineSet) (state : ℕ) (found other : Option DrawnPlace) → found ≡ other → IsChoice m lines state found → IsChoice m lines state other
+choice_is m lines state found other e choice = subst (IsChoice m lines state) e choice
+
 pub find-returns-in_default : goal.find-returns-in_default
 find-returns-in_default g t c =
+    let none = choice_is c.args.matrix.now c.args.lines.now c.args.state c.in_ok-chosen.field-0 None c.in_default.is c.in_ok-chosen.ensures.place in
     IfOk-weaker c.leaf-in_default.result (λ node. tree_of node ≡ undecided c.args.lines.now) _
-    (λ node e. found_no_place c.args.limits.lines c.args.pivots c.args.state c.args.matrix.now c.args.lines.now (tree_of node) c.if-pivots-eq0.false (sym c.drawn_place.ensures.drawn ∙ c.in_default.is) e) c.leaf-in_default.ensures
+    (λ node e. found_no_place c.args.limits.lines c.args.pivots c.args.state c.args.matrix.now c.args.lines.now (tree_of node) c.if-pivots-eq0.false none e) c.leaf-in_default.ensures
 
 pub find-returns-then-pivots-eq0 : goal.find-returns-then-pivots-eq0
 find-returns-then-pivots-eq0 g t c =
     IfOk-weaker c.leaf.result (λ node. tree_of node ≡ undecided c.args.lines.now) _
     (λ node e. found_none c.args.limits.lines c.args.pivots c.args.state c.args.matrix.now c.args.lines.now (tree_of node) c.if-pivots-eq0.true e) c.leaf.ensures
 
+pub find-pivot_part-requires-clause-place : goal.find-pivot_part-requires-clause-place
+find-pivot_part-requires-clause-place g t c =
+    subst (λ (o : Option DrawnPlace). IfSome o (λ chosen. IsPlaceIn c.args.matrix.now c.args.lines.now chosen.place)) c.in-Some.is c.in_ok-chosen.ensures.inside
+
 pub find-draw_root-requires : goal.find-draw_root-requires
 find-draw_root-requires g t c =
-    let made = subst (IsPivotedPart c.args.matrix.now c.args.lines.now c.in-Some.drawn.place) c.in-Ternary.is c.in_ok-fault.ensures in
+    let made = subst (IsPivotedPart c.args.matrix.now c.args.lines.now c.in-Some.chosen.place) c.in-Ternary.is c.in_ok-fault.ensures in
     let falls : 4 * ((c.args.pivots - 1) + size_of c.args.lines.now) + 3 < t = omega (arith, c.decreases, c.if-pivots-eq0.false) in
     λ κs lives. (
       falls,
@@ -102,10 +114,10 @@ find-draw_root-requires g t c =
         (
           search rules,
           (
-            c.in-Some.ensures.low,
+            subst (λ (o : Option DrawnPlace). IfSome o (λ chosen. chosen.state < 2 ^ 31)) c.in-Some.is c.in_ok-chosen.ensures.low,
             (
               made.shape,
-              lines_made c.args.limits.lines c.args.pivots c.args.state c.args.matrix.now c.args.lines.now c.in-Some.drawn (sym c.drawn_place.ensures.drawn ∙ c.in-Some.is) c.in-Ternary.after made c.requires.lines,
+              lines_made c.args.matrix.now c.args.lines.now c.in-Some.chosen.place c.in-Ternary.after made c.requires.lines,
             ),
           ),
         ),
@@ -114,24 +126,29 @@ find-draw_root-requires g t c =
 
 pub find-pulled_back-requires-clause-fault : goal.find-pulled_back-requires-clause-fault
 find-pulled_back-requires-clause-fault g t c =
-    let made = subst (IsPivotedPart c.args.matrix.now c.args.lines.now c.in-Some.drawn.place) c.in-Ternary.is c.in_ok-fault.ensures in
-    let are = lines_made c.args.limits.lines c.args.pivots c.args.state c.args.matrix.now c.args.lines.now c.in-Some.drawn (sym c.drawn_place.ensures.drawn ∙ c.in-Some.is) c.in-Ternary.after made c.requires.lines in
-    fault_drawn c.args.limits.lines (c.args.pivots - 1) c.in-Some.drawn.state c.in-Ternary.after c.args.lines.now (tree_of c.in_ok-tree-in-Ternary.tree) made.shape are c.in_ok-tree-in-Ternary.ensures
+    let made = subst (IsPivotedPart c.args.matrix.now c.args.lines.now c.in-Some.chosen.place) c.in-Ternary.is c.in_ok-fault.ensures in
+    let are = lines_made c.args.matrix.now c.args.lines.now c.in-Some.chosen.place c.in-Ternary.after made c.requires.lines in
+    fault_drawn c.args.limits.lines (c.args.pivots - 1) c.in-Some.chosen.state c.in-Ternary.after c.args.lines.now (tree_of c.in_ok-tree-in-Ternary.tree) made.shape are c.in_ok-tree-in-Ternary.ensures
 
 pub find-returns-in-Violated : goal.find-returns-in-Violated
 find-returns-in-Violated g t c =
-    let shows = subst (IsPivotedPart c.args.matrix.now c.args.lines.now c.in-Some.drawn.place) c.in-Violated.is c.in_ok-fault.ensures in
-    IfOk-weaker c.leaf-in-Violated.result (λ node. tree_of node ≡ Branch c.args.lines.now (Violator c.in-Violated.fault) NoTrees) _
-    (λ node e. found_two c.args.limits.lines c.args.pivots c.args.state c.args.matrix.now c.args.lines.now c.in-Some.drawn (sym c.drawn_place.ensures.drawn ∙ c.in-Some.is) (tree_of node) c.in-Violated.fault c.if-pivots-eq0.false shows e)
+    let m = c.args.matrix.now in
+    let lines = c.args.lines.now in
+    let shows = subst (IsPivotedPart m lines c.in-Some.chosen.place) c.in-Violated.is c.in_ok-fault.ensures in
+    let at = choice_is m lines c.args.state c.in_ok-chosen.field-0 (Some c.in-Some.chosen) c.in-Some.is c.in_ok-chosen.ensures.place in
+    IfOk-weaker c.leaf-in-Violated.result (λ node. tree_of node ≡ Branch lines (Violator c.in-Violated.fault) NoTrees) _
+    (λ node e. found_two c.args.limits.lines c.args.pivots c.args.state m lines c.in-Some.chosen at (tree_of node) c.in-Violated.fault c.if-pivots-eq0.false shows e)
     c.leaf-in-Violated.ensures
 
 pub find-returns-in_ok-tree-in-Ternary : goal.find-returns-in_ok-tree-in-Ternary
 find-returns-in_ok-tree-in-Ternary g t c =
-    let made = subst (IsPivotedPart c.args.matrix.now c.args.lines.now c.in-Some.drawn.place) c.in-Ternary.is c.in_ok-fault.ensures in
+    let m = c.args.matrix.now in
+    let lines = c.args.lines.now in
+    let made = subst (IsPivotedPart m lines c.in-Some.chosen.place) c.in-Ternary.is c.in_ok-fault.ensures in
+    let at = choice_is m lines c.args.state c.in_ok-chosen.field-0 (Some c.in-Some.chosen) c.in-Some.is c.in_ok-chosen.ensures.place in
     let found = tree_of c.in_ok-tree-in-Ternary.tree in
-    IfOk-weaker c.pulled_back.result (λ node. IsToldBeforePivot c.args.matrix.now c.args.lines.now c.in-Some.drawn.place found (verdict_of found) (tree_of node)) _
-    (λ node told. found_after c.args.limits.lines c.args.pivots c.args.state c.args.matrix.now c.args.lines.now c.in-Some.drawn (sym c.drawn_place.ensures.drawn ∙ c.in-Some.is) (tree_of node) found c.in-Ternary.after c.if-pivots-eq0.false made
-    c.in_ok-tree-in-Ternary.ensures told)
+    IfOk-weaker c.pulled_back.result (λ node. IsToldBeforePivot m lines c.in-Some.chosen.place found (verdict_of found) (tree_of node)) _
+    (λ node told. found_after c.args.limits.lines c.args.pivots c.args.state m lines c.in-Some.chosen at (tree_of node) found c.in-Ternary.after c.if-pivots-eq0.false made c.in_ok-tree-in-Ternary.ensures told)
     c.pulled_back.ensures
 
 -- ---- a draft that is settled

@@ -1,4 +1,4 @@
--- Sets of lines are the same where they have the same lines.
+-- Sets with the same lines are equal.
 use Rattle.std.proofs.Common.{◌≡◌, ◌<◌, ◌∙◌, inl, inr, ℕ, true, List, [], ◌∷◌, refl, ap, ap₂, sym, arith}
 use Rattle.std.specs.List.Sorted.{IsStrictlyIncreasing}
 use Rattle.cmr_base.specs.declared.line.Line.{Line}

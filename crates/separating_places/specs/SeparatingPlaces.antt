@@ -1,0 +1,46 @@
+-- The position of the next pivot of a submatrix: the position of its first cut, and otherwise a drawn one.
+use Rattle.std.specs.Prelude.{◌≡◌, ◌⊎◌, ℕ, Option, Some, None, MatchOption, slice_index_or}
+use Rattle.cmr_base.specs.declared.line_set.LineSet.{LineSet}
+use Rattle.cmr_base.specs.LineSets.{submatrix}
+use Rattle.cmr_base.specs.Matrix.{Matrix}
+use Rattle.path_places.specs.PathPlaces.{IsCutPlace}
+use Rattle.path_places.specs.SideWords.{side_of}
+use Rattle.cmr_base.specs.declared.placed_pivot.PlacedPivot.{PlacedPivot}
+use Rattle.pivots.specs.declared.drawn.DrawnPlace.{DrawnPlace}
+use Rattle.pivots.specs.DrawnPlaces.{drawn_place}
+use Rattle.three_sep.specs.FirstCuts.{IsFirstCutOn}
+
+-- the position of the first cut of a matrix, by side one of the cut
+pub record IsPlaceFor (m : Matrix) (place : PlacedPivot) : Type 0 where
+  pub side : LineSet
+  pub first : IsFirstCutOn m side.rows side.columns
+  pub at : IsCutPlace m (side_of side) place.row place.column
+
+-- the matrix has no cut, or both sides of its first cut are fit, or the side that is not fit has no path
+abbrev pub HasNoPlaceFor : Matrix → Type 0
+HasNoPlaceFor m = (place : PlacedPivot) → ¬ (IsPlaceFor m place)
+
+-- the position of the first cut of the submatrix on some lines, by the line numbers of the whole matrix
+pub record IsSeparatingPlace (m : Matrix) (lines : LineSet) (place : PlacedPivot) : Type 0 where
+  pub inside : PlacedPivot
+  pub at : IsPlaceFor (submatrix m lines.rows lines.columns) inside
+  pub row : place.row ≡ slice_index_or lines.rows inside.row 0
+  pub column : place.column ≡ slice_index_or lines.columns inside.column 0
+
+abbrev pub HasNoSeparatingPlace : Matrix → LineSet → Type 0
+HasNoSeparatingPlace m lines = (place : PlacedPivot) → ¬ (IsSeparatingPlace m lines place)
+
+-- The position of the next pivot and the state after it: the position of the first cut with the same state, or the position that is drawn
+-- from the state if the first cut has none.
+abbrev pub IsChosenPlace : Matrix → LineSet → ℕ → DrawnPlace → Type 0
+IsChosenPlace m lines state chosen =
+    (IsSeparatingPlace m lines chosen.place × (chosen.state ≡ state))
+    ⊎ (HasNoSeparatingPlace m lines × (drawn_place m lines state ≡ Some chosen))
+
+-- the first cut has no position, and the submatrix is zero
+abbrev pub HasNoChosenPlace : Matrix → LineSet → ℕ → Type 0
+HasNoChosenPlace m lines state = HasNoSeparatingPlace m lines × (drawn_place m lines state ≡ None)
+
+-- `None` if and only if there is no such position
+abbrev pub IsChoice : Matrix → LineSet → ℕ → Option DrawnPlace → Type 0
+IsChoice m lines state found = MatchOption found (HasNoChosenPlace m lines state) (IsChosenPlace m lines state)

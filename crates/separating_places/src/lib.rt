@@ -1,0 +1,6 @@
+//! Positions of pivots: towards a three-separation if the submatrix has a cut, and drawn otherwise.
+#![tactic(auto)]
+
+mod place;
+
+pub use place::chosen_place;

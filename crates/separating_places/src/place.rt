@@ -1,0 +1,68 @@
+// The position of the next pivot of a submatrix.
+ghost use Rattle.std.specs.Prelude.{◌<◌, ◌^◌, IfOk, IfSome, MatchOption};
+ghost use Rattle.cmr_base.specs.LineSets.{IsColumnSet, IsRowSet};
+ghost use Rattle.cmr_base.specs.PlacedPivots.{IsPlaceIn};
+ghost use Rattle.separating_places.specs.SeparatingPlaces.{HasNoPlaceFor, HasNoSeparatingPlace, IsChoice, IsPlaceFor, IsSeparatingPlace};
+
+use cmr_base::{LineSet, Matrix, Memory, PlacedPivot, RowsAndColumns};
+use path_places::cut_place;
+use pivots::{DrawnPlace, drawn_place};
+use std::alloc::Global;
+use three_sep::first_cut;
+
+/// The position of the next pivot of the submatrix on these lines, with the state after it: the position of its first cut,
+/// or a drawn position if it has no cut or its first cut has no position.
+pub fn chosen_place(
+    alloc: Global,
+    matrix: &Matrix,
+    lines: &LineSet,
+    state: u32,
+) -> Result<Option<DrawnPlace>, Memory>
+    requires rows { IsRowSet matrix.now lines.now.rows }
+    requires columns { IsColumnSet matrix.now lines.now.columns }
+    requires state { state < 2 ^ 31 }
+    ensures place { IfOk result (IsChoice matrix.now lines.now state) }
+    ensures inside { IfOk result (λ found. IfSome found
+        (λ chosen. IsPlaceIn matrix.now lines.now chosen.place)) }
+    ensures low { IfOk result (λ found. IfSome found (λ chosen. chosen.state < 2 ^ 31)) }
+{
+    if let Some(place) = separating_place(alloc, matrix, lines)? {
+        return Ok(Some(DrawnPlace { place, state }));
+    }
+    Ok(drawn_place(matrix, lines, state))
+}
+
+// The position of the first cut of the submatrix on these lines, by the line numbers of the matrix.
+fn separating_place(
+    alloc: Global,
+    matrix: &Matrix,
+    lines: &LineSet,
+) -> Result<Option<PlacedPivot>, Memory>
+    requires rows { IsRowSet matrix.now lines.now.rows }
+    requires columns { IsColumnSet matrix.now lines.now.columns }
+    ensures place { IfOk result (λ found. MatchOption found
+        (HasNoSeparatingPlace matrix.now lines.now)
+        (IsSeparatingPlace matrix.now lines.now)) }
+    ensures inside { IfOk result (λ found. IfSome found (IsPlaceIn matrix.now lines.now)) }
+{
+    let submatrix = matrix.part(alloc, lines)?;
+    let columns = submatrix.transposed(alloc)?;
+    let Some(place) = place_for(alloc, &RowsAndColumns::of(&submatrix, &columns))? else {
+        return Ok(None);
+    };
+    Ok(Some(PlacedPivot {
+        row: *lines.rows.get(place.row as usize),
+        column: *lines.columns.get(place.column as usize),
+    }))
+}
+
+// The position of the first cut.
+fn place_for(alloc: Global, matrix: &RowsAndColumns<'_>) -> Result<Option<PlacedPivot>, Memory>
+    ensures { IfOk result (λ found. MatchOption found (HasNoPlaceFor matrix.now)
+        (IsPlaceFor matrix.now)) }
+{
+    let Some(side) = first_cut(alloc, matrix)? else {
+        return Ok(None);
+    };
+    cut_place(alloc, matrix.by_rows(), &side)
+}
