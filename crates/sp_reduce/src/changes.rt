@@ -6,7 +6,7 @@ ghost use Rattle.sp_reduce.specs.LineKinds.{cross_size};
 ghost use Rattle.sp_reduce.specs.StayingSides.{IsParallel, IsSide, IsAcross, AreNonzerosCounted, IsSettled};
 ghost use Rattle.sp_reduce.specs.Changes.{WasRightBefore, IsRemovedAt, IsHeld, IsHeldAt, HasForgotten, IsSameAt, IsForgetting, IsUnsettled};
 
-use crate::kind::{entry, index_of_line, is_minus, is_nonzero};
+use crate::kind::{index_of_line, is_minus, is_nonzero};
 use crate::side::StayingLines;
 use crate::tallies::weight;
 use cmr_base::{Matrix, Reason};
@@ -93,7 +93,7 @@ impl StayingLines {
         if is_nonzero(matrix, self.kind, self.stays[place], removed) {
             self.counts[place] -= 1;
             self.sums[place] -= weight(removed);
-            if is_minus(entry(matrix, self.kind, self.stays[place], removed)) {
+            if is_minus(matrix, self.kind, self.stays[place], removed) {
                 self.minus_sums[place] -= weight(removed);
             }
             if self.counts[place] <= 1 {

@@ -98,11 +98,13 @@ pub fn is_nonzero(matrix: &Matrix, kind: LineKind, line: u32, other: u32) -> boo
     }
 }
 
-// Whether an entry is -1.
-pub fn is_minus(entry: i8) -> bool
-    ensures { result ≡ is_minus entry }
+// Whether the entry is -1.
+pub fn is_minus(matrix: &Matrix, kind: LineKind, line: u32, other: u32) -> bool
+    requires line { line < count_of_kind matrix.now kind }
+    requires other { other < cross_size matrix.now kind }
+    ensures { result ≡ is_minus (table (entry matrix.now) kind line other) }
 {
-    entry < 0
+    entry(matrix, kind, line, other) < 0
 }
 
 fn is_equal(matrix: &Matrix, kind: LineKind, line: u32, twin: u32, other: u32) -> bool

@@ -120,7 +120,7 @@ impl Tallies {
         'columns: while let Some(column) = matrix.next_nonzero(row, from) {
             let line = kind.own(row, column);
             let other = kind.other().own(row, column) as usize;
-            let minus = is_minus(matrix.entry(row, column));
+            let minus = is_minus(matrix, LineKind::Rows, row, column);
             self.add(line, marks[other], weights[other], minus);
             from = column + 1;
         }

@@ -1,5 +1,4 @@
 use Rattle.std.proofs.Common.{◌≡◌, ◌+◌, ◌<◌, ◌≤◌, ◌^◌, ◌*◌, ◌∙◌, ℕ, Bool, cond, false, get_or, length, set, ap, ap₂, subst, sym, arith}
-use Rattle.cmr_base.specs.Planes.{is_minus}
 use Rattle.sp_reduce.specs.LineKinds.{own_line, other_kind}
 use Rattle.sp_reduce.specs.declared.kind.LineKind.{LineKind}
 use Rattle.sp_reduce.proofs.TallyLemmas.{tallies_same, tallies_step, passed_row, counts_small, cross_small, sums_small, minus_sums_small, own_in, other_in, weights_small}
@@ -69,5 +68,5 @@ columns-preserved c =
           ∙ ap (λ (n : ℕ). set sums (own_line kind row next) (get_or sums (own_line kind row next) 0 + n)) (c.requires.weights.exact (own_line (other_kind kind) row next) in_marks))
           (c.add.ensures.minus_sums ∙ ap₂ (λ (l o : ℕ). set minus_sums l (get_or minus_sums l 0 + cond c.is_minus-minus.result (get_or weights o 0) 0)) c.own-line.ensures other
           ∙ ap₂ (λ (b : Bool) (n : ℕ). set minus_sums (own_line kind row next) (get_or minus_sums (own_line kind row next) 0 + cond b n 0))
-          (c.is_minus-minus.ensures ∙ ap is_minus c.entry.ensures.value) (c.requires.weights.exact (own_line (other_kind kind) row next) in_marks));
+          c.is_minus-minus.ensures (c.requires.weights.exact (own_line (other_kind kind) row next) in_marks));
     }
