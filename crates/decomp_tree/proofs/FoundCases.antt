@@ -11,14 +11,14 @@ use Rattle.tree_type.specs.Verdicts.{verdict_of}
 use Rattle.tree_laws.proofs.PivotedMatrices.{lines_pivoted}
 use Rattle.decomp_tree.specs.Refined.{Refines}
 use Rattle.decomp_tree.specs.Shapes.{IsShapeOn}
-use Rattle.separating_places.specs.SeparatingPlaces.{HasNoChosenPlace, IsChoice, IsChosenPlace}
+use Rattle.separating_places.specs.SeparatingPlaces.{HasNoChosenPlace, IsNextPlace, IsChosenPlace}
 use Rattle.decomp_tree.specs.PivotedShapes.{HasFaultAmong, IsDrawnWith, IsFound, IsFoundAt, IsToldBeforePivot, undecided}
 use Rattle.decomp_tree.proofs.FaultLines.{fault_among, lines_themselves}
 use Rattle.decomp_tree.proofs.FoundTrees.{drawn_with_lines, drawn_with_within}
 
 module _ (limit pivots state : ℕ) (m : Matrix) (lines : LineSet) where
   -- some pivot may be made
-  found_at : (some : pivots ≢ 0) (tree : Tree) (chosen : Option DrawnPlace) → IsChoice m lines state chosen
+  found_at : (some : pivots ≢ 0) (tree : Tree) (chosen : Option DrawnPlace) → IsNextPlace m lines state chosen
       → IsFoundAt (λ next after found. (shape : Tree) × IsShapeOn limit after lines shape × Refines (IsFound limit (pivots - 1) next after) shape found) m lines chosen tree
       → IsFound limit pivots state m lines tree
   found_at some tree chosen choice found = subst (λ k. IsFound limit k state m lines tree) (let more : suc (pivots - 1) ≡ pivots = omega (arith, some) in more) (chosen, choice, found)

@@ -16,7 +16,7 @@ use Rattle.tree_type.specs.Verdicts.{Verdict, Yes, No, Open, verdict_of}
 use Rattle.tree_type.proofs.PlacedLines.{lines_within}
 use Rattle.tree_laws.proofs.PivotedMatrices.{lines_pivoted, pivoted_is_matrix}
 use Rattle.decomp_tree.specs.Shapes.{IsShapeOn}
-use Rattle.separating_places.specs.SeparatingPlaces.{IsChoice}
+use Rattle.separating_places.specs.SeparatingPlaces.{IsNextPlace}
 use Rattle.separating_places.proofs.ChosenPlaces.{chosen_place_in}
 use Rattle.decomp_tree.specs.Refined.{Refines, AllRefine}
 use Rattle.decomp_tree.specs.PivotedShapes.{IsToldBeforePivot, IsFoundAt, IsFound, IsDrawnWith, HasFaultAmong, undecided}
@@ -47,8 +47,8 @@ pub drawn_with_lines : (limit pivots state : ℕ) (m : Matrix) (lines : LineSet)
 drawn_with_lines limit pivots state m lines tree d = refined_lines (IsFound limit pivots state m) (found_lines limit pivots state m) d.shape tree d.refines ∙ shape_lines limit m lines d.shape d.drawn
 
 -- the position is a nonzero of the submatrix
-pub choice_in : (m : Matrix) (lines : LineSet) (state : ℕ) (chosen : Option DrawnPlace) → IsChoice m lines state chosen → (some : DrawnPlace) → chosen ≡ Some some → IsPlaceIn m lines some.place
-choice_in m lines state chosen choice some e = chosen_place_in m lines state some (subst (IsChoice m lines state) e choice)
+pub choice_in : (m : Matrix) (lines : LineSet) (state : ℕ) (chosen : Option DrawnPlace) → IsNextPlace m lines state chosen → (some : DrawnPlace) → chosen ≡ Some some → IsPlaceIn m lines some.place
+choice_in m lines state chosen choice some e = chosen_place_in m lines state some (subst (IsNextPlace m lines state) e choice)
 
 -- ---- levels
 

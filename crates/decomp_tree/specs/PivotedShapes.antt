@@ -15,7 +15,7 @@ use Rattle.tree_type.specs.DecompositionTrees.{Tree, Branch, NoTrees, Undecided,
 use Rattle.tree_type.specs.Verdicts.{Verdict, Yes, No, Open, verdict_of}
 use Rattle.decomp_tree.specs.Levels.{is_on_levels}
 use Rattle.decomp_tree.specs.Refined.{Refines}
-use Rattle.separating_places.specs.SeparatingPlaces.{IsChoice}
+use Rattle.separating_places.specs.SeparatingPlaces.{IsNextPlace}
 use Rattle.decomp_tree.specs.Shapes.{IsShapeOn}
 
 abbrev pub undecided : LineSet → Tree
@@ -62,7 +62,7 @@ IsFoundAt IsTree m lines (Some chosen) tree =
 abbrev pub IsFound : ℕ → ℕ → ℕ → Matrix → LineSet → Tree → Type 0
 IsFound limit zero state m lines tree = tree ≡ undecided lines
 IsFound limit (suc pivots) state m lines tree =
-    (chosen : Option DrawnPlace) × IsChoice m lines state chosen
+    (chosen : Option DrawnPlace) × IsNextPlace m lines state chosen
     × IsFoundAt
     (λ next after found. (shape : Tree) × IsShapeOn limit after lines shape
     × Refines (IsFound limit pivots next after) shape found)

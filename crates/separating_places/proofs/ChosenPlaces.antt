@@ -18,7 +18,7 @@ use Rattle.pivots.specs.declared.drawn.DrawnPlace.{DrawnPlace}
 use Rattle.pivots.proofs.DrawnPlaces.{drawn_in}
 use Rattle.three_sep.specs.FirstCuts.{HasNoCut, IsFirstCutOn}
 use Rattle.three_sep.proofs.OneFirstCut.{first_cuts_agree}
-use Rattle.separating_places.specs.SeparatingPlaces.{HasNoPlaceFor, HasNoSeparatingPlace, IsChoice, IsChosenPlace, IsPlaceFor, IsSeparatingPlace}
+use Rattle.separating_places.specs.SeparatingPlaces.{HasNoPlaceFor, HasNoSeparatingPlace, IsNextPlace, IsChosenPlace, IsPlaceFor, IsSeparatingPlace}
 use Rattle.separating_places.proofs.SameSets.{HasAllOf, lines_in, same_sets}
 
 -- ---- the first cut
@@ -62,7 +62,7 @@ one_separating_place m lines p q x y =
     (x.column ∙ ap (λ (inside : PlacedPivot). get_or lines.columns inside.column 0) same ∙ sym y.column)
 
 -- a submatrix and a state have one answer
-pub one_choice : (m : Matrix) (lines : LineSet) (state : ℕ) (found other : Option DrawnPlace) → IsChoice m lines state found → IsChoice m lines state other → found ≡ other
+pub one_choice : (m : Matrix) (lines : LineSet) (state : ℕ) (found other : Option DrawnPlace) → IsNextPlace m lines state found → IsNextPlace m lines state other → found ≡ other
 one_choice m lines state None None x y = sym x.1 ∙ y.1
 one_choice m lines state None (Some q) x (inl (at, e)) = absurd (x.0 q.place at)
 one_choice m lines state None (Some q) x (inr (none, e)) = sym x.1 ∙ e

@@ -42,5 +42,5 @@ abbrev pub HasNoChosenPlace : Matrix → LineSet → ℕ → Type 0
 HasNoChosenPlace m lines state = HasNoSeparatingPlace m lines × (drawn_place m lines state ≡ None)
 
 -- `None` if and only if there is no such position
-abbrev pub IsChoice : Matrix → LineSet → ℕ → Option DrawnPlace → Type 0
-IsChoice m lines state found = MatchOption found (HasNoChosenPlace m lines state) (IsChosenPlace m lines state)
+abbrev pub IsNextPlace : Matrix → LineSet → ℕ → Option DrawnPlace → Type 0
+IsNextPlace m lines state found = MatchOption found (HasNoChosenPlace m lines state) (IsChosenPlace m lines state)

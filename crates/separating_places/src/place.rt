@@ -2,7 +2,7 @@
 ghost use Rattle.std.specs.Prelude.{◌<◌, ◌^◌, IfOk, IfSome, MatchOption};
 ghost use Rattle.cmr_base.specs.LineSets.{IsColumnSet, IsRowSet};
 ghost use Rattle.cmr_base.specs.PlacedPivots.{IsPlaceIn};
-ghost use Rattle.separating_places.specs.SeparatingPlaces.{HasNoPlaceFor, HasNoSeparatingPlace, IsChoice, IsPlaceFor, IsSeparatingPlace};
+ghost use Rattle.separating_places.specs.SeparatingPlaces.{HasNoPlaceFor, HasNoSeparatingPlace, IsNextPlace, IsPlaceFor, IsSeparatingPlace};
 
 use cmr_base::{LineSet, Matrix, Memory, PlacedPivot, RowsAndColumns};
 use path_places::cut_place;
@@ -21,7 +21,7 @@ pub fn chosen_place(
     requires rows { IsRowSet matrix.now lines.now.rows }
     requires columns { IsColumnSet matrix.now lines.now.columns }
     requires state { state < 2 ^ 31 }
-    ensures place { IfOk result (IsChoice matrix.now lines.now state) }
+    ensures place { IfOk result (IsNextPlace matrix.now lines.now state) }
     ensures inside { IfOk result (λ found. IfSome found
         (λ chosen. IsPlaceIn matrix.now lines.now chosen.place)) }
     ensures low { IfOk result (λ found. IfSome found (λ chosen. chosen.state < 2 ^ 31)) }

@@ -8,7 +8,7 @@ use Rattle.cmr_base.proofs.Lists.{no_items}
 use Rattle.cmr_base.specs.PlacedPivots.{IsPlaceIn}
 use Rattle.pivots.specs.declared.drawn.DrawnPlace.{DrawnPlace}
 use Rattle.pivots.specs.PivotedParts.{IsPivotedPart}
-use Rattle.separating_places.specs.SeparatingPlaces.{IsChoice}
+use Rattle.separating_places.specs.SeparatingPlaces.{IsNextPlace}
 use Rattle.tree_type.specs.Findings.{finding_shown}
 use Rattle.tree_type.specs.Invariant.{AreLines, size_of}
 use Rattle.tree_type.specs.DecompositionTrees.{Tree, Branch, Cycle, NoTrees, Violator, tree_of}
@@ -85,8 +85,8 @@ draw_root-returns g t c =
 -- ---- what pivots find
 
 -- the answer for a submatrix
-choice_is : (m : Matrix) (lines : LineSet) (state : ℕ) (found other : Option DrawnPlace) → found ≡ other → IsChoice m lines state found → IsChoice m lines state other
-choice_is m lines state found other e choice = subst (IsChoice m lines state) e choice
+choice_is : (m : Matrix) (lines : LineSet) (state : ℕ) (found other : Option DrawnPlace) → found ≡ other → IsNextPlace m lines state found → IsNextPlace m lines state other
+choice_is m lines state found other e choice = subst (IsNextPlace m lines state) e choice
 
 pub find-returns-in_default : goal.find-returns-in_default
 find-returns-in_default g t c =
