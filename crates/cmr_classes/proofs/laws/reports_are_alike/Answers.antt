@@ -2,4 +2,4 @@ use Rattle.cmr_classes.proofs.AlikeNetworks.{test_alike}
 use Rattle.cmr_classes.proofs.laws.reports_are_alike.Goals as goal
 
 pub returns : goal.returns
-returns c = test_alike
+returns c = record { test = test_alike }

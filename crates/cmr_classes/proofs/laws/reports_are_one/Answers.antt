@@ -2,4 +2,4 @@ use Rattle.cmr_classes.proofs.SeriesParallelAnswers.{series_parallel_has_one_rep
 use Rattle.cmr_classes.proofs.laws.reports_are_one.Goals as goal
 
 pub returns : goal.returns
-returns c = series_parallel_has_one_report
+returns c = record { series_parallel = series_parallel_has_one_report }

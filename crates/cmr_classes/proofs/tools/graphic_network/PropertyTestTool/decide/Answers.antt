@@ -1,4 +1,4 @@
-use Rattle.std.proofs.Common.{◌≡◌, ◌∙◌, ap, length, map}
+use Rattle.std.proofs.Common.{◌∙◌, ap, length, map}
 use Rattle.cmr_front.specs.Inputs.{bytes_of}
 use Rattle.cmr_classes.specs.GraphicNetwork.{test_order_of}
 use Rattle.cmr_classes.proofs.GraphMatrixAnswers.{decides_on_graph, decides_on_matrix, test_inputs}
