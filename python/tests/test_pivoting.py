@@ -174,11 +174,11 @@ class Models(AnswerTest):
         self.assertTrue(independent.chain_holds(matrix.to_lists(), answer.chain))
         self.shows_no(answer.signed, answer)
         self.assertEqual(cmr.check(matrix, answer.chain).says, "not regular")
-        self.is_the_slow_tree(answer.signed, answer.tree, 20, 0)
         support = [[abs(entry) for entry in row] for row in two_goods(6)]
         answer = asked_once("regular", support, lines=0, pivots=20)
         assert answer.signed is not None
         self.shows_yes(answer.signed.to_lists(), answer)
+        self.is_the_slow_tree(answer.signed, answer.tree, 20, 0)
 
     def test_what_stays_undecided(self) -> None:
         """Too few pivots leave the part open, as if none were made."""
