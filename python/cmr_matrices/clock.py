@@ -21,6 +21,9 @@ _WAITS = 50
 class Clock:
     """The seconds that are left of a limit, counted from when the clock is made."""
 
+    counts_all_time = True
+    """Whether it counts the time that passes, and not that of the processors. Then a process that is kept for many runs may answer."""
+
     def __init__(self, limit: float | None) -> None:
         self.limit = None if limit is None else _seconds(limit)
         self._start = time.monotonic()
@@ -51,6 +54,8 @@ class ProcessorClock(Clock):
 
     So other work of the machine ends no run. If the system does not tell the processor time of a program, the clock counts all its time.
     """
+
+    counts_all_time = False
 
     def __init__(self, limit: float | None) -> None:
         super().__init__(limit)

@@ -5,14 +5,13 @@ from __future__ import annotations
 import os
 import re
 import shutil
-import subprocess
-import tempfile
 import warnings
 from collections.abc import Mapping, Sequence
-from contextlib import ExitStack
 from dataclasses import dataclass
 from pathlib import Path
 
+from .batch.frames import Reply, Request, can_be_sent
+from .batch.kept import batch_of, replies
 from .clock import Clock, TimeLimit
 from .errors import (
     BadCommandLine,
@@ -28,7 +27,7 @@ from .errors import (
     UnprovedProgram,
 )
 from .explained.texts import guess
-from .held_texts import held_text
+from .single_run import single_run
 
 __all__ = [
     "NO",
@@ -47,10 +46,6 @@ __all__ = [
 StrPath = str | os.PathLike[str]
 
 YES, NO, UNDECIDED, REFUSED = 0, 1, 6, 7
-# The status by which a shell says that a file is no program.
-_NOT_RUN = 126
-# The least seconds after which a run is asked again how much processor time it has used.
-_MOMENT = 0.02
 
 # The `parent` of the root is the root. `parents` has no such entry.
 _CLONE = Path(__file__).resolve().parent.parent.parent
@@ -131,63 +126,32 @@ def run(
     program: StrPath | None = None,
     time_limit: TimeLimit = None,
 ) -> Ran:
-    """A run of the program on standard input and on files, in a folder that is removed when the run ends.
+    """A run of the program on standard input and on files.
 
-    `inputs` are the texts of the files that the program reads, and `outputs` the names of the files that it may write; its arguments use
-    the same names. `time_limit` is in seconds. Whatever ends the call also ends the program.
+    If there is a program `cmr-batch`, the process of it that this thread keeps replies. Otherwise the run has a process and a folder of its
+    own, which are removed when the run ends. `inputs` are the texts of the files that the program reads, and `outputs` the names of the
+    files that it may write; its arguments use the same names. `time_limit` is in seconds. What ends the call before its end also ends the
+    process.
 
     Raises `ProgramMissing`, `TimeLimitReached` or, if the program does not answer, the `ProgramFault` of its status.
     """
     clock = Clock.of(time_limit)
-    command = [str(find_program(program)), *words]
-    with ExitStack() as stack:
-        has_files = bool(inputs or outputs)
-        folder = stack.enter_context(tempfile.TemporaryDirectory(prefix="cmr-")) if has_files else None
-        for name, content in (inputs or {}).items():
-            _write(Path(folder or "", name), content)
-        held = stack.enter_context(held_text(_encoded(text)))
-        ran = _ended(command, held, folder, clock)
-        if ran.returncode not in (YES, NO, UNDECIDED, REFUSED):
-            line = ran.stderr.decode("utf-8", "surrogateescape").rstrip("\n")
-            raise fault_of(ran.returncode, line, {"-": text} | dict(inputs or {}))
-        files = {name: path.read_text("ascii") for name in outputs if (path := Path(folder or "", name)).exists()}
-    return Ran(ran.returncode, tuple(ran.stdout.decode("ascii").splitlines()), files)
+    texts = {"-": text} | dict(inputs or {})
+    ran = _reply(find_program(program), words, {name: _encoded(content) for name, content in texts.items()}, outputs, clock)
+    if ran.status not in (YES, NO, UNDECIDED, REFUSED):
+        raise fault_of(ran.status, ran.error.decode("utf-8", "surrogateescape").rstrip("\n"), texts)
+    files = {name: ran.files[name].decode("ascii") for name in outputs if name in ran.files}
+    return Ran(ran.status, tuple(ran.output.decode("ascii").splitlines()), files)
 
 
-def _ended(command: list[str], text: int, folder: str | None, clock: Clock) -> subprocess.CompletedProcess[bytes]:
-    """A run on a held text to its end. What ends the call ends the program, and waits for its end: the system keeps nothing of it."""
-    left = clock.left()
-    with _begun(command, text, folder) as process:
-        try:
-            printed, said = _printed(process, clock, left)
-        except BaseException:
-            process.kill()
-            process.wait()
-            raise
-    return subprocess.CompletedProcess(command, process.returncode, printed, said)
-
-
-def _begun(command: list[str], text: int, folder: str | None) -> subprocess.Popen[bytes]:
-    pipe = subprocess.PIPE
-    try:
-        return subprocess.Popen(command, stdin=text, stdout=pipe, stderr=pipe, cwd=folder)
-    except FileNotFoundError:
-        raise ProgramMissing([command[0]]) from None
-    except OSError as fault:
-        raise ProgramFault(_NOT_RUN, f"{command[0]} cannot be run: {fault.strerror}") from fault
-
-
-def _printed(process: subprocess.Popen[bytes], clock: Clock, left: float | None) -> tuple[bytes, bytes]:
-    """What a run prints until its end. Raises `TimeLimitReached` if it does not end in time."""
-    while True:
-        try:
-            return process.communicate(timeout=left)
-        except subprocess.TimeoutExpired:
-            left = max(clock.left(process.pid) or 0, _MOMENT)
-
-
-def _write(path: Path, content: str) -> None:
-    path.write_bytes(_encoded(content))
+def _reply(
+    program: Path, words: Sequence[str], files: Mapping[str, bytes], outputs: Sequence[str], clock: Clock
+) -> Reply:
+    batch = batch_of(program) if clock.counts_all_time else None
+    if batch is not None and can_be_sent(words, files):
+        return next(replies(batch, [Request.of(words, files)], clock))
+    inputs = {name: content for name, content in files.items() if name != "-"}
+    return single_run(program, words, files["-"], inputs, outputs, clock)
 
 
 def _encoded(text: str) -> bytes:

@@ -14,6 +14,7 @@ from pathlib import Path
 from typing import Any, TypeVar
 
 from cmr_matrices import Answer, Matrix, ProgramMissing, UnprovedProgram, find_program
+from cmr_matrices.batch.kept import batch_of
 from cmr_matrices.clock import Clock
 from cmr_matrices.options import budget_words
 from cmr_matrices.reading import Question
@@ -102,3 +103,10 @@ def tried(property_name: str, matrix: Matrix, count: int, *, lines: int | None =
 
 
 needs_program = _needs("the program cmr", _is_built())
+
+
+def _has_batch() -> bool:
+    return _is_built() and batch_of(find_program()) is not None
+
+
+needs_batch = _needs("the program cmr-batch", _has_batch())

@@ -6,6 +6,7 @@ import csv
 import json
 import os
 import random
+import shutil
 import signal
 import subprocess
 import sys
@@ -20,7 +21,7 @@ from unittest import mock
 
 from cmr_matrices import Matrix, find_program
 from tests.open_matrices import two_goods
-from tests.support import EXAMPLES, TOP, is_gone, needs_module, needs_program, waits_until
+from tests.support import EXAMPLES, TOP, is_gone, needs_batch, needs_module, needs_program, waits_until
 
 COMMAND = [sys.executable, str(TOP / "scripts" / "cmr-classify")]
 
@@ -74,6 +75,59 @@ class CommandTest(unittest.TestCase):
     def waits_for(self, run: subprocess.Popen[bytes], table: Path, lines: int) -> None:
         """Waits until a run has written a number of lines of its table."""
         waits_until(lambda: run.poll() is not None or _lines(table) >= lines, "the table")
+
+
+def _batches(parent: int) -> list[int]:
+    """The numbers of the processes of `cmr-batch` below a process."""
+    found = []
+    for entry in Path("/proc").iterdir():
+        try:
+            if entry.name.isdigit():
+                above = int((entry / "stat").read_text("utf-8", "replace").rpartition(")")[2].split()[1])
+                name = (entry / "comm").read_text("utf-8").strip()
+                workers = (entry.parent / str(above) / "stat").read_text("utf-8", "replace").rpartition(")")[2].split()[1]
+                if name.startswith("cmr") and "batch" in os.readlink(entry / "exe") and int(workers) == parent:
+                    found.append(int(entry.name))
+        except (OSError, ValueError):
+            continue
+    return found
+
+
+@needs_batch
+class Batches(CommandTest):
+    """The processes of `cmr-batch` that answer the questions of a table."""
+
+    def test_the_same_table_without_them(self) -> None:
+        for words in ([], ["--infer"], ["--support"], ["--lines", "1"]):
+            tables, kept = ("with.csv", "without.csv"), ("kept", "other")
+            self.runs("-", "--output", tables[0], "--evidence", kept[0], *words, text=stream(40))
+            self.runs("-", "--output", tables[1], "--evidence", kept[1], *words, "--no-batch", text=stream(40))
+            found, other = (rows_of(self.folder / table) for table in tables)
+            self.assertEqual(found, other)
+            files = [
+                {path.relative_to(self.folder / name): path.read_bytes() for path in (self.folder / name).rglob("*.*")}
+                for name in kept
+            ]
+            self.assertEqual(*files)
+            for name in (*tables, *kept):
+                path = self.folder / name
+                shutil.rmtree(path) if path.is_dir() else path.unlink()
+
+    def test_deaths_lose_and_double_nothing(self) -> None:
+        text = stream(300)
+        self.runs("-", "--output", "due.csv", "--jobs", "2", text=text)
+        self.file("texts", text)
+        with subprocess.Popen([*COMMAND, "texts", "--output", "table.csv", "--jobs", "2"], cwd=self.folder) as run:
+            killed = 0
+            for lines in (2, 20, 60, 120, 200):
+                self.waits_for(run, self.folder / "table.csv", lines)
+                for number in _batches(run.pid):
+                    os.kill(number, signal.SIGKILL)
+                    killed += 1
+            self.assertEqual(run.wait(), 0)
+        self.assertGreater(killed, 0)
+        found, due = rows_of(self.folder / "table.csv"), rows_of(self.folder / "due.csv")
+        self.assertEqual([{**row, "file": ""} for row in found], [{**row, "file": ""} for row in due])
 
 
 class Tables(CommandTest):

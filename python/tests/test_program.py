@@ -205,6 +205,8 @@ class Statuses(Folder):
             generate("twosum", 250, 1)
         with self.assertRaises(CannotRead):
             run(["tu", "none"])
+        # A process that is kept can write every name.
+        os.environ["CMR_BATCH"] = ""
         with self.assertRaises(CannotWrite):
             run(["tu", "-D", "none/tree"], text="0 0", outputs=("tree",))
         self.assertEqual(self.left(), [])

@@ -11,26 +11,33 @@ from dataclasses import dataclass
 from pathlib import Path
 
 TOP = Path(__file__).resolve().parents[2]
-PROGRAM = "cmr"
-BUILT = TOP / "crates" / PROGRAM / "out" / PROGRAM
-UNPROVED = TOP / "out" / "unproved" / PROGRAM
+PROGRAM, BATCH = "cmr", "cmr_batch"
+PROGRAMS = (PROGRAM, BATCH)
+BUILT, BUILT_BATCH = (TOP / "crates" / it / "out" / it for it in PROGRAMS)
+UNPROVED, UNPROVED_BATCH = (TOP / "out" / "unproved" / it for it in (PROGRAM, f"{PROGRAM}-batch"))
 
 
-def crates_below(program: str, top: Path = TOP) -> dict[str, list[str]]:
-    """The program and each crate of the repository below it, with the crates that it uses."""
+def crates_below(*programs: str, top: Path = TOP) -> dict[str, list[str]]:
+    """The programs and each crate of the repository below them, with the crates that it uses."""
     listed: dict[str, list[str]] = {}
     for line in (top / "crates.txt").read_text(encoding="utf-8").splitlines():
         name, colon, uses = line.partition("#")[0].partition(":")
         if colon:
             listed[name.split()[0]] = uses.split()
     below: dict[str, list[str]] = {}
-    waiting = [program]
+    waiting = [it for it in programs if it in listed]
     while waiting:
         name = waiting.pop()
         if name not in below:
             below[name] = [it for it in listed[name] if it in listed]
             waiting += below[name]
     return below
+
+
+def built_programs() -> dict[str, Path]:
+    """The programs that the repository lists, and where they are built."""
+    listed = crates_below(*PROGRAMS)
+    return {name: path for name, path in zip(PROGRAMS, (BUILT, BUILT_BATCH)) if name in listed}
 
 
 def source_files(crate: str, top: Path = TOP) -> Iterator[Path]:
@@ -44,15 +51,15 @@ def _sum_of(file: Path) -> str:
 
 @dataclass(frozen=True)
 class Sources:
-    """The sources of the program at a time."""
+    """The sources of a program at a time."""
 
     read: float
     digest: str
 
     @classmethod
-    def now(cls) -> Sources:
+    def now(cls, program: str = PROGRAM) -> Sources:
         read, digest = time.time(), hashlib.sha256()
-        for name, uses in sorted(crates_below(PROGRAM).items()):
+        for name, uses in sorted(crates_below(program).items()):
             files = [(str(it.relative_to(TOP)), _sum_of(it)) for it in source_files(name)]
             digest.update(repr((name, uses, files)).encode())
         return cls(read, digest.hexdigest())
@@ -76,11 +83,12 @@ def is_fresh(program: Path) -> bool:
     """Whether the program exists and was built from the present sources: no source is newer, or their digests are the recorded ones."""
     if not os.access(program, os.X_OK):
         return False
-    files = [TOP / "crates.txt", *(file for crate in crates_below(PROGRAM) for file in source_files(crate))]
+    crate = BATCH if program in (BUILT_BATCH, UNPROVED_BATCH) else PROGRAM
+    files = [TOP / "crates.txt", *(file for it in crates_below(crate) for file in source_files(it))]
     made = program.stat().st_mtime_ns
     if all(it.stat().st_mtime_ns <= made for it in files):
         return True
-    sources = Sources.now()
+    sources = Sources.now(crate)
     if not sources.have_made(program):
         return False
     # The next call then needs only the times.

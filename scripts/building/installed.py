@@ -10,7 +10,7 @@ from contextlib import suppress
 from dataclasses import dataclass, field
 from pathlib import Path
 
-from building.clone import BUILT, TOP
+from building.clone import BATCH, BUILT, BUILT_BATCH, TOP, built_programs
 from cmr_matrices.commands.signals import ignore_signals
 from cmr_matrices.errors import BadInput
 
@@ -52,6 +52,10 @@ class Item:
             target.chmod(0o755 if os.access(self.source, os.X_OK) else 0o644)
 
 
+def _of_batch() -> list[Item]:
+    return [Item("bin/cmr-batch", BUILT_BATCH), Item("share/man/man1/cmr-batch.1", TOP / "docs" / "cmr-batch.1")]
+
+
 def items(prefix: Path) -> list[Item]:
     """All files and links. The scripts and the package have the same relative paths as in the repository, so that the scripts find it."""
     scripts, python = TOP / "scripts", TOP / "python"
@@ -60,6 +64,7 @@ def items(prefix: Path) -> list[Item]:
     package = sorted(it for it in (python / "cmr_matrices").rglob("*") if it.suffix == ".py" or it.name == "py.typed")
     return [
         Item("bin/cmr", BUILT),
+        *(_of_batch() if BATCH in built_programs() else []),
         *(Item(f"bin/{name}", leads_to=f"{installed}/{script}") for name, script in SCRIPTS.items()),
         *(Item(f"{FOLDER}/scripts/{it}", scripts / it) for it in SCRIPTS.values()),
         *(Item(f"{FOLDER}/python/{it.relative_to(python)}", it) for it in package),

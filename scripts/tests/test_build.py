@@ -12,7 +12,7 @@ import time
 import unittest
 from pathlib import Path
 
-from building.clone import PROGRAM, crates_below, source_files
+from building.clone import PROGRAMS, crates_below, source_files
 from building.plan import Plan, Running, read_seconds, time_with
 from tests.stand_in import SmallClone
 from tests.support import TOP
@@ -86,7 +86,7 @@ class PlanTest(unittest.TestCase):
         self.assertEqual(self.plan.time_left(list(CRATES), {}, 4), 0)
 
     def test_the_kept_table_has_each_crate(self):
-        self.assertEqual(sorted(read_seconds()), sorted(crates_below(PROGRAM)))
+        self.assertEqual(sorted(read_seconds()), sorted(crates_below(*PROGRAMS)))
 
 
 class BuildTest(unittest.TestCase):
@@ -392,6 +392,6 @@ class CmrTest(unittest.TestCase):
 class SourcesTest(unittest.TestCase):
     def test_the_shell_sees_all_sources(self):
         """`fresh.sh` examines the files in src of a crate and in the folders of src."""
-        for crate in crates_below(PROGRAM):
+        for crate in crates_below(*PROGRAMS):
             for it in source_files(crate):
                 self.assertIn(len(it.relative_to(TOP / "crates" / crate).parts), (2, 3), it)

@@ -257,9 +257,10 @@ class KilledTest(unittest.TestCase):
         self.prefix = Path(folder.name) / "prefix"
         program = Path(folder.name) / "cmr"
         program.write_text("#!/bin/sh\n", encoding="utf-8")
-        patch = mock.patch("building.installed.BUILT", program)
-        patch.start()
-        self.addCleanup(patch.stop)
+        for name in ("BUILT", "BUILT_BATCH"):
+            patch = mock.patch(f"building.installed.{name}", program)
+            patch.start()
+            self.addCleanup(patch.stop)
         # An installation ignores these in the process of the tests too.
         for it in ENDING:
             self.addCleanup(signal.signal, it, signal.getsignal(it))
@@ -297,7 +298,7 @@ class KilledTest(unittest.TestCase):
         while self.is_killed(self.put, number):
             with self.subTest(number=number):
                 self.put()
-                self.assertEqual(set(os.listdir(self.prefix / "bin")), {"cmr", *SCRIPTS})
+                self.assertEqual(set(os.listdir(self.prefix / "bin")), {"cmr", "cmr-batch", *SCRIPTS})
                 self.take_away()
                 self.assertEqual([it for it in self.prefix.rglob("*") if not it.is_dir()], [])
                 shutil.rmtree(self.prefix, ignore_errors=True)

@@ -13,7 +13,7 @@ from functools import cache
 from ..errors import BadText, CmrError, ProgramFault, TimeLimitReached
 from ..program import NO, UNDECIDED, YES, fault_of
 
-__all__ = ["ask", "fault_words"]
+__all__ = ["ask", "fault_words", "verdict_of"]
 
 _VERDICTS = {YES: "yes", NO: "no", UNDECIDED: "undecided"}
 
@@ -48,7 +48,7 @@ def ask(program: str, words: Sequence[str], text: int, said: str, time_limit: fl
         raise
     finally:
         os.close(reading)
-    return _verdict(*printed, said)
+    return verdict_of(*printed, said)
 
 
 def _end(process: int) -> None:
@@ -64,7 +64,7 @@ def _environment() -> dict[bytes, bytes]:
     return dict(os.environb)
 
 
-def _printed(reading: int, process: int, time_limit: float | None) -> tuple[int, str]:
+def _printed(reading: int, process: int, time_limit: float | None) -> tuple[int, bytes]:
     """The status, and the beginning of what was printed."""
     deadline = None if time_limit is None else time.monotonic() + time_limit
     front = b""
@@ -75,11 +75,12 @@ def _printed(reading: int, process: int, time_limit: float | None) -> tuple[int,
         if not piece:
             break
         front = (front + piece)[:4096]
-    return os.waitstatus_to_exitcode(os.waitpid(process, 0)[1]), front.decode("utf-8", "surrogateescape")
+    return os.waitstatus_to_exitcode(os.waitpid(process, 0)[1]), front
 
 
-def _verdict(status: int, printed: str, said: str) -> str:
-    line = printed.split("\n", 1)[0]
+def verdict_of(status: int, printed: bytes, said: str) -> str:
+    """The verdict of a run with a status that has printed this first. Raises the fault of a status that is no answer."""
+    line = printed[:4096].split(b"\n", 1)[0].decode("utf-8", "surrogateescape")
     if status not in _VERDICTS:
         raise fault_of(status, line)
     verdict = _VERDICTS[status]

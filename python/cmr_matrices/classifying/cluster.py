@@ -16,6 +16,7 @@ from dataclasses import replace
 from pathlib import Path
 from typing import Any
 
+from ..batch.kept import batch_of
 from ..errors import BadInput, ProgramMissing
 from ..program import find_program
 from .pools import Block, died
@@ -26,13 +27,14 @@ __all__ = ["Cluster"]
 
 _PACKAGE = Path(__file__).resolve().parents[1]
 _PROGRAM = "cmr-sent"
+_BATCH = "cmr-sent-batch"
 
 
 class Cluster:
     """The workers of a Dask scheduler at an address such as `tcp://host:8786`."""
 
     def __init__(self, address: str, settings: Settings, program: str | None) -> None:
-        """`program` is its path on each worker; without it, the program is sent to the workers."""
+        """`program` is its path on each worker; without it, the programs are sent to the workers."""
         try:
             import distributed  # pylint: disable=import-outside-toplevel
         except ImportError as fault:
@@ -48,6 +50,9 @@ class Cluster:
             self._client.upload_file(_zipped(Path(folder, "cmr_matrices.zip")))
             if program is None:
                 self._client.upload_file(shutil.copy(settings.program, os.path.join(folder, _PROGRAM)))
+                batch = batch_of(Path(settings.program)) if settings.batch else None
+                if batch is not None:
+                    self._client.upload_file(shutil.copy(batch, os.path.join(folder, _BATCH)))
 
     def rows(self, blocks: Iterator[Block]) -> Iterator[Row]:
         """The rows of all blocks, a block after the other as they are done."""
@@ -96,8 +101,9 @@ def on_worker(items: Sequence[Item], settings: Settings) -> list[Row]:
     from distributed import get_worker  # pylint: disable=import-outside-toplevel
 
     program = os.path.join(get_worker().local_directory, _PROGRAM)
-    if not os.access(program, os.X_OK):
-        os.chmod(program, 0o755)
+    for path in (program, os.path.join(get_worker().local_directory, _BATCH)):
+        if os.path.exists(path) and not os.access(path, os.X_OK):
+            os.chmod(path, 0o755)
     return classify_block(items, replace(settings, program=program))
 
 

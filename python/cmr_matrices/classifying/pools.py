@@ -14,6 +14,7 @@ from collections.abc import Iterator
 from multiprocessing.connection import Connection, wait
 from typing import Any, cast
 
+from ..batch.kept import end_all
 from .streams import Item
 from .work import Row, Settings, classify
 
@@ -136,6 +137,8 @@ def _serve(connection: Connection, others: Connection, settings: Settings) -> No
                 connection.send(classify(item, settings))
     except (EOFError, OSError):
         return
+    finally:
+        end_all()
 
 
 def _leave(_number: int, _frame: Any) -> None:

@@ -2,22 +2,22 @@
 
 from __future__ import annotations
 
-import tempfile
 import time
-from collections.abc import Callable, Iterator, Mapping, Sequence
-from contextlib import ExitStack, contextmanager, suppress
+from collections.abc import Callable, Mapping, Sequence
+from contextlib import suppress
 from dataclasses import dataclass, field, replace
 from pathlib import Path
 
 from ..answers import Answer
+from ..batch.kept import batch_of
 from ..errors import BadInput, BadText, CmrError, ProgramFault, TimeLimitReached, Undecided
 from ..excluded import CLASSES as MINOR_CLASSES
-from ..held_texts import held_text
 from ..matrix import Matrix
 from ..minors import excluded_minor
 from ..modellers import from_model
 from ..questions import is_balanced, is_regular, is_totally_unimodular
-from .asking import ask, fault_words
+from .askers import Asker, OneByOne, Question, Said, Together
+from .asking import fault_words
 from .classes import CLASSES, MatrixClass, asking_order, contradictions, settle
 from .streams import Format, Item
 
@@ -54,6 +54,13 @@ class Settings:
     """In how many other orders of the lines an undecided matrix is asked again."""
     supports: bool = False
     """Whether `regular` is asked of the support of a matrix with an entry -1."""
+    batch: bool = True
+    """Whether the process of `cmr-batch` that a worker keeps answers all questions, if there is such a program."""
+
+    def asker(self) -> Asker:
+        """Who asks for the verdicts of a matrix."""
+        batch = batch_of(Path(self.program)) if self.batch else None
+        return OneByOne(self.program, self.time_limit) if batch is None else Together(batch, self.time_limit)
 
     def budget(self, kind: MatrixClass) -> list[str]:
         """The words of the first run on a class, which makes no pivots."""
@@ -125,18 +132,15 @@ def _read_and_asked(item: Item, settings: Settings) -> Row:
     if item.fault is not None:
         return _faulty(item, *item.fault)
     text = _model_text(item) if item.text is None else item.text
-    with ExitStack() as stack:
-        file = stack.enter_context(held_text(text))
-        folder = stack.enter_context(tempfile.TemporaryDirectory(prefix="cmr-")) if settings.evidence else None
-        asked = _Asked(settings, _Source(text, file, item.form), None if folder is None else Path(folder))
+    with settings.asker() as asker:
+        asked = _Asked(settings, _Source(text, item.form), asker)
         shape = _shape_of(text, item.form)
         if shape is None:
             asked.must_be_read()
             raise ProgramFault(0, "the program reads a text whose counts and entries do not fit")
         if settings.supports and not shape.is_binary:
-            asked.support = stack.enter_context(asked.source.support())
-        row = _row(item, shape, asked)
-    return row
+            asked.support = asked.source.support()
+        return _row(item, shape, asked)
 
 
 def _row(item: Item, shape: _Shape, asked: _Asked) -> Row:
@@ -165,10 +169,9 @@ def _row(item: Item, shape: _Shape, asked: _Asked) -> Row:
 
 @dataclass(frozen=True)
 class _Source:
-    """A text of a matrix, which is held as a file."""
+    """A text of a matrix."""
 
     text: bytes
-    file: int
     form: Format
 
     @property
@@ -176,18 +179,15 @@ class _Source:
         """The matrix of the text."""
         return Matrix.from_text(self.text.decode("ascii"), sparse=self.form == "sparse")
 
-    @contextmanager
-    def support(self) -> Iterator[_Source]:
-        """The text of the support, which is held as long as it is used."""
-        text = self.matrix.support().to_text().encode("ascii")
-        with held_text(text) as file:
-            yield _Source(text, file, "sparse")
+    def support(self) -> _Source:
+        """The text of the support."""
+        return _Source(self.matrix.support().to_text().encode("ascii"), "sparse")
 
 
 class _Asked:
     """What the program says of the matrix of a text."""
 
-    def __init__(self, settings: Settings, source: _Source, folder: Path | None) -> None:
+    def __init__(self, settings: Settings, source: _Source, asker: Asker) -> None:
         self.settings = settings
         self.source = source
         self.support: _Source | None = None
@@ -195,7 +195,7 @@ class _Asked:
         self.verdicts: dict[str, str] = {}
         self.evidence: dict[str, bytes] = {}
         self.fault: tuple[str | None, str | None] = (None, None)
-        self._folder = folder
+        self._asker = asker
 
     def all_classes(self, shape: _Shape) -> None:
         """Asks about each class on which the matrix has a verdict, except classes that are settled already if `infers` is set."""
@@ -203,14 +203,15 @@ class _Asked:
         names = [kind.name for kind in classes if self.settings.asks(kind, shape)]
         if not names:
             self.must_be_read()
+        self.verdicts.update({kind.name: "-" for kind in classes if kind.name not in names})
+        if not self.settings.infers:
+            self._ask([kind for kind in classes if kind.name in names])
+            return
         is_sparse = shape.nonzeros <= shape.rows + shape.columns
-        for kind in asking_order(classes, is_sparse) if self.settings.infers else classes:
-            if kind.name not in names:
-                self.verdicts[kind.name] = "-"
-            elif kind.name not in self.verdicts:
-                self._ask(kind)
-                if self.settings.infers:
-                    settle(self.verdicts, names)
+        for kind in asking_order(classes, is_sparse):
+            if kind.name not in self.verdicts:
+                self._ask([kind])
+                settle(self.verdicts, names)
 
     def add_minors(self) -> None:
         """Finds the excluded minor of each no. There is none if finding it takes longer than the limit of time, or is undecided."""
@@ -231,44 +232,51 @@ class _Asked:
 
     def must_be_read(self) -> None:
         """Raises the fault of the text, if no class is asked that would find it."""
-        self._verdict(_CAMION, self.source, [])
+        self._verdict(_CAMION, self.source)
 
     def support_fits(self) -> bool:
         """Whether the support of a totally unimodular matrix with signs is regular, if both classes are asked of matrices without signs."""
         if self.verdicts.get("tu") != "yes" or self.verdicts.get("regular") != "-":
             return True
-        with self.source.support() as support:
-            return self._verdict(_REGULAR, support, []) != "no"
+        return self._verdict(_REGULAR, self.source.support()) != "no"
 
-    def _verdict(self, kind: MatrixClass, source: _Source, options: Sequence[str]) -> str:
-        words = [*kind.words, "-i", source.form, *self.settings.budget(kind), *options]
-        return ask(self.settings.program, words, source.file, kind.said, self.settings.time_limit)
+    def _question(self, kind: MatrixClass, source: _Source, has_evidence: bool) -> Question:
+        return Question(kind, source.text, source.form, tuple(self.settings.budget(kind)), has_evidence)
 
-    def _with_evidence(self, kind: MatrixClass, source: _Source) -> str:
-        if self._folder is None:
-            return self._verdict(kind, source, [])
-        paths = {ending: self._folder / ending for _, ending in kind.evidence}
-        options = [word for option, ending in kind.evidence for word in (option, str(paths[ending]))]
-        try:
-            return self._verdict(kind, source, options)
-        finally:
-            for ending, path in paths.items():
-                if path.exists():
-                    self.evidence[f"{kind.name}/{ending}"] = path.read_bytes()
-                    path.unlink()
+    def _verdict(self, kind: MatrixClass, source: _Source) -> str:
+        return next(self._asker.said([self._question(kind, source, has_evidence=False)])).verdict
 
-    def _ask(self, kind: MatrixClass) -> None:
-        """Asks for a class. A run that was ended by the limit of time leaves the class undecided, and the others are asked."""
-        source = self.support if kind is _REGULAR and self.support is not None else self.source
-        begun = time.monotonic()
-        try:
-            verdict = self._with_evidence(kind, source)
-            if verdict == "undecided" and (self.settings.pivots or self.settings.tries):
-                verdict = self._asked_again(kind, source, time.monotonic() - begun)
-            self.verdicts[kind.name] = verdict
-        except TimeoutError as fault:
-            self.verdicts[kind.name] = "undecided"
-            self.fault = type(fault).__name__, f"{kind.name}: {fault}"
+    def _source_of(self, kind: MatrixClass) -> _Source:
+        return self.support if kind is _REGULAR and self.support is not None else self.source
+
+    def _ask(self, kinds: Sequence[MatrixClass]) -> None:
+        """Asks for classes. A run that was ended by the limit of time leaves its class undecided, and the others are asked."""
+        left = list(kinds)
+        while left:
+            found: list[Said] = []
+            questions = [self._question(kind, self._source_of(kind), self.settings.evidence) for kind in left]
+            try:
+                for said in self._asker.said(questions):
+                    found.append(said)
+            except TimeoutError as fault:
+                self._late(left[len(found)], fault)
+            for kind, said in zip(left, found):
+                self._keep(kind, said)
+            left = left[len(found) + 1 :]
+
+    def _late(self, kind: MatrixClass, fault: TimeoutError) -> None:
+        self.verdicts[kind.name] = "undecided"
+        self.fault = type(fault).__name__, f"{kind.name}: {fault}"
+
+    def _keep(self, kind: MatrixClass, said: Said) -> None:
+        """Keeps a verdict with its evidence. If it is undecided, the class is asked again with pivots and in other orders, if requested."""
+        self.evidence.update({f"{kind.name}/{ending}": text for ending, text in said.evidence.items()})
+        self.verdicts[kind.name] = said.verdict
+        if said.verdict == "undecided" and (self.settings.pivots or self.settings.tries):
+            try:
+                self.verdicts[kind.name] = self._asked_again(kind, self._source_of(kind), said.seconds)
+            except TimeoutError as fault:
+                self._late(kind, fault)
 
     def _asked_again(self, kind: MatrixClass, source: _Source, seconds: float) -> str:
         """The verdict with parts, pivots and other orders of the lines, in the time that some seconds leave of the limit."""
@@ -278,14 +286,14 @@ class _Asked:
             raise TimeLimitReached(settings.time_limit or 0)
         answer = _QUESTIONS[kind.name](
             source.matrix,
-            **({} if kind.name == "balanced" else {"certificate": self._folder is not None}),
+            **({} if kind.name == "balanced" else {"certificate": settings.evidence}),
             lines=settings.lines,
             pivots=settings.pivots,
             tries=settings.tries,
             time_limit=left,
             program=settings.program,
         )
-        if self._folder is not None and not answer.is_undecided:
+        if settings.evidence and not answer.is_undecided:
             for _, ending in kind.evidence:
                 self.evidence.pop(f"{kind.name}/{ending}", None)
                 value = getattr(answer, ending)

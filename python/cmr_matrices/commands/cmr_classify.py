@@ -120,6 +120,7 @@ def arguments() -> argparse.Namespace:
         help="the number of matrices sent at once (16)",
     )
     add("--program", metavar="PATH", help="the path of the program cmr")
+    add("--no-batch", action="store_true", help="start a process for each question, also if there is cmr-batch")
     chosen = parser.parse_args()
     if chosen.resume and chosen.output == "-":
         parser.error("--resume needs --output")
@@ -185,6 +186,9 @@ class _Run:
 
     def _pool(self) -> Processes | Cluster:
         chosen = self.chosen
+        if chosen.no_batch:
+            # Also for questions that are asked again, here and in the processes that are started.
+            os.environ["CMR_BATCH"] = ""
         try:
             program = chosen.worker_program or str(find_program(chosen.program))
         except ProgramMissing as fault:
@@ -200,6 +204,7 @@ class _Run:
             chosen.minors,
             chosen.tries,
             chosen.support,
+            not chosen.no_batch,
         )
         if chosen.dask:
             return Cluster(chosen.dask, settings, chosen.worker_program)

@@ -1,0 +1,8 @@
+-- The replies of cmr to requests.
+use Rattle.cmr_tools.specs.ToolOrders.{order, ordered}
+use Rattle.replies.specs.RequestReplies.{IsReplyTo}
+use Rattle.serving.specs.Exchanges.{Rule}
+
+-- the replies to what the words order
+abbrev pub cmr_rule : Rule
+cmr_rule words files reply = IsReplyTo (ordered (order words)) files reply

@@ -1,0 +1,2 @@
+pub mod CmrReplies
+pub mod Conversations
