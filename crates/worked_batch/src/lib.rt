@@ -7,4 +7,4 @@ mod endings;
 #[cfg(test)]
 mod given;
 #[cfg(test)]
-mod replies;
+mod reply_tables;
