@@ -81,7 +81,7 @@ pub struct Devices {
     pub err: MemorySink,
 }
 
-/// How the devices give and take: the most bytes of a call, and the number of the call that fails, if any.
+/// How the devices give and take: the most bytes of a call (0: any number), and the number of the call that fails, if any.
 #[derive(Clone, Copy)]
 pub struct Manner {
     pub most: usize,
@@ -102,7 +102,9 @@ pub fn pieces(most: usize) -> Manner {
 
 fn sink(alloc: Global, most: usize, failing: Option<u64>) -> Result<MemorySink, Fail> {
     let mut sink = MemorySink::new(alloc, ROOM)?;
-    sink.take_at_most(most);
+    if most > 0 {
+        sink.take_at_most(most);
+    }
     if let Some(number) = failing {
         sink.fail_at(number)?;
     }
@@ -113,7 +115,9 @@ fn sink(alloc: Global, most: usize, failing: Option<u64>) -> Result<MemorySink, 
 pub fn devices_of(alloc: Global, input: &[u8], manner: Manner) -> Result<Devices, Fail> {
     let mut shelf = MemoryShelf::new(alloc)?;
     shelf.hold("-", input)?;
-    shelf.take_at_most(manner.most);
+    if manner.most > 0 {
+        shelf.take_at_most(manner.most);
+    }
     if let Some(number) = manner.failing_read {
         shelf.fail_at(number)?;
     }

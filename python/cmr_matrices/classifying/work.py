@@ -60,7 +60,9 @@ class Settings:
     def asker(self) -> Asker:
         """Who asks for the verdicts of a matrix."""
         batch = batch_of(Path(self.program)) if self.batch else None
-        return OneByOne(self.program, self.time_limit) if batch is None else Together(batch, self.time_limit)
+        if batch is None:
+            return OneByOne(self.program, self.time_limit)
+        return Together(batch, self.time_limit)
 
     def budget(self, kind: MatrixClass) -> list[str]:
         """The words of the first run on a class, which makes no pivots."""
