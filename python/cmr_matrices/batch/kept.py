@@ -11,6 +11,7 @@ import os
 import threading
 from collections.abc import Iterator, Sequence
 from contextlib import closing
+from functools import lru_cache
 from pathlib import Path
 from weakref import WeakSet
 
@@ -43,13 +44,20 @@ def batch_of(program: Path) -> Path | None:
     named = os.environ.get("CMR_BATCH")
     if named is not None:
         return Path(named).absolute() if named else None
-    beside = Path(f"{program}-batch")
+    beside, built = _places(program)
     if os.access(beside, os.X_OK):
         return beside
-    if len(program.parents) < 3:
+    if built is None or not os.access(built, os.X_OK):
         return None
-    built = program.parents[2] / f"{program.name}_batch" / "out" / f"{program.name}_batch"
-    return built if os.access(built, os.X_OK) and built.stat().st_mtime >= program.stat().st_mtime else None
+    return built if built.stat().st_mtime >= program.stat().st_mtime else None
+
+
+@lru_cache(maxsize=16)
+def _places(program: Path) -> tuple[Path, Path | None]:
+    """The places beside a program and in its clone. They are asked for at each call."""
+    name = f"{program.name}_batch"
+    built = program.parents[2] / name / "out" / name if len(program.parents) > 2 else None
+    return Path(f"{program}-batch"), built
 
 
 def replies(program: Path, requests: Sequence[Request], time_limit: TimeLimit = None) -> Iterator[Reply]:
