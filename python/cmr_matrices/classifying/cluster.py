@@ -6,6 +6,8 @@ instead use a program of its own, at a given path. This machine reads the files.
 
 from __future__ import annotations
 
+import contextlib
+import hashlib
 import os
 import shutil
 import tempfile
@@ -26,8 +28,9 @@ from .work import Row, Settings, classify_block, with_texts
 __all__ = ["Cluster"]
 
 _PACKAGE = Path(__file__).resolve().parents[1]
-_PROGRAM = "cmr-sent"
-_BATCH = "cmr-sent-batch"
+_SENT = "cmr-sent-"
+_BATCH = "-batch"
+_NEW = ".new"
 
 
 class Cluster:
@@ -45,14 +48,19 @@ class Cluster:
             self._client = self._dask.Client(address)
         except (OSError, ValueError) as fault:
             raise BadInput(f"there is no Dask scheduler at {address}: {fault}") from fault
-        self._settings = replace(settings, program=program or _PROGRAM)
         with tempfile.TemporaryDirectory() as folder:
             self._client.upload_file(_zipped(Path(folder, "cmr_matrices.zip")))
-            if program is None:
-                self._client.upload_file(shutil.copy(settings.program, os.path.join(folder, _PROGRAM)))
-                batch = batch_of(Path(settings.program)) if settings.batch else None
-                if batch is not None:
-                    self._client.upload_file(shutil.copy(batch, os.path.join(folder, _BATCH)))
+            self._settings = replace(settings, program=program or self._sent(settings, folder))
+
+    def _sent(self, settings: Settings, folder: str) -> str:
+        """Sends the programs, and returns the name of `cmr` on the workers. Other programs get another name, and other processes."""
+        batch = batch_of(Path(settings.program)) if settings.batch else None
+        programs = {"": Path(settings.program)} if batch is None else {"": Path(settings.program), _BATCH: batch}
+        digest = hashlib.sha256(b"".join(path.read_bytes() for path in programs.values()))
+        name = _SENT + digest.hexdigest()[:16]
+        for end, path in programs.items():
+            self._client.upload_file(shutil.copy(path, os.path.join(folder, name + end + _NEW)))
+        return name
 
     def rows(self, blocks: Iterator[Block]) -> Iterator[Row]:
         """The rows of all blocks, a block after the other as they are done."""
@@ -95,16 +103,22 @@ class Cluster:
 
 def on_worker(items: Sequence[Item], settings: Settings) -> list[Row]:
     """The rows of a block, on a worker. The program that was sent lies in the worker's own folder."""
-    if settings.program != _PROGRAM:
+    if not settings.program.startswith(_SENT):
         find_program(settings.program)
         return classify_block(items, settings)
     from distributed import get_worker  # pylint: disable=import-outside-toplevel
 
-    program = os.path.join(get_worker().local_directory, _PROGRAM)
-    for path in (program, os.path.join(get_worker().local_directory, _BATCH)):
-        if os.path.exists(path) and not os.access(path, os.X_OK):
-            os.chmod(path, 0o755)
+    program = os.path.join(get_worker().local_directory, settings.program)
+    _take(program)
+    _take(program + _BATCH)
     return classify_block(items, replace(settings, program=program))
+
+
+def _take(program: str) -> None:
+    """Gives a program that was sent its name. If one of this name is there and runs, its process keeps its own file."""
+    with contextlib.suppress(FileNotFoundError):
+        os.chmod(program + _NEW, 0o755)
+        os.replace(program + _NEW, program)
 
 
 def _zipped(path: Path) -> str:
