@@ -17,3 +17,5 @@ pub mod PlaceSums
 pub mod TallyLemmas
 pub mod UnlikeRows
 pub mod NeededLines
+pub mod EarlyLines
+pub mod RestSearches

@@ -1,36 +1,32 @@
 -- If each line has two nonzeros, no line is reducible and one line is needed, then every line is needed.
-use Rattle.std.proofs.Common.{◌≡◌, ◌≢◌, ◌<◌, ◌≤◌, ◌+◌, ◌&&◌, ◌∙◌, inl, inr, ℕ, zero, suc, Bool, true, false, cond, not, eqb, ltb, ℤ, pos, ◌*ℤ◌, List, [], ◌∷◌, length, filter, Option, Some, None, refl, ap, sym, subst, arith, eq-eqb}
+use Rattle.std.proofs.Common.{◌≡◌, ◌≢◌, ◌<◌, ◌≤◌, ◌+◌, ◌&&◌, ◌∙◌, inl, inr, ℕ, zero, suc, Bool, true, false, cond, not, eqb, ltb, ℤ, pos, ◌*ℤ◌, List, [], ◌∷◌, length, get_or, filter, Option, Some, None, refl, ap, sym, subst, arith, eq-eqb}
 use Rattle.std.specs.List.Sorted.{IsStrictlyIncreasing}
 use Rattle.std.proofs.lemmas.Bool.{cases_lt, lt-ltb, eqb-false}
 use Rattle.std.proofs.lemmas.List.Kept.{IsStrictlyIncreasing-filter}
-use Rattle.std.proofs.lemmas.List.FromFn.{length-range_with_len}
 use Rattle.std.proofs.lemmas.List.Filters.{sum_by-filter_both}
 use Rattle.cmr_base.specs.declared.line.Line.{Line}
 use Rattle.cmr_base.specs.declared.line.Line.TheVariants.{Row, Column}
 use Rattle.cmr_base.specs.declared.line.Step.{Step}
-use Rattle.cmr_base.specs.LineSets.{without, first_lines, submatrix}
-use Rattle.cmr_base.specs.Matrix.{Matrix, height, entry, is_nonzero}
+use Rattle.cmr_base.specs.LineSets.{without, submatrix}
+use Rattle.cmr_base.specs.Matrix.{Matrix, entry, is_nonzero}
 use Rattle.cmr_base.specs.Members.{IsIn}
 use Rattle.cmr_base.specs.Reductions.{HasLine, rows_without, columns_without, first_step, lines_of, nonzeros_at, removal_on, IsSeriesParallel, IsSeriesParallelOn}
-use Rattle.cmr_base.specs.GreedySets.{IsGreedyFrom, IsGreedySet}
 use Rattle.cmr_base.proofs.Booleans.{and_false}
 use Rattle.cmr_base.proofs.Integers.{products}
 use Rattle.cmr_base.proofs.Members.{IsWithin}
-use Rattle.cmr_base.proofs.LineSetLemmas.{first_below}
 use Rattle.cmr_base.proofs.RowLists.{filter_in, in_filter}
 use Rattle.cmr_base.proofs.ListsWithout.{in_from_contains, contains_from_in, in_without, without_increases, increasing_distinct, place_of, place_is, true_is_false}
-use Rattle.cmr_base.proofs.RemovedLines.{IsAmong, among_from_has_line, has_line_from_among, fewer_lines, rows_increase, columns_increase, first_lines_increase, in_first_lines}
+use Rattle.cmr_base.proofs.RemovedLines.{among_from_has_line, has_line_from_among, fewer_lines}
 use Rattle.cmr_base.proofs.ThinLines.{thin_from_count, count_from_thin}
 use Rattle.cmr_base.proofs.ReducibleLines.{HasTwin, IsReducible, reducible_from_reason, reason_from_reducible}
 use Rattle.sp_reduce.specs.declared.kind.LineKind.{LineKind}
 use Rattle.sp_reduce.specs.declared.kind.LineKind.TheVariants.{Rows, Columns}
 use Rattle.sp_reduce.specs.LineKinds.{table}
-use Rattle.sp_reduce.specs.StayingSides.{IsAcross}
 use Rattle.sp_reduce.specs.NeededLines.{HaveTwoNonzeros, NeedsAllLines}
 use Rattle.sp_reduce.proofs.Embeddings.{series_parallel-within}
 use Rattle.sp_reduce.proofs.Meanings.{zero_counted}
 use Rattle.sp_reduce.proofs.Orders.{put_back, search_is, search_none, after_step, empty_from_length}
-use Rattle.sp_reduce.proofs.Submatrices.{submatrix_from_lines, lines_from_submatrix}
+use Rattle.sp_reduce.proofs.Submatrices.{lines_from_submatrix}
 
 -- the items of the list that do not pass the test
 abbrev others : (ℕ → Bool) → List ℕ → List ℕ
@@ -257,12 +253,7 @@ module _ (binary : Bool) (M : ℕ → ℕ → ℤ) (R C : List ℕ) (w : IsClose
       (subst (λ (xs : List ℕ). IsSeriesParallelOn binary M (rows_of s R) xs) (sym columns)
       (any_lacking (length (rows_of s R) + length (columns_of s C)) s line there (goes (λ l. true) line) (omega arith)))
 
--- some lines of which none is reducible cannot all be removed
-pub closed_lacks : (binary : Bool) (M : ℕ → ℕ → ℤ) (R C : List ℕ) → IsClosed binary M R C → (line : Line) → HasLine R C line → ¬ IsSeriesParallelOn binary M R C
-closed_lacks binary M R C w line there =
-    no_line binary M R C (row_stuck binary M R C w.rows_increase w.columns_increase w.none) (column_stuck binary M R C w.rows_increase w.columns_increase w.none) line there
-
--- ---- a matrix
+-- ---- lines of a matrix
 
 pub no_steps : (binary : Bool) (M : ℕ → ℕ → ℤ) (n : ℕ) (R C : List ℕ) → 0 < n → (removal_on binary M n R C).steps ≡ [] → first_step binary M R C (lines_of R C) ≡ None
 no_steps binary M zero R C some e = absurd (omega (arith, some))
@@ -277,40 +268,18 @@ two_of m kind own across two line h =
     let w = place_is line own h in
     subst (λ (x : ℕ). nonzeros_at across (table (entry m) kind x) ≡ 2) w.there (two (place_of line own) w.in_range)
 
-module _ (binary : Bool) (m : Matrix) where
-  pub needs_all : 0 < length (first_lines (height m)) → HaveTwoNonzeros m Rows (first_lines (height m)) (first_lines m.width) → HaveTwoNonzeros m Columns (first_lines m.width) (first_lines (height m))
-      → first_step binary (entry m) (first_lines (height m)) (first_lines m.width) (lines_of (first_lines (height m)) (first_lines m.width)) ≡ None
-      → IsSeriesParallel binary (submatrix m (without (first_lines (height m)) 0) (first_lines m.width)) → NeedsAllLines binary m
-  needs_all some rows columns none sp =
-      let R = first_lines (height m) in
-      let C = first_lines m.width in
-      let r = first_lines_increase (height m) in
-      let c = first_lines_increase m.width in
-      let first : HasLine R C (Row 0) = contains_from_in R 0 (in_first_lines (height m) 0 (let long = length-range_with_len 0 (height m) in omega (arith, some, long))) in
-      let closed : IsClosed binary (entry m) R C = record {
-        rows_increase = r;
-        columns_increase = c;
-        rows = two_of m Rows R C rows;
-        columns = two_of m Columns C R columns;
-        none = none;
-      } in
-      let left = lines_from_submatrix binary m (without R 0) C (without_increases 0 R r) c sp in
-      record {
-        lacks = closed_lacks binary (entry m) R C closed (Row 0) first;
-        each = λ line there.
-            submatrix_from_lines binary m (rows_without R line) (columns_without C line) (rows_increase line R r) (columns_increase line C c)
-            (every_line_needed binary (entry m) R C closed (Row 0) left line there);
-      }
-
-  -- no line is removed
-  pub greedy_all : NeedsAllLines binary m → IsGreedySet (IsSeriesParallel binary) m (first_lines (height m)) (first_lines m.width)
-  greedy_all needs =
-      go (lines_of (first_lines (height m)) (first_lines m.width)) (λ l h. has_line_from_among l (first_lines (height m)) (first_lines m.width) h)
-    where
-      go : (ls : List Line) → ((l : Line) → IsAmong l ls → HasLine (first_lines (height m)) (first_lines m.width) l)
-          → IsGreedyFrom (IsSeriesParallel binary) m ls (first_lines (height m)) (first_lines m.width) (first_lines (height m)) (first_lines m.width)
-      go [] h = (refl, refl)
-      go (l ∷ ls) h = inl (needs.each l (h l (inl refl)), go ls (λ x i. h x (inr i)))
+pub needs_all : (binary : Bool) (m : Matrix) (R C : List ℕ) → IsStrictlyIncreasing R → IsStrictlyIncreasing C → 0 < length R → HaveTwoNonzeros m Rows R C → HaveTwoNonzeros m Columns C R
+    → first_step binary (entry m) R C (lines_of R C) ≡ None → IsSeriesParallel binary (submatrix m (without R (get_or R 0 0)) C) → NeedsAllLines binary m R C
+needs_all binary m R C r c some rows columns none sp =
+    let one = get_or R 0 0 in
+    let closed : IsClosed binary (entry m) R C = record {
+      rows_increase = r;
+      columns_increase = c;
+      rows = two_of m Rows R C rows;
+      columns = two_of m Columns C R columns;
+      none = none;
+    } in
+    every_line_needed binary (entry m) R C closed (Row one) (lines_from_submatrix binary m (without R one) C (without_increases one R r) c sp)
 
 -- ---- for answers
 
@@ -319,9 +288,3 @@ none_more n e = elim (cases_lt 0 n) [ inl h ↦ true_is_false (sym (lt-ltb 0 n h
 
 pub some_there : (n : ℕ) (b : Bool) → b ≡ eqb n 0 → b ≡ false → 0 < n
 some_there n b e f = let d = eqb-false n 0 (sym e ∙ f) in omega (arith, d)
-
-pub first_lines_cross_rows : (m : Matrix) → IsAcross m Rows (first_lines m.width)
-first_lines_cross_rows m = record { increasing = first_lines_increase m.width; in_range = first_below m.width }
-
-pub first_lines_cross_columns : (m : Matrix) → IsAcross m Columns (first_lines (height m))
-first_lines_cross_columns m = record { increasing = first_lines_increase (height m); in_range = first_below (height m) }

@@ -1,14 +1,18 @@
 -- Any reducible line may be removed first, and the stated order leaves no line if and only if some order leaves none.
-use Rattle.std.proofs.Common.{◌≡◌, ◌≤◌, ◌+◌, ◌∙◌, ◌⊎◌, inl, inr, ℕ, zero, suc, Bool, ℤ, List, [], ◌∷◌, length, Option, Some, None, is_some, IsSome, option_map, refl, ap, sym, subst, arith}
+use Rattle.std.proofs.Common.{◌≡◌, ◌≤◌, ◌+◌, ◌∙◌, ◌⊎◌, inl, inr, ℕ, zero, suc, Bool, ℤ, List, [], ◌∷◌, length, Option, Some, None, is_some, IsSome, option_map, eq-eqb, refl, ap, sym, subst, arith}
 use Rattle.std.specs.Option.{option_or}
 use Rattle.std.specs.List.Sorted.{IsStrictlyIncreasing}
 use Rattle.cmr_base.specs.declared.line.Line.{Line}
+use Rattle.cmr_base.specs.declared.line.Line.TheVariants.{Column}
 use Rattle.cmr_base.specs.declared.line.Reason.{Reason}
 use Rattle.cmr_base.specs.declared.line.Step.{Step}
+use Rattle.cmr_base.specs.LineSets.{without}
+use Rattle.cmr_base.specs.Members.{IsDistinct}
 use Rattle.cmr_base.specs.Reductions.{line_reason, HasLine, rows_without, columns_without, IsFullRemoval, IsSeriesParallelOn, first_step, lines_of, Removal, removal_on}
-use Rattle.cmr_base.proofs.ListsWithout.{true_is_false}
+use Rattle.cmr_base.proofs.ListsWithout.{contains_from_in, true_is_false}
 use Rattle.cmr_base.proofs.RemovedLines.{IsAmong, among_from_has_line, has_line_from_among, rows_increase, columns_increase, rows_within, columns_within, fewer_lines}
 use Rattle.sp_reduce.proofs.Embeddings.{series_parallel-within}
+use Rattle.sp_reduce.proofs.WithoutLemmas.{without_none}
 
 -- any reducible line may be removed first
 pub any_first : (binary : Bool) (M : ℕ → ℕ → ℤ) (R C : List ℕ) (line : Line) → IsStrictlyIncreasing R → IsStrictlyIncreasing C → IsSeriesParallelOn binary M R C
@@ -19,6 +23,15 @@ any_first binary M R C l r c sp =
 pub put_back : (binary : Bool) (M : ℕ → ℕ → ℤ) (R C : List ℕ) (line : Line) → HasLine R C line → IsSome (line_reason binary M R C line)
     → IsSeriesParallelOn binary M (rows_without R line) (columns_without C line) → IsSeriesParallelOn binary M R C
 put_back binary M R C l stays some (order, ends) = (l ∷ order, (stays, some, ends))
+
+-- without rows each column is zero
+pub no_rows : (binary : Bool) (M : ℕ → ℕ → ℤ) (C : List ℕ) → IsDistinct C → IsSeriesParallelOn binary M [] C
+no_rows binary M [] d = ([], (refl, refl))
+no_rows binary M (c ∷ C) d =
+    put_back binary M [] (c ∷ C) (Column c) (contains_from_in (c ∷ C) c (inl refl)) refl (subst (λ (xs : List ℕ). IsSeriesParallelOn binary M [] xs) (sym fewer) (no_rows binary M C d.1))
+  where
+    fewer : without (c ∷ C) c ≡ C
+    fewer = rw (eq-eqb c c refl) (without_none c C d.0)
 
 -- the line that the search finds is reducible; if it finds none, no line is
 pub record IsFound (binary : Bool) (M : ℕ → ℕ → ℤ) (R C : List ℕ) (lines : List Line) (step : Step) : Type 0 where

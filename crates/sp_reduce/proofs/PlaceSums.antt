@@ -69,6 +69,16 @@ tally_same number marks size p q same =
     sum_same (λ k. cond (get_or marks k false && p k) (number k) 0) (λ k. cond (get_or marks k false && q k) (number k) 0) (first_lines size)
     (λ k h. ap (λ (b : Bool). cond (get_or marks k false && b) (number k) 0) (same k (first_lines_in size k h)))
 
+-- only the marked places matter
+pub tally_same_marked : (number : ℕ → ℕ) (marks : List Bool) (size : ℕ) (p q : ℕ → Bool) → ((k : ℕ) → k < size → get_or marks k false ≡ true → p k ≡ q k) → tally number marks size p ≡ tally number marks size q
+tally_same_marked number marks size p q same =
+    sum_same (λ k. cond (get_or marks k false && p k) (number k) 0) (λ k. cond (get_or marks k false && q k) (number k) 0) (first_lines size)
+    (λ k h. ap (λ (b : Bool). cond b (number k) 0) (go (get_or marks k false) (p k) (q k) (λ e. same k (first_lines_in size k h) e)))
+  where
+    go : (b x y : Bool) → (b ≡ true → x ≡ y) → (b && x) ≡ (b && y)
+    go true x y e = e refl
+    go false x y e = refl
+
 pub tally_none : (number : ℕ → ℕ) (marks : List Bool) (size : ℕ) (p : ℕ → Bool) → ((k : ℕ) → p k ≡ false) → tally number marks size p ≡ 0
 tally_none number marks size p none =
     sum_none (λ k. cond (get_or marks k false && p k) (number k) 0) (first_lines size)
@@ -121,16 +131,16 @@ module _ (number : ℕ → ℕ) (marks : List Bool) (size own place : ℕ) (befo
       here false true e = refl
       here false false e = refl
 
-  pub one_more : (lines : ℕ) (xs ys : List ℕ) → own < length xs → own < lines → ys ≡ set xs own (get_or xs own 0 + more)
-      → ((l : ℕ) → l < lines → get_or xs l 0 ≡ tally number marks size (before l)) → (l : ℕ) → l < lines → get_or ys l 0 ≡ tally number marks size (after l)
-  one_more lines xs ys long among changed each l h =
+  pub one_more : (lines : ℕ) (IsOne : ℕ → Type 0) (xs ys : List ℕ) → own < length xs → own < lines → IsOne own → ys ≡ set xs own (get_or xs own 0 + more)
+      → ((l : ℕ) → l < lines → IsOne l → get_or xs l 0 ≡ tally number marks size (before l)) → (l : ℕ) → l < lines → IsOne l → get_or ys l 0 ≡ tally number marks size (after l)
+  one_more lines IsOne xs ys long among one changed each l h is_one =
       let value = get_or xs own 0 + more in
       elim (cases_eq l own) [
         | inl q ↦
             ap (λ (zs : List ℕ). get_or zs l 0) changed ∙ ap (λ (k : ℕ). get_or (set xs own value) k 0) q ∙ get_or-set_same xs own value 0 long
-            ∙ ap (λ (n : ℕ). n + more) (each own among) ∙ sym own_more ∙ ap (λ (k : ℕ). tally number marks size (after k)) (sym q)
+            ∙ ap (λ (n : ℕ). n + more) (each own among one) ∙ sym own_more ∙ ap (λ (k : ℕ). tally number marks size (after k)) (sym q)
         | inr d ↦
-            ap (λ (zs : List ℕ). get_or zs l 0) changed ∙ get_or-set_other xs own l value 0 d ∙ each l h
+            ap (λ (zs : List ℕ). get_or zs l 0) changed ∙ get_or-set_other xs own l value 0 d ∙ each l h is_one
             ∙ tally_same number marks size (before l) (after l) (λ k g. apart l k (λ q e. d q))
       ]
 

@@ -5,3 +5,4 @@ pub mod Tallies
 pub mod Changes
 pub mod RowDigests
 pub mod NeededLines
+pub mod GreedyRests

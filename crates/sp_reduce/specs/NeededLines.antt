@@ -1,9 +1,8 @@
--- Matrices of which every line is needed.
+-- Sets of lines of which every line is needed.
 use Rattle.std.specs.Prelude.{◌≡◌, ◌<◌, ℕ, Bool, List, length, slice_index}
 use Rattle.cmr_base.specs.declared.line.Line.{Line}
-use Rattle.cmr_base.specs.Matrix.{Matrix, height, entry}
-use Rattle.cmr_base.specs.LineSets.{first_lines, submatrix}
-use Rattle.cmr_base.specs.Reductions.{HasLine, IsSeriesParallel, nonzeros_at, rows_without, columns_without}
+use Rattle.cmr_base.specs.Matrix.{Matrix, entry}
+use Rattle.cmr_base.specs.Reductions.{HasLine, IsSeriesParallelOn, nonzeros_at, rows_without, columns_without}
 use Rattle.sp_reduce.specs.declared.kind.LineKind.{LineKind}
 use Rattle.sp_reduce.specs.LineKinds.{table}
 
@@ -11,8 +10,7 @@ use Rattle.sp_reduce.specs.LineKinds.{table}
 abbrev pub HaveTwoNonzeros : Matrix → LineKind → (own across : List ℕ) → Type 0
 HaveTwoNonzeros m kind own across = (at : ℕ) → at < length own → nonzeros_at across (table (entry m) kind (slice_index own at)) ≡ 2
 
--- the matrix is not series-parallel, and becomes so when any one of its lines is removed
-pub record NeedsAllLines (binary : Bool) (m : Matrix) : Type 0 where
-  pub lacks : ¬ IsSeriesParallel binary m
-  pub each : (line : Line) → HasLine (first_lines (height m)) (first_lines m.width) line
-      → IsSeriesParallel binary (submatrix m (rows_without (first_lines (height m)) line) (columns_without (first_lines m.width) line))
+-- these lines without any one of them are series-parallel
+abbrev pub NeedsAllLines : Bool → Matrix → (rows columns : List ℕ) → Type 0
+NeedsAllLines binary m rows columns =
+    (line : Line) → HasLine rows columns line → IsSeriesParallelOn binary (entry m) (rows_without rows line) (columns_without columns line)

@@ -43,16 +43,31 @@ by_kind test Columns line other = test other line
 abbrev pub tally : (ℕ → ℕ) → List Bool → ℕ → (ℕ → Bool) → ℕ
 tally number marks size test = sum_by (λ k. if slice_index_or marks k false && test k then number k else 0) (first_lines size)
 
--- each line of the kind has the count and the weights of its nonzeros that were counted so far, and the weights of its entries -1
-pub record AreTallies (m : Matrix) (kind : LineKind) (marks : List Bool) (row column : ℕ) (tallies : Tallies) : Type 0 where
+-- each column is counted, and each row that is visited
+abbrev pub IsCounted : LineKind → List Bool → ℕ → Type 0
+IsCounted Rows visited line = slice_index_or visited line false ≡ true
+IsCounted Columns visited line = Unit {0}
+
+-- if columns are counted, each marked row is visited
+abbrev pub AreVisited : LineKind → (visited marks : List Bool) → Type 0
+AreVisited Rows visited marks = Unit {0}
+AreVisited Columns visited marks = (row : ℕ) → slice_index_or marks row false ≡ true → slice_index_or visited row false ≡ true
+
+-- the rows in which the nonzeros of lines of the kind are found
+abbrev pub rows_for : LineKind → (lines across : List ℕ) → List ℕ
+rows_for Rows lines across = lines
+rows_for Columns lines across = across
+
+-- each counted line of the kind has the count and the weights of its nonzeros that were counted so far, and the weights of its entries -1
+pub record AreTallies (m : Matrix) (kind : LineKind) (visited marks : List Bool) (row column : ℕ) (tallies : Tallies) : Type 0 where
   pub many_counts : length tallies.counts.items ≡ count_of_kind m kind
   pub many_sums : length tallies.sums.items ≡ count_of_kind m kind
   pub many_minus_sums : length tallies.minus_sums.items ≡ count_of_kind m kind
-  pub counts : (line : ℕ) → line < count_of_kind m kind
+  pub counts : (line : ℕ) → line < count_of_kind m kind → IsCounted kind visited line
       → slice_index tallies.counts.items line ≡ tally (λ _. 1) marks (cross_size m kind) (by_kind (is_passed m row column) kind line)
-  pub sums : (line : ℕ) → line < count_of_kind m kind
+  pub sums : (line : ℕ) → line < count_of_kind m kind → IsCounted kind visited line
       → slice_index tallies.sums.items line ≡ tally weight marks (cross_size m kind) (by_kind (is_passed m row column) kind line)
-  pub minus_sums : (line : ℕ) → line < count_of_kind m kind
+  pub minus_sums : (line : ℕ) → line < count_of_kind m kind → IsCounted kind visited line
       → slice_index tallies.minus_sums.items line ≡ tally weight marks (cross_size m kind) (by_kind (is_passed_minus m row column) kind line)
 
 -- the first `count` of these lines have their tallies among all lines

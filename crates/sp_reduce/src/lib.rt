@@ -7,6 +7,7 @@ pub mod laws;
 mod looking;
 mod minimal;
 mod needed;
+mod omitted;
 mod reducible;
 mod removal;
 mod side;

@@ -1,14 +1,16 @@
 // Minimal submatrices that are not series-parallel.
-ghost use Rattle.std.specs.Prelude.{◌≡◌, ◌↔◌, [], IsTrue, MatchOption, IfOk, IfSome};
-ghost use Rattle.cmr_base.specs.Matrix.{IsMatrix};
+ghost use Rattle.std.specs.Prelude.{◌≡◌, ◌≤◌, ◌+◌, ◌↔◌, [], IsTrue, MatchOption, IfOk, IfSome};
+ghost use Rattle.cmr_base.specs.Matrix.{height, IsMatrix};
 ghost use Rattle.cmr_base.specs.LineSets.{IsRowSet, IsColumnSet, submatrix};
 ghost use Rattle.cmr_base.specs.GreedySets.{IsGreedySet, IsMinimalWithout};
 ghost use Rattle.cmr_base.specs.Reductions.{IsSeriesParallel};
+ghost use Rattle.minimal_sets.specs.LeftOut.{left_submatrix};
+ghost use Rattle.sp_reduce.specs.GreedyRests.{IsRestWithout, IsGreedySearch};
 
 use crate::needed::needs_all_lines;
+use crate::omitted::without_run;
 use crate::removal::reduce_lines;
-use cmr_base::{LineSet, Matrix, Memory};
-use minimal_sets::{Property, minimal_without};
+use cmr_base::{LineSet, MAX_ROWS, Matrix, Memory};
 use std::alloc::Global;
 
 /// The lines of a minimal submatrix that is not series-parallel: the search visits all lines once, rows first, and removes
@@ -26,26 +28,79 @@ pub fn minimal_not_sp(
     ensures minimal { IfOk result (λ found. IfSome found (λ lines.
         IsMinimalWithout (IsSeriesParallel binary) matrix.now lines.rows lines.columns)) }
 {
-    if needs_all_lines(alloc, matrix, binary)? {
-        return Ok(Some(LineSet::all(alloc, matrix.rows(), matrix.columns())?));
+    let all = LineSet::all(alloc, matrix.rows(), matrix.columns())?;
+    match rest_without(alloc, matrix, &all, 0, 0, binary)? {
+        Some(rest) => Ok(Some(greedy_rest(alloc, matrix, rest, binary)?)),
+        None => Ok(None),
     }
-    minimal_without(alloc, matrix, &SeriesParallel { binary })
 }
 
-// That a matrix is series-parallel.
-#[derive(Drop)]
-struct SeriesParallel {
+// Removes each line in turn if the remaining submatrix is still not series-parallel. It tries many lines at once: if they
+// can be removed together, each of them can be removed in turn. Then it removes what is reducible, which does not change
+// the result: in the stated order a line is removed before its twins, and each other line that is removed has at most one
+// nonzero.
+fn greedy_rest(
+    alloc: Global,
+    matrix: &Matrix,
+    lines: LineSet,
     binary: bool,
+) -> Result<LineSet, Memory>
+    requires shape { IsMatrix matrix.now }
+    requires search { IsGreedySearch binary matrix.now 0 lines.rows lines.columns }
+    ensures { IfOk result (λ left. IsGreedySet (IsSeriesParallel binary) matrix.now left.rows
+        left.columns) }
+{
+    if needs_all_lines(alloc, matrix, &lines, binary)? {
+        return Ok(lines);
+    }
+    let end = matrix.rows() + matrix.columns();
+    let mut left = lines;
+    let mut next = 0;
+    let mut tried = MAX_ROWS;
+    'lines: while next < end {
+        let count = tried.min(end - next);
+        match rest_without(alloc, matrix, &left, next, count, binary)? {
+            Some(rest) => {
+                if needs_all_lines(alloc, matrix, &rest, binary)? {
+                    return Ok(rest);
+                }
+                left = rest;
+                next += count;
+                tried = 2 * count;
+            }
+            None if count > 1 => tried = count / 2,
+            None => next += 1,
+        }
+    }
+    Ok(left)
 }
 
-impl Property for SeriesParallel {
-    ghost holds = { λ property m. IsSeriesParallel property.binary m };
-
-    ghost domain = { λ _ _. Unit {0} };
-
-    fn holds_on(&self, alloc: Global, matrix: &Matrix, lines: &LineSet) -> Result<bool, Memory> {
-        is_series_parallel(alloc, matrix, lines, self.binary)
+// The lines that the stated order leaves of a set without the `count` lines from a number on, or `None` if it leaves none.
+fn rest_without(
+    alloc: Global,
+    matrix: &Matrix,
+    lines: &LineSet,
+    from: u32,
+    count: u32,
+    binary: bool,
+) -> Result<Option<LineSet>, Memory>
+    requires shape { IsMatrix matrix.now }
+    requires rows { IsRowSet matrix.now lines.now.rows }
+    requires columns { IsColumnSet matrix.now lines.now.columns }
+    requires few { from + count ≤ height matrix.now + matrix.now.width }
+    ensures { IfOk result (λ found. MatchOption found
+        (IsSeriesParallel binary (left_submatrix matrix.now lines.now from count))
+        (IsRestWithout binary matrix.now lines.now from count)) }
+{
+    let fewer = without_run(alloc, lines, matrix.rows(), from, count)?;
+    if fewer.rows.len() == 0 {
+        return Ok(None);
     }
+    let rest = reduce_lines(alloc, matrix, &fewer, binary)?.rest;
+    if has_no_lines(&rest) {
+        return Ok(None);
+    }
+    Ok(Some(rest))
 }
 
 pub fn is_series_parallel(

@@ -1,8 +1,8 @@
-// Matrices of which every line is needed.
+// Sets of lines of which every line is needed.
 ghost use Rattle.std.specs.Prelude.{◌≡◌, ◌<◌, ℕ, true, false, length, slice_index, IfOk, None};
 ghost use Rattle.std.specs.List.Sorted.{IsStrictlyIncreasing};
 ghost use Rattle.cmr_base.specs.Matrix.{height, entry, IsMatrix};
-ghost use Rattle.cmr_base.specs.LineSets.{AllBelow};
+ghost use Rattle.cmr_base.specs.LineSets.{AllBelow, IsRowSet, IsColumnSet};
 ghost use Rattle.cmr_base.specs.Reductions.{first_step, lines_of};
 ghost use Rattle.sp_reduce.specs.LineKinds.{count_of_kind};
 ghost use Rattle.sp_reduce.specs.NeededLines.{HaveTwoNonzeros, NeedsAllLines};
@@ -15,22 +15,30 @@ use crate::side::StayingLines;
 use cmr_base::{LineSet, Matrix, Memory};
 use std::alloc::Global;
 
-// Says yes to a cycle: each line has two nonzeros, no line is reducible, and the matrix without its first row is
-// series-parallel. Then the matrix without any other line is series-parallel too.
-pub fn needs_all_lines(alloc: Global, matrix: &Matrix, binary: bool) -> Result<bool, Memory>
-    ensures { IfOk result (λ yes. yes ≡ true → NeedsAllLines binary matrix.now) }
+// Says yes to a cycle: each line has two nonzeros, no line is reducible, and the lines without the first row are
+// series-parallel. Then the lines without any other line are series-parallel too.
+pub fn needs_all_lines(
+    alloc: Global,
+    matrix: &Matrix,
+    lines: &LineSet,
+    binary: bool,
+) -> Result<bool, Memory>
+    requires shape { IsMatrix matrix.now }
+    requires rows { IsRowSet matrix.now lines.now.rows }
+    requires columns { IsColumnSet matrix.now lines.now.columns }
+    ensures { IfOk result (λ yes. yes ≡ true
+        → NeedsAllLines binary matrix.now lines.now.rows lines.now.columns) }
 {
-    let lines = LineSet::all(alloc, matrix.rows(), matrix.columns())?;
     let rows = lines.rows.as_slice();
     let columns = lines.columns.as_slice();
     if rows.is_empty()
         || !have_two_nonzeros(alloc, matrix, LineKind::Rows, rows, columns)?
         || !have_two_nonzeros(alloc, matrix, LineKind::Columns, columns, rows)?
-        || has_reducible(alloc, matrix, &lines, binary)?
+        || has_reducible(alloc, matrix, lines, binary)?
     {
         return Ok(false);
     }
-    let fewer = lines.without_row(alloc, 0)?;
+    let fewer = lines.without_row(alloc, rows[0])?;
     is_series_parallel(alloc, matrix, &fewer, binary)
 }
 

@@ -4,7 +4,7 @@ ghost use Rattle.cmr_base.specs.Matrix.{height, IsMatrix};
 ghost use Rattle.cmr_base.specs.LineSets.{AllBelow};
 ghost use Rattle.sp_reduce.specs.LineKinds.{count_of_kind, cross_size};
 ghost use Rattle.sp_reduce.specs.StayingSides.{weight, IsAcross};
-ghost use Rattle.sp_reduce.specs.Tallies.{AreMarks, AreTallies, AreTalliesAt, AreTalliesOf, AreWeights};
+ghost use Rattle.sp_reduce.specs.Tallies.{rows_for, AreMarks, AreTallies, AreTalliesAt, AreTalliesOf, AreVisited, AreWeights};
 
 use crate::kind::{LineKind, is_minus};
 use cmr_base::{MAX_ROWS, Matrix, Memory};
@@ -25,6 +25,16 @@ pub fn weight(number: u32) -> u64
     ensures small { result ≤ MAX_ROWS ^ 5 }
 {
     (u64::from(number) + 1).pow(5)
+}
+
+// The rows in which the nonzeros of lines of a kind in some crossing lines are found.
+fn rows_for<'a>(kind: LineKind, lines: &'a [u32], across: &'a [u32]) -> &'a [u32]
+    ensures { result.now ≡ rows_for kind lines.now across.now }
+{
+    match kind {
+        LineKind::Rows => lines,
+        LineKind::Columns => across,
+    }
 }
 
 // For each of `size` lines, whether it is one of `lines`.
@@ -54,7 +64,8 @@ impl Tallies {
         ensures { IfOk result (AreTalliesOf matrix.now kind lines.now across.now) }
     {
         let marks = marks_of(alloc, kind.other().size(matrix), across)?;
-        let all = Tallies::new(alloc, matrix, kind, &marks)?;
+        let visited = marks_of(alloc, matrix.rows(), rows_for(kind, lines, across))?;
+        let all = Tallies::new(alloc, matrix, kind, &visited, &marks)?;
         all.at(alloc, lines)
     }
 
@@ -77,16 +88,20 @@ impl Tallies {
         Ok(tallies)
     }
 
-    // Counts the nonzeros of all rows.
+    // Counts the nonzeros of the rows that are visited.
     fn new(
         alloc: Global,
         matrix: &Matrix,
         kind: LineKind,
+        visited: &[bool],
         marks: &[bool],
     ) -> Result<Tallies, Memory>
         requires shape { IsMatrix matrix.now }
+        requires long { length visited.now ≡ height matrix.now }
+        requires visited { AreVisited kind visited.now marks.now }
         requires marks { length marks.now ≡ cross_size matrix.now kind }
-        ensures { IfOk result (AreTallies matrix.now kind marks.now (height matrix.now) 0) }
+        ensures { IfOk result (AreTallies matrix.now kind visited.now marks.now
+            (height matrix.now) 0) }
     {
         let weights = weights_of(alloc, marks)?;
         let size = kind.size(matrix) as usize;
@@ -96,26 +111,33 @@ impl Tallies {
             minus_sums: vec![in alloc; 0u64; size]?,
         };
         'rows: for row in 0..matrix.rows() {
-            tallies.add_row(matrix, kind, marks, &weights, row);
+            tallies.add_row(matrix, kind, visited, marks, &weights, row);
         }
         Ok(tallies)
     }
 
+    // Counts the nonzeros of a row if it is visited.
     fn add_row(
         &mut self,
         matrix: &Matrix,
         kind: LineKind,
+        visited: &[bool],
         marks: &[bool],
         weights: &[u64],
         row: u32,
     )
         requires shape { IsMatrix matrix.now }
+        requires long { length visited.now ≡ height matrix.now }
+        requires visited { AreVisited kind visited.now marks.now }
         requires marks { length marks.now ≡ cross_size matrix.now kind }
         requires weights { AreWeights marks.now weights.now }
         requires row { row < height matrix.now }
-        requires before { AreTallies matrix.now kind marks.now row 0 self.old }
-        ensures { AreTallies matrix.now kind marks.now (row + 1) 0 self.new }
+        requires before { AreTallies matrix.now kind visited.now marks.now row 0 self.old }
+        ensures { AreTallies matrix.now kind visited.now marks.now (row + 1) 0 self.new }
     {
+        if !visited[row as usize] {
+            return;
+        }
         let mut from = 0;
         'columns: while let Some(column) = matrix.next_nonzero(row, from) {
             let line = kind.own(row, column);

@@ -6,7 +6,7 @@ use Rattle.sp_reduce.proofs.tallies.Tallies.add_row.Given as goal
 abbrev pub invariant-columns : goal.invariant-columns
 invariant-columns l = record {
   inside : l.from ≤ 1000;
-  are : AreTallies l.matrix l.kind l.marks l.row l.from l.self;
+  are : AreTallies l.matrix l.kind l.visited l.marks l.row l.from l.self;
 }
 
 abbrev pub decreases-columns : goal.decreases-columns

@@ -11,7 +11,7 @@ rows-init c =
     let sums : c.in_ok-vec-2.field-0.items ≡ replicate c.size-size.result 0 = search rules in
     let minus_sums : c.in_ok-vec-3.field-0.items ≡ replicate c.size-size.result 0 = search rules in
     let tallies : Tallies = record { counts = c.in_ok-vec.field-0; sums = c.in_ok-vec-2.field-0; minus_sums = c.in_ok-vec-3.field-0 } in
-    tallies_start c.args.matrix.now c.args.kind c.args.marks.now tallies (counts ∙ ap (λ (n : ℕ). replicate n 0) size) (sums ∙ ap (λ (n : ℕ). replicate n 0) size)
+    tallies_start c.args.matrix.now c.args.kind c.args.visited.now c.args.marks.now tallies (counts ∙ ap (λ (n : ℕ). replicate n 0) size) (sums ∙ ap (λ (n : ℕ). replicate n 0) size)
     (minus_sums ∙ ap (λ (n : ℕ). replicate n 0) size)
 
 pub weights_of-requires : goal.weights_of-requires

@@ -4,9 +4,9 @@ use Rattle.cmr_base.specs.Matrix.{height}
 use Rattle.cmr_base.specs.LineSets.{AllBelow}
 use Rattle.sp_reduce.specs.declared.kind.LineKind.{LineKind}
 use Rattle.sp_reduce.specs.LineKinds.{cross_size, count_of_kind}
-use Rattle.sp_reduce.specs.Tallies.{AreMarks, AreTallies}
+use Rattle.sp_reduce.specs.Tallies.{rows_for, AreMarks, AreTallies}
 use Rattle.sp_reduce.proofs.KindLemmas.{size-other}
-use Rattle.sp_reduce.proofs.TallyLemmas.{tallies_of}
+use Rattle.sp_reduce.proofs.TallyLemmas.{tallies_of, lines_counted}
 use Rattle.sp_reduce.proofs.tallies.Tallies.of_lines.Goals as goal
 
 pub marks_of-requires : goal.marks_of-requires
@@ -32,5 +32,11 @@ returns c =
     let marks = c.in_ok-marks.marks.items in
     let size : c.size.result ≡ cross_size m kind = c.size.ensures ∙ ap (λ (k : LineKind). count_of_kind m k) c.other.ensures ∙ size-other m kind in
     let marked : AreMarks (cross_size m kind) across marks = subst (λ (n : ℕ). AreMarks n across marks) size c.in_ok-marks.ensures in
-    let are : AreTallies m kind marks (height m) 0 all = subst (λ (xs : List Bool). AreTallies m kind xs (height m) 0 all) c.deref.ensures.value c.in_ok-all.ensures in
-    IfOk-weaker c.at.result _ _ (λ some at. tallies_of m kind marks across all are marked c.requires.across c.args.lines.now some c.requires.lines at) c.at.ensures
+    let visited = c.in_ok-visited.visited.items in
+    let seen : AreMarks (height m) (rows_for kind c.args.lines.now across) visited =
+    subst (λ (xs : List ℕ). AreMarks (height m) xs visited) c.rows_for.ensures (subst (λ (n : ℕ). AreMarks n c.rows_for.result.now visited) c.rows.ensures.rows c.in_ok-visited.ensures) in
+    let are : AreTallies m kind visited marks (height m) 0 all =
+    subst (λ (xs : List Bool). AreTallies m kind xs marks (height m) 0 all) c.deref.ensures.value (subst (λ (xs : List Bool). AreTallies m kind c.deref.result.now xs (height m) 0 all) c.deref-2.ensures.value c.in_ok-all.ensures) in
+    IfOk-weaker c.at.result _ _
+    (λ some at. tallies_of m kind visited marks across all are marked c.requires.across c.args.lines.now some c.requires.lines (lines_counted m kind c.args.lines.now across visited seen) at)
+    c.at.ensures
