@@ -2,7 +2,6 @@ pub mod RequestBegun
 pub mod NamedFiles
 pub mod GrowingSink
 pub mod Held
-pub mod Incoming
 pub mod Laws
 pub mod Replies
 pub mod ReplyViews

@@ -1,9 +1,7 @@
-//! Requests and replies as netstrings: their texts, how they come from a shelf a piece at a time, and the devices in memory on which the
-//! run of a request works.
+//! Requests and replies as netstrings: their texts, and the devices in memory on which the run of a request works.
 #![tactic(auto)]
 
 mod growing_sink;
-mod incoming;
 pub mod laws;
 mod reply;
 mod request;
@@ -11,7 +9,6 @@ mod request_shelf;
 mod written_file;
 
 pub use growing_sink::GrowingSink;
-pub use incoming::{Incoming, IncomingError};
 pub use reply::{Reply, write_reply};
 pub use request::{GivenFile, Request, RequestError, read_request};
 pub use request_shelf::RequestShelf;

@@ -1,6 +1,6 @@
 // The devices of a request.
 use cmr_io::{Shelf, Sink, read_whole, write_file};
-use frames::{GivenFile, GrowingSink, Incoming, RequestShelf};
+use frames::{GivenFile, GrowingSink, RequestShelf};
 use std::test::Fail;
 
 fn given() -> [GivenFile<'static>; 3] {
@@ -60,20 +60,5 @@ fn a_sink_grows(rt: HostRuntime) -> Result<(), Fail> {
     assert_eq!(rt; sink.put(b""), Ok(0));
     assert_eq!(rt; sink.content(), b"abc".as_slice());
     assert!(rt; !sink.is_short());
-    Ok(())
-}
-
-#[test]
-fn a_netstring_comes_in_pieces(rt: HostRuntime) -> Result<(), Fail> {
-    let mut shelf = cmr_io::MemoryShelf::new(rt.alloc())?;
-    shelf.hold("f", b"3:abc,2:de")?;
-    shelf.take_at_most(2);
-    shelf.begin_read("f")?;
-    let mut incoming = Incoming::new(rt.alloc())?;
-    assert_eq!(rt; incoming.fill(&mut shelf), Ok(true));
-    assert_eq!(rt; incoming.held(), b"3:abc,".as_slice());
-    incoming.take(6);
-    assert!(rt; incoming.fill(&mut shelf).is_err());
-    assert_eq!(rt; incoming.held(), b"2:de".as_slice());
     Ok(())
 }
