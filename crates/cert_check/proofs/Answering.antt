@@ -14,7 +14,7 @@ use Rattle.cmr_base.proofs.Lists.{all-append}
 use Rattle.tree_type.specs.declared.refusal.Refusal.{Refusal}
 use Rattle.tree_type.specs.declared.refusal.Rule.{Rule}
 use Rattle.tree_type.specs.declared.refusal.Rule.TheVariants as rule
-use Rattle.tree_type.specs.DecompositionTrees.{Finding, Reduced, TwoSum, ThreeSum, Pivoted, Tree, Trees, Branch, NoTrees, MoreTrees, SizedTree, one_tree, two_trees, lines_at_root, tree_of, finding_of}
+use Rattle.tree_type.specs.DecompositionTrees.{Finding, Reduced, TwoSum, ThreeSum, Pivoted, Tree, Trees, Branch, NoTrees, MoreTrees, SizedTree, one_tree, two_trees, lines_at_root, tree_of, trees_below, finding_of}
 use Rattle.tree_type.specs.declared.tree.Node.{Node}
 use Rattle.tree_type.proofs.NodeTrees.{said, tree_is, said_reduced, said_two_sum, said_three_sum, said_pivoted}
 use Rattle.tree_type.specs.declared.tree.Kind.{Kind}
@@ -26,7 +26,7 @@ use Rattle.tree_type.proofs.PlacedLines.{lines_within}
 use Rattle.cmr_base.specs.declared.placed_pivot.PlacedPivot.{PlacedPivot}
 use Rattle.cmr_base.specs.PlacedPivots.{pivoted_part}
 use Rattle.tree_laws.proofs.PivotedMatrices.{lines_pivoted}
-use Rattle.cert_check.specs.Answers.{Answers, AnswersOn, AnswersOnBoth, AnswersFrom, AnswersBelow, Stands, nodes_below, place_of, IsAfter, has_pivot, IsRuleAt, IsOwnRule, trees_below, due_from, due_child_of, unless, KeepsOwn}
+use Rattle.cert_check.specs.Answers.{Answers, AnswersOn, AnswersFrom, AnswersBelow, Stands, nodes_below, place_of, IsAfter, has_pivot, IsRuleAt, IsOwnRule, due_from, due_child_of, unless, KeepsOwn}
 
 pub opened : (path : List ℕ) (pivots : List MadePivot) (due : Due) (tree : Tree) → places_from path pivots due tree ≡ place_of path pivots due tree ∷ nodes_below path pivots tree
 opened path pivots due (Branch lines finding trees) = refl
@@ -80,9 +80,6 @@ children_stand m lines finding trees (parent, levels, are, within) = (levels - 1
 
 pub first_stands : (m : Matrix) (lines : LineSet) (finding : Finding) (tree : Tree) (trees : Trees) → Stands m (Branch lines finding (MoreTrees tree trees)) → Stands m tree
 first_stands m lines finding tree trees h = let w = children_stand m lines finding (MoreTrees tree trees) h in (lines, w.0, w.1, w.2.0)
-
-pub second_stands : (m : Matrix) (lines : LineSet) (finding : Finding) (one two : Tree) (trees : Trees) → Stands m (Branch lines finding (MoreTrees one (MoreTrees two trees))) → Stands m two
-second_stands m lines finding one two trees h = let w = children_stand m lines finding (MoreTrees one (MoreTrees two trees)) h in (lines, w.0, w.1, w.2.1.0)
 
 pub stands_pivoted : (m : Matrix) (lines : LineSet) (place : PlacedPivot) (tree : Tree) → Stands m tree → Stands (pivoted_part m lines place) tree
 stands_pivoted m lines place tree (parent, levels, are, within) = (parent, levels, lines_pivoted m lines place parent are, within)
@@ -305,14 +302,3 @@ module _ (here : Matrix) (below_pivot : Bool) (path : List ℕ) (tree : Tree) (l
       subst (λ t. AnswersOn m (nodes_below path pivots t) answer) (sym e)
       (subst (λ nodes. AnswersOn m nodes answer) (sym (append-nil (places_from (path ++ 0 ∷ []) below (due_child lines f 0) child)))
       (subst (λ t. AnswersOn m (places_from (path ++ 0 ∷ []) below (due_child_of t 0) child) answer) e (h m below (goes m pivots after))))
-
-  -- the answer on two children is the answer on all nodes below
-  pub both_children : (one two : Tree) (answer : Option Refusal) → tree ≡ Branch lines f (MoreTrees one (MoreTrees two NoTrees))
-      → AnswersOnBoth next below_next path tree one two answer → AnswersBelow here below_pivot path tree answer
-  both_children one two answer e h = λ m pivots after.
-      let below = pivots_below lines f pivots in
-      let first = places_from (path ++ 0 ∷ []) below (due_child lines f 0) one in
-      let second = places_from (path ++ 1 ∷ []) below (due_child lines f 1) two in
-      subst (λ t. AnswersOn m (nodes_below path pivots t) answer) (sym e)
-      (subst (λ nodes. AnswersOn m (first ++ nodes) answer) (sym (append-nil second))
-      (subst (λ t. AnswersOn m (places_from (path ++ 0 ∷ []) below (due_child_of t 0) one ++ places_from (path ++ 1 ∷ []) below (due_child_of t 1) two) answer) e (h m below (goes m pivots after))))

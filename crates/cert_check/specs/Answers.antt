@@ -1,11 +1,11 @@
 -- The answers of the checker, and the intermediate answers of its functions.
-use Rattle.std.specs.Prelude.{◌≡◌, ◌<◌, ◌++◌, ℕ, Bool, true, false, List, [], ◌∷◌, Option, Some, None}
+use Rattle.std.specs.Prelude.{◌≡◌, ◌<◌, ℕ, Bool, true, false, List, [], ◌∷◌, Option, Some, None}
 use Rattle.std.specs.List.{AllByRecursion}
 use Rattle.cmr_base.specs.declared.line_set.LineSet.{LineSet}
 use Rattle.cmr_base.specs.Matrix.{Matrix}
 use Rattle.tree_type.specs.declared.refusal.Refusal.{Refusal}
 use Rattle.tree_type.specs.declared.refusal.Rule.{Rule}
-use Rattle.tree_type.specs.DecompositionTrees.{Finding, Cycle, Violator, Undecided, Tree, Trees, Branch, SizedTree, lines_at_root, finding_of}
+use Rattle.tree_type.specs.DecompositionTrees.{Finding, Cycle, Violator, Undecided, Tree, Branch, SizedTree, lines_at_root, finding_of, trees_below}
 use Rattle.tree_type.specs.Invariant.{AreLines, IsTreeWithin}
 use Rattle.tree_type.specs.Places.{Due, These, Unnamed, MadePivot, matrix_after, Place, due_child, pivots_below, places_from, places_below, lines_of_each}
 use Rattle.tree_type.specs.Soundness.{Demands, KeepsAll, rule_number, BreaksFirst, IsSound, IsFirstBroken, IsBroken}
@@ -41,9 +41,6 @@ unless false rule = Some rule
 -- a node whose lines are lines of the matrix, with a valid tree below it
 abbrev pub Stands : Matrix → Tree → Type 0
 Stands m tree = (parent : LineSet) × (levels : ℕ) × AreLines m parent × IsTreeWithin parent levels tree
-
-abbrev pub trees_below : Tree → Trees
-trees_below (Branch lines finding trees) = trees
 
 -- the nodes below a node that has these pivots above it
 abbrev pub nodes_below : List ℕ → List MadePivot → Tree → List Place
@@ -96,9 +93,3 @@ AnswersFrom here below_pivot path due tree answer = (m : Matrix) (pivots : List 
 
 abbrev pub AnswersBelow : Matrix → Bool → List ℕ → Tree → Option Refusal → Type 0
 AnswersBelow here below_pivot path tree answer = (m : Matrix) (pivots : List MadePivot) → IsAfter m pivots here below_pivot → AnswersOn m (nodes_below path pivots tree) answer
-
--- the answer on the two children of a node and those below them
-abbrev pub AnswersOnBoth : Matrix → Bool → List ℕ → Tree → Tree → Tree → Option Refusal → Type 0
-AnswersOnBoth here below_pivot path parent one two answer =
-    (m : Matrix) (pivots : List MadePivot) → IsAfter m pivots here below_pivot
-    → AnswersOn m (places_from (path ++ 0 ∷ []) pivots (due_child_of parent 0) one ++ places_from (path ++ 1 ∷ []) pivots (due_child_of parent 1) two) answer

@@ -5,7 +5,7 @@ ghost use Rattle.tree_type.specs.DecompositionTrees.{tree_of};
 ghost use Rattle.tree_type.specs.Invariant.{AreLines};
 ghost use Rattle.tree_type.specs.Places.{AllLines};
 ghost use Rattle.tree_type.specs.Soundness.{HasItsLines};
-ghost use Rattle.cert_check.specs.Answers.{Answers, AnswersBelow, AnswersFrom, AnswersOnBoth, IsOwnRule, IsRuleAt, KeepsOwn, Stands, due_from, due_child_of};
+ghost use Rattle.cert_check.specs.Answers.{Answers, AnswersBelow, AnswersFrom, IsOwnRule, IsRuleAt, KeepsOwn, Stands, due_from, due_child_of};
 
 use crate::due_lines::due_lines;
 use crate::leaf_rules::unless;
@@ -62,66 +62,19 @@ fn check_below(
     requires own { IsOwnRule matrix.now (tree_of node.now) None }
     ensures { IfOk result (AnswersBelow matrix.now pivoted path.now (tree_of node.now)) }
 {
-    match &node.kind {
-        Kind::Reduced { child, .. } => check_child(alloc, matrix, pivoted, path, child, node, 0),
-        Kind::TwoSum {
-            one_child,
-            two_child,
-            ..
-        } => check_both(alloc, matrix, pivoted, path, one_child, two_child, node),
-        Kind::ThreeSum {
-            one_child,
-            two_child,
-            ..
-        } => check_both(alloc, matrix, pivoted, path, one_child, two_child, node),
-        Kind::OneSum { children } => {
-            let nodes = children.as_slice();
-            let most = matrix.rows() + matrix.columns();
-            prove!(nodes.len() <= most as usize);
-            let mut number = 0u32;
-            for child in nodes {
-                if let Some(refusal) = check_child(
-                    alloc, matrix, pivoted, path, child, node, number,
-                )? {
-                    return Ok(Some(refusal));
-                }
-                number += 1;
-            }
-            Ok(None)
+    if let Kind::Pivoted { place, child } = &node.kind {
+        return check_pivoted(alloc, matrix, path, child, node, *place);
+    }
+    let most = matrix.rows() + matrix.columns() + 2;
+    let count = node.child_count();
+    prove!(count <= most as usize);
+    for number in 0..count as u32 {
+        let child = node.child(number as usize);
+        if let Some(refusal) = check_child(alloc, matrix, pivoted, path, child, node, number)? {
+            return Ok(Some(refusal));
         }
-        Kind::Pivoted { place, child } => check_pivoted(alloc, matrix, path, child, node, *place),
-        Kind::Empty
-        | Kind::Cycle { .. }
-        | Kind::Network { .. }
-        | Kind::Conetwork { .. }
-        | Kind::R10
-        | Kind::Enumerated
-        | Kind::Violator { .. }
-        | Kind::Undecided => Ok(None),
     }
-}
-
-/// The same for the two children of a sum. The second child is checked only if the first child and all nodes below it keep the
-/// rules.
-#[cycle(check)]
-fn check_both(
-    alloc: Global,
-    matrix: &Matrix,
-    pivoted: bool,
-    path: &PathList,
-    one_child: &Node,
-    two_child: &Node,
-    parent: &Node,
-) -> Result<Option<Refusal>, Memory>
-    requires first { Stands matrix.now (tree_of one_child.now) }
-    requires second { Stands matrix.now (tree_of two_child.now) }
-    ensures { IfOk result (AnswersOnBoth matrix.now pivoted path.now (tree_of parent.now)
-        (tree_of one_child.now) (tree_of two_child.now)) }
-{
-    match check_child(alloc, matrix, pivoted, path, one_child, parent, 0)? {
-        Some(refusal) => Ok(Some(refusal)),
-        None => check_child(alloc, matrix, pivoted, path, two_child, parent, 1),
-    }
+    Ok(None)
 }
 
 /// The first node that breaks a rule, among a child and the nodes below it. The child has this number, and the path is the

@@ -65,15 +65,6 @@ fn is_settled(node: &Node) -> bool
 {
     match &node.kind {
         Kind::Cycle { .. } | Kind::Violator { .. } | Kind::Undecided => false,
-        Kind::Empty
-        | Kind::Reduced { .. }
-        | Kind::OneSum { .. }
-        | Kind::Network { .. }
-        | Kind::Conetwork { .. }
-        | Kind::R10
-        | Kind::TwoSum { .. }
-        | Kind::ThreeSum { .. }
-        | Kind::Enumerated
-        | Kind::Pivoted { .. } => true,
+        _ => true,
     }
 }

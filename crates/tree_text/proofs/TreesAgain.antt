@@ -31,8 +31,9 @@ use Rattle.text_fields.specs.Reading.{field, times, fields, another}
 use Rattle.text_fields.specs.Spelling.{texts_of}
 use Rattle.text_fields.proofs.LineWords.{IsWord, IsSolid, words_of_lines, words_in_lines}
 use Rattle.text_fields.proofs.Decimals.{decimal_word}
-use Rattle.tree_type.specs.DecompositionTrees.{Finding, Empty, Cycle, Reduced, OneSum, Network, Conetwork, R10, TwoSum, ThreeSum, Enumerated, Violator, Undecided, Pivoted, Tree, Trees, Branch, NoTrees, MoreTrees, trees_from, count_trees, lines_at_root}
+use Rattle.tree_type.specs.DecompositionTrees.{Finding, Empty, Cycle, Reduced, OneSum, Network, Conetwork, R10, TwoSum, ThreeSum, Enumerated, Violator, Undecided, Pivoted, Tree, Trees, Branch, NoTrees, MoreTrees, trees_from, count_trees, list_of, lines_at_root}
 use Rattle.tree_type.specs.Invariant.{AreLinesOf, HasArcsAndWalks, size_of, FitsLines, HasChildren, IsTreeWithin, AreTreesWithin, IsTreeFor}
+use Rattle.tree_type.proofs.NodeChildren.{trees_back}
 use Rattle.tree_text.specs.declared.error.TreeKind.{TreeKind}
 use Rattle.tree_text.specs.declared.error.TreeKind.TheVariants.{Short}
 use Rattle.tree_text.specs.declared.kind_word.KindWord.{KindWord}
@@ -285,14 +286,6 @@ abbrev mutual
   forest_words : Trees → List (List ℕ)
   forest_words NoTrees = []
   forest_words (MoreTrees tree trees) = node_words tree ++ forest_words trees
-
-abbrev list_of : Trees → List Tree
-list_of NoTrees = []
-list_of (MoreTrees tree trees) = tree ∷ list_of trees
-
-trees_back : (trees : Trees) → trees_from (list_of trees) ≡ trees
-trees_back NoTrees = refl
-trees_back (MoreTrees tree trees) = ap (λ ts. MoreTrees tree ts) (trees_back trees)
 
 part_of : (whole : LineSet) (levels : ℕ) (tree : Tree) → IsTreeWithin whole levels tree → AreLinesOf (lines_at_root tree) whole
 part_of whole levels (Branch lines finding trees) within = within.1

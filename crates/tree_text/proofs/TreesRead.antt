@@ -27,6 +27,7 @@ use Rattle.text_fields.proofs.Results.{bind_ok, ok_same}
 use Rattle.text_fields.specs.Spelling.{texts_of}
 use Rattle.tree_type.specs.DecompositionTrees.{Finding, Empty, Cycle, Reduced, OneSum, Network, Conetwork, R10, TwoSum, ThreeSum, Enumerated, Violator, Undecided, Pivoted, Tree, Trees, Branch, trees_from, count_trees, lines_at_root}
 use Rattle.tree_type.specs.Invariant.{AreLinesOf, HasArcsAndWalks, size_of, FitsLines, HasChildren, IsTreeWithin, AreTreesWithin, IsTreeFor}
+use Rattle.tree_type.proofs.Forests.{count_list}
 use Rattle.tree_text.specs.declared.error.TreeKind.{TreeKind}
 use Rattle.tree_text.specs.declared.error.TreeKind.TheVariants.{Short}
 use Rattle.tree_text.specs.declared.kind_word.KindWord.{KindWord}
@@ -235,10 +236,6 @@ trees_push : (parent : LineSet) (levels : ℕ) (trees : List Tree) (tree : Tree)
 trees_push parent levels [] tree all one = (one, tt)
 trees_push parent levels (first ∷ trees) tree all one = (all.0, trees_push parent levels trees tree all.1 one)
 
-count_from : (trees : List Tree) → count_trees (trees_from trees) ≡ length trees
-count_from [] = refl
-count_from (tree ∷ trees) = ap suc (count_from trees)
-
 -- a node that was read: its lines are lines of the parent, and the rest is as in every tree
 record IsRead (sizes : Sizes) (levels : ℕ) (parent : Option LineSet) (tree : Tree) : Type 0 where
   lines : IsSome sizes parent (lines_at_root tree)
@@ -268,7 +265,7 @@ node_ok header (suc levels) parent text tree h =
     let e = ap (λ (p : Tree × Text). p.0) (ok_same (Branch lines finding (trees_from children.0.0), children.0.1) tree children.2) in
     let is = opening_ok header parent text head.0 head.1 in
     let all = times_keep (another_tree (node header levels (Some lines))) (λ k trees. (length trees ≡ k) × AreTreesWithin lines levels (trees_from trees)) (child_kept header levels lines (λ text tree. node_ok header levels (Some lines) text tree)) count 0 [] head.0.1 children.0.0 children.0.1 (refl, tt) children.1 in
-    let counted : count_trees (trees_from children.0.0) ≡ count = (let n = count_from children.0.0 in let m = all.0 in omega (arith, n, m)) in
+    let counted : count_trees (trees_from children.0.0) ≡ count = (let n = count_list children.0.0 in let m = all.0 in omega (arith, n, m)) in
     let fits = is.fits (trees_from children.0.0) counted in
     let same : suc levels - 1 ≡ levels = omega arith in
     subst (IsRead header.sizes (suc levels) parent) e (record { lines = is.lines; within = λ whole part. (omega arith, part, fits.0, fits.1, subst (λ k. AreTreesWithin lines k (trees_from children.0.0)) (sym same) all.1) })

@@ -1,10 +1,9 @@
 -- Lines of a tree's text, word by word.
-use Rattle.std.proofs.Common.{◌≡◌, ◌<◌, ◌∙◌, ◌++◌, ◌∷◌, [], ℕ, List, false, length, get_or, map, drop, ◌+◌, append_assoc, refl, ap, sym, arith}
+use Rattle.std.proofs.Common.{◌≡◌, ◌<◌, ◌∙◌, ◌++◌, ◌∷◌, [], ℕ, List, false, length, append_assoc, refl, ap, sym, arith}
 use Rattle.std.specs.Prelude.{fold}
 use Rattle.std.specs.Fmt.{decimal}
 use Rattle.std.specs.List.{flat_map}
 use Rattle.std.proofs.lemmas.List.Sums.{fold-append}
-use Rattle.std.proofs.lemmas.List.{append-nil, drop_more}
 use Rattle.cmr_base.specs.declared.network.Network as net
 use Rattle.cmr_base.specs.declared.network.Pair.{Pair}
 use Rattle.text_fields.specs.Written.{Draft, with_word, with_end, with_line, text_line, text_of_lines}
@@ -12,11 +11,12 @@ use Rattle.text_fields.proofs.Lines.{line_written, lines_written}
 use Rattle.tree_type.specs.declared.tree.Node.{Node}
 use Rattle.tree_type.specs.declared.tree.NodeList.{NodeList}
 use Rattle.tree_type.specs.declared.tree.Kind.TheVariants as kind
-use Rattle.tree_type.specs.DecompositionTrees.{Finding, Tree, Trees, Branch, tree_of, trees_from, nodes_in}
+use Rattle.tree_type.specs.DecompositionTrees.{Finding, Tree, Trees, Branch, tree_of, trees_from, list_of, children_of, nodes_in}
 use Rattle.tree_type.proofs.Forests.{count_is}
+use Rattle.tree_type.proofs.NodeChildren.{trees_back}
 use Rattle.tree_type.proofs.NodeTrees.{said, tree_is, said_one_sum}
 use Rattle.tree_text.specs.Versions.{title_word, title_of, version_word}
-use Rattle.tree_text.specs.CanonicalTrees.{pair_words, network_words, line_for, own_text_line, node_lines, forest_lines, tree_text, version_of}
+use Rattle.tree_text.specs.CanonicalTrees.{pair_words, network_words, line_for, own_text_line, opening_lines, node_lines, forest_lines, tree_text, version_of}
 
 -- a line with written words
 pub ended_as : (text start : Draft) (words : List (List ℕ)) → text ≡ fold with_word start words → start.is_begun ≡ false → with_end text ≡ with_line start words
@@ -56,18 +56,19 @@ pub one_sum_line : (node : Node) (children : NodeList) → node.kind ≡ kind.On
 one_sum_line node children is =
     sym (ap own_text_line (tree_is node ∙ ap (λ (s : Finding × Trees). Branch node.lines s.0 s.1) (ap said is ∙ said_one_sum children)) ∙ ap (λ n. (decimal n ∷ []) ∷ []) (count_is children))
 
--- the lines of a node with two children
-pub both_written : (start : Draft) (opening one two : List (List (List ℕ))) → fold with_line (fold with_line (fold with_line start opening) one) two ≡ fold with_line start (opening ++ (one ++ (two ++ [])))
-both_written start opening one two =
-    sym (fold-append with_line start opening (one ++ (two ++ [])) ∙ fold-append with_line (fold with_line start opening) one (two ++ []) ∙ ap (fold with_line (fold with_line (fold with_line start opening) one)) (append-nil two))
+-- the lines of a node before the lines of its children
+pub opening_written : (start after : Draft) (tree : Tree) → after ≡ fold with_line start (opening_lines tree) → fold with_line after (forest_lines (trees_from (children_of tree))) ≡ fold with_line start (node_lines tree)
+opening_written start after (Branch lines finding trees) written =
+    ap (λ (d : Draft). fold with_line d (forest_lines (trees_from (list_of trees)))) written
+    ∙ ap (λ ts. fold with_line (fold with_line start (opening_lines (Branch lines finding trees))) (forest_lines ts)) (trees_back trees)
+    ∙ sym (fold-append with_line start (opening_lines (Branch lines finding trees)) (forest_lines trees))
 
 -- the lines of another child
-pub child_written : (start : Draft) (nodes : List Node) (i : ℕ) (after : Draft) (total : Draft) (node : Node) → i < length nodes → node ≡ get_or nodes i node
-    → after ≡ fold with_line start (node_lines (tree_of node)) → fold with_line start (forest_lines (trees_from (map tree_of (drop i nodes)))) ≡ total → fold with_line after (forest_lines (trees_from (map tree_of (drop (i + 1) nodes)))) ≡ total
-child_written start nodes i after total node within is written whole =
-    let rest = forest_lines (trees_from (map tree_of (drop (i + 1) nodes))) in
-    ap (λ (d : Draft). fold with_line d rest) written ∙ sym (fold-append with_line start (node_lines (tree_of node)) rest)
-    ∙ ap (λ ns. fold with_line start (forest_lines (trees_from (map tree_of ns)))) (sym (drop_more nodes i node within ∙ ap (λ n. n ∷ drop (i + 1) nodes) (sym is))) ∙ whole
+pub child_written : (start after total : Draft) (trees rest : List Tree) (tree : Tree) → trees ≡ tree ∷ rest → after ≡ fold with_line start (node_lines tree) → fold with_line start (forest_lines (trees_from trees)) ≡ total
+    → fold with_line after (forest_lines (trees_from rest)) ≡ total
+child_written start after total trees rest tree order written whole =
+    ap (λ (d : Draft). fold with_line d (forest_lines (trees_from rest))) written ∙ sym (fold-append with_line start (node_lines tree) (forest_lines (trees_from rest)))
+    ∙ ap (λ ts. fold with_line start (forest_lines (trees_from ts))) (sym order) ∙ whole
 
 -- the version, the sizes and the nodes
 pub whole_written : (rows columns : ℕ) (tree : Tree) (text : Draft)

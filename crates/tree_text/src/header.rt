@@ -105,34 +105,13 @@ pub fn version_of(root: &Node) -> Version
 fn has_pivot(node: &Node) -> bool
     ensures { result ≡ has_pivot (tree_of node.now) }
 {
-    match &node.kind {
-        Kind::Pivoted { .. } => true,
-        Kind::Reduced { child, .. } => has_pivot(child),
-        Kind::OneSum { children } => {
-            for child in children.as_slice() {
-                if has_pivot(child) {
-                    return true;
-                }
-            }
-            false
-        }
-        Kind::TwoSum {
-            one_child,
-            two_child,
-            ..
-        }
-        | Kind::ThreeSum {
-            one_child,
-            two_child,
-            ..
-        } => has_pivot(one_child) || has_pivot(two_child),
-        Kind::Empty
-        | Kind::Cycle { .. }
-        | Kind::Network { .. }
-        | Kind::Conetwork { .. }
-        | Kind::R10
-        | Kind::Enumerated
-        | Kind::Violator { .. }
-        | Kind::Undecided => false,
+    if let Kind::Pivoted { .. } = &node.kind {
+        return true;
     }
+    for index in 0..node.child_count() {
+        if has_pivot(node.child(index)) {
+            return true;
+        }
+    }
+    false
 }

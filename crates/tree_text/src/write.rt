@@ -38,7 +38,6 @@ pub fn write_tree(alloc: Global, tree: &DecTree) -> Result<Vec<u8>, Memory>
     Ok(text.into_bytes())
 }
 
-#[tactic(auto, using(crate::proofs::WrittenLines::both_written))]
 fn write_node(alloc: Global, text: &mut Writer, node: &Node) -> Result<(), Memory>
     requires { text.old.is_begun ≡ false }
     ensures lines { OnOk result (text.new ≡ fold with_line text.old (node_lines
@@ -46,37 +45,10 @@ fn write_node(alloc: Global, text: &mut Writer, node: &Node) -> Result<(), Memor
     ensures at_start { OnOk result (text.new.is_begun ≡ false) }
 {
     write_opening(alloc, text, node)?;
-    match &node.kind {
-        Kind::Reduced { child, .. } => write_node(alloc, text, child),
-        Kind::OneSum { children } => {
-            for child in children.as_slice() {
-                write_node(alloc, text, child)?;
-            }
-            Ok(())
-        }
-        Kind::TwoSum {
-            one_child,
-            two_child,
-            ..
-        }
-        | Kind::ThreeSum {
-            one_child,
-            two_child,
-            ..
-        } => {
-            write_node(alloc, text, one_child)?;
-            write_node(alloc, text, two_child)
-        }
-        Kind::Pivoted { child, .. } => write_node(alloc, text, child),
-        Kind::Empty
-        | Kind::Cycle { .. }
-        | Kind::Network { .. }
-        | Kind::Conetwork { .. }
-        | Kind::R10
-        | Kind::Enumerated
-        | Kind::Violator { .. }
-        | Kind::Undecided => Ok(()),
+    for index in 0..node.child_count() {
+        write_node(alloc, text, node.child(index))?;
     }
+    Ok(())
 }
 
 // A line with the node's kind and its lines, and a line with its own part.

@@ -94,3 +94,14 @@ finding_of (Branch lines finding trees) = finding
 
 abbrev pub lines_at_root : Tree → LineSet
 lines_at_root (Branch lines finding trees) = lines
+
+abbrev pub trees_below : Tree → Trees
+trees_below (Branch lines finding trees) = trees
+
+abbrev pub list_of : Trees → List Tree
+list_of NoTrees = []
+list_of (MoreTrees tree trees) = tree ∷ list_of trees
+
+-- the children of a node, as a list
+abbrev pub children_of : Tree → List Tree
+children_of tree = list_of (trees_below tree)

@@ -1,6 +1,7 @@
 // The nodes of a decomposition tree.
-ghost use Rattle.std.specs.Prelude.{◌≡◌, ◌<◌, ◌++◌, [], ◌∷◌, length, map, slice_get, Some, OnOk, OnErr};
-ghost use Rattle.tree_type.specs.DecompositionTrees.{nodes_in, tree_of, trees_of, trees_from};
+ghost use Rattle.std.specs.Prelude.{◌≡◌, ◌<◌, ◌+◌, ◌++◌, [], ◌∷◌, drop, length, map, slice_get, Some, OnOk, OnErr};
+ghost use Rattle.tree_type.specs.DecompositionTrees.{children_of, nodes_in, tree_of, trees_of, trees_from};
+ghost use Rattle.tree_type.specs.NodeCounts.{node_count};
 
 use cmr_base::{LineList, LineSet, Memory, Network, PlacedPivot, Three, Two};
 use std::alloc::Global;
@@ -55,6 +56,62 @@ pub enum Kind {
         place: PlacedPivot,
         child: Box<Node>,
     },
+}
+
+impl Node {
+    /// The number of children.
+    pub fn child_count(&self) -> usize
+        ensures { result ≡ length (children_of (tree_of self.now)) }
+    {
+        match &self.kind {
+            Kind::Reduced { .. } | Kind::Pivoted { .. } => 1,
+            Kind::OneSum { children } => children.len(),
+            Kind::TwoSum { .. } | Kind::ThreeSum { .. } => 2,
+            Kind::Empty
+            | Kind::Cycle { .. }
+            | Kind::Network { .. }
+            | Kind::Conetwork { .. }
+            | Kind::R10
+            | Kind::Enumerated
+            | Kind::Violator { .. }
+            | Kind::Undecided => 0,
+        }
+    }
+
+    /// The child at a position, counted from 0.
+    pub fn child(&self, index: usize) -> &Node
+        requires { index < length (children_of (tree_of self.now)) }
+        ensures child { slice_get (children_of (tree_of self.now)) index
+            ≡ Some (tree_of result.now) }
+        // It is the first of the children from this position on.
+        ensures rest { drop index (children_of (tree_of self.now))
+            ≡ tree_of result.now ∷ drop (index + 1) (children_of (tree_of self.now)) }
+        // A walk from node to child ends.
+        ensures fewer { node_count (tree_of result.now) < node_count (tree_of self.now) }
+    {
+        match &self.kind {
+            Kind::Reduced { child, .. } | Kind::Pivoted { child, .. } => child,
+            Kind::OneSum { children } => children.get(index),
+            Kind::TwoSum {
+                one_child,
+                two_child,
+                ..
+            }
+            | Kind::ThreeSum {
+                one_child,
+                two_child,
+                ..
+            } => { if index == 0 { one_child } else { two_child } }
+            Kind::Empty
+            | Kind::Cycle { .. }
+            | Kind::Network { .. }
+            | Kind::Conetwork { .. }
+            | Kind::R10
+            | Kind::Enumerated
+            | Kind::Violator { .. }
+            | Kind::Undecided => unreachable!(),
+        }
+    }
 }
 
 /// Nodes, in an order.

@@ -39,72 +39,27 @@ pub fn verdict_at(root: &Node) -> VerdictOf<'_>
 pub(crate) fn first_fault(node: &Node) -> Option<&LineSet>
     ensures { option_copied result ≡ first_in fault_at (tree_of node.now) }
 {
-    match &node.kind {
-        Kind::Cycle { fault } | Kind::Violator { fault } => Some(fault),
-        Kind::Reduced { child, .. } | Kind::Pivoted { child, .. } => first_fault(child),
-        Kind::OneSum { children } => {
-            for child in children.as_slice() {
-                if let Some(fault) = first_fault(child) {
-                    return Some(fault);
-                }
-            }
-            None
-        }
-        Kind::TwoSum {
-            one_child,
-            two_child,
-            ..
-        }
-        | Kind::ThreeSum {
-            one_child,
-            two_child,
-            ..
-        } => match first_fault(one_child) {
-            Some(fault) => Some(fault),
-            None => first_fault(two_child),
-        },
-        Kind::Empty
-        | Kind::Network { .. }
-        | Kind::Conetwork { .. }
-        | Kind::R10
-        | Kind::Enumerated
-        | Kind::Undecided => None,
+    if let Kind::Cycle { fault } | Kind::Violator { fault } = &node.kind {
+        return Some(fault);
     }
+    for index in 0..node.child_count() {
+        if let Some(fault) = first_fault(node.child(index)) {
+            return Some(fault);
+        }
+    }
+    None
 }
 
 pub(crate) fn first_undecided(node: &Node) -> Option<&LineSet>
     ensures { option_copied result ≡ first_in open_at (tree_of node.now) }
 {
-    match &node.kind {
-        Kind::Undecided => Some(&node.lines),
-        Kind::Reduced { child, .. } | Kind::Pivoted { child, .. } => first_undecided(child),
-        Kind::OneSum { children } => {
-            for child in children.as_slice() {
-                if let Some(lines) = first_undecided(child) {
-                    return Some(lines);
-                }
-            }
-            None
-        }
-        Kind::TwoSum {
-            one_child,
-            two_child,
-            ..
-        }
-        | Kind::ThreeSum {
-            one_child,
-            two_child,
-            ..
-        } => match first_undecided(one_child) {
-            Some(lines) => Some(lines),
-            None => first_undecided(two_child),
-        },
-        Kind::Empty
-        | Kind::Cycle { .. }
-        | Kind::Network { .. }
-        | Kind::Conetwork { .. }
-        | Kind::R10
-        | Kind::Enumerated
-        | Kind::Violator { .. } => None,
+    if let Kind::Undecided = &node.kind {
+        return Some(&node.lines);
     }
+    for index in 0..node.child_count() {
+        if let Some(lines) = first_undecided(node.child(index)) {
+            return Some(lines);
+        }
+    }
+    None
 }
