@@ -16,3 +16,5 @@ pub mod PartnerSteps
 pub mod PassedColumns
 pub mod SignedSteps
 pub mod RegularSignings
+pub mod SignWords
+pub mod NearFaults

@@ -424,7 +424,7 @@ pub went_on : (m : Matrix) (t c h pending pending2 : ℕ) (walk walk2 : Walk) �
 went_on m t c h pending pending2 walk walk2 state l waits e f =
     subst (λ (v : Walk). IsGoing m t c (h + 1) pending2 v) (sym e) (subst (λ (v : ℕ). IsGoing m t c (h + 1) v walk) (sym f) (record { state = state; pending_in = l; waits = waits }))
 
-path_touches : (m : Matrix) (t c d : ℕ) (lines : List ℕ) → IsPath (entry m) t c d lines → (r : ℕ) × (r < t) × (entry m r d ≢ pos 0)
+pub path_touches : (m : Matrix) (t c d : ℕ) (lines : List ℕ) → IsPath (entry m) t c d lines → (r : ℕ) × (r < t) × (entry m r d ≢ pos 0)
 path_touches m t c d [] h = absurd h
 path_touches m t c d (r ∷ []) h = (r, h.0, h.2)
 path_touches m t c d (r ∷ j ∷ lines) h = path_touches m t j d lines h.4

@@ -7,3 +7,5 @@ pub mod FaultLines
 pub mod SignOrder
 pub mod Signings
 pub mod Laws
+pub mod RowSigns
+pub mod NearColumns

@@ -1,12 +1,14 @@
 // The first cycle place whose sum is 2 modulo 4.
-ghost use Rattle.std.specs.Prelude.{◌≡◌, ◌≢◌, ◌<◌, ◌↔◌, ℕ, List, pos, IsTrue, IfOk, MatchOption};
+ghost use Rattle.std.specs.Prelude.{◌≡◌, ◌≢◌, ◌<◌, ◌+◌, ◌↔◌, ℕ, List, pos, IsTrue, IfOk, MatchOption};
 ghost use Rattle.cmr_base.specs.Matrix.{height, entry};
 ghost use Rattle.cmr_base.specs.CyclePlaces.{HasNoCycleFault, IsCyclePlace, IsFaultAt};
 ghost use Rattle.camion_sign.specs.Walks.{HasPlacesAndMarks, HasWalked, place_in};
 ghost use Rattle.camion_sign.specs.FaultLines.{HasNoFaultAt, IsColumnFault, IsFirstFault};
+ghost use Rattle.camion_sign.specs.NearColumns.{HasNearRoom, KnowsNear};
 ghost use Rattle.network_orient.specs.FirstRows.{HasNoFaultBefore};
 
 use crate::listed_matrix::ListedMatrix;
+use crate::near_columns::NearColumns;
 use crate::reach::{Start, flipped, walk_from};
 use crate::walk::{UNREACHED, Walk};
 use cmr_base::{Memory, RowsAndColumns};
@@ -38,7 +40,8 @@ pub fn first_fault(
     }
     let listed = ListedMatrix::new(alloc, matrix)?;
     let mut walk = Walk::new(alloc, listed.rows(), listed.columns())?;
-    fault_from_row(alloc, &listed, &mut walk, first)
+    let mut near = NearColumns::new(alloc, &listed)?;
+    fault_from_row(alloc, &listed, &mut walk, &mut near, first)
 }
 
 // Walks without a search for a tree find the first fault sooner if columns have at most this number of nonzeros on average.
@@ -59,16 +62,18 @@ fn fault_from_row(
     alloc: Global,
     matrix: &ListedMatrix<'_>,
     walk: &mut Walk,
+    near: &mut NearColumns,
     first: u32,
 ) -> Result<Option<Fault>, Memory>
     requires fits { HasPlacesAndMarks matrix.now walk.old }
+    requires room { HasNearRoom matrix.now near.old }
     requires passed { HasNoFaultBefore matrix.now first }
     ensures { IfOk result (λ found. MatchOption found
         (HasNoCycleFault (entry matrix.now))
         (λ f. IsFirstFault matrix.now f.row f.first f.last f.lines.items)) }
 {
     for row in first..matrix.rows() {
-        if let Some(fault) = fault_of_row(alloc, matrix, walk, row)? {
+        if let Some(fault) = fault_of_row(alloc, matrix, walk, near, row)? {
             return Ok(Some(fault));
         }
     }
@@ -80,26 +85,58 @@ fn fault_of_row(
     alloc: Global,
     matrix: &ListedMatrix<'_>,
     walk: &mut Walk,
+    near: &mut NearColumns,
     row: u32,
 ) -> Result<Option<Fault>, Memory>
     requires row { row < height matrix.now }
     requires fits { HasPlacesAndMarks matrix.now walk.old }
+    requires room { HasNearRoom matrix.now near.old }
     ensures found { IfOk result (λ found. MatchOption found
         ((x y : ℕ) → HasNoFaultAt matrix.now row x y)
         (λ f. (f.row ≡ row)
         × IsColumnFault matrix.now row f.first f.last f.lines.items
         × ((x y : ℕ) → x < f.first → HasNoFaultAt matrix.now row x y))) }
     ensures fits { IfOk result (λ found. HasPlacesAndMarks matrix.now walk.new) }
+    ensures room { IfOk result (λ found. HasNearRoom matrix.now near.new) }
 {
+    near.begin(matrix, row);
     for column in 0..matrix.columns() {
         if matrix.entry(row, column) != 0 {
             let start = Start { row, column };
-            if let Some(fault) = fault_from(alloc, matrix, walk, start)? {
+            if let Some(fault) = fault_at(alloc, matrix, walk, near, start)? {
                 return Ok(Some(fault));
             }
         }
     }
     Ok(None)
+}
+
+// The same as `fault_from`. There is no walk if it is known without it that the first column has no fault.
+fn fault_at(
+    alloc: Global,
+    matrix: &ListedMatrix<'_>,
+    walk: &mut Walk,
+    near: &mut NearColumns,
+    start: Start,
+) -> Result<Option<Fault>, Memory>
+    requires row { start.row < height matrix.now }
+    requires column { start.column < matrix.now.width }
+    requires first { entry matrix.now start.row start.column ≢ pos 0 }
+    requires fits { HasPlacesAndMarks matrix.now walk.old }
+    requires knows { KnowsNear matrix.now start.row start.column near.old }
+    ensures found { IfOk result (λ found. MatchOption found
+        ((y : ℕ) → HasNoFaultAt matrix.now start.row start.column y)
+        (λ f. (f.row ≡ start.row)
+        × (f.first ≡ start.column)
+        × IsColumnFault matrix.now start.row start.column f.last f.lines.items)) }
+    ensures fits { IfOk result (λ found. HasPlacesAndMarks matrix.now walk.new) }
+    ensures knows { IfOk result (λ found.
+        KnowsNear matrix.now start.row (start.column + 1) near.new) }
+{
+    if near.has_no_fault(matrix, start) {
+        return Ok(None);
+    }
+    fault_from(alloc, matrix, walk, start)
 }
 
 // The fault of a row and a first column with the least last column.

@@ -67,6 +67,14 @@ impl<'a> ListedMatrix<'a> {
         self.matrix.entry(row, column)
     }
 
+    /// The matrix itself.
+    pub fn by_rows(&self) -> &Matrix
+        ensures value { result.now ≡ self.now }
+        ensures shape { IsMatrix self.now }
+    {
+        self.matrix
+    }
+
     /// The columns in which a row is not 0.
     pub fn row(&self, row: u32) -> &[u32]
         requires { row < height self.now }

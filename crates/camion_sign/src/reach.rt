@@ -130,8 +130,8 @@ fn first_waiting(matrix: &ListedMatrix<'_>, walk: &Walk, start: Start, from: u32
     matrix.columns()
 }
 
-// Whether an earlier row meets the column.
-fn is_touched(matrix: &ListedMatrix<'_>, row: u32, column: u32) -> bool
+/// Whether an earlier row meets the column.
+pub fn is_touched(matrix: &ListedMatrix<'_>, row: u32, column: u32) -> bool
     requires { column < matrix.now.width }
     ensures { result ≡ false → IsUntouched matrix.now row column }
 {

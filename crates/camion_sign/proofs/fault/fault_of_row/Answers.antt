@@ -9,6 +9,9 @@ use Rattle.camion_sign.proofs.EntryTests.{zero_as_byte}
 use Rattle.camion_sign.proofs.Steps.{within}
 use Rattle.camion_sign.proofs.fault.fault_of_row.Goals as goal
 use Rattle.camion_sign.proofs.fault.fault_of_row.Goals.{then-entry-ne0+in_ok-fault+in_default, else-entry-ne0}
+use Rattle.camion_sign.specs.NearColumns.{KnowsNear}
+use Rattle.camion_sign.specs.declared.near_columns.NearColumns.{NearColumns}
+use Rattle.camion_sign.proofs.NearFaults.{knows_more}
 
 module _ (m : Matrix) (t column : ℕ) (before : (x y : ℕ) → x < column → HasNoFaultAt m t x y) where
   -- another column has no fault
@@ -28,18 +31,18 @@ module _ (m : Matrix) (t column : ℕ) (before : (x y : ℕ) → x < column → 
   )
 
 pub loop-column-init : goal.loop-column-init
-loop-column-init c = (c.requires.fits, λ x y l path fault. omega (arith, l))
+loop-column-init c = record { fits = c.requires.fits; passed = λ x y l path fault. omega (arith, l); knows = c.begin.ensures }
 
-pub fault_from-requires-clause-first : goal.fault_from-requires-clause-first
-fault_from-requires-clause-first c z = c.if-entry-ne0.true (zero_as_byte c.entry.result (c.entry.ensures.value ∙ z))
+pub fault_at-requires-clause-first : goal.fault_at-requires-clause-first
+fault_at-requires-clause-first c z = c.if-entry-ne0.true (zero_as_byte c.entry.result (c.entry.ensures.value ∙ z))
 
-pub fault_from-requires-clause-fits : goal.fault_from-requires-clause-fits
-fault_from-requires-clause-fits c = c.loop-column.invariant.0
+pub fault_at-requires-clause-fits : goal.fault_at-requires-clause-fits
+fault_at-requires-clause-fits c = c.loop-column.invariant.fits
 
 pub returns-in-Some-clause-found : goal.returns-in-Some-clause-found
 returns-in-Some-clause-found c =
     let found = rw c.in-Some.is at c.in_ok-fault.ensures.found in
-    column_found c.args.matrix.now c.args.row c.loop-column.column c.loop-column.invariant.1 c.in-Some.fault found
+    column_found c.args.matrix.now c.args.row c.loop-column.column c.loop-column.invariant.passed c.in-Some.fault found
 
 pub returns-in-Some-clause-fits : goal.returns-in-Some-clause-fits
 returns-in-Some-clause-fits c = c.in_ok-fault.ensures.fits
@@ -47,22 +50,30 @@ returns-in-Some-clause-fits c = c.in_ok-fault.ensures.fits
 pub loop-column-preserved : goal.loop-column-preserved
 loop-column-preserved c =
     let m = c.args.matrix.now in
-    let before = c.loop-column.invariant.1 in
+    let before = c.loop-column.invariant.passed in
     elim c.if-entry-ne0.branch [
-      | then-entry-ne0+in_ok-fault+in_default w ↦ (
-        subst (HasPlacesAndMarks m) (sym w.walk-is) w.in_ok-fault.ensures.fits,
-        column_passed m c.args.row c.loop-column.column before (rw w.in_default.is at w.in_ok-fault.ensures.found),
-      )
-      | else-entry-ne0 w ↦ (
-        subst (HasPlacesAndMarks m) (sym w.walk-is) c.loop-column.invariant.0,
-        column_passed m c.args.row c.loop-column.column before (λ y path fault. fault.place.first (sym c.entry.ensures.value ∙ zero_byte c.entry.result c.entry.ensures.small w.if-entry-ne0.false)),
-      )
+      | then-entry-ne0+in_ok-fault+in_default w ↦ record {
+        fits = subst (HasPlacesAndMarks m) (sym w.walk-is) w.in_ok-fault.ensures.fits;
+        passed = column_passed m c.args.row c.loop-column.column before (rw w.in_default.is at w.in_ok-fault.ensures.found);
+        knows = subst (λ (v : NearColumns). KnowsNear m c.args.row (c.loop-column.column + 1) v) (sym w.near-is) w.in_ok-fault.ensures.knows;
+      }
+      | else-entry-ne0 w ↦ record {
+        fits = subst (HasPlacesAndMarks m) (sym w.walk-is) c.loop-column.invariant.fits;
+        passed = column_passed m c.args.row c.loop-column.column before (λ y path fault. fault.place.first (sym c.entry.ensures.value ∙ zero_byte c.entry.result c.entry.ensures.small w.if-entry-ne0.false));
+        knows = subst (λ (v : NearColumns). KnowsNear m c.args.row (c.loop-column.column + 1) v) (sym w.near-is) (knows_more m c.args.row c.loop-column.column c.loop-column.near c.loop-column.invariant.knows);
+      }
     ]
 
 pub returns-clause-found : goal.returns-clause-found
 returns-clause-found c x y path fault =
     let inside = within c.args.matrix.now c.args.row x c.requires.fits.matrix c.requires.row fault.place.first in
-    c.loop-column.invariant.1 x y (omega (arith, inside, c.loop-column-test.false, c.columns-column-end.ensures.columns)) path fault
+    c.loop-column.invariant.passed x y (omega (arith, inside, c.loop-column-test.false, c.columns-column-end.ensures.columns)) path fault
 
 pub returns-clause-fits : goal.returns-clause-fits
-returns-clause-fits c = c.loop-column.invariant.0
+returns-clause-fits c = c.loop-column.invariant.fits
+
+pub returns-clause-room : goal.returns-clause-room
+returns-clause-room c = c.loop-column.invariant.knows.room
+
+pub returns-in-Some-clause-room : goal.returns-in-Some-clause-room
+returns-in-Some-clause-room c = c.in_ok-fault.ensures.knows.room

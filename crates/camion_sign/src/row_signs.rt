@@ -1,0 +1,71 @@
+// Rows whose signs agree in their common columns.
+ghost use Rattle.std.specs.Prelude.{◌≡◌, ◌≢◌, ◌<◌, ◌⊎◌, ℕ, true, length, IsTrue};
+ghost use Rattle.cmr_base.specs.Matrix.{height, IsMatrix};
+ghost use Rattle.cmr_base.specs.Planes.{has_bit};
+ghost use Rattle.camion_sign.specs.RowSigns.{AgreeInSigns, AgreesBefore, HaveEqualSigns, HaveOppositeSigns};
+
+use cmr_base::Matrix;
+
+/// Whether a row agrees with each row before it, up to the sign of the row, in the columns in which both are not 0.
+pub fn agrees_with_earlier(matrix: &Matrix, row: u32) -> bool
+    requires row { row < height matrix.now }
+    requires shape { IsMatrix matrix.now }
+    ensures { IsTrue result → AgreesBefore matrix.now row }
+{
+    for other in 0..row {
+        if !agree(matrix, other, row) {
+            return false;
+        }
+    }
+    true
+}
+
+// Whether two rows agree, up to the sign of a row, in the columns in which both are not 0.
+fn agree(matrix: &Matrix, one: u32, two: u32) -> bool
+    requires one { one < height matrix.now }
+    requires two { two < height matrix.now }
+    requires shape { IsMatrix matrix.now }
+    ensures { IsTrue result → AgreeInSigns matrix.now one two }
+{
+    signs_agree(
+        matrix.support_words(one),
+        matrix.minus_words(one),
+        matrix.support_words(two),
+        matrix.minus_words(two),
+    )
+}
+
+// The same for the words of the rows.
+fn signs_agree(support: &[u64], minus: &[u64], other: &[u64], other_minus: &[u64]) -> bool
+    requires minus { length minus.now ≡ length support.now }
+    requires other { length other.now ≡ length support.now }
+    requires other_minus { length other_minus.now ≡ length support.now }
+    ensures { IsTrue result
+        → HaveEqualSigns support.now minus.now other.now other_minus.now
+        ⊎ HaveOppositeSigns support.now minus.now other.now other_minus.now }
+{
+    let mut may_be_equal = true;
+    let mut may_be_opposite = true;
+    for chunk in 0..support.len() {
+        let common = support[chunk] & other[chunk];
+        may_be_equal = may_be_equal && are_equal(common, minus[chunk], other_minus[chunk]);
+        may_be_opposite = may_be_opposite && are_opposite(common, minus[chunk], other_minus[chunk]);
+    }
+    may_be_equal || may_be_opposite
+}
+
+// Whether two words are equal in the bits of `common`.
+fn are_equal(common: u64, word: u64, other: u64) -> bool
+    ensures { IsTrue result
+        → (k : ℕ) → k < 64 → has_bit common k ≡ true → has_bit word k ≡ has_bit other k }
+{
+    common & (word ^ other) == 0
+}
+
+// Whether two words differ in all bits of `common`.
+fn are_opposite(common: u64, word: u64, other: u64) -> bool
+    ensures { IsTrue result
+        → (k : ℕ) → k < 64 → has_bit common k ≡ true → has_bit word k ≢ has_bit other k }
+{
+    common & !(word ^ other) == 0
+}
