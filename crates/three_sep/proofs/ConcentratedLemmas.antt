@@ -1,5 +1,5 @@
 -- Good seeds of the concentrated form.
-use Rattle.std.proofs.Common.{ℕ, ℤ, pos, ◌+◌, ◌<◌, ◌≤◌, ◌*ℤ◌, ◌+ℤ◌, ◌-ℤ◌, Bool, true, false, List, [], ◌∷◌, ◌++◌, ◌≡◌, ◌≢◌, ◌∙◌, sym, ap, refl, arith, subst, ◌⊎◌, inl, inr, length, Option, Some, IfSome}
+use Rattle.std.proofs.Common.{ℕ, ℤ, pos, ◌+◌, ◌<◌, ◌≤◌, ◌*ℤ◌, ◌+ℤ◌, ◌-ℤ◌, Bool, true, false, List, [], ◌∷◌, ◌++◌, ◌≡◌, ◌≢◌, ◌∙◌, sym, ap, refl, arith, subst, ◌⊎◌, inl, inr, length, Option, Some, MatchOption}
 use Rattle.std.proofs.lemmas.Bool.{cases_lt}
 use Rattle.cmr_base.specs.declared.line.Line.{Line}
 use Rattle.cmr_base.specs.declared.line.Line.TheVariants.{Row, Column}
@@ -258,10 +258,10 @@ no_common m i p k candidates are none s S h g = no_second m i p k s.pair.second.
 -- ---- the first connectors with two corners
 
 module _ (m : Matrix) (c : Corners) (d : Connectors) (is : IsFirstPair m c d) where
-  pub pair_found : (o : Option Three) (three : Three) → o ≡ Some three → IfSome o (IsFirstOf m (all_prefix Concentrated d)) → IsFirstOf m (corner_prefix Concentrated c) three
+  pub pair_found : (o : Option Three) (three : Three) → o ≡ Some three → MatchOption o (HasNoneBetween m d.first.row d.second.column) (IsFirstOf m (all_prefix Concentrated d)) → IsFirstOf m (corner_prefix Concentrated c) three
   pair_found o three e h =
       let here : IsFirstOf m (corner_prefix Concentrated c ++ d.first.other ∷ d.second.other ∷ []) three =
-      subst (λ (z : Corners). IsFirstOf m (corner_prefix Concentrated z ++ d.first.other ∷ d.second.other ∷ []) three) is.corners (subst (λ (z : Option Three). IfSome z (IsFirstOf m (all_prefix Concentrated d))) e h) in
+      subst (λ (z : Corners). IsFirstOf m (corner_prefix Concentrated z ++ d.first.other ∷ d.second.other ∷ []) three) is.corners (subst (λ (z : Option Three). MatchOption z (HasNoneBetween m d.first.row d.second.column) (IsFirstOf m (all_prefix Concentrated d))) e h) in
       level_found m (corner_prefix Concentrated c) d.first.other three (omega arith) is.columns (level_found m (corner_prefix Concentrated c ++ d.first.other ∷ []) d.second.other three (omega arith) is.rows here)
 
   pub none_at_pair : HasNoneBetween m d.first.row d.second.column → HasNoneBetween m c.i c.j

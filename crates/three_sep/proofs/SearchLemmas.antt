@@ -1,5 +1,5 @@
 -- The search for the first good seed, level by level.
-use Rattle.std.proofs.Common.{ℕ, ◌+◌, Bool, true, false, List, [], ◌∷◌, ◌++◌, ◌≡◌, ◌≢◌, ◌<◌, ◌∙◌, sym, ap, refl, arith, subst, inl, inr, length, get_or, pos, Option, Some, None, Result, Ok, Err, IfOk, IfSome, IfNone}
+use Rattle.std.proofs.Common.{ℕ, ◌+◌, Bool, true, false, List, [], ◌∷◌, ◌++◌, ◌≡◌, ◌≢◌, ◌<◌, ◌∙◌, sym, ap, refl, arith, subst, inl, inr, length, get_or, pos, Option, Some, None, Result, Ok, Err, IfOk, MatchOption}
 use Rattle.std.proofs.lemmas.Bool.{cases_lt}
 use Rattle.std.specs.List.{AllByRecursion}
 use Rattle.cmr_base.specs.declared.line.Line.{Line}
@@ -18,7 +18,7 @@ use Rattle.cmr_base.specs.Separations.{AreCrossing, IsTied, Lines, connector_lin
 use Rattle.cmr_base.specs.Seeds.{IsLine, form_number, line_number, IsBefore}
 use Rattle.three_sep.specs.NumberedSeeds.{Seed, IsBeside, IsCrossing, IsGoodSeed, seed_key, HasLines, seed_of}
 use Rattle.cuts.specs.LineCuts.{AreInside, IsCutAt, IsCut, HasNames, HoldTogether, name_of}
-use Rattle.three_sep.specs.Searches.{BeginsWith, HasNoGood, IsFirstOf, HasNoneBelow, corner_prefix, corners_of, first_at, line_count, other_line, HasNoColumn, HasNoRow, LacksColumn, LacksRow, IsNoSecondRow, IsNoSecondColumn}
+use Rattle.three_sep.specs.Searches.{BeginsWith, HasNoGood, IsFirstOf, IsFoundSeparation, HasNoneBelow, corner_prefix, corners_of, first_at, line_count, other_line, HasNoColumn, HasNoRow, LacksColumn, LacksRow, IsNoSecondRow, IsNoSecondColumn}
 use Rattle.three_sep.specs.declared.connectors.Connectors.{Connectors}
 use Rattle.three_sep.specs.Connectors.{all_prefix, connectors_at}
 use Rattle.three_sep.proofs.CrossingLemmas.{closed_crossing, crossing_from}
@@ -309,27 +309,24 @@ below_none m b l = absurd (omega arith)
 
 -- ---- answers of calls
 
-pub found_some : (m : Matrix) (prefix : List ℕ) (a : ℕ) (o : Option Three) (three : Three) → length prefix < 8 → HasNoneBelow m prefix a → o ≡ Some three → IfSome o (IsFirstOf m (prefix ++ a ∷ [])) → IsFirstOf m prefix three
-found_some m prefix a o three short before e h = level_found m prefix a three short before (subst (λ (z : Option Three). IfSome z (IsFirstOf m (prefix ++ a ∷ []))) e h)
+pub found_some : (m : Matrix) (prefix : List ℕ) (a : ℕ) (o : Option Three) (three : Three) → length prefix < 8 → HasNoneBelow m prefix a → o ≡ Some three → IsFoundSeparation m (prefix ++ a ∷ []) o → IsFirstOf m prefix three
+found_some m prefix a o three short before e h = level_found m prefix a three short before (subst (IsFoundSeparation m (prefix ++ a ∷ [])) e h)
 
-pub none_more : (m : Matrix) (prefix : List ℕ) (a : ℕ) (o : Option Three) → HasNoneBelow m prefix a → o ≡ None → IfNone o (HasNoGood m (prefix ++ a ∷ [])) → HasNoneBelow m prefix (a + 1)
-none_more m prefix a o before e h = none_below_more m prefix a before (subst (λ (z : Option Three). IfNone z (HasNoGood m (prefix ++ a ∷ []))) e h)
+pub none_more : (m : Matrix) (prefix : List ℕ) (a : ℕ) (o : Option Three) → HasNoneBelow m prefix a → o ≡ None → IsFoundSeparation m (prefix ++ a ∷ []) o → HasNoneBelow m prefix (a + 1)
+none_more m prefix a o before e h = none_below_more m prefix a before (subst (IsFoundSeparation m (prefix ++ a ∷ [])) e h)
 
-pub none_of : (Q : Type 0) (o : Option Three) → o ≡ None → IfNone o Q → Q
-none_of Q o e h = subst (λ (z : Option Three). IfNone z Q) e h
+pub none_of : (P : Type 0) (Q : Three → Type 0) (o : Option Three) → o ≡ None → MatchOption o P Q → P
+none_of P Q o e h = subst (λ (z : Option Three). MatchOption z P Q) e h
 
-pub map_first : {E : Type 0} (P Q : Three → Type 0) (r : Result (Option Three) E) → ((x : Three) → P x → Q x) → IfOk r (λ a. IfSome a P) → IfOk r (λ a. IfSome a Q)
-map_first P Q (Ok None) f h = h
-map_first P Q (Ok (Some x)) f h = f x h
-map_first P Q (Err e) f h = h
+-- what follows from an answer in each of its cases
+pub map_found : {E : Type 0} (P P' : Type 0) (Q Q' : Three → Type 0) (r : Result (Option Three) E) → (P → P') → ((x : Three) → Q x → Q' x) → IfOk r (λ a. MatchOption a P Q) → IfOk r (λ a. MatchOption a P' Q')
+map_found P P' Q Q' (Ok None) none some h = none h
+map_found P P' Q Q' (Ok (Some x)) none some h = some x h
+map_found P P' Q Q' (Err e) none some h = tt
 
-pub map_none : {E : Type 0} (P Q : Type 0) (r : Result (Option Three) E) → (P → Q) → IfOk r (λ a. IfNone a P) → IfOk r (λ a. IfNone a Q)
-map_none P Q (Ok None) f h = f h
-map_none P Q (Ok (Some x)) f h = h
-map_none P Q (Err e) f h = h
-
-pub first_of_last_form : {E : Type 0} (m : Matrix) (r : Result (Option Three) E) → HasNoneBelow m [] 3 → IfOk r (λ a. IfSome a (IsFirstOf m (3 ∷ []))) → IfOk r (λ a. IfSome a (IsFirstOf m []))
-first_of_last_form m r before h = map_first (IsFirstOf m (3 ∷ [])) (IsFirstOf m []) r (λ x f. level_found m [] 3 x (omega arith) before f) h
+pub found_in_last_form : {E : Type 0} (m : Matrix) (r : Result (Option Three) E) → HasNoneBelow m [] 3 → IfOk r (IsFoundSeparation m (3 ∷ [])) → IfOk r (IsFoundSeparation m [])
+found_in_last_form m r before h =
+    map_found (HasNoGood m (3 ∷ [])) (HasNoGood m []) (IsFirstOf m (3 ∷ [])) (IsFirstOf m []) r (none_of_forms m before) (λ x first. level_found m [] 3 x (omega arith) before first) h
 
 -- ---- other lines
 

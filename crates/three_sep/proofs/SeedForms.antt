@@ -1,5 +1,5 @@
 -- The first good seed gives the first three-separation.
-use Rattle.std.proofs.Common.{ℕ, ℤ, true, false, [], ◌≡◌, ◌∙◌, sym, arith, subst, Option, Some, None, Result, Ok, Err, IfOk, IfSome, IfNone}
+use Rattle.std.proofs.Common.{ℕ, ℤ, true, false, [], ◌≡◌, ◌∙◌, sym, arith, subst, Option, Some, None, Result, Ok, Err, IfOk}
 use Rattle.std.specs.Prelude.{MatchOption}
 use Rattle.cmr_base.specs.declared.line.Line.{Line}
 use Rattle.cmr_base.specs.declared.line.Line.TheVariants.{Row, Column}
@@ -14,7 +14,7 @@ use Rattle.cmr_base.proofs.ListedLines.{in_from_listed, listed_from_in, first_li
 use Rattle.cmr_base.proofs.RemovedLines.{in_first_lines, row_set_from_within, column_set_from_within}
 use Rattle.cmr_base.proofs.SeedLemmas.{outside_grows, good_three_seed, three_separation_of_seed}
 use Rattle.cmr_base.proofs.Booleans.{same_test}
-use Rattle.three_sep.specs.Searches.{IsFirstOf, HasNoGood}
+use Rattle.three_sep.specs.Searches.{IsFirstOf, IsFoundSeparation, HasNoGood}
 use Rattle.three_sep.specs.ThreeSeparations.{IsFirstThreeSeparation}
 
 -- ---- the side as two lists
@@ -73,8 +73,7 @@ no_three m none form one two T s =
     none (record { form = form; pair = record { first = one; second = two }; line = g.0 }) g.1 tt g.2
 
 -- the answer of the whole search
-pub found : {E : Type 0} (matrix m : Matrix) → matrix ≡ m → (r : Result (Option Three) E) → IfOk r (λ a. IfSome a (IsFirstOf matrix [])) → IfOk r (λ a. IfNone a (HasNoGood matrix []))
-    → IfOk r (λ a. MatchOption a (HasNoThreeSeparation m) (λ three. IsFirstThreeSeparation m three))
-found matrix m e (Ok None) some none = subst HasNoThreeSeparation e (no_three matrix none)
-found matrix m e (Ok (Some three)) some none = subst (λ (z : Matrix). IsFirstThreeSeparation z three) e (first_three matrix three some)
-found matrix m e (Err h) some none = tt
+pub found : {E : Type 0} (matrix m : Matrix) → matrix ≡ m → (r : Result (Option Three) E) → IfOk r (IsFoundSeparation matrix []) → IfOk r (λ a. MatchOption a (HasNoThreeSeparation m) (λ three. IsFirstThreeSeparation m three))
+found matrix m e (Ok None) none = subst HasNoThreeSeparation e (no_three matrix none)
+found matrix m e (Ok (Some three)) first = subst (λ (z : Matrix). IsFirstThreeSeparation z three) e (first_three matrix three first)
+found matrix m e (Err h) answer = tt

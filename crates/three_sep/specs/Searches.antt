@@ -1,5 +1,5 @@
 -- The search for the first good seed, by prefixes of the keys of seeds.
-use Rattle.std.specs.Prelude.{◌≡◌, ◌≢◌, ◌<◌, ◌++◌, ◌⊎◌, ℕ, pos, Bool, true, false, List, [], ◌∷◌}
+use Rattle.std.specs.Prelude.{◌≡◌, ◌≢◌, ◌<◌, ◌++◌, ◌⊎◌, ℕ, pos, Bool, true, false, List, [], ◌∷◌, Option, MatchOption}
 use Rattle.cmr_base.specs.declared.line.Line.{Line}
 use Rattle.cmr_base.specs.declared.line.Line.TheVariants.{Row, Column}
 use Rattle.cmr_base.specs.declared.separation.Connector.{Connector}
@@ -34,6 +34,10 @@ pub record IsFirstOf (m : Matrix) (prefix : List ℕ) (three : Three) : Type 0 w
   pub good : IsGoodSeed m (seed_of three x) side
   pub first : (other : Seed) (T : Lines) → BeginsWith prefix (seed_key m other) → IsGoodSeed m other T → ¬ (IsBefore (seed_key m other) (seed_key m (seed_of three x)))
   pub lines : HasLines (height m) m.width side three.side.rows three.side.columns
+
+-- what a search by this prefix gives: the three-separation of the first good seed, and none if and only if no seed is good
+abbrev pub IsFoundSeparation : Matrix → List ℕ → Option Three → Type 0
+IsFoundSeparation m prefix found = MatchOption found (HasNoGood m prefix) (IsFirstOf m prefix)
 
 -- no seed whose key has this prefix, followed by a lesser number, is good
 abbrev pub HasNoneBelow : Matrix → List ℕ → ℕ → Type 0

@@ -1,5 +1,5 @@
 // The search for the first good seed of the concentrated form.
-ghost use Rattle.std.specs.Prelude.{◌≡◌, ◌≢◌, ◌<◌, ◌≤◌, ◌+◌, ◌++◌, ◌∷◌, [], ◌↔◌, ◌⊎◌, ℕ, length, pos, true, false, IsTrue, IfOk, OnOk, IfSome, IfNone, MatchOption};
+ghost use Rattle.std.specs.Prelude.{◌≡◌, ◌≢◌, ◌<◌, ◌≤◌, ◌+◌, ◌++◌, ◌∷◌, [], ◌↔◌, ◌⊎◌, ℕ, length, pos, true, false, IsTrue, IfOk, OnOk, IfSome, MatchOption};
 ghost use Rattle.cmr_base.specs.declared.separation.Form.TheVariants.{Concentrated};
 ghost use Rattle.cmr_base.specs.ColumnSets.{has_column};
 ghost use Rattle.cmr_base.specs.Cores.{IsBounded};
@@ -11,7 +11,7 @@ ghost use Rattle.cmr_base.specs.Seeds.{IsConnectorPair, form_number};
 ghost use Rattle.cmr_base.specs.Trees.{support};
 ghost use Rattle.cuts.specs.LineCuts.{AreInside};
 ghost use Rattle.three_sep.specs.Connectors.{all_prefix};
-ghost use Rattle.three_sep.specs.Searches.{HasNoGood, IsFirstOf, corner_prefix, first_at, second_at};
+ghost use Rattle.three_sep.specs.Searches.{HasNoGood, IsFirstOf, IsFoundSeparation, corner_prefix, first_at, second_at};
 ghost use Rattle.three_sep.specs.Concentrated.{AreConcentratedCorners, AreCandidates, HasNoneBetween, IsFirstPair, IsFirstRow, IsNoOtherColumn, IsOtherColumn};
 
 use crate::connectors::Connectors;
@@ -33,10 +33,7 @@ pub fn first_concentrated(
     alloc: Global,
     matrix: &RowsAndColumns<'_>,
 ) -> Result<Option<Three>, Memory>
-    ensures first { IfOk result (λ answer.
-        IfSome answer (IsFirstOf matrix.now (form_number Concentrated ∷ []))) }
-    ensures none { IfOk result (λ answer.
-        IfNone answer (HasNoGood matrix.now (form_number Concentrated ∷ []))) }
+    ensures { IfOk result (IsFoundSeparation matrix.now (form_number Concentrated ∷ [])) }
 {
     for i in 0..matrix.rows() {
         if let Some(three) = first_of_row(alloc, matrix, i)? {
@@ -49,10 +46,8 @@ pub fn first_concentrated(
 // The same with row i. The loop visits the columns p.
 fn first_of_row(alloc: Global, matrix: &RowsAndColumns<'_>, i: u32) -> Result<Option<Three>, Memory>
     requires row { i < height matrix.now }
-    ensures first { IfOk result (λ answer.
-        IfSome answer (IsFirstOf matrix.now (form_number Concentrated ∷ i ∷ []))) }
-    ensures none { IfOk result (λ answer.
-        IfNone answer (HasNoGood matrix.now (form_number Concentrated ∷ i ∷ []))) }
+    ensures { IfOk result (IsFoundSeparation matrix.now
+        (form_number Concentrated ∷ i ∷ [])) }
 {
     let mut candidates = candidates_for(alloc, matrix, i)?;
     for p in 0..matrix.columns() {
@@ -92,10 +87,8 @@ fn first_of_corner(
     requires corner { (i < height matrix.now) × (p < matrix.now.width) }
     requires nonzero { entry matrix.now i p ≢ pos 0 }
     ensures candidates { OnOk result (AreCandidates matrix.now i candidates.new.items) }
-    ensures first { IfOk result (λ answer.
-        IfSome answer (IsFirstOf matrix.now (form_number Concentrated ∷ i ∷ p ∷ []))) }
-    ensures none { IfOk result (λ answer.
-        IfNone answer (HasNoGood matrix.now (form_number Concentrated ∷ i ∷ p ∷ []))) }
+    ensures found { IfOk result (IsFoundSeparation matrix.now
+        (form_number Concentrated ∷ i ∷ p ∷ [])) }
 {
     if is_empty(candidates) {
         return Ok(None);
@@ -121,10 +114,8 @@ fn first_of_second_row(
     requires corner { (i < height matrix.now) × (p < matrix.now.width) × (k < height matrix.now) }
     requires nonzero { entry matrix.now i p ≢ pos 0 }
     ensures candidates { OnOk result (AreCandidates matrix.now i candidates.new.items) }
-    ensures first { IfOk result (λ answer.
-        IfSome answer (IsFirstOf matrix.now (form_number Concentrated ∷ i ∷ p ∷ k ∷ []))) }
-    ensures none { IfOk result (λ answer.
-        IfNone answer (HasNoGood matrix.now (form_number Concentrated ∷ i ∷ p ∷ k ∷ []))) }
+    ensures found { IfOk result (IsFoundSeparation matrix.now
+        (form_number Concentrated ∷ i ∷ p ∷ k ∷ [])) }
 {
     let _columns = matrix.columns();
     if !meets(candidates, columns_of(matrix, k)) {
@@ -176,10 +167,8 @@ fn first_of_corners(
     requires corners { AreConcentratedCorners (entry matrix.now) corners.now }
     ensures candidates { OnOk result (AreCandidates matrix.now corners.now.i
         candidates.new.items) }
-    ensures first { IfOk result (λ answer.
-        IfSome answer (IsFirstOf matrix.now (corner_prefix Concentrated corners.now))) }
-    ensures none { IfOk result (λ answer.
-        IfNone answer (HasNoGood matrix.now (corner_prefix Concentrated corners.now))) }
+    ensures found { IfOk result (IsFoundSeparation matrix.now
+        (corner_prefix Concentrated corners.now)) }
 {
     let _columns = matrix.columns();
     let Some(connectors) = first_connectors(matrix, corners) else {
@@ -202,10 +191,9 @@ fn first_of_pair(
     requires candidates { AreCandidates matrix.now connectors.now.first.row candidates.now }
     requires connectors { IsConnectorPair (height matrix.now) matrix.now.width (entry matrix.now)
         Concentrated connectors.now.first connectors.now.second }
-    ensures first { IfOk result (λ answer.
-        IfSome answer (IsFirstOf matrix.now (all_prefix Concentrated connectors.now))) }
-    ensures none { IfOk result (λ answer. IfNone answer (HasNoneBetween matrix.now
-        connectors.now.first.row connectors.now.second.column)) }
+    ensures { IfOk result (λ answer. MatchOption answer
+        (HasNoneBetween matrix.now connectors.now.first.row connectors.now.second.column)
+        (IsFirstOf matrix.now (all_prefix Concentrated connectors.now))) }
 {
     if is_in_side_one(matrix, candidates, connectors) {
         return Ok(None);
@@ -261,10 +249,8 @@ fn first_of_connectors(
 ) -> Result<Option<Three>, Memory>
     requires { IsConnectorPair (height matrix.now) matrix.now.width (entry matrix.now) Concentrated
         connectors.now.first connectors.now.second }
-    ensures first { IfOk result (λ answer.
-        IfSome answer (IsFirstOf matrix.now (all_prefix Concentrated connectors.now))) }
-    ensures none { IfOk result (λ answer.
-        IfNone answer (HasNoGood matrix.now (all_prefix Concentrated connectors.now))) }
+    ensures { IfOk result (IsFoundSeparation matrix.now
+        (all_prefix Concentrated connectors.now)) }
 {
     let rule = connectors.spread_rule(matrix);
     let Connector { row, column, other } = connectors.first;

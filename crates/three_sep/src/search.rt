@@ -1,12 +1,12 @@
 // The search for the first good seed.
-ghost use Rattle.std.specs.Prelude.{◌≡◌, ◌≢◌, ◌<◌, ◌≤◌, ◌++◌, ◌∷◌, [], pos, true, false, IfOk, OnOk, IfSome, IfNone, MatchOption};
+ghost use Rattle.std.specs.Prelude.{◌≡◌, ◌≢◌, ◌<◌, ◌≤◌, ◌++◌, ◌∷◌, [], pos, true, false, IfOk, OnOk, MatchOption};
 ghost use Rattle.cmr_base.specs.Matrix.{height, entry};
 ghost use Rattle.cmr_base.specs.Separations.{HasNoThreeSeparation, IsTied, first_is_flat, second_is_flat};
 ghost use Rattle.cmr_base.specs.Seeds.{IsLine, form_number};
 ghost use Rattle.cuts.specs.LineCuts.{AreInside, HasNames};
 ghost use Rattle.three_sep.specs.NumberedSeeds.{IsCrossing};
 ghost use Rattle.three_sep.specs.ThreeSeparations.{IsFirstThreeSeparation};
-ghost use Rattle.three_sep.specs.Searches.{HasCorners, HasNoGood, HoldsFirst, IsCorner, IsFirstOf, IsNoSecondColumn, IsNoSecondRow, IsSearchOf, corner_prefix, other_line, second_at};
+ghost use Rattle.three_sep.specs.Searches.{HasCorners, HasNoGood, HoldsFirst, IsCorner, IsFoundSeparation, IsNoSecondColumn, IsNoSecondRow, IsSearchOf, corner_prefix, other_line, second_at};
 
 use crate::concentrated::first_concentrated;
 use crate::connectors::{Connectors, rule_at};
@@ -92,8 +92,7 @@ impl Search {
     // Gives the three-separation of the first good seed, and `None` if and only if no seed is good. The forms are visited in their order.
     fn first(&mut self, alloc: Global, matrix: &RowsAndColumns<'_>) -> Result<Option<Three>, Memory>
         requires search { IsSearchOf matrix.now self.old }
-        ensures first { IfOk result (λ answer. IfSome answer (IsFirstOf matrix.now [])) }
-        ensures none { IfOk result (λ answer. IfNone answer (HasNoGood matrix.now [])) }
+        ensures { IfOk result (IsFoundSeparation matrix.now []) }
     {
         if let Some(three) = self.first_of_form(alloc, matrix, Form::Delta)? {
             return Ok(Some(three));
@@ -117,10 +116,7 @@ impl Search {
         requires crossing { IsCrossing form }
         requires search { IsSearchOf matrix.now self.old }
         ensures search { OnOk result (IsSearchOf matrix.now self.new) }
-        ensures first { IfOk result (λ answer.
-            IfSome answer (IsFirstOf matrix.now (form_number form ∷ []))) }
-        ensures none { IfOk result (λ answer.
-            IfNone answer (HasNoGood matrix.now (form_number form ∷ []))) }
+        ensures found { IfOk result (IsFoundSeparation matrix.now (form_number form ∷ [])) }
     {
         for i in 0..matrix.rows() {
             if let Some(three) = self.first_of_row(alloc, matrix, form, i)? {
@@ -142,10 +138,7 @@ impl Search {
         requires search { IsSearchOf matrix.now self.old }
         requires row { i < height matrix.now }
         ensures search { OnOk result (IsSearchOf matrix.now self.new) }
-        ensures first { IfOk result (λ answer.
-            IfSome answer (IsFirstOf matrix.now (form_number form ∷ i ∷ []))) }
-        ensures none { IfOk result (λ answer.
-            IfNone answer (HasNoGood matrix.now (form_number form ∷ i ∷ []))) }
+        ensures found { IfOk result (IsFoundSeparation matrix.now (form_number form ∷ i ∷ [])) }
     {
         if self.groups.are_all_one() {
             return Ok(None);
@@ -173,10 +166,8 @@ impl Search {
         requires search { IsSearchOf matrix.now self.old }
         requires corner { IsCorner matrix.now i p }
         ensures search { OnOk result (IsSearchOf matrix.now self.new) }
-        ensures first { IfOk result (λ answer.
-            IfSome answer (IsFirstOf matrix.now (form_number form ∷ i ∷ p ∷ []))) }
-        ensures none { IfOk result (λ answer.
-            IfNone answer (HasNoGood matrix.now (form_number form ∷ i ∷ p ∷ []))) }
+        ensures found { IfOk result (IsFoundSeparation matrix.now
+            (form_number form ∷ i ∷ p ∷ [])) }
     {
         for k in 0..matrix.rows() {
             if is_second_row(matrix, &self.groups, form, i, p, k) {
@@ -203,10 +194,8 @@ impl Search {
         requires corner { IsCorner matrix.now i p }
         requires below { IsCorner matrix.now k p }
         ensures search { OnOk result (IsSearchOf matrix.now self.new) }
-        ensures first { IfOk result (λ answer.
-            IfSome answer (IsFirstOf matrix.now (form_number form ∷ i ∷ p ∷ k ∷ []))) }
-        ensures none { IfOk result (λ answer.
-            IfNone answer (HasNoGood matrix.now (form_number form ∷ i ∷ p ∷ k ∷ []))) }
+        ensures found { IfOk result (IsFoundSeparation matrix.now
+            (form_number form ∷ i ∷ p ∷ k ∷ [])) }
     {
         self.ask(alloc, matrix)?;
         for j in 0..matrix.columns() {
@@ -236,10 +225,8 @@ impl Search {
         requires search { IsSearchOf matrix.now self.old }
         requires corners { HasCorners matrix.now corners.now }
         ensures search { OnOk result (IsSearchOf matrix.now self.new) }
-        ensures first { IfOk result (λ answer.
-            IfSome answer (IsFirstOf matrix.now (corner_prefix form corners.now))) }
-        ensures none { IfOk result (λ answer.
-            IfNone answer (HasNoGood matrix.now (corner_prefix form corners.now))) }
+        ensures found { IfOk result (IsFoundSeparation matrix.now
+            (corner_prefix form corners.now)) }
     {
         let Corners { i, p, k, j } = *corners;
         let first = [Line::Row(i), Line::Column(p)];
@@ -306,10 +293,8 @@ impl Search {
         requires corners { HasCorners matrix.now corners.now }
         requires held { HoldsFirst matrix.now form corners.now q self.old }
         ensures search { OnOk result (IsSearchOf matrix.now self.new) }
-        ensures first { IfOk result (λ answer.
-            IfSome answer (IsFirstOf matrix.now (corner_prefix form corners.now ++ q ∷ []))) }
-        ensures none { IfOk result (λ answer.
-            IfNone answer (HasNoGood matrix.now (corner_prefix form corners.now ++ q ∷ []))) }
+        ensures found { IfOk result (IsFoundSeparation matrix.now
+            (corner_prefix form corners.now ++ q ∷ [])) }
     {
         for o in 0..count_of(matrix, form.second_is_flat()) {
             if let Some(three) = self.first_of_other(alloc, matrix, form, corners, q, o)? {
@@ -335,10 +320,8 @@ impl Search {
         requires line { IsLine (height matrix.now) matrix.now.width
             (other_line (second_is_flat form) o) }
         ensures held { OnOk result (HoldsFirst matrix.now form corners.now q self.new) }
-        ensures first { IfOk result (λ answer.
-            IfSome answer (IsFirstOf matrix.now (corner_prefix form corners.now ++ q ∷ o ∷ []))) }
-        ensures none { IfOk result (λ answer.
-            IfNone answer (HasNoGood matrix.now (corner_prefix form corners.now ++ q ∷ o ∷ []))) }
+        ensures found { IfOk result (IsFoundSeparation matrix.now
+            (corner_prefix form corners.now ++ q ∷ o ∷ [])) }
     {
         if !is_second_other(matrix, form, corners, o) {
             return Ok(None);
@@ -367,10 +350,8 @@ impl Search {
         requires line { IsLine (height matrix.now) matrix.now.width
             (other_line (second_is_flat form) o) }
         ensures held { OnOk result (HoldsFirst matrix.now form corners.now q self.new) }
-        ensures first { IfOk result (λ answer.
-            IfSome answer (IsFirstOf matrix.now (corner_prefix form corners.now ++ q ∷ o ∷ []))) }
-        ensures none { IfOk result (λ answer.
-            IfNone answer (HasNoGood matrix.now (corner_prefix form corners.now ++ q ∷ o ∷ []))) }
+        ensures found { IfOk result (IsFoundSeparation matrix.now
+            (corner_prefix form corners.now ++ q ∷ o ∷ [])) }
     {
         let connectors = Connectors::at(corners, q, o);
         let rule = rule_at(corners);

@@ -1,5 +1,5 @@
 // Sides that grow from the lines of one connector and leave the lines of another.
-ghost use Rattle.std.specs.Prelude.{◌≡◌, ◌∷◌, true, false, List, IfOk, IfSome, IfNone, OnOk};
+ghost use Rattle.std.specs.Prelude.{◌≡◌, ◌∷◌, true, false, List, IfOk, OnOk};
 ghost use Rattle.std.specs.List.{AllByRecursion};
 ghost use Rattle.cmr_base.specs.declared.line.Line.{Line};
 ghost use Rattle.cmr_base.specs.Matrix.{height};
@@ -8,7 +8,7 @@ ghost use Rattle.line_growth.specs.GrowingSets.{HasRoom, IsGrowing, TellsClosed,
 ghost use Rattle.line_growth.specs.Rules.{IsRuleOf, lower_of, upper_of};
 ghost use Rattle.three_sep.specs.Connectors.{AreConnectorsOf, HasNoneParting, all_prefix, firsts};
 ghost use Rattle.three_sep.specs.NumberedSeeds.{HasLines};
-ghost use Rattle.three_sep.specs.Searches.{HasNoGood, IsFirstOf};
+ghost use Rattle.three_sep.specs.Searches.{IsFoundSeparation};
 
 use crate::connectors::Connectors;
 use crate::others::is_beside;
@@ -180,10 +180,7 @@ pub fn first_of_lines(
     requires growing { IsGrowing matrix.now (upper_of matrix.now rule) (lower_of matrix.now rule)
         (firsts form connectors.now) side.now }
     ensures grown { OnOk result (HasRoom matrix.now grown.new) }
-    ensures first { IfOk result (λ answer.
-        IfSome answer (IsFirstOf matrix.now (all_prefix form connectors.now))) }
-    ensures none { IfOk result (λ answer.
-        IfNone answer (HasNoGood matrix.now (all_prefix form connectors.now))) }
+    ensures found { IfOk result (IsFoundSeparation matrix.now (all_prefix form connectors.now)) }
 {
     let second = connectors.second.lines(form.second_is_flat());
     for place in 0..matrix.rows() + matrix.columns() {

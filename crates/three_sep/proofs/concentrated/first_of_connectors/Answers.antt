@@ -13,8 +13,8 @@ use Rattle.three_sep.proofs.concentrated.first_of_connectors.Goals as goal
 exchanged_rule : (m : Matrix) (rule other : GrowthRule) → other ≡ exchanged rule → IsRuleOf m rule → IsRuleOf m other
 exchanged_rule m rule other e is = subst (IsRuleOf m) (sym e) (record { upper = is.lower; lower = is.upper })
 
-pub returns-then-not-branch-clause-none : goal.returns-then-not-branch-clause-none
-returns-then-not-branch-clause-none c =
+pub returns-then-not-branch : goal.returns-then-not-branch
+returns-then-not-branch c =
     let m = c.args.matrix.now in
     let d = c.args.connectors.now in
     let rule = c.spread_rule-rule in
@@ -24,8 +24,8 @@ returns-then-not-branch-clause-none c =
 pub leaves-requires-2-clause-rule : goal.leaves-requires-2-clause-rule
 leaves-requires-2-clause-rule c = exchanged_rule c.args.matrix.now c.spread_rule-rule.result c.exchanged.result c.exchanged.ensures c.spread_rule-rule.ensures.rule
 
-pub returns-then-not-branch-2-clause-none : goal.returns-then-not-branch-2-clause-none
-returns-then-not-branch-2-clause-none c =
+pub returns-then-not-branch-2 : goal.returns-then-not-branch-2
+returns-then-not-branch-2 c =
     let m = c.args.matrix.now in
     let d = c.args.connectors.now in
     let rule = c.spread_rule-rule in
@@ -33,8 +33,8 @@ returns-then-not-branch-2-clause-none c =
     (none_left m rule.result (firsts Concentrated d) (seconds Concentrated d) (subst (λ (r : GrowthRule). HasNoLeaving m r (seconds Concentrated d) (firsts Concentrated d) 4) c.exchanged.ensures
     (told_no m c.exchanged.result (seconds Concentrated d) (firsts Concentrated d) 4 c.in_ok-leaves-2.field-0 (set_of c.leaves-2.new.side) c.in_ok-leaves-2.ensures.told c.if-not-branch-2.true)))
 
-pub returns-then-not-branch-3-clause-none : goal.returns-then-not-branch-3-clause-none
-returns-then-not-branch-3-clause-none c =
+pub returns-then-not-branch-3 : goal.returns-then-not-branch-3
+returns-then-not-branch-3 c =
     let m = c.args.matrix.now in
     let d = c.args.connectors.now in
     let rule = c.spread_rule-rule in

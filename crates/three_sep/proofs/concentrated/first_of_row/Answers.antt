@@ -4,15 +4,15 @@ use Rattle.three_sep.proofs.SearchLemmas.{found_some, none_more, level_ends, non
 use Rattle.three_sep.proofs.concentrated.first_of_row.Goals as goal
 use Rattle.three_sep.proofs.concentrated.first_of_row.Goals.{then-is_nonzero+in_ok-three+in_default, else-is_nonzero}
 
-pub returns-in-Some-clause-first : goal.returns-in-Some-clause-first
-returns-in-Some-clause-first c = found_some c.args.matrix.now (3 ∷ c.args.i ∷ []) c.loop-p.p c.in_ok-three.field-0 c.in-Some.three (omega arith) c.loop-p.invariant.0 c.in-Some.is c.in_ok-three.ensures.first
+pub returns-in-Some : goal.returns-in-Some
+returns-in-Some c = found_some c.args.matrix.now (3 ∷ c.args.i ∷ []) c.loop-p.p c.in_ok-three.field-0 c.in-Some.three (omega arith) c.loop-p.invariant.0 c.in-Some.is c.in_ok-three.ensures.found
 
 pub loop-p-preserved : goal.loop-p-preserved
 loop-p-preserved c =
     let m = c.args.matrix.now in
     elim c.if-is_nonzero.branch [
       | then-is_nonzero+in_ok-three+in_default w ↦ (
-        none_more m (3 ∷ c.args.i ∷ []) c.loop-p.p w.in_ok-three.field-0 c.loop-p.invariant.0 w.in_default.is w.in_ok-three.ensures.none,
+        none_more m (3 ∷ c.args.i ∷ []) c.loop-p.p w.in_ok-three.field-0 c.loop-p.invariant.0 w.in_default.is w.in_ok-three.ensures.found,
         subst (λ v. AreCandidates m c.args.i v.items) (sym w.candidates-is) w.in_ok-three.ensures.candidates,
       )
       | else-is_nonzero w ↦ (
@@ -21,6 +21,6 @@ loop-p-preserved c =
       )
     ]
 
-pub returns-clause-none : goal.returns-clause-none
-returns-clause-none c = level_ends c.args.matrix.now (3 ∷ c.args.i ∷ []) c.loop-p.p (omega arith) c.loop-p.invariant.0
+pub returns : goal.returns
+returns c = level_ends c.args.matrix.now (3 ∷ c.args.i ∷ []) c.loop-p.p (omega arith) c.loop-p.invariant.0
     (λ s S b g h. let k = (good_inside c.args.matrix.now s S g).column_one in let e = h.1.1.0 in let l = c.loop-p-test.false in let r = c.columns-p-end.ensures.columns in omega arith)

@@ -25,8 +25,8 @@ leaves_beside-requires-clause-second c =
     subst (λ (xs : List Line). AllByRecursion (IsLine (height c.args.matrix.now) c.args.matrix.now.width) xs) (sym (second_is _ _ d.second _ c.second_is_flat.ensures c.lines-second.ensures))
     c.requires.connectors.pair.second_lines
 
-pub returns-then-branch-clause-first : goal.returns-then-branch-clause-first
-returns-then-branch-clause-first c =
+pub returns-then-branch-clause-found : goal.returns-then-branch-clause-found
+returns-then-branch-clause-found c =
     let m = c.args.matrix.now in
     let form = c.args.form in
     let d = c.args.connectors.now in
@@ -62,8 +62,8 @@ loop-place-preserved c =
       )
     ]
 
-pub returns-clause-none : goal.returns-clause-none
-returns-clause-none c =
+pub returns-clause-found : goal.returns-clause-found
+returns-clause-found c =
     let d = c.args.connectors.now in
     level_ends c.args.matrix.now (all_prefix c.args.form d) c.loop-place.place (omega arith) c.loop-place.invariant.1
     (λ s S b g h. let k = place_below c.args.matrix.now c.args.form d c.rows.result c.columns.result c.rows.ensures.rows c.columns.ensures.columns s S b g h in let l = c.loop-place-test.false in omega arith)

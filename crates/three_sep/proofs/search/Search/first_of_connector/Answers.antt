@@ -8,16 +8,16 @@ pub first_of_other-requires-clause-line : goal.first_of_other-requires-clause-li
 first_of_other-requires-clause-line c =
     below_line c.args.matrix.now (second_is_flat c.args.form) c.loop-o.o (let l = c.loop-o-test.true in let e = c.count_of-o-end.ensures.count ∙ ap (λ (z : Bool). line_count c.args.matrix.now z) c.second_is_flat.ensures in omega arith)
 
-pub returns-in-Some-clause-first : goal.returns-in-Some-clause-first
-returns-in-Some-clause-first c = found_some c.args.matrix.now (corner_prefix c.args.form c.args.corners.now ++ c.args.q ∷ []) c.loop-o.o c.in_ok-three.field-0 c.in-Some.three (omega arith) c.loop-o.invariant.1 c.in-Some.is c.in_ok-three.ensures.first
+pub returns-in-Some-clause-found : goal.returns-in-Some-clause-found
+returns-in-Some-clause-found c = found_some c.args.matrix.now (corner_prefix c.args.form c.args.corners.now ++ c.args.q ∷ []) c.loop-o.o c.in_ok-three.field-0 c.in-Some.three (omega arith) c.loop-o.invariant.1 c.in-Some.is c.in_ok-three.ensures.found
 
 pub loop-o-preserved : goal.loop-o-preserved
 loop-o-preserved c = (
   c.in_ok-three.ensures.held,
-  none_more c.args.matrix.now (corner_prefix c.args.form c.args.corners.now ++ c.args.q ∷ []) c.loop-o.o c.in_ok-three.field-0 c.loop-o.invariant.1 c.in_default.is c.in_ok-three.ensures.none,
+  none_more c.args.matrix.now (corner_prefix c.args.form c.args.corners.now ++ c.args.q ∷ []) c.loop-o.o c.in_ok-three.field-0 c.loop-o.invariant.1 c.in_default.is c.in_ok-three.ensures.found,
 )
 
-pub returns-clause-none : goal.returns-clause-none
-returns-clause-none c = level_ends c.args.matrix.now (corner_prefix c.args.form c.args.corners.now ++ c.args.q ∷ []) c.loop-o.o (omega arith) c.loop-o.invariant.1
+pub returns-clause-found : goal.returns-clause-found
+returns-clause-found c = level_ends c.args.matrix.now (corner_prefix c.args.form c.args.corners.now ++ c.args.q ∷ []) c.loop-o.o (omega arith) c.loop-o.invariant.1
     (λ s S b g h. let k = second_below c.args.matrix.now c.args.form c.args.corners.now c.args.q s S b g h in
     let l = c.loop-o-test.false in let e = c.count_of-o-end.ensures.count ∙ ap (λ (z : Bool). line_count c.args.matrix.now z) c.second_is_flat.ensures in omega arith)

@@ -1,10 +1,10 @@
-use Rattle.std.proofs.Common.{IfNone, IfOk, IfSome, sym, subst}
+use Rattle.std.proofs.Common.{IfOk, sym, subst}
 use Rattle.line_growth.specs.declared.rule.GrowthRule.{GrowthRule}
 use Rattle.line_growth.specs.GrowingSets.{IsGrowing}
 use Rattle.line_growth.specs.Rules.{lower_of, upper_of}
 use Rattle.three_sep.specs.declared.connectors.Connectors.{Connectors}
 use Rattle.three_sep.specs.Connectors.{AreConnectorsOf, all_prefix, connectors_at, firsts}
-use Rattle.three_sep.specs.Searches.{HasNoGood, IsFirstOf, held_lines}
+use Rattle.three_sep.specs.Searches.{IsFoundSeparation, held_lines}
 use Rattle.three_sep.proofs.SideLemmas.{crossing_connectors}
 use Rattle.three_sep.proofs.search.Search.first_of_connectors.Goals as goal
 
@@ -23,8 +23,5 @@ first_of_lines-requires-clause-growing c =
     subst (λ (e : Connectors). IsGrowing m (upper_of m c.rule_at-rule.result) (lower_of m c.rule_at-rule.result) (firsts c.args.form e) side) (sym c.at-connectors.ensures)
     (subst (λ (r : GrowthRule). IsGrowing m (upper_of m r) (lower_of m r) (held_lines c.args.form c.args.corners.now c.args.q) side) (sym c.rule_at-rule.ensures) c.requires.held.growing)
 
-pub returns-clause-first : goal.returns-clause-first
-returns-clause-first c = subst (λ (e : Connectors). IfOk c.first_of_lines.result (λ answer. IfSome answer (IsFirstOf c.args.matrix.now (all_prefix c.args.form e)))) c.at-connectors.ensures c.first_of_lines.ensures.first
-
-pub returns-clause-none : goal.returns-clause-none
-returns-clause-none c = subst (λ (e : Connectors). IfOk c.first_of_lines.result (λ answer. IfNone answer (HasNoGood c.args.matrix.now (all_prefix c.args.form e)))) c.at-connectors.ensures c.first_of_lines.ensures.none
+pub returns-clause-found : goal.returns-clause-found
+returns-clause-found c = subst (λ (e : Connectors). IfOk c.first_of_lines.result (IsFoundSeparation c.args.matrix.now (all_prefix c.args.form e))) c.at-connectors.ensures c.first_of_lines.ensures.found

@@ -6,8 +6,8 @@ use Rattle.three_sep.proofs.SearchLemmas.{found_some, none_more, level_ends, non
 use Rattle.three_sep.proofs.search.Search.first_of_corner.Goals as goal
 use Rattle.three_sep.proofs.search.Search.first_of_corner.Goals.{then-is_second_row+in_ok-three+in_default, else-is_second_row}
 
-pub returns-in-Some-clause-first : goal.returns-in-Some-clause-first
-returns-in-Some-clause-first c = found_some c.args.matrix.now (form_number c.args.form ∷ c.args.i ∷ c.args.p ∷ []) c.loop-k.k c.in_ok-three.field-0 c.in-Some.three (omega arith) c.loop-k.invariant.1 c.in-Some.is c.in_ok-three.ensures.first
+pub returns-in-Some-clause-found : goal.returns-in-Some-clause-found
+returns-in-Some-clause-found c = found_some c.args.matrix.now (form_number c.args.form ∷ c.args.i ∷ c.args.p ∷ []) c.loop-k.k c.in_ok-three.field-0 c.in-Some.three (omega arith) c.loop-k.invariant.1 c.in-Some.is c.in_ok-three.ensures.found
 
 pub loop-k-preserved : goal.loop-k-preserved
 loop-k-preserved c =
@@ -15,7 +15,7 @@ loop-k-preserved c =
     elim c.if-is_second_row.branch [
       | then-is_second_row+in_ok-three+in_default w ↦ (
         subst (λ (s : Search). IsSearchOf m s) (sym w.self-is) w.in_ok-three.ensures.search,
-        none_more m (form_number c.args.form ∷ c.args.i ∷ c.args.p ∷ []) c.loop-k.k w.in_ok-three.field-0 c.loop-k.invariant.1 w.in_default.is w.in_ok-three.ensures.none,
+        none_more m (form_number c.args.form ∷ c.args.i ∷ c.args.p ∷ []) c.loop-k.k w.in_ok-three.field-0 c.loop-k.invariant.1 w.in_default.is w.in_ok-three.ensures.found,
       )
       | else-is_second_row w ↦ (
         subst (λ (s : Search). IsSearchOf m s) (sym w.self-is) c.loop-k.invariant.0,
@@ -23,6 +23,6 @@ loop-k-preserved c =
       )
     ]
 
-pub returns-clause-none : goal.returns-clause-none
-returns-clause-none c = level_ends c.args.matrix.now (form_number c.args.form ∷ c.args.i ∷ c.args.p ∷ []) c.loop-k.k (omega arith) c.loop-k.invariant.1
+pub returns-clause-found : goal.returns-clause-found
+returns-clause-found c = level_ends c.args.matrix.now (form_number c.args.form ∷ c.args.i ∷ c.args.p ∷ []) c.loop-k.k (omega arith) c.loop-k.invariant.1
     (λ s S b g h. let k = (good_inside c.args.matrix.now s S g).row_two in let e = h.1.1.1.0 in let l = c.loop-k-test.false in let r = c.rows-k-end.ensures.rows in omega arith)

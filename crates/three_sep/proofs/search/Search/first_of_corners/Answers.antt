@@ -11,8 +11,8 @@ use Rattle.three_sep.proofs.SideLemmas.{no_good_corners, rule_inside}
 use Rattle.three_sep.proofs.search.Search.first_of_corners.Goals as goal
 use Rattle.three_sep.proofs.search.Search.first_of_corners.Goals.{then-branch+in_ok-three+in_default, else-branch}
 
-pub returns-then-not-branch-clause-none : goal.returns-then-not-branch-clause-none
-returns-then-not-branch-clause-none c = no_good_corners c.args.matrix.now c.args.form c.requires.crossing c.args.corners.now
+pub returns-then-not-branch-clause-found : goal.returns-then-not-branch-clause-found
+returns-then-not-branch-clause-found c = no_good_corners c.args.matrix.now c.args.form c.requires.crossing c.args.corners.now
     (subst (λ (r : GrowthRule). HasNoneParting c.args.matrix.now r (Row c.args.corners.now.i ∷ Column c.args.corners.now.p ∷ []) (Row c.args.corners.now.k ∷ Column c.args.corners.now.j ∷ [])) c.rule_at.ensures (c.in_ok-may_part.ensures.none c.if-not-branch.true))
 
 pub may_part-requires-clause-rule : goal.may_part-requires-clause-rule
@@ -22,8 +22,8 @@ pub hold_first-requires-clause-line : goal.hold_first-requires-clause-line
 hold_first-requires-clause-line c =
     below_line c.args.matrix.now (first_is_flat c.args.form) c.loop-q.q (let l = c.loop-q-test.true in let e = c.count_of-q-end.ensures.count ∙ ap (λ (z : Bool). line_count c.args.matrix.now z) c.first_is_flat.ensures in omega arith)
 
-pub returns-in-Some-clause-first : goal.returns-in-Some-clause-first
-returns-in-Some-clause-first c = found_some c.args.matrix.now (corner_prefix c.args.form c.args.corners.now) c.loop-q.q c.in_ok-three.field-0 c.in-Some.three (omega arith) c.loop-q.invariant.1 c.in-Some.is c.in_ok-three.ensures.first
+pub returns-in-Some-clause-found : goal.returns-in-Some-clause-found
+returns-in-Some-clause-found c = found_some c.args.matrix.now (corner_prefix c.args.form c.args.corners.now) c.loop-q.q c.in_ok-three.field-0 c.in-Some.three (omega arith) c.loop-q.invariant.1 c.in-Some.is c.in_ok-three.ensures.found
 
 pub loop-q-preserved : goal.loop-q-preserved
 loop-q-preserved c =
@@ -32,7 +32,7 @@ loop-q-preserved c =
     elim c.if-branch.branch [
       | then-branch+in_ok-three+in_default w ↦ (
         subst (λ (s : Search). IsSearchOf m s) (sym w.self-is) w.in_ok-three.ensures.search,
-        none_more m prefix c.loop-q.q w.in_ok-three.field-0 c.loop-q.invariant.1 w.in_default.is w.in_ok-three.ensures.none,
+        none_more m prefix c.loop-q.q w.in_ok-three.field-0 c.loop-q.invariant.1 w.in_default.is w.in_ok-three.ensures.found,
       )
       | else-branch w ↦ (
         subst (λ (s : Search). IsSearchOf m s) (sym w.self-is) c.in_ok-hold_first.ensures.search,
@@ -40,7 +40,7 @@ loop-q-preserved c =
       )
     ]
 
-pub returns-clause-none : goal.returns-clause-none
-returns-clause-none c = level_ends c.args.matrix.now (corner_prefix c.args.form c.args.corners.now) c.loop-q.q (omega arith) c.loop-q.invariant.1
+pub returns-clause-found : goal.returns-clause-found
+returns-clause-found c = level_ends c.args.matrix.now (corner_prefix c.args.form c.args.corners.now) c.loop-q.q (omega arith) c.loop-q.invariant.1
     (λ s S b g h. let k = first_below c.args.matrix.now c.args.form c.args.corners.now s S b g h in
     let l = c.loop-q-test.false in let e = c.count_of-q-end.ensures.count ∙ ap (λ (z : Bool). line_count c.args.matrix.now z) c.first_is_flat.ensures in omega arith)

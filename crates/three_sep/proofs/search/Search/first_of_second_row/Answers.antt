@@ -6,8 +6,8 @@ use Rattle.three_sep.proofs.SearchLemmas.{found_some, none_more, level_ends, non
 use Rattle.three_sep.proofs.search.Search.first_of_second_row.Goals as goal
 use Rattle.three_sep.proofs.search.Search.first_of_second_row.Goals.{then-is_second_column+in_ok-three+in_default, else-is_second_column}
 
-pub returns-in-Some-clause-first : goal.returns-in-Some-clause-first
-returns-in-Some-clause-first c = found_some c.args.matrix.now (form_number c.args.form ∷ c.args.i ∷ c.args.p ∷ c.args.k ∷ []) c.loop-j.j c.in_ok-three.field-0 c.in-Some.three (omega arith) c.loop-j.invariant.1 c.in-Some.is c.in_ok-three.ensures.first
+pub returns-in-Some-clause-found : goal.returns-in-Some-clause-found
+returns-in-Some-clause-found c = found_some c.args.matrix.now (form_number c.args.form ∷ c.args.i ∷ c.args.p ∷ c.args.k ∷ []) c.loop-j.j c.in_ok-three.field-0 c.in-Some.three (omega arith) c.loop-j.invariant.1 c.in-Some.is c.in_ok-three.ensures.found
 
 pub loop-j-preserved : goal.loop-j-preserved
 loop-j-preserved c =
@@ -15,7 +15,7 @@ loop-j-preserved c =
     elim c.if-is_second_column.branch [
       | then-is_second_column+in_ok-three+in_default w ↦ (
         subst (λ (s : Search). IsSearchOf m s) (sym w.self-is) w.in_ok-three.ensures.search,
-        none_more m (form_number c.args.form ∷ c.args.i ∷ c.args.p ∷ c.args.k ∷ []) c.loop-j.j w.in_ok-three.field-0 c.loop-j.invariant.1 w.in_default.is w.in_ok-three.ensures.none,
+        none_more m (form_number c.args.form ∷ c.args.i ∷ c.args.p ∷ c.args.k ∷ []) c.loop-j.j w.in_ok-three.field-0 c.loop-j.invariant.1 w.in_default.is w.in_ok-three.ensures.found,
       )
       | else-is_second_column w ↦ (
         subst (λ (s : Search). IsSearchOf m s) (sym w.self-is) c.loop-j.invariant.0,
@@ -23,6 +23,6 @@ loop-j-preserved c =
       )
     ]
 
-pub returns-clause-none : goal.returns-clause-none
-returns-clause-none c = level_ends c.args.matrix.now (form_number c.args.form ∷ c.args.i ∷ c.args.p ∷ c.args.k ∷ []) c.loop-j.j (omega arith) c.loop-j.invariant.1
+pub returns-clause-found : goal.returns-clause-found
+returns-clause-found c = level_ends c.args.matrix.now (form_number c.args.form ∷ c.args.i ∷ c.args.p ∷ c.args.k ∷ []) c.loop-j.j (omega arith) c.loop-j.invariant.1
     (λ s S b g h. let k = (good_inside c.args.matrix.now s S g).column_two in let e = h.1.1.1.1.0 in let l = c.loop-j-test.false in let r = c.columns-j-end.ensures.columns in omega arith)
