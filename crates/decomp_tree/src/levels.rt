@@ -3,7 +3,7 @@ ghost use Rattle.std.specs.Prelude.{◌≡◌};
 ghost use Rattle.tree_type.specs.DecompositionTrees.{tree_of};
 ghost use Rattle.decomp_tree.specs.Levels.{is_on_levels};
 
-use tree_type::{Kind, Node};
+use tree_type::Node;
 
 /// Decides whether a tree has at most this number of levels.
 pub fn is_on_levels(node: &Node, levels: u32) -> bool
@@ -12,36 +12,10 @@ pub fn is_on_levels(node: &Node, levels: u32) -> bool
     if levels == 0 {
         return false;
     }
-    match &node.kind {
-        Kind::Reduced { child, .. } | Kind::Pivoted { child, .. } => is_on_levels(
-            child,
-            levels - 1,
-        ),
-        Kind::OneSum { children } => {
-            for child in children.as_slice() {
-                if !is_on_levels(child, levels - 1) {
-                    return false;
-                }
-            }
-            true
+    for index in 0..node.child_count() {
+        if !is_on_levels(node.child(index), levels - 1) {
+            return false;
         }
-        Kind::TwoSum {
-            one_child,
-            two_child,
-            ..
-        }
-        | Kind::ThreeSum {
-            one_child,
-            two_child,
-            ..
-        } => is_on_levels(one_child, levels - 1) && is_on_levels(two_child, levels - 1),
-        Kind::Empty
-        | Kind::Cycle { .. }
-        | Kind::Network { .. }
-        | Kind::Conetwork { .. }
-        | Kind::R10
-        | Kind::Enumerated
-        | Kind::Violator { .. }
-        | Kind::Undecided => true,
     }
+    true
 }
