@@ -8,7 +8,7 @@ use Rattle.tree_type.proofs.PlacedLines.{lines_within}
 use Rattle.tree_type.specs.DecompositionTrees.{Finding, Tree}
 use Rattle.decomp_tree.specs.declared.drafts.Draft.{Draft}
 use Rattle.decomp_tree.specs.Seen.{AreFewer}
-use Rattle.decomp_tree.specs.Sketches.{sketch_of, lines_of_sketch, IsDrafted, IsDraftedBehind}
+use Rattle.decomp_tree.specs.Sketches.{sketch_of, lines_of_sketch, IsDrafted, HasOneMoreDraft}
 use Rattle.decomp_tree.proofs.Drawn.{AreDrawn}
 
 pub child_lines : (m : Matrix) (lines child : LineSet) → AreLines m lines → AreFewer lines child → AreLines m child
@@ -31,10 +31,10 @@ module _ (limit : ℕ) (m : Matrix) where
   has_children finding children trees count drawn = subst (HasChildren finding) (sym (as_many children trees drawn)) count
 
   -- a draft that stands behind none is the only one
-  pub only_drafted : (lines : LineSet) (others : List Draft) (root : Draft) → IsDraftedBehind limit m lines [] (map sketch_of (others ++ root ∷ [])) → (lines_of_sketch (sketch_of root) ≡ lines) × IsDrafted limit m (sketch_of root)
+  pub only_drafted : (lines : LineSet) (others : List Draft) (root : Draft) → HasOneMoreDraft limit m lines [] (map sketch_of (others ++ root ∷ [])) → (lines_of_sketch (sketch_of root) ≡ lines) × IsDrafted limit m (sketch_of root)
   only_drafted lines others root d =
       let same = only_made sketch_of others root d.sketch d.order in
       (ap lines_of_sketch same ∙ d.lines_are, subst (IsDrafted limit m) (sym same) d.drafted)
 
-  pub some_drafted : (lines : LineSet) (drafts : List Draft) → IsDraftedBehind limit m lines [] (map sketch_of drafts) → length drafts ≡ 0 → ⊥
+  pub some_drafted : (lines : LineSet) (drafts : List Draft) → HasOneMoreDraft limit m lines [] (map sketch_of drafts) → length drafts ≡ 0 → ⊥
   some_drafted lines drafts d none = let one = sym (length-map drafts sketch_of) ∙ ap length d.order in omega (arith, one, none)

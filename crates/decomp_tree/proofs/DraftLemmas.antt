@@ -12,7 +12,7 @@ use Rattle.decomp_tree.specs.declared.drafts.Draft.{Draft, fold_out-Draft}
 use Rattle.decomp_tree.specs.declared.drafts.Opening.{Opening}
 use Rattle.decomp_tree.specs.Seen.{HasNoneAmong, keeps_free}
 use Rattle.decomp_tree.specs.Openings.{IsOpeningOf}
-use Rattle.decomp_tree.specs.Sketches.{Sketch, Sketched, sketches_from, draft_step, sketch_of, opening_in, is_free_in, drafts_in, lines_of_sketch, IsDrafted, AreDrafted, IsDraftedBehind}
+use Rattle.decomp_tree.specs.Sketches.{Sketch, Sketched, sketches_from, draft_step, sketch_of, opening_in, is_free_in, drafts_in, lines_of_sketch, IsDrafted, AreDrafted, HasOneMoreDraft}
 use Rattle.decomp_tree.proofs.FreeNodes.{none_by_children}
 
 pub sketch_is : (draft : Draft) → sketch_of draft ≡ Sketched (opening_in draft) (is_free_in draft) (sketches_from (map sketch_of (drafts_in draft)))
@@ -31,7 +31,7 @@ module _ (limit : ℕ) (m : Matrix) where
   drafted_more (c ∷ children) (s ∷ sketches) child sketch d e one = (d.0, d.1, drafted_more children sketches child sketch d.2 e one)
 
   -- the next child is drawn behind the others
-  pub drafted_next : (children : List LineSet) (i : ℕ) (d : LineSet) (before after : List Sketch) → i < length children → AreDrafted limit m (take i children) (sketches_from before) → IsDraftedBehind limit m (get_or children i d) before after
+  pub drafted_next : (children : List LineSet) (i : ℕ) (d : LineSet) (before after : List Sketch) → i < length children → AreDrafted limit m (take i children) (sketches_from before) → HasOneMoreDraft limit m (get_or children i d) before after
       → AreDrafted limit m (take (i + 1) children) (sketches_from after)
   drafted_next children i d before after l so_far one =
       subst (λ some. AreDrafted limit m (take (i + 1) children) (sketches_from some)) (sym one.order)
@@ -60,9 +60,9 @@ module _ (limit : ℕ) (m : Matrix) where
         none_by_children limit few m is lines are (finding_shown opening.finding) opening.children is_opening.said both.0 (free_each opening.children drafts drafted both.1)
 
     -- the node is drawn behind others
-    pub drafted_behind : (before after : List Sketch) → after ≡ before ++ Sketched opening (keeps_free (finding_shown opening.finding) && list_all is_free_in drafts) (sketches_from (map sketch_of drafts)) ∷ []
-        → IsDraftedBehind limit m lines before after
-    drafted_behind before after e = record {
+    pub one_more_draft : (before after : List Sketch) → after ≡ before ++ Sketched opening (keeps_free (finding_shown opening.finding) && list_all is_free_in drafts) (sketches_from (map sketch_of drafts)) ∷ []
+        → HasOneMoreDraft limit m lines before after
+    one_more_draft before after e = record {
       sketch = Sketched opening (keeps_free (finding_shown opening.finding) && list_all is_free_in drafts) (sketches_from (map sketch_of drafts));
       order = e;
       lines_are = is_opening.lines_are;

@@ -15,7 +15,7 @@ use Rattle.decomp_tree.specs.declared.drafts.Opening.{Opening}
 use Rattle.decomp_tree.specs.Shapes.{HasFault, case_number, IsShapeOn}
 use Rattle.decomp_tree.specs.Seen.{HasNoneAmong, AreFewer, IsNamedFault, IsSaid, is_unsearched}
 use Rattle.decomp_tree.specs.Refined.{is_undecided, AllRefine}
-use Rattle.decomp_tree.specs.PivotedShapes.{IsBehind, IsFound, IsDrawnWith}
+use Rattle.decomp_tree.specs.PivotedShapes.{HasOneMoreTree, IsFound, IsDrawnWith}
 use Rattle.decomp_tree.specs.Openings.{IsOpeningOf}
 use Rattle.decomp_tree.specs.Sketches.{sketches_from, sketch_of, opening_in, is_free_in, drafts_in, lines_of_sketch, IsDrafted, AreDrafted, HasNoLateFault}
 use Rattle.decomp_tree.proofs.Children.{has_children}
@@ -65,7 +65,7 @@ module _ (limit : ℕ) (m : Matrix) where
 
   -- the next child is settled behind the others
   pub settled_next : (pivots state : ℕ) (drafts : List Draft) (draft : Draft) (before after : List Tree) → AreSettled limit pivots state m (map (λ draft. lines_of_sketch (sketch_of draft)) drafts) before
-      → IsBehind (IsDrawnWith limit pivots state m (lines_of_sketch (sketch_of draft))) before after → AreSettled limit pivots state m (map (λ draft. lines_of_sketch (sketch_of draft)) (drafts ++ draft ∷ [])) after
+      → HasOneMoreTree (IsDrawnWith limit pivots state m (lines_of_sketch (sketch_of draft))) before after → AreSettled limit pivots state m (map (λ draft. lines_of_sketch (sketch_of draft)) (drafts ++ draft ∷ [])) after
   settled_next pivots state drafts draft before after (shapes, drawn, refined) one =
       subst (AreSettled limit pivots state m (map (λ draft. lines_of_sketch (sketch_of draft)) (drafts ++ draft ∷ []))) (sym one.order)
       (subst (λ some. AreSettled limit pivots state m some (before ++ one.tree ∷ [])) (sym (one_more drafts draft)) (
@@ -129,7 +129,7 @@ module _ (limit : ℕ) (m : Matrix) where
         count_settled = subst (HasChildren (finding_shown (opening_in draft).finding)) (sym as_many_nodes) (has_children limit m (finding_shown (opening_in draft).finding) (opening_in draft).children settled.0 (parts_of limit m draft drafted).0.said.count all_settled)
 
         pub whole_settled : is_undecided (finding_shown (opening_in draft).finding) ≡ false → HasNoLateFault m (opening_in draft).lines (finding_shown (opening_in draft).finding) → (before after : List Tree)
-            → after ≡ before ++ Branch (opening_in draft).lines (finding_shown (opening_in draft).finding) (trees_from (map tree_of nodes)) ∷ [] → IsBehind Settles before after
+            → after ≡ before ++ Branch (opening_in draft).lines (finding_shown (opening_in draft).finding) (trees_from (map tree_of nodes)) ∷ [] → HasOneMoreTree Settles before after
         whole_settled decided late before after e =
             let opening = opening_in draft in
             let tree = Branch opening.lines (finding_shown opening.finding) (trees_from (map tree_of nodes)) in
@@ -144,7 +144,7 @@ module _ (limit : ℕ) (m : Matrix) where
             }
 
       pub fault_settled : IsMatrix m → AreLines m (opening_in draft).lines → (fault : LineSet) → IsNamedFault m (opening_in draft).lines fault → (before after : List Tree) → after ≡ before ++ Branch (opening_in draft).lines (Cycle fault) NoTrees ∷ []
-          → IsBehind Settles before after
+          → HasOneMoreTree Settles before after
       fault_settled is are fault found before after e =
           let lines = (opening_in draft).lines in
           let tree = Branch lines (Cycle fault) NoTrees in
@@ -159,7 +159,7 @@ module _ (limit : ℕ) (m : Matrix) where
           }
 
       -- an undecided node, of which something is found
-      pub found_settled : is_undecided (finding_shown (opening_in draft).finding) ≡ true → (found : Tree) → IsFound limit pivots state m (opening_in draft).lines found → (before after : List Tree) → after ≡ before ++ found ∷ [] → IsBehind Settles before after
+      pub found_settled : is_undecided (finding_shown (opening_in draft).finding) ≡ true → (found : Tree) → IsFound limit pivots state m (opening_in draft).lines found → (before after : List Tree) → after ≡ before ++ found ∷ [] → HasOneMoreTree Settles before after
       found_settled open_node found is before after e =
           let opening = opening_in draft in
           let known = (parts_of limit m draft drafted).0 in

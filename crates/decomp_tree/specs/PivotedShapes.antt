@@ -95,7 +95,7 @@ pub record IsShapeWith (limit pivots : ℕ) (m : Matrix) (tree : Tree) : Type 0 
   pub most : AreTooDeep limit made pivots m
 
 -- one more tree, after some others
-pub record IsBehind (Stands : Tree → Type 0) (before after : List Tree) : Type 0 where
+pub record HasOneMoreTree (Stands : Tree → Type 0) (before after : List Tree) : Type 0 where
   pub tree : Tree
   pub order : after ≡ before ++ tree ∷ []
   pub stands : Stands tree

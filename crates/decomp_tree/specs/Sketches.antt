@@ -57,7 +57,7 @@ abbrev mutual
   AreDrafted limit m children others = ⊥
 
 -- one more draft, of these lines, after some others
-pub record IsDraftedBehind (limit : ℕ) (m : Matrix) (lines : LineSet) (before after : List Sketch) : Type 0 where
+pub record HasOneMoreDraft (limit : ℕ) (m : Matrix) (lines : LineSet) (before after : List Sketch) : Type 0 where
   pub sketch : Sketch
   pub order : after ≡ before ++ sketch ∷ []
   pub lines_are : lines_of_sketch sketch ≡ lines

@@ -7,7 +7,7 @@ ghost use Rattle.tree_type.specs.Findings.{finding_shown};
 ghost use Rattle.decomp_tree.specs.Seen.{keeps_free};
 ghost use Rattle.decomp_tree.specs.Openings.{IsOpeningOf};
 ghost use Rattle.decomp_tree.specs.Obstructions.{IsKnown};
-ghost use Rattle.decomp_tree.specs.Sketches.{Sketched, sketch_of, sketches_from, is_free_in, lines_of_sketch, IsDrafted, IsDraftedBehind};
+ghost use Rattle.decomp_tree.specs.Sketches.{Sketched, sketch_of, sketches_from, is_free_in, lines_of_sketch, IsDrafted, HasOneMoreDraft};
 
 use crate::faults::keeps_free;
 use crate::looking::look;
@@ -74,7 +74,7 @@ pub fn draw<R: Threads + Sync>(
     requires lines { AreLines matrix.now lines.now }
     requires known { IsKnown matrix.now obstruction.now }
     requires sought { obstruction.now.sought ≤ MORE_LINES }
-    ensures { OnOk result (IsDraftedBehind limits.lines matrix.now lines.now
+    ensures { OnOk result (HasOneMoreDraft limits.lines matrix.now lines.now
         (map sketch_of drafts.old.items) (map sketch_of drafts.new.items)) }
 {
     let opening = opening_of(rt, alloc, matrix, lines, obstruction, limits)?;

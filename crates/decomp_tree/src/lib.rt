@@ -1,8 +1,8 @@
 //! Decompositions of matrices.
 #![tactic(auto)]
 
+mod decomposing;
 mod drafts;
-mod drawing;
 mod faults;
 pub mod laws;
 mod levels;
@@ -15,4 +15,4 @@ mod searched_node;
 mod seen;
 mod settling;
 
-pub use drawing::decompose;
+pub use decomposing::decompose;

@@ -4,7 +4,7 @@ ghost use Rattle.cmr_base.specs.Matrix.{IsMatrix};
 ghost use Rattle.tree_type.specs.DecompositionTrees.{Branch, Cycle, NoTrees, tree_of, trees_from};
 ghost use Rattle.tree_type.specs.Invariant.{AreLines, HasChildren};
 ghost use Rattle.tree_type.specs.Findings.{finding_shown};
-ghost use Rattle.decomp_tree.specs.PivotedShapes.{IsBehind, IsDrawnWith, IsFound};
+ghost use Rattle.decomp_tree.specs.PivotedShapes.{HasOneMoreTree, IsDrawnWith, IsFound};
 ghost use Rattle.decomp_tree.specs.Refined.{is_undecided};
 ghost use Rattle.decomp_tree.specs.Sketches.{IsDrafted, lines_of_sketch, sketch_of};
 
@@ -65,7 +65,7 @@ fn settle<R: Threads + Sync>(
     requires shape { IsMatrix matrix.now }
     requires lines { AreLines matrix.now (lines_of_sketch (sketch_of drawn)) }
     requires drafted { IsDrafted limits.lines matrix.now (sketch_of drawn) }
-    ensures { OnOk result (IsBehind
+    ensures { OnOk result (HasOneMoreTree
         (IsDrawnWith limits.lines pivots state matrix.now (lines_of_sketch (sketch_of drawn)))
         (map tree_of nodes.old.items)
         (map tree_of nodes.new.items)) }

@@ -7,9 +7,9 @@ use Rattle.tree_type.specs.Invariant.{AreLines}
 use Rattle.decomp_tree.specs.declared.drafts.Opening.{Opening}
 use Rattle.decomp_tree.specs.Obstructions.{IsKnown}
 use Rattle.decomp_tree.specs.Seen.{AreFewer}
-use Rattle.decomp_tree.specs.Sketches.{sketches_from, sketch_of, AreDrafted, IsDraftedBehind}
+use Rattle.decomp_tree.specs.Sketches.{sketches_from, sketch_of, AreDrafted, HasOneMoreDraft}
 use Rattle.decomp_tree.proofs.Children.{child_lines}
-use Rattle.decomp_tree.proofs.DraftLemmas.{drafted_next, drafted_all, drafted_behind}
+use Rattle.decomp_tree.proofs.DraftLemmas.{drafted_next, drafted_all, one_more_draft}
 use Rattle.decomp_tree.proofs.drafts.+draw.Goals as goal
 
 pub in_child-requires-clause-lines : goal.in_child-requires-clause-lines
@@ -56,7 +56,7 @@ loop-child-preserved g t c =
     let items = c.as_slice-child-items.result.now in
     let i = c.loop-child.child-index in
     drafted_next c.args.limits.lines c.args.matrix.now items i c.child-item.result (map sketch_of c.loop-child.children.items) (map sketch_of c.draw.new.drafts.items) c.loop-child-test.true c.loop-child.invariant
-    (subst (λ (child : LineSet). IsDraftedBehind c.args.limits.lines c.args.matrix.now child (map sketch_of c.loop-child.children.items) (map sketch_of c.draw.new.drafts.items)) c.child-item.is c.in_ok-draw.ensures)
+    (subst (λ (child : LineSet). HasOneMoreDraft c.args.limits.lines c.args.matrix.now child (map sketch_of c.loop-child.children.items) (map sketch_of c.draw.new.drafts.items)) c.child-item.is c.in_ok-draw.ensures)
 
 pub returns : goal.returns
 returns g t c =
@@ -65,6 +65,6 @@ returns g t c =
     let same : items ≡ opening.children = c.as_slice-child-items.ensures ∙ ap (λ (f : Opening). f.children) c.deref.ensures in
     let all : c.loop-child.child-index ≡ length items = (let a = c.loop-child-test.false in let b = c.loop-child.auto.child-index-end in omega (arith, a, b)) in
     let sketches = map sketch_of c.loop-child.children.items in
-    drafted_behind c.args.limits.lines c.args.matrix.now c.args.limits.few_lines c.requires.shape c.args.lines.now c.requires.lines opening c.in_ok-opening.ensures c.loop-child.children.items
+    one_more_draft c.args.limits.lines c.args.matrix.now c.args.limits.few_lines c.requires.shape c.args.lines.now c.requires.lines opening c.in_ok-opening.ensures c.loop-child.children.items
     (subst (λ (children : List LineSet). AreDrafted c.args.limits.lines c.args.matrix.now children (sketches_from sketches)) same (drafted_all c.args.limits.lines c.args.matrix.now items c.loop-child.child-index sketches all c.loop-child.invariant))
     (map sketch_of c.args.drafts.now.items) (map sketch_of c.push_draft.new.drafts.items) c.in_ok-push_draft.ensures

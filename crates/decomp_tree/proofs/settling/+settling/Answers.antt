@@ -17,7 +17,7 @@ use Rattle.tree_type.specs.declared.tree.Node.{Node}
 use Rattle.decomp_tree.specs.declared.drafts.Draft.{Draft}
 use Rattle.decomp_tree.specs.declared.drafts.Draft.TheViews.{out-roll-Draft}
 use Rattle.decomp_tree.specs.declared.drafts.Opening.{Opening}
-use Rattle.decomp_tree.specs.PivotedShapes.{IsBehind, IsDrawnWith, IsFound, IsToldBeforePivot, undecided}
+use Rattle.decomp_tree.specs.PivotedShapes.{HasOneMoreTree, IsDrawnWith, IsFound, IsToldBeforePivot, undecided}
 use Rattle.decomp_tree.specs.Refined.{is_undecided}
 use Rattle.decomp_tree.specs.Seen.{HasNoneAmong, IsNamedFault, is_unsearched}
 use Rattle.decomp_tree.specs.Sketches.{sketch_of, lines_of_sketch, opening_in, drafts_in, HasNoLateFault}
@@ -36,11 +36,11 @@ only_root (x ∷ []) root tree e = absurd (cc)
 only_root (x ∷ y ∷ others) root tree e = absurd (cc)
 
 -- a tree that stands behind none is that of the last node
-only_behind : (Stands : Tree → Type 0) (others : List Node) (root : Node) → IsBehind Stands [] (map tree_of (others ++ root ∷ [])) → Stands (tree_of root)
-only_behind Stands others root b = subst Stands (sym (only_root others root b.tree b.order)) b.stands
+only_one_more : (Stands : Tree → Type 0) (others : List Node) (root : Node) → HasOneMoreTree Stands [] (map tree_of (others ++ root ∷ [])) → Stands (tree_of root)
+only_one_more Stands others root b = subst Stands (sym (only_root others root b.tree b.order)) b.stands
 
-some_behind : (Stands : Tree → Type 0) (nodes : List Node) → IsBehind Stands [] (map tree_of nodes) → length nodes ≡ 0 → ⊥
-some_behind Stands nodes b none = let one = sym (length-map nodes tree_of) ∙ ap length b.order in omega (arith, one, none)
+some_one_more : (Stands : Tree → Type 0) (nodes : List Node) → HasOneMoreTree Stands [] (map tree_of nodes) → length nodes ≡ 0 → ⊥
+some_one_more Stands nodes b none = let one = sym (length-map nodes tree_of) ∙ ap length b.order in omega (arith, one, none)
 
 pub draw_root-settle-requires : goal.draw_root-settle-requires
 draw_root-settle-requires g t c =
@@ -71,14 +71,14 @@ draw_root-settle-requires g t c =
 pub draw_root-unreachable-requires : goal.draw_root-unreachable-requires
 draw_root-unreachable-requires g t c =
     let Stands = IsDrawnWith c.args.limits.lines c.args.pivots c.args.state c.of-both.result (lines_of_sketch (sketch_of c.in_ok-drawn.drawn)) in
-    let behind = subst (λ (nodes : List Node). IsBehind Stands (map tree_of nodes) (map tree_of c.settle.new.nodes.items)) c.new-roots.ensures.items c.in_ok-settle.ensures in
-    some_behind Stands c.settle.new.nodes.items behind (let z = c.in_default.ensures.cases.0 in let k = c.settle.new.nodes.ok in omega (arith, k, z))
+    let behind = subst (λ (nodes : List Node). HasOneMoreTree Stands (map tree_of nodes) (map tree_of c.settle.new.nodes.items)) c.new-roots.ensures.items c.in_ok-settle.ensures in
+    some_one_more Stands c.settle.new.nodes.items behind (let z = c.in_default.ensures.cases.0 in let k = c.settle.new.nodes.ok in omega (arith, k, z))
 
 pub draw_root-returns : goal.draw_root-returns
 draw_root-returns g t c =
     let Stands = IsDrawnWith c.args.limits.lines c.args.pivots c.args.state c.of-both.result (lines_of_sketch (sketch_of c.in_ok-drawn.drawn)) in
-    let behind = subst (λ (nodes : List Node). IsBehind Stands (map tree_of nodes) (map tree_of c.settle.new.nodes.items)) c.new-roots.ensures.items c.in_ok-settle.ensures in
-    let only = only_behind Stands c.pop.new.self.items c.in-Some.root (subst (λ (nodes : List Node). IsBehind Stands [] (map tree_of nodes)) c.in-Some.ensures.items behind) in
+    let behind = subst (λ (nodes : List Node). HasOneMoreTree Stands (map tree_of nodes) (map tree_of c.settle.new.nodes.items)) c.new-roots.ensures.items c.in_ok-settle.ensures in
+    let only = only_one_more Stands c.pop.new.self.items c.in-Some.root (subst (λ (nodes : List Node). HasOneMoreTree Stands [] (map tree_of nodes)) c.in-Some.ensures.items behind) in
     subst (λ (m : Matrix). IsDrawnWith c.args.limits.lines c.args.pivots c.args.state m c.args.lines.now (tree_of c.in-Some.root)) c.of-both.ensures
     (subst (λ (lines : LineSet). IsDrawnWith c.args.limits.lines c.args.pivots c.args.state c.of-both.result lines (tree_of c.in-Some.root)) c.in_ok-drawn.ensures.lines only)
 

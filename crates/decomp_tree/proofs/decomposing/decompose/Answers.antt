@@ -4,7 +4,7 @@ use Rattle.tree_type.specs.DecompositionTrees.{SizedTree, tree_of}
 use Rattle.tree_type.specs.Soundness.{IsSoundTree}
 use Rattle.decomp_tree.specs.PivotedShapes.{IsShapeWith}
 use Rattle.decomp_tree.proofs.PivotedRoots.{all_lines_are, whole_sound, whole_tree}
-use Rattle.decomp_tree.proofs.drawing.decompose.Goals as goal
+use Rattle.decomp_tree.proofs.decomposing.decompose.Goals as goal
 
 pub shallow_root-requires-clause-lines : goal.shallow_root-requires-clause-lines
 shallow_root-requires-clause-lines g c =
