@@ -51,6 +51,7 @@ YES, NO, UNDECIDED, REFUSED = 0, 1, 6, 7
 _CLONE = Path(__file__).resolve().parent.parent.parent
 # The prefix below which scripts/install has installed the package.
 _BESIDE = _CLONE.parent.parent / "bin" / "cmr"
+_UNPROVED = str(_CLONE / "out" / "unproved" / "cmr")
 TEXT_FAULT = re.compile(r"cmr: (?P<name>.*): (?:(?P<kind>[A-Za-z]+) at byte (?P<byte>[0-9]+)|TooLong)", re.DOTALL)
 """The line of the program on the fault of a text."""
 
@@ -86,14 +87,14 @@ def find_program(program: StrPath | None = None) -> Path:
     Raises `ProgramMissing` with the places that were searched. A path that is given, by the argument or `CMR_PROGRAM`, is the only place.
     """
     path = _found(program)
-    if path == unproved():
+    if str(path) == _UNPROVED:
         warnings.warn("nothing is proved of this run: ./try-cmr compiled the program, and ./cmr proves it", UnprovedProgram)
     return path
 
 
 def unproved() -> Path:
     """The path of the program that `./try-cmr` has compiled without proofs, in this clone."""
-    return _CLONE / "out" / "unproved" / "cmr"
+    return Path(_UNPROVED)
 
 
 def _found(program: StrPath | None) -> Path:
@@ -101,8 +102,8 @@ def _found(program: StrPath | None) -> Path:
     if named is not None:
         if not isinstance(named, (str, os.PathLike)):
             raise BadInput(f"program is the path of the program, and here it is {named!r}")
-        path = Path(named).absolute()
-        if not os.access(path, os.X_OK) or path.is_dir():
+        path = named if isinstance(named, Path) and named.is_absolute() else Path(named).absolute()
+        if not _can_be_run(path):
             raise ProgramMissing([f"{'the argument' if program is not None else 'CMR_PROGRAM'} {named}"])
         return path
     found = shutil.which("cmr")
@@ -110,11 +111,15 @@ def _found(program: StrPath | None) -> Path:
         return Path(found).absolute()
     built = _CLONE / "crates" / "cmr" / "out" / "cmr"
     for path in (built, _BESIDE, unproved()):
-        if os.access(path, os.X_OK) and not path.is_dir():
+        if _can_be_run(path):
             return path
     is_clone = (_CLONE / "crates.txt").exists()
     clone = f"the clone, {built} and {unproved()}" if is_clone else "the clone, but the package is not in a clone"
     raise ProgramMissing(["CMR_PROGRAM, which is not set", "PATH", clone])
+
+
+def _can_be_run(path: Path) -> bool:
+    return os.access(path, os.X_OK) and not os.path.isdir(path)
 
 
 def run(
@@ -147,7 +152,7 @@ def run(
 def _reply(
     program: Path, words: Sequence[str], files: Mapping[str, bytes], outputs: Sequence[str], clock: Clock
 ) -> Reply:
-    batch = batch_of(program) if clock.counts_all_time else None
+    batch = batch_of(program) if clock.counts_kept else None
     if batch is not None and can_be_sent(words, files):
         return next(replies(batch, [Request.of(words, files)], clock))
     inputs = {name: content for name, content in files.items() if name != "-"}
