@@ -69,7 +69,7 @@ class Processes:
             self._give(connection, blocks)
         while self._given:
             for key, _ in self._ready.select():
-                connection: Connection = key.data
+                connection = key.data
                 try:
                     row: Row = connection.recv()
                 except (EOFError, OSError):
