@@ -8,6 +8,7 @@ import shutil
 import warnings
 from collections.abc import Mapping, Sequence
 from dataclasses import dataclass
+from functools import lru_cache
 from pathlib import Path
 
 from .batch.frames import Reply, Request, can_be_sent
@@ -102,7 +103,7 @@ def _found(program: StrPath | None) -> Path:
     if named is not None:
         if not isinstance(named, (str, os.PathLike)):
             raise BadInput(f"program is the path of the program, and here it is {named!r}")
-        path = named if isinstance(named, Path) and named.is_absolute() else Path(named).absolute()
+        path = _kept_path(os.fspath(named)) if os.path.isabs(named) else Path(named).absolute()
         if not _can_be_run(path):
             raise ProgramMissing([f"{'the argument' if program is not None else 'CMR_PROGRAM'} {named}"])
         return path
@@ -116,6 +117,12 @@ def _found(program: StrPath | None) -> Path:
     is_clone = (_CLONE / "crates.txt").exists()
     clone = f"the clone, {built} and {unproved()}" if is_clone else "the clone, but the package is not in a clone"
     raise ProgramMissing(["CMR_PROGRAM, which is not set", "PATH", clone])
+
+
+@lru_cache(maxsize=16)
+def _kept_path(named: str) -> Path:
+    """An absolute path. Each call asks for it."""
+    return Path(named)
 
 
 def _can_be_run(path: Path) -> bool:
@@ -142,7 +149,9 @@ def run(
     """
     clock = Clock.of(time_limit)
     texts = {"-": text} | dict(inputs or {})
-    ran = _reply(find_program(program), words, {name: _encoded(content) for name, content in texts.items()}, outputs, clock)
+    # A call that has begun its clock has found its program.
+    path = program if clock is time_limit and isinstance(program, Path) else find_program(program)
+    ran = _reply(path, words, {name: _encoded(content) for name, content in texts.items()}, outputs, clock)
     if ran.status not in (YES, NO, UNDECIDED, REFUSED):
         raise fault_of(ran.status, ran.error.decode("utf-8", "surrogateescape").rstrip("\n"), texts)
     files = {name: ran.files[name].decode("ascii") for name in outputs if name in ran.files}

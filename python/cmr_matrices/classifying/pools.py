@@ -59,7 +59,7 @@ class Processes:
         self._again: deque[Block] = deque()
         self._suspects: set[tuple[str, int]] = set()
         # It is kept, since it costs more to make one for each row than to read the row.
-        self._ready = selectors.DefaultSelector()
+        self._ready = selectors.PollSelector()
         for _ in range(jobs):
             self._start()
 
