@@ -52,7 +52,6 @@ YES, NO, UNDECIDED, REFUSED = 0, 1, 6, 7
 _CLONE = Path(__file__).resolve().parent.parent.parent
 # The prefix below which scripts/install has installed the package.
 _BESIDE = _CLONE.parent.parent / "bin" / "cmr"
-_UNPROVED = str(_CLONE / "out" / "unproved" / "cmr")
 TEXT_FAULT = re.compile(r"cmr: (?P<name>.*): (?:(?P<kind>[A-Za-z]+) at byte (?P<byte>[0-9]+)|TooLong)", re.DOTALL)
 """The line of the program on the fault of a text."""
 
@@ -88,14 +87,19 @@ def find_program(program: StrPath | None = None) -> Path:
     Raises `ProgramMissing` with the places that were searched. A path that is given, by the argument or `CMR_PROGRAM`, is the only place.
     """
     path = _found(program)
-    if str(path) == _UNPROVED:
+    if path == unproved():
         warnings.warn("nothing is proved of this run: ./try-cmr compiled the program, and ./cmr proves it", UnprovedProgram)
     return path
 
 
 def unproved() -> Path:
     """The path of the program that `./try-cmr` has compiled without proofs, in this clone."""
-    return Path(_UNPROVED)
+    return _unproved_in(_CLONE)
+
+
+@lru_cache(maxsize=4)
+def _unproved_in(clone: Path) -> Path:
+    return clone / "out" / "unproved" / "cmr"
 
 
 def _found(program: StrPath | None) -> Path:

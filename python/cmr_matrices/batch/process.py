@@ -45,8 +45,8 @@ class Process:
 
     @property
     def is_free(self) -> bool:
-        """Whether it can be asked: it has not ended, waits for no reply, and was not started before a fork."""
-        return self._owner == os.getpid() and not self._waiting and self._process.poll() is None
+        """Whether it can be asked: it was not ended, waits for no reply, and was not started before a fork. It may have died since."""
+        return self._owner == os.getpid() and not self._waiting and self._process.returncode is None
 
     @property
     def number(self) -> int:
