@@ -4,7 +4,7 @@
 
 It measures the processor time of the command, its process and all runs of the program. This depends less than the clock on other work of
 the machine, but a run whose memory was given to other processes still takes up to twice as long. So the measurements take turns, and the
-best and the median round are printed.
+best and the median round are printed. The matrices a second by the clock are printed beside them. They include the start of Python.
 
 Each kind of matrix is measured with all classes, and with `--infer`, which derives some verdicts from others. Then a run for each class is
 measured by itself, as `cmr-classify` makes it, and a run whose arguments are refused, which is only the start and the end of the program.
@@ -17,6 +17,7 @@ import resource
 import subprocess
 import sys
 import tempfile
+import time
 from contextlib import suppress
 from pathlib import Path
 
@@ -44,20 +45,20 @@ def texts(entries, count):
 
 
 def seconds(work, *whose):
-    """The processor time of a call."""
+    """The processor time of a call, and its time by the clock."""
 
     def taken():
         return sum(usage.ru_utime + usage.ru_stime for usage in map(resource.getrusage, whose))
 
-    before = taken()
+    before, begun = taken(), time.perf_counter()
     work()
-    return taken() - before
+    return taken() - before, time.perf_counter() - begun
 
 
 def in_turns(works, rounds, *whose):
-    """The times of each task, sorted. The tasks take turns."""
+    """The times of each task, of the processors and by the clock, both sorted. The tasks take turns."""
     times = [[seconds(work, *whose) for work in works] for _ in range(rounds)]
-    return [sorted(column) for column in zip(*times)]
+    return [tuple(map(sorted, zip(*column))) for column in zip(*times)]
 
 
 def rates(program, count, rounds):
@@ -70,9 +71,10 @@ def rates(program, count, rounds):
                 words = [sys.executable, COMMAND, file, "--jobs", "1", "--program", program, *option]
                 names.append(" ".join([name, *option]))
                 works.append(lambda words=words: silent(words))
-        for name, times in zip(names, in_turns(works, rounds, resource.RUSAGE_CHILDREN)):
-            best, middle = count / times[0], count / times[len(times) // 2]
-            print(f"{name}: {best:.0f} a second, middle {middle:.0f}", flush=True)
+        for name, kinds in zip(names, in_turns(works, rounds, resource.RUSAGE_CHILDREN)):
+            for what, times in zip(("a processor second", "a second by the clock"), kinds):
+                best, middle = count / times[0], count / times[len(times) // 2]
+                print(f"{name}: {best:.0f} {what}, middle {middle:.0f}", flush=True)
 
 
 def silent(words):
@@ -89,7 +91,7 @@ def runs(program, entries, rounds):
 
     questions = [(["no-such-tool"], ""), *((kind.words, kind.said) for kind in CLASSES)]
     works = [lambda text=text, question=question: asked(text, *question) for question in questions for text in kept]
-    least = [times[0] * 1e6 for times in in_turns(works, rounds, resource.RUSAGE_SELF, resource.RUSAGE_CHILDREN)]
+    least = [times[0] * 1e6 for times, _ in in_turns(works, rounds, resource.RUSAGE_SELF, resource.RUSAGE_CHILDREN)]
     start, *means = [sum(least[place : place + len(kept)]) / len(kept) for place in range(0, len(least), len(kept))]
     print(f"words that are refused: {start:.0f} us")
     for kind, mean in zip(CLASSES, means):

@@ -3,7 +3,9 @@
     /usr/bin/python3 bench/many_runs.py --program crates/cmr/out/cmr
 
 `cmr-batch` is the program of that name beside the program, or in the same clone. All requests are sent at once, and the processor
-seconds of the process are divided by their number. A call with `cmr-batch` and one without it take turns.
+seconds of the process are divided by their number. Calls with `cmr-batch` and calls without it take turns, a hundred at a time. Of each
+hundred it prints the processor time, of Python and of the program together, and the time by the clock, both for a call. The time by the
+clock depends on other work of the machine; the processor time does so less.
 """
 
 import argparse
@@ -20,6 +22,9 @@ sys.path.insert(0, str(Path(__file__).resolve().parents[1] / "python"))
 from cmr_matrices import Matrix, is_network  # noqa: E402
 from cmr_matrices.batch.frames import Request  # noqa: E402
 from cmr_matrices.batch.kept import batch_of  # noqa: E402
+from cmr_matrices.clock import KEPT  # noqa: E402
+
+CALLS = 100
 
 
 def requests(count):
@@ -36,22 +41,33 @@ def processor_seconds(batch, frames):
     return after.ru_utime + after.ru_stime - before.ru_utime - before.ru_stime
 
 
+def used():
+    """The processor seconds of this process, of the programs that have ended, and of those that are kept."""
+    ended = resource.getrusage(resource.RUSAGE_CHILDREN)
+    # The clock of a process of Linux, in nanoseconds.
+    kept = sum(time.clock_gettime(~process << 3 | 2) for process in KEPT)
+    return time.process_time() + ended.ru_utime + ended.ru_stime + kept
+
+
 def timed(program, matrix):
-    start = time.perf_counter()
-    is_network(matrix, program=program)
-    return (time.perf_counter() - start) * 1e6
+    """The microseconds of a call: of the processors, and by the clock."""
+    begun, start = used(), time.perf_counter()
+    for _ in range(CALLS):
+        is_network(matrix, program=program)
+    return (used() - begun) * 1e6 / CALLS, (time.perf_counter() - start) * 1e6 / CALLS
 
 
-def calls(program, batch, runs):
+def calls(program, batch, rounds):
     matrix = Matrix.of([[1, 1, 0], [0, 1, 1], [1, 0, 1]])
     found = {"with cmr-batch": [], "a process for each": []}
-    for _ in range(runs):
+    for _ in range(rounds):
         for name, value in (("with cmr-batch", str(batch)), ("a process for each", "")):
             os.environ["CMR_BATCH"] = value
             found[name].append(timed(program, matrix))
     for name, times in found.items():
-        times.sort()
-        print(f"a call, {name}: least {times[0]:.0f} us, middle {times[len(times) // 2]:.0f} us")
+        for what, column in zip(("processor time", "time by the clock"), zip(*times)):
+            ordered = sorted(column)
+            print(f"a call, {name}, {what}: least {ordered[0]:.0f} us, middle {ordered[len(ordered) // 2]:.0f} us")
 
 
 def main():
@@ -66,7 +82,7 @@ def main():
     frames = b"".join(requests(chosen.runs))
     best = min(processor_seconds(batch, frames) for _ in range(3))
     print(f"{chosen.runs} runs of graphic: {best / chosen.runs * 1e6:.1f} us each")
-    calls(program, batch, max(chosen.runs // 100, 3))
+    calls(program, batch, max(chosen.runs // 5000, 3))
 
 
 if __name__ == "__main__":

@@ -9,7 +9,7 @@ from typing import Any
 
 from .errors import BadInput, TimeLimitReached
 
-__all__ = ["Clock", "ProcessorClock", "TimeLimit", "processor_seconds"]
+__all__ = ["KEPT", "Clock", "ProcessorClock", "TimeLimit", "processor_seconds"]
 
 # The seconds for which all systems can wait at once. Some cannot wait much longer.
 _LONGEST = 2_000_000
@@ -21,8 +21,10 @@ _WAITS = 50
 class Clock:
     """The seconds that are left of a limit, counted from when the clock is made."""
 
-    counts_all_time = True
-    """Whether it counts the time that passes, and not that of the processors. Then a process that is kept for many runs may answer."""
+    counts_kept = True
+    """Whether it counts the time of a process that is kept for many runs. If not, each run has a process of its own."""
+    moment = 0.0
+    """The least seconds after which it is asked again what is left."""
 
     def __init__(self, limit: float | None) -> None:
         self.limit = None if limit is None else _seconds(limit)
@@ -55,11 +57,12 @@ class ProcessorClock(Clock):
     So other work of the machine ends no run. If the system does not tell the processor time of a program, the clock counts all its time.
     """
 
-    counts_all_time = False
+    moment = 0.02
 
     def __init__(self, limit: float | None) -> None:
         super().__init__(limit)
         self._used = processor_seconds()
+        self.counts_kept = _used_by(os.getpid()) is not None
 
     def _left(self, limit: float, process: int | None) -> float:
         used = processor_seconds() - self._used
@@ -75,10 +78,15 @@ TimeLimit = float | Clock | None
 """A limit in seconds, or a clock that is already running."""
 
 
+KEPT: set[int] = set()
+"""The numbers of the programs that this process keeps for many runs."""
+
+
 def processor_seconds() -> float:
-    """The processor time of this process and of all programs that it has run to their ends."""
+    """The processor time of this process, of all programs that it has run to their ends, and of those that it keeps."""
     used = os.times()
-    return used.user + used.system + used.children_user + used.children_system
+    kept = sum(_used_by(process) or 0.0 for process in tuple(KEPT))
+    return used.user + used.system + used.children_user + used.children_system + kept
 
 
 def _used_by(process: int) -> float | None:

@@ -177,7 +177,7 @@ class ProgramMissing(CmrError, FileNotFoundError):
         looked = "; ".join(self.places)
         return (
             f"the program cmr is not there (looked at: {looked}). In a clone of the repository `./cmr` proves and builds it, "
-            "and `./try-cmr` compiles it without proofs in a minute"
+            "and `./try-cmr` compiles it without proofs in two minutes"
         )
 
 

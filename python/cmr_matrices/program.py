@@ -8,6 +8,7 @@ import shutil
 import warnings
 from collections.abc import Mapping, Sequence
 from dataclasses import dataclass
+from functools import lru_cache
 from pathlib import Path
 
 from .batch.frames import Reply, Request, can_be_sent
@@ -93,7 +94,12 @@ def find_program(program: StrPath | None = None) -> Path:
 
 def unproved() -> Path:
     """The path of the program that `./try-cmr` has compiled without proofs, in this clone."""
-    return _CLONE / "out" / "unproved" / "cmr"
+    return _unproved_in(_CLONE)
+
+
+@lru_cache(maxsize=4)
+def _unproved_in(clone: Path) -> Path:
+    return clone / "out" / "unproved" / "cmr"
 
 
 def _found(program: StrPath | None) -> Path:
@@ -101,8 +107,8 @@ def _found(program: StrPath | None) -> Path:
     if named is not None:
         if not isinstance(named, (str, os.PathLike)):
             raise BadInput(f"program is the path of the program, and here it is {named!r}")
-        path = Path(named).absolute()
-        if not os.access(path, os.X_OK) or path.is_dir():
+        path = _kept_path(os.fspath(named)) if os.path.isabs(named) else Path(named).absolute()
+        if not _can_be_run(path):
             raise ProgramMissing([f"{'the argument' if program is not None else 'CMR_PROGRAM'} {named}"])
         return path
     found = shutil.which("cmr")
@@ -110,11 +116,21 @@ def _found(program: StrPath | None) -> Path:
         return Path(found).absolute()
     built = _CLONE / "crates" / "cmr" / "out" / "cmr"
     for path in (built, _BESIDE, unproved()):
-        if os.access(path, os.X_OK) and not path.is_dir():
+        if _can_be_run(path):
             return path
     is_clone = (_CLONE / "crates.txt").exists()
     clone = f"the clone, {built} and {unproved()}" if is_clone else "the clone, but the package is not in a clone"
     raise ProgramMissing(["CMR_PROGRAM, which is not set", "PATH", clone])
+
+
+@lru_cache(maxsize=16)
+def _kept_path(named: str) -> Path:
+    """An absolute path. Each call asks for it."""
+    return Path(named)
+
+
+def _can_be_run(path: Path) -> bool:
+    return os.access(path, os.X_OK) and not os.path.isdir(path)
 
 
 def run(
@@ -137,7 +153,9 @@ def run(
     """
     clock = Clock.of(time_limit)
     texts = {"-": text} | dict(inputs or {})
-    ran = _reply(find_program(program), words, {name: _encoded(content) for name, content in texts.items()}, outputs, clock)
+    # A call that has begun its clock has found its program.
+    path = program if clock is time_limit and isinstance(program, Path) else find_program(program)
+    ran = _reply(path, words, {name: _encoded(content) for name, content in texts.items()}, outputs, clock)
     if ran.status not in (YES, NO, UNDECIDED, REFUSED):
         raise fault_of(ran.status, ran.error.decode("utf-8", "surrogateescape").rstrip("\n"), texts)
     files = {name: ran.files[name].decode("ascii") for name in outputs if name in ran.files}
@@ -147,7 +165,7 @@ def run(
 def _reply(
     program: Path, words: Sequence[str], files: Mapping[str, bytes], outputs: Sequence[str], clock: Clock
 ) -> Reply:
-    batch = batch_of(program) if clock.counts_all_time else None
+    batch = batch_of(program) if clock.counts_kept else None
     if batch is not None and can_be_sent(words, files):
         return next(replies(batch, [Request.of(words, files)], clock))
     inputs = {name: content for name, content in files.items() if name != "-"}

@@ -17,8 +17,6 @@ __all__ = ["single_run"]
 
 # The status by which a shell says that a file is no program.
 _NOT_RUN = 126
-# The least seconds after which a run is asked again how much processor time it has used.
-_MOMENT = 0.02
 
 
 def single_run(
@@ -65,4 +63,4 @@ def _printed(process: subprocess.Popen[bytes], clock: Clock, left: float | None)
         try:
             return process.communicate(timeout=left)
         except subprocess.TimeoutExpired:
-            left = max(clock.left(process.pid) or 0, _MOMENT)
+            left = max(clock.left(process.pid) or 0, clock.moment)

@@ -13,19 +13,29 @@ import tempfile
 import textwrap
 import threading
 import unittest
-from collections.abc import Sequence
+from collections.abc import Generator, Sequence
+from itertools import count
 from pathlib import Path
 from types import FrameType
 from unittest import mock
 
-from cmr_matrices import Matrix, ProgramFault, TimeLimitReached, find_program, is_network, is_totally_unimodular
+from cmr_matrices import (
+    Matrix,
+    ProgramFault,
+    TimeLimitReached,
+    find_program,
+    is_network,
+    is_totally_unimodular,
+    model_report,
+)
 from cmr_matrices.batch import frames, kept, netstrings
 from cmr_matrices.batch.frames import Reply, Request, can_be_sent
 from cmr_matrices.batch.kept import batch_of, end_all, replies
 from cmr_matrices.batch.netstrings import NoNetstring, taken
-from cmr_matrices.clock import Clock
+from cmr_matrices.batch.process import Process
+from cmr_matrices.clock import Clock, ProcessorClock, TimeLimit, processor_seconds
 from cmr_matrices.single_run import single_run
-from tests.support import TOP, is_gone, needs_batch, waits_until
+from tests.support import EXAMPLES, TOP, is_gone, needs_batch, needs_module, waits_until
 
 STAND_IN = """\
 import os, sys, time
@@ -44,6 +54,13 @@ def replied(request):
         os.kill(os.getpid(), 9)
     if word == "wait":
         time.sleep(1000)
+    if word == "busy":
+        while True:
+            pass
+    if word == "work":
+        end = time.process_time() + 0.4
+        while time.process_time() < end:
+            pass
     if word == "babble":
         return b"no netstring"
     if word == "odd":
@@ -141,6 +158,36 @@ class Processes(StandIn):
         self.assertNotEqual(self.number(), first)
         with self.assertRaises(TimeLimitReached):
             list(replies(self.program, [Request.of(["wait"], {})], Clock(0.2)))
+
+    def test_a_limit_of_processor_time(self) -> None:
+        first, before = self.number(), processor_seconds()
+        with self.assertRaises(TimeLimitReached):
+            list(replies(self.program, [Request.of(["busy"], {})], ProcessorClock(0.3)))
+        self.assertTrue(0.2 < processor_seconds() - before < 2)
+        self.assertTrue(is_gone(first))
+        self.assertNotEqual(self.number(), first)
+
+    def test_the_processor_time_of_a_kept_process_counts_once(self) -> None:
+        self.asked("work")
+        clock = ProcessorClock(100.0)
+        first = clock.left()
+        self.asked("work")
+        second = clock.left()
+        end_all()
+        third = clock.left()
+        assert first is not None and second is not None and third is not None
+        self.assertTrue(99.9 < first <= 100)
+        self.assertTrue(0.3 < first - second < 2)
+        self.assertTrue(0 <= second - third < 0.2)
+
+    def test_a_kept_process_that_only_waits_ends(self) -> None:
+        with self.assertRaises(TimeLimitReached):
+            list(replies(self.program, [Request.of(["wait"], {})], ProcessorClock(0.05)))
+
+    def test_a_system_that_does_not_tell_the_time_of_a_run_has_none(self) -> None:
+        self.assertTrue(ProcessorClock(1.0).counts_kept)
+        with mock.patch("cmr_matrices.clock._used_by", return_value=None):
+            self.assertFalse(ProcessorClock(1.0).counts_kept)
 
     def test_an_interrupt(self) -> None:
         def interrupt(_number: int, _frame: FrameType | None) -> None:
@@ -301,6 +348,28 @@ class Answers(unittest.TestCase):
         with mock.patch.dict(os.environ, {"CMR_BATCH": ""}), mock.patch.object(kept, "Process") as started:
             self.assertTrue(is_network([[1, 1], [0, 1]]))
             self.assertEqual(started.call_count, 0)
+
+    @needs_module("swiglpk")
+    def test_a_report_has_one_process_and_survives_its_death(self) -> None:
+        model = EXAMPLES / "crews.mod"
+        with mock.patch.object(kept, "Process", wraps=kept.Process) as started:
+            end_all()
+            report = model_report(model)
+            self.assertEqual(started.call_count, 1)
+        calls, plain = count(), Process.replies
+
+        def dying(
+            process: Process, requests: Sequence[Request], limit: TimeLimit
+        ) -> Generator[Reply, None, None]:
+            if next(calls) % 5 == 2:
+                os.kill(process.number, signal.SIGKILL)
+            return plain(process, requests, limit)
+
+        with mock.patch.object(Process, "replies", dying):
+            self.assertEqual(model_report(model).to_json(), report.to_json())
+        self.assertGreater(next(calls), 5)
+        with mock.patch.dict(os.environ, {"CMR_BATCH": ""}):
+            self.assertEqual(model_report(model).to_json(), report.to_json())
 
     def test_answers_are_the_same(self) -> None:
         for rows in ([[1, 1, 0], [0, 1, 1], [1, 0, 1]], [[1, 1], [0, 1]], [[0]]):

@@ -89,6 +89,18 @@ class Unproved(ScriptTest):
                 self.assertEqual(said.count("nothing is proved"), 1, said)
                 self.assertNotIn("warnings.warn", said)
 
+    def test_a_command_warns_once_after_a_library_has_set_filters(self):
+        lines = [
+            "import warnings",
+            "from cmr_matrices.commands.command import command_parser",
+            "from cmr_matrices import find_program",
+            "command_parser('')",
+            "for _ in range(3):",
+            "    with warnings.catch_warnings():",
+            "        find_program()",
+        ]
+        self.assertEqual(self.runs("-c", "\n".join(lines)).stderr.count("nothing is proved"), 1)
+
     def test_the_package_warns_once(self):
         code = "import cmr_matrices as cmr; print(*(cmr.is_network([[1]]).verdict for _ in range(3)))"
         run = self.runs("-c", code)

@@ -2,6 +2,7 @@
 
 import fcntl
 import os
+import shutil
 import signal
 import tempfile
 import time
@@ -11,20 +12,28 @@ from pathlib import Path
 from tests.stand_in import SmallClone
 
 NOTE = "try-cmr: nothing is proved of this run; ./cmr runs the proved program\n"
-COMPILING = "try-cmr: compiling the program without proofs, about a minute the first time\n"
+COMPILING = "try-cmr: compiling the program without proofs, about two minutes the first time\n"
+LATER = "try-cmr: cmr-batch is compiled in the background, for the Python package\n"
 
 
-class TryTest(unittest.TestCase):
+class Clone(unittest.TestCase):
+    """A clone of these crates, and a folder in which its program is run."""
+
+    CRATES = {"cmr": ([], 1)}
+
     def setUp(self):
         folder = tempfile.TemporaryDirectory()
         self.addCleanup(folder.cleanup)
-        self.clone = SmallClone(folder.name, {"cmr": ([], 1)})
+        self.clone = SmallClone(folder.name, self.CRATES)
         self.here = Path(folder.name) / "here"
         self.here.mkdir()
         self.kept = self.clone.top / "out" / "unproved" / "cmr"
 
     def run_here(self, *words, **settings):
         return self.clone.run("try-cmr", *words, cwd=self.here, **settings)
+
+
+class TryTest(Clone):
 
     def test_the_first_run_compiles_and_later_ones_do_not(self):
         first = self.run_here("some", "more", "words")
@@ -36,6 +45,30 @@ class TryTest(unittest.TestCase):
 
     def holds_the_program_alone(self):
         self.assertEqual(sorted(os.listdir(self.kept.parent)), ["cmr", "cmr.sources"])
+
+    def test_a_kit_whose_tools_are_known_optimises(self):
+        self.clone.make_kit()
+        first = self.run_here("some", "words")
+        self.assertEqual((first.returncode, first.stdout, first.stderr), (6, "optimised some words\n", NOTE + COMPILING))
+        self.assertEqual(self.clone.compiled(), [["-c", "-O1", "-fsanitize=address", "-fsanitize-address-use-after-return=never", "cmr"]])
+        self.assertEqual(self.run_here().stderr, NOTE)
+        self.holds_the_program_alone()
+
+    def test_a_kit_whose_linker_has_other_words_does_not(self):
+        self.clone.make_kit(linker="#!/bin/sh\nexit 0\n")
+        self.assertEqual(self.run_here().returncode, 70)
+        self.assertEqual(len(self.clone.compiled()), 2)
+        (self.clone.tools / "kit" / "toolchain" / "bin" / "clang").unlink()
+        shutil.rmtree(self.clone.tools / "kit" / "toolchain")
+        self.assertEqual(self.run_here("some", "more", "words").stdout, "some more words\n")
+        self.assertEqual(len(self.clone.compiled()), 2)
+
+    def test_sources_that_a_kit_does_not_compile(self):
+        self.clone.make_kit()
+        (self.clone.crate("cmr") / "fails").touch()
+        run = self.run_here()
+        self.assertEqual((run.returncode, run.stderr), (70, f"{NOTE}{COMPILING}try-cmr: the program was not compiled\nerror: src/main.rt: no\n"))
+        self.assertEqual(self.clone.compiled(), [])
 
     def test_changed_sources_are_compiled_again(self):
         self.run_here()
@@ -113,3 +146,56 @@ class TryTest(unittest.TestCase):
         run = self.clone.begin("try-cmr", sleep=60, cwd=self.here, start_new_session=True)
         self.clone.waits_for("try", "cmr")
         return run
+
+
+class BatchTest(Clone):
+    """With `cmr-batch`, which no run waits for."""
+
+    CRATES = {"cmr": ([], 1), "cmr_batch": ([], 1)}
+
+    def setUp(self):
+        super().setUp()
+        self.clone.make_kit()
+        self.batch = self.kept.with_name("cmr-batch")
+
+    def waits_for_batch(self):
+        last = time.monotonic() + 60
+        while not self.batch.with_name("cmr-batch.sources").exists():
+            self.assertLess(time.monotonic(), last, "cmr-batch is not compiled")
+            time.sleep(0.02)
+
+    def edit(self, crate):
+        (self.clone.crate(crate) / "src" / "lib.rt").write_text("//! other", encoding="utf-8")
+
+    def test_it_is_compiled_in_the_background(self):
+        first = self.run_here("some", "words")
+        self.assertEqual((first.stdout, first.stderr), ("optimised some words\n", NOTE + COMPILING + LATER))
+        self.waits_for_batch()
+        self.assertEqual([words[-1] for words in self.clone.compiled()], ["cmr", "cmr_batch"])
+        self.assertEqual(self.run_here().stderr, NOTE)
+
+    def test_a_run_does_not_wait_for_it(self):
+        (self.clone.crate("cmr_batch") / "fails").touch()
+        self.assertEqual(self.run_here().stderr, NOTE + COMPILING + LATER)
+        self.assertFalse(self.batch.exists())
+
+    def test_the_build_waits_for_both(self):
+        run = self.clone.run("scripts/build_unproved")
+        self.assertEqual((run.returncode, run.stderr), (0, COMPILING + COMPILING.replace("the program", "cmr-batch")))
+        self.assertTrue(self.kept.exists() and self.batch.exists())
+        self.assertEqual(self.clone.run("scripts/build_unproved", has_rt=False).stderr, "")
+
+    def test_that_of_other_sources_is_removed(self):
+        self.clone.run("scripts/build_unproved")
+        self.edit("cmr_batch")
+        (self.clone.crate("cmr_batch") / "fails").touch()
+        self.edit("cmr")
+        self.assertEqual(self.run_here().stderr, NOTE + COMPILING + LATER)
+        self.assertFalse(self.batch.exists())
+
+    def test_a_kit_whose_tools_are_not_known_compiles_none(self):
+        shutil.rmtree(self.clone.tools / "kit" / "toolchain")
+        run = self.clone.run("scripts/build_unproved")
+        self.assertEqual(run.returncode, 70)
+        self.assertIn("this kit compiles no cmr-batch without proofs", run.stderr)
+        self.assertTrue(self.kept.exists())

@@ -35,7 +35,7 @@ _KEPT = _Kept()
 _ALL: WeakSet[Process] = WeakSet()
 
 
-def batch_of(program: Path) -> Path | None:
+def batch_of(program: str | os.PathLike[str]) -> Path | None:
     """The program `cmr-batch` that belongs to a program `cmr`, or None if there is none or if none is to be used.
 
     `CMR_BATCH` names it, or is empty if none is to be used. Otherwise it is beside `cmr`, with `-batch` after its name, or was built
@@ -44,20 +44,21 @@ def batch_of(program: Path) -> Path | None:
     named = os.environ.get("CMR_BATCH")
     if named is not None:
         return Path(named).absolute() if named else None
-    beside, built = _places(program)
+    beside, built = _places(os.fspath(program))
     if os.access(beside, os.X_OK):
         return beside
     if built is None or not os.access(built, os.X_OK):
         return None
-    return built if built.stat().st_mtime >= program.stat().st_mtime else None
+    return built if os.stat(built).st_mtime >= os.stat(program).st_mtime else None
 
 
 @lru_cache(maxsize=16)
-def _places(program: Path) -> tuple[Path, Path | None]:
+def _places(path: str) -> tuple[Path, Path | None]:
     """The places beside a program and in its clone. They are asked for at each call."""
+    program = Path(path)
     name = f"{program.name}_batch"
     built = program.parents[2] / name / "out" / name if len(program.parents) > 2 else None
-    return Path(f"{program}-batch"), built
+    return Path(f"{path}-batch"), built
 
 
 def replies(program: Path, requests: Sequence[Request], time_limit: TimeLimit = None) -> Iterator[Reply]:

@@ -17,6 +17,7 @@ __all__ = ["NoNetstring", "netstring", "netstrings", "row", "taken"]
 
 _DIGITS = 10
 """The digits of the longest length, which is below 2^31."""
+_COMMA, _ZERO = b",0"
 
 
 class NoNetstring(ValueError):
@@ -36,13 +37,17 @@ def row(texts: Iterable[bytes]) -> bytes:
 def netstrings(text: bytes) -> list[bytes]:
     """The texts of the netstrings in a text. Raises `NoNetstring` if it does not consist of netstrings."""
     found = []
-    at = 0
-    while at < len(text):
-        first = taken(text, at)
-        if first is None:
+    at, size = 0, len(text)
+    while at < size:
+        colon = text.find(b":", at, at + _DIGITS + 1)
+        digits = text[at:colon]
+        if colon < 0 or not _is_length(digits):
             raise NoNetstring(text)
-        found.append(first[0])
-        at = first[1]
+        end = colon + 1 + int(digits)
+        if end >= size or text[end] != _COMMA:
+            raise NoNetstring(text)
+        found.append(text[colon + 1 : end])
+        at = end + 1
     return found
 
 
@@ -52,16 +57,19 @@ def taken(text: bytes | bytearray, at: int = 0) -> tuple[bytes, int] | None:
     Raises `NoNetstring` if none begins there, whatever bytes follow.
     """
     colon = text.find(b":", at, at + _DIGITS + 1)
-    digits = bytes(text[at : at + _DIGITS + 1] if colon < 0 else text[at:colon])
-    if digits and (not digits.isdigit() or (digits[0] == ord("0") and len(digits) > 1) or len(digits) > _DIGITS):
-        raise NoNetstring(digits)
+    digits = text[at:colon] if colon >= 0 else text[at : at + _DIGITS + 1]
+    if (colon >= 0 or digits) and not _is_length(digits):
+        raise NoNetstring(bytes(digits))
     if colon < 0:
         return None
-    if not digits:
-        raise NoNetstring(digits)
     end = colon + 1 + int(digits)
     if len(text) <= end:
         return None
-    if text[end] != ord(","):
-        raise NoNetstring(digits)
+    if text[end] != _COMMA:
+        raise NoNetstring(bytes(digits))
     return bytes(text[colon + 1 : end]), end + 1
+
+
+def _is_length(digits: bytes | bytearray) -> bool:
+    """Whether digits are those of a length, or its first ones."""
+    return digits.isdigit() and len(digits) <= _DIGITS and (len(digits) == 1 or digits[0] != _ZERO)

@@ -9,7 +9,7 @@ from collections.abc import Generator, Sequence
 from contextlib import suppress
 from pathlib import Path
 
-from ..clock import Clock, TimeLimit
+from ..clock import KEPT, Clock, TimeLimit
 from ..errors import ProgramFault, ProgramMissing
 from .frames import Reply, Request
 from .netstrings import NoNetstring, taken
@@ -33,17 +33,20 @@ class Process:
         self.program = program
         self._owner = os.getpid()
         self._process = _started(program)
+        KEPT.add(self._process.pid)
         assert self._process.stdin and self._process.stdout
         self._input, self._output = self._process.stdin.fileno(), self._process.stdout.fileno()
         os.set_blocking(self._input, False)
         os.set_blocking(self._output, False)
+        self._poll = select.poll()
+        self._poll.register(self._output, select.POLLIN)
         self._got = bytearray()
         self._waiting = 0
 
     @property
     def is_free(self) -> bool:
-        """Whether it can be asked: it has not ended, waits for no reply, and was not started before a fork."""
-        return self._owner == os.getpid() and not self._waiting and self._process.poll() is None
+        """Whether it can be asked: it was not ended, waits for no reply, and was not started before a fork. It may have died since."""
+        return self._owner == os.getpid() and not self._waiting and self._process.returncode is None
 
     @property
     def number(self) -> int:
@@ -57,12 +60,12 @@ class Process:
         is none. These exceptions, and any that is raised before the last reply is taken, also end the process.
         """
         self._waiting = len(requests)
-        left = memoryview(b"".join([request.frame for request in requests]))
         try:
+            left = self._after_write(memoryview(b"".join([request.frame for request in requests])))
             while self._waiting:
                 clock = Clock.of(time_limit)
                 while (text := self._taken()) is None:
-                    left = self._moved(left, clock.left())
+                    left = self._moved(left, clock)
                 reply = self._reply(text)
                 self._waiting -= 1
                 yield reply
@@ -72,6 +75,8 @@ class Process:
 
     def _taken(self) -> bytes | None:
         """The text of the first whole reply, which is taken."""
+        if not self._got:
+            return None
         try:
             first = taken(self._got)
         except NoNetstring:
@@ -90,29 +95,35 @@ class Process:
     def _fault(self, said: bytes) -> ProgramFault:
         return ProgramFault(0, f"{self.program} is not cmr-batch: it says {said!r}")
 
-    def _moved(self, left: memoryview, seconds: float | None) -> memoryview:
+    def _moved(self, left: memoryview, clock: Clock) -> memoryview:
         """Waits until something can be written or read, and writes or reads it. What is left to write."""
-        readable, writable, _ = select.select([self._output], [self._input] if left else [], [], seconds)
-        if writable:
-            with suppress(BlockingIOError):
-                left = left[self._written(left) :]
-        if readable:
+        if left:
+            self._poll.register(self._input, select.POLLOUT)
+        found = dict(self._poll.poll(_milliseconds(clock)))
+        if left:
+            self._poll.unregister(self._input)
+        if self._input in found:
+            left = self._after_write(left)
+        if self._output in found:
             piece = os.read(self._output, _PIECE)
             if not piece:
                 raise self._ended()
             self._got += piece
         return left
 
-    def _written(self, left: memoryview) -> int:
+    def _after_write(self, left: memoryview) -> memoryview:
+        """What is left to write once as much is written as the pipe takes."""
         try:
-            return os.write(self._input, left)
+            return left[os.write(self._input, left) :]
+        except BlockingIOError:
+            return left
         except BrokenPipeError:
             # The replies that it has written before its end are read first.
             os.set_blocking(self._output, True)
             self._got += _all_of(self._output)
             if taken(self._got) is None:
                 raise self._ended() from None
-            return len(left)
+            return left[len(left) :]
 
     def _ended(self) -> Ended:
         assert self._process.stderr
@@ -126,6 +137,7 @@ class Process:
             self._process.wait()
         else:
             self._process.returncode = 0
+        KEPT.discard(self._process.pid)
         for stream in (self._process.stdin, self._process.stdout, self._process.stderr):
             if stream:
                 with suppress(OSError):
@@ -134,6 +146,12 @@ class Process:
     def __del__(self) -> None:
         with suppress(AttributeError):
             self.end()
+
+
+def _milliseconds(clock: Clock) -> float | None:
+    """The time after which a clock is asked again, if nothing comes before."""
+    left = clock.left()
+    return None if left is None else 1000 * max(left, clock.moment)
 
 
 def _started(program: Path) -> subprocess.Popen[bytes]:

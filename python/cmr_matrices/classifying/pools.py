@@ -7,12 +7,13 @@ dies, its block is repeated; a matrix on which workers die twice gets a row with
 from __future__ import annotations
 
 import multiprocessing
+import selectors
 import signal
 import time
 from collections import deque
 from collections.abc import Iterator
-from multiprocessing.connection import Connection, wait
-from typing import Any, cast
+from multiprocessing.connection import Connection
+from typing import Any
 
 from ..batch.kept import end_all
 from .streams import Item
@@ -57,6 +58,8 @@ class Processes:
         self._given: dict[Connection, deque[Item]] = {}
         self._again: deque[Block] = deque()
         self._suspects: set[tuple[str, int]] = set()
+        # It is kept, since it costs more to make one for each row than to read the row.
+        self._ready = selectors.PollSelector()
         for _ in range(jobs):
             self._start()
 
@@ -65,8 +68,8 @@ class Processes:
         for connection in list(self._workers):
             self._give(connection, blocks)
         while self._given:
-            for ready in wait(list(self._given)):
-                connection = cast(Connection, ready)
+            for key, _ in self._ready.select():
+                connection = key.data
                 try:
                     row: Row = connection.recv()
                 except (EOFError, OSError):
@@ -75,7 +78,7 @@ class Processes:
                 yield row
                 self._given[connection].popleft()
                 if not self._given[connection]:
-                    del self._given[connection]
+                    self._ended(connection)
                     self._give(connection, blocks)
 
     def close(self) -> None:
@@ -89,6 +92,7 @@ class Processes:
             process.kill()
             process.join()
         self._workers.clear()
+        self._ready.close()
 
     def _start(self) -> Connection:
         ours, theirs = multiprocessing.Pipe()
@@ -103,14 +107,20 @@ class Processes:
         if not block:
             return
         self._given[connection] = deque(block)
+        self._ready.register(connection, selectors.EVENT_READ, connection)
         try:
             connection.send(block)
         except OSError:
             pass  # its end is seen where its rows are read
 
+    def _ended(self, connection: Connection) -> list[Item]:
+        """Lets a worker be without a block, and gives what is left of it."""
+        self._ready.unregister(connection)
+        return list(self._given.pop(connection))
+
     def _lost(self, connection: Connection, blocks: Iterator[Block]) -> Iterator[Row]:
         """Puts another worker in the place of one that died, and its matrices back, the one that it was at by itself."""
-        left = list(self._given.pop(connection))
+        left = self._ended(connection)
         process = self._workers.pop(connection)
         connection.close()
         process.join()

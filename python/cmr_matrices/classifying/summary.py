@@ -4,8 +4,8 @@ from __future__ import annotations
 
 from collections import Counter
 from collections.abc import Mapping, Sequence
+from html import escape
 from typing import Any
-from xml.sax.saxutils import escape
 
 from .classes import contradictions
 from .work import CONTRADICTION
@@ -107,7 +107,7 @@ def _box(x: int, y: int, width: int, height: int, colour: str) -> str:
 
 
 def _text(x: int, y: int, words: str, anchor: str = "middle") -> str:
-    return f'<text x="{x}" y="{y}" text-anchor="{anchor}">{escape(words)}</text>'
+    return f'<text x="{x}" y="{y}" text-anchor="{anchor}">{escape(words, quote=False)}</text>'
 
 
 def _mark(x: int, y: int, word: str) -> str:

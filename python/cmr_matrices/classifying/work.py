@@ -6,7 +6,6 @@ import time
 from collections.abc import Callable, Mapping, Sequence
 from contextlib import suppress
 from dataclasses import dataclass, field, replace
-from pathlib import Path
 
 from ..answers import Answer
 from ..batch.kept import batch_of
@@ -59,7 +58,7 @@ class Settings:
 
     def asker(self) -> Asker:
         """Who asks for the verdicts of a matrix."""
-        batch = batch_of(Path(self.program)) if self.batch else None
+        batch = batch_of(self.program) if self.batch else None
         if batch is None:
             return OneByOne(self.program, self.time_limit)
         return Together(batch, self.time_limit)

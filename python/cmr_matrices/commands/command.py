@@ -49,6 +49,8 @@ BAD_WORDS, BAD_TEXT, BAD_FILE, NO_MEMORY, NO_PROGRAM = 2, 3, 4, 5, 70
 
 _Value = TypeVar("_Value")
 
+_SAID: set[str] = set()
+
 
 def command_parser(description: str | None) -> argparse.ArgumentParser:
     """The parser of a command that its description explains, with `--help` and `--version`. A warning of the command is one line."""
@@ -61,7 +63,10 @@ def command_parser(description: str | None) -> argparse.ArgumentParser:
 
 
 def _say_warning(message: Warning | str, *_: object, **__: object) -> None:
-    print(f"{Path(sys.argv[0]).name}: {message}", file=sys.stderr)
+    """Prints a warning, once: a library that a command loads may make Python forget that it was given."""
+    if str(message) not in _SAID:
+        _SAID.add(str(message))
+        print(f"{Path(sys.argv[0]).name}: {message}", file=sys.stderr)
 
 
 def integer_between(least: int, greatest: int) -> Callable[[str], int]:
