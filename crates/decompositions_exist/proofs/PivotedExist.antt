@@ -36,6 +36,10 @@ use Rattle.decompositions_exist.proofs.ShapesExist.{shape_exists}
 -- ---- what replaces undecided nodes
 
 module _ (m : Matrix) (Stands : LineSet → Tree → Type 0) (some : (lines : LineSet) → AreLines m lines → NotExcluded ((tree : Tree) × Stands lines tree)) where
+  by_finding : (lines : LineSet) (finding : Finding) (trees : Trees) (b : Bool) → is_undecided finding ≡ b → AreLines m lines → NotExcluded ((below : Trees) × AllRefine Stands trees below) → NotExcluded ((tree : Tree) × Refines Stands (Branch lines finding trees) tree)
+  by_finding lines finding trees true e are below none = some lines are (λ found. none (found.0, subst (λ f. Refines Stands (Branch lines f trees) found.0) (sym (only_undecided_is finding e)) found.1))
+  by_finding lines finding trees false e are below none = below (λ rest. none (Branch lines finding rest.0, refined_kept Stands lines finding trees rest.0 e rest.1))
+
   mutual
     pub refined_exists : (parent : LineSet) (levels : ℕ) (shape : Tree) → AreLines m parent → IsTreeWithin parent levels shape → NotExcluded ((tree : Tree) × Refines Stands shape tree)
     refined_exists parent levels (Branch lines finding trees) are within none =
@@ -46,10 +50,6 @@ module _ (m : Matrix) (Stands : LineSet → Tree → Type 0) (some : (lines : Li
     refined_below lines levels NoTrees are within none = none (NoTrees, refl)
     refined_below lines levels (MoreTrees tree trees) are within none =
         refined_exists lines levels tree are within.0 (λ first. refined_below lines levels trees are within.1 (λ rest. none (MoreTrees first.0 rest.0, (first.0, rest.0, refl, first.1, rest.1))))
-
-    by_finding : (lines : LineSet) (finding : Finding) (trees : Trees) (b : Bool) → is_undecided finding ≡ b → AreLines m lines → NotExcluded ((below : Trees) × AllRefine Stands trees below) → NotExcluded ((tree : Tree) × Refines Stands (Branch lines finding trees) tree)
-    by_finding lines finding trees true e are below none = some lines are (λ found. none (found.0, subst (λ f. Refines Stands (Branch lines f trees) found.0) (sym (only_undecided_is finding e)) found.1))
-    by_finding lines finding trees false e are below none = below (λ rest. none (Branch lines finding rest.0, refined_kept Stands lines finding trees rest.0 e rest.1))
 
 module _ (limit : ℕ) where
   abbrev AreFoundWith : ℕ → Type 0

@@ -82,21 +82,23 @@ module _ (m : Matrix) (lines : LineSet) (place : PlacedPivot) (is : IsMatrix m) 
     column_in : Contains lines.columns s.column
     two : ¬ (IsEntry (pivot_entry (entry m) place.row place.column s.row s.column))
 
+  small : (s : Spot) → IsFirstBy spot_key HasTwo s → (i j : ℕ) → Contains lines.rows i → Contains lines.columns j → (i < s.row) ⊎ ((i ≡ s.row) × ((j < s.column) ⊎ ((j ≡ s.column) × ⊥))) → IsEntry (pivot_entry (entry m) place.row place.column i j)
+  unfolding spot_key
+  small s f i j i_in j_in before = entry_unless (pivot_entry (entry m) place.row place.column i j) (λ two. f.first (record { row = i; column = j }) (record { row_in = i_in; column_in = j_in; two = two }) before)
+
   shows : (s : Spot) → IsFirstBy spot_key HasTwo s → ShowsFirstTwoIn m lines place (two_lines place.row s.row) (two_lines place.column s.column)
   unfolding spot_key
   shows s f =
-      let small = λ (i j : ℕ) (i_in : Contains lines.rows i) (j_in : Contains lines.columns j) before.
-          entry_unless (pivot_entry (entry m) place.row place.column i j) (λ two. f.first (record { row = i; column = j }) (record { row_in = i_in; column_in = j_in; two = two }) before) in
       let found = first_two_apart m lines place is are.rows are.columns place_in s.row s.column f.has.row_in
-          (record { column_in = f.has.column_in; two = f.has.two; columns_before = λ j j_in l. small s.row j f.has.row_in j_in (inr (refl, inl l)) }) in
+          (record { column_in = f.has.column_in; two = f.has.two; columns_before = λ j j_in l. small s f s.row j f.has.row_in j_in (inr (refl, inl l)) }) in
       record {
         other_row = s.row;
         other_column = s.column;
         row_in = f.has.row_in;
         column_in = f.has.column_in;
         two = f.has.two;
-        rows_before = λ i j i_in j_in l. small i j i_in j_in (inl l);
-        columns_before = λ j j_in l. small s.row j f.has.row_in j_in (inr (refl, inl l));
+        rows_before = λ i j i_in j_in l. small s f i j i_in j_in (inl l);
+        columns_before = λ j j_in l. small s f s.row j f.has.row_in j_in (inr (refl, inl l));
         rows_are = refl;
         columns_are = refl;
         row_set = increasing_row_set m (two_lines place.row s.row)

@@ -9,13 +9,17 @@ use Rattle.cmr_base.specs.Reductions.{removal}
 use Rattle.tree_type.specs.DecompositionTrees.{Finding, Empty, Cycle, Tree, Branch, NoTrees, trees_from}
 use Rattle.tree_type.specs.Invariant.{AreLines, size_of}
 use Rattle.tree_type.specs.Soundness.{part}
-use Rattle.decomp_tree.specs.Shapes.{Case, HasNoLines, HasFault, IsReducible, IsApart, IsNetwork, IsConetwork, IsR10Matrix, IsTwoSum, IsThreeSum, IsShort, IsLeft, case_number, Applies, IsFirstCase, set_in, IsShapeOn}
+use Rattle.decomp_tree.specs.Shapes.{Case, HasNoLines, HasFault, IsReducible, IsApart, IsNetwork, IsConetwork, IsR10Matrix, IsTwoSum, IsThreeSum, IsShort, IsLeft, case_number, Applies, IsFirstCase, set_in, IsShape, IsShapeOn}
 use Rattle.decomp_tree.specs.Seen.{AreFewer, HasNoneBefore, IsSaid}
 use Rattle.decomp_tree.proofs.Children.{child_lines}
 use Rattle.decomp_tree.proofs.Drawn.{AreDrawn, drawn}
 use Rattle.decomp_tree.proofs.Said.{empty_from_length, not_reducible, seen_conetwork, seen_enumerated, seen_network, seen_parts, seen_r10, seen_rest, seen_undecided, seen_violator}
 use Rattle.decomp_tree.proofs.SaidSums.{said_two, said_three}
 use Rattle.tree_type.proofs.PlacedLines.{part_is}
+use Rattle.decomp_tree.specs.PivotedShapes.{all_lines}
+use Rattle.decomp_tree.proofs.PivotedRoots.{all_are_lines}
+use Rattle.decomp_tree.proofs.ShapeTrees.{shape_moved}
+use Rattle.tree_type.specs.Places.{AllLines}
 use Rattle.decompositions_exist.proofs.NotExcluded.{NotExcluded}
 use Rattle.decompositions_exist.proofs.LeastKeys.{IsLeast, least_number}
 use Rattle.decompositions_exist.proofs.FaultsExist.{first_fault}
@@ -120,3 +124,7 @@ module _ (limit : ℕ) (m : Matrix) (is : IsMatrix m) where
   pub shape_exists : (lines : LineSet) → AreLines m lines → NotExcluded ((tree : Tree) × IsShapeOn limit m lines tree)
   unfolding HasShape
   shape_exists lines are = shape_by_size (suc (size_of lines)) lines are (omega arith)
+
+  -- the matrix has a decomposition
+  pub whole_shape_exists : NotExcluded ((tree : Tree) × IsShape limit m tree)
+  whole_shape_exists none = shape_exists (all_lines m) (all_are_lines m is) (λ tree. none (tree.0, shape_moved limit m [] (AllLines (height m) m.width) (all_lines m) tree.0 (refl, refl) tree.1))

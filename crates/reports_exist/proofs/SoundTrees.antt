@@ -1,0 +1,20 @@
+-- A tree of a text keeps its rules, or a node is the first that breaks one.
+use Rattle.std.proofs.Common.{◌≡◌, ◌⊎◌, inl, inr, ℕ, List, sym, subst}
+use Rattle.cmr_base.specs.Matrix.{Matrix}
+use Rattle.tree_type.specs.DecompositionTrees.{SizedTree, Tree, tree_of}
+use Rattle.tree_type.specs.Invariant.{IsTreeFor}
+use Rattle.tree_type.specs.Laws.{SoundOrBroken}
+use Rattle.tree_type.specs.Soundness.{IsBrokenTree, IsSoundTree}
+use Rattle.tree_type.specs.declared.refusal.Refusal.{Refusal}
+use Rattle.tree_type.specs.declared.refusal.Rule.{Rule}
+use Rattle.tree_text.specs.TreeReading.{PlainTree}
+use Rattle.cmr_front.specs.Evidence.{IsBrokenFor, IsSoundFor}
+use Rattle.decompositions_exist.proofs.NotExcluded.{NotExcluded}
+use Rattle.decompositions_exist.proofs.NodesExist.{sized_tree_of}
+
+-- the rule that a node breaks, by its path
+abbrev pub SomeBroken : Matrix → PlainTree → Type 0
+SomeBroken m t = (path : List ℕ) × (broken : Rule) × IsBrokenFor m t path broken
+
+pub sound_or_refused : SoundOrBroken → (m : Matrix) (t : PlainTree) → IsTreeFor t.rows t.columns t.root → NotExcluded (IsSoundFor m t ⊎ SomeBroken m t)
+sound_or_refused either m t fits neither = ?
