@@ -1,13 +1,15 @@
 -- Each tree that fits its lines is the tree of a node.
-use Rattle.std.proofs.Common.{◌≡◌, ◌≤◌, ◌<◌, ◌+◌, ◌-◌, ◌∙◌, ℕ, zero, suc, List, [], ◌∷◌, length, map, refl, ap, ap₂, sym, subst, arith}
+use Rattle.std.proofs.Common.{◌≡◌, ◌≤◌, ◌<◌, ◌+◌, ◌-◌, ◌∙◌, ℕ, zero, suc, List, [], ◌∷◌, length, map, get_or, Contains, refl, ap, ap₂, sym, subst, arith}
 use Rattle.std.specs.declared.alloc.Global.{Global}
 use Rattle.std.specs.declared.boxed.Box.{Box}
 use Rattle.std.specs.declared.vec.Vec.{Vec}
 use Rattle.cmr_base.specs.declared.line_set.LineSet.{LineSet}
 use Rattle.cmr_base.specs.declared.network.Network as net
-use Rattle.cmr_base.specs.declared.limits.TheConstants.{MAX_COLUMNS, MAX_ROWS}
 use Rattle.cmr_base.proofs.Parts.{length-increasing}
-use Rattle.cmr_base.specs.Matrix.{Matrix, height, IsMatrix}
+use Rattle.cmr_base.specs.LineSets.{AllBelow}
+use Rattle.cmr_base.proofs.ListsWithout.{contains_from_in, in-get_or}
+use Rattle.cmr_base.proofs.Places.{contained_below}
+use Rattle.std.specs.List.Sorted.{IsStrictlyIncreasing}
 use Rattle.tree_type.specs.declared.tree.Node.{Node}
 use Rattle.tree_type.specs.declared.tree.NodeList.{NodeList, roll-NodeList}
 use Rattle.tree_type.specs.declared.tree.Kind.{Kind}
@@ -15,11 +17,10 @@ use Rattle.tree_type.specs.declared.tree.Kind.TheFolds.{fold-roll-Kind}
 use Rattle.tree_type.specs.declared.tree.Kind.TheViews.{out-roll-NodeList}
 use Rattle.tree_type.specs.declared.tree.Kind.TheOpen as open'
 use Rattle.tree_type.specs.declared.tree.Kind.TheVariants as kind
-use Rattle.tree_type.specs.DecompositionTrees.{Finding, Empty, Cycle, Reduced, OneSum, Network, Conetwork, R10, TwoSum, ThreeSum, Enumerated, Violator, Undecided, Pivoted, Tree, Trees, Branch, NoTrees, MoreTrees, SizedTree, count_trees, kind_step, list_step, node_step, one_tree, lines_at_root, tree_of, trees_from, trees_of, two_trees, nodes_in}
-use Rattle.tree_type.specs.Invariant.{AreTreesWithin, FitsLines, HasChildren, IsTreeFor, IsTreeWithin, size_of, AreLines}
+use Rattle.tree_type.specs.DecompositionTrees.{Finding, Empty, Cycle, Reduced, OneSum, Network, Conetwork, R10, TwoSum, ThreeSum, Enumerated, Violator, Undecided, Pivoted, Tree, Trees, Branch, NoTrees, MoreTrees, count_trees, kind_step, list_step, node_step, one_tree, lines_at_root, tree_of, trees_from, trees_of, two_trees, nodes_in}
+use Rattle.tree_type.specs.Invariant.{AreTreesWithin, FitsLines, HasChildren, IsTreeFor, IsTreeWithin, size_of, AreLinesOf}
 use Rattle.tree_type.proofs.NodeTrees.{said, said_cycle, said_empty, said_one_sum, said_pivoted, said_reduced, said_three_sum, said_two_sum, said_violator, tree_is}
 use Rattle.tree_type.proofs.Forests.{trees_are, count_of}
-use Rattle.tree_type.proofs.PlacedLines.{lines_within}
 use denote.RawPtr.{null_ptr}
 
 -- ---- the code's form of a node
@@ -121,45 +122,64 @@ few_children lines (Violator fault) trees fits count = omega (arith, count)
 few_children lines Undecided trees fits count = omega (arith, count)
 few_children lines (Pivoted place) trees fits count = omega (arith, count)
 
-few_lines : (m : Matrix) (lines : LineSet) → IsMatrix m → AreLines m lines → size_of lines ≤ 2000
-few_lines m lines is are =
-    let rows = length-increasing lines.rows (height m) are.rows.increasing are.rows.in_range in
-    let columns = length-increasing lines.columns m.width are.columns.increasing are.columns.in_range in
-    let high = is.height_in in
-    let wide = is.width_in in
-    omega (arith, rows, columns, high, wide)
+-- lines within these sizes
+record AreLinesWithin (lines : LineSet) : Type 0 where
+  rows_increase : IsStrictlyIncreasing lines.rows
+  columns_increase : IsStrictlyIncreasing lines.columns
+  rows_in : AllBelow 1000 lines.rows
+  columns_in : AllBelow 1000 lines.columns
+
+few_lines : (lines : LineSet) → AreLinesWithin lines → size_of lines ≤ 2000
+few_lines lines are =
+    let rows = length-increasing lines.rows 1000 are.rows_increase are.rows_in in
+    let columns = length-increasing lines.columns 1000 are.columns_increase are.columns_in in
+    omega (arith, rows, columns)
+
+below_lines : (xs ys : List ℕ) → ((x : ℕ) → Contains xs x → Contains ys x) → AllBelow 1000 ys → AllBelow 1000 xs
+below_lines xs ys within below k l = contained_below 1000 ys (get_or xs k 0) below (within (get_or xs k 0) (contains_from_in xs (get_or xs k 0) (in-get_or xs k l)))
+
+lines_of : (child parent : LineSet) → AreLinesOf child parent → AreLinesWithin parent → AreLinesWithin child
+lines_of child parent among are = record {
+  rows_increase = among.rows_increase;
+  columns_increase = among.columns_increase;
+  rows_in = below_lines child.rows parent.rows among.rows are.rows_in;
+  columns_in = below_lines child.columns parent.columns among.columns are.columns_in;
+}
 
 record AreNodesOf (trees : Trees) : Type 0 where
   nodes : List Node
   have : trees_from (map tree_of nodes) ≡ trees
 
-module _ (m : Matrix) (is : IsMatrix m) where
-  mutual
-    node_exists : (parent : LineSet) (levels : ℕ) (tree : Tree) → AreLines m parent → IsTreeWithin parent levels tree → IsNodeOf tree
-    node_exists parent levels (Branch lines finding trees) are within =
-        let here = lines_within m lines parent within.1 are in
-        let below = nodes_exist lines (levels - 1) trees here within.4 in
-        let as_many : length below.nodes ≡ count_trees trees = sym (count_of below.nodes) ∙ ap count_trees below.have in
-        let few = few_children lines finding trees within.2 within.3 in
-        let small = few_lines m lines is here in
-        subst (λ t. IsNodeOf (Branch lines finding t)) below.have (node_with lines finding below.nodes (omega (arith, as_many, few, small)) (subst (HasChildren finding) (sym as_many) within.3))
+mutual
+  node_exists : (parent : LineSet) (levels : ℕ) (tree : Tree) → AreLinesWithin parent → IsTreeWithin parent levels tree → IsNodeOf tree
+  node_exists parent levels (Branch lines finding trees) are within =
+      let here = lines_of lines parent within.1 are in
+      let below = nodes_exist lines (levels - 1) trees here within.4 in
+      let as_many : length below.nodes ≡ count_trees trees = sym (count_of below.nodes) ∙ ap count_trees below.have in
+      let few = few_children lines finding trees within.2 within.3 in
+      let small = few_lines lines here in
+      subst (λ t. IsNodeOf (Branch lines finding t)) below.have (node_with lines finding below.nodes (omega (arith, as_many, few, small)) (subst (HasChildren finding) (sym as_many) within.3))
 
-    nodes_exist : (parent : LineSet) (levels : ℕ) (trees : Trees) → AreLines m parent → AreTreesWithin parent levels trees → AreNodesOf trees
-    nodes_exist parent levels NoTrees are within = record { nodes = []; have = refl }
-    nodes_exist parent levels (MoreTrees tree trees) are within =
-        let first = node_exists parent levels tree are within.0 in
-        let rest = nodes_exist parent levels trees are within.1 in
-        record { nodes = first.node ∷ rest.nodes; have = ap₂ (λ (t : Tree) (ts : Trees). MoreTrees t ts) first.has rest.have }
+  nodes_exist : (parent : LineSet) (levels : ℕ) (trees : Trees) → AreLinesWithin parent → AreTreesWithin parent levels trees → AreNodesOf trees
+  nodes_exist parent levels NoTrees are within = record { nodes = []; have = refl }
+  nodes_exist parent levels (MoreTrees tree trees) are within =
+      let first = node_exists parent levels tree are within.0 in
+      let rest = nodes_exist parent levels trees are within.1 in
+      record { nodes = first.node ∷ rest.nodes; have = ap₂ (λ (t : Tree) (ts : Trees). MoreTrees t ts) first.has rest.have }
 
-  -- a tree for the matrix as a value of the code
-  pub sized_tree_of : (tree : Tree) → IsTreeFor (height m) m.width tree → (sized : SizedTree) × (sized.rows ≡ height m) × (sized.columns ≡ m.width) × (tree_of sized.root ≡ tree)
-  sized_tree_of tree is_tree =
-      let are = root_are tree is_tree in
-      let found = node_exists (lines_at_root tree) 2001 tree are is_tree.nodes in
-      (record { rows = height m; columns = m.width; root = found.node }, refl, refl, found.has)
-    where
-      root_are : (tree : Tree) → IsTreeFor (height m) m.width tree → AreLines m (lines_at_root tree)
-      root_are (Branch lines finding trees) is_tree = record {
-        rows = record { increasing = is_tree.nodes.1.rows_increase; in_range = is_tree.root_rows };
-        columns = record { increasing = is_tree.nodes.1.columns_increase; in_range = is_tree.root_columns };
-      }
+root_lines : (rows columns : ℕ) (tree : Tree) → IsTreeFor rows columns tree → AreLinesWithin (lines_at_root tree)
+root_lines rows columns (Branch lines finding trees) is_tree =
+    let high = is_tree.rows_in in
+    let wide = is_tree.columns_in in
+    record {
+      rows_increase = is_tree.nodes.1.rows_increase;
+      columns_increase = is_tree.nodes.1.columns_increase;
+      rows_in = λ k l. let low = is_tree.root_rows k l in omega (arith, low, high);
+      columns_in = λ k l. let low = is_tree.root_columns k l in omega (arith, low, wide);
+    }
+
+-- a tree for a matrix as a node of the code
+pub node_of_tree : (rows columns : ℕ) (tree : Tree) → IsTreeFor rows columns tree → (node : Node) × (tree_of node ≡ tree)
+node_of_tree rows columns tree is_tree =
+    let found = node_exists (lines_at_root tree) 2001 tree (root_lines rows columns tree is_tree) is_tree.nodes in
+    (found.node, found.has)

@@ -90,7 +90,7 @@ module _ (m : Matrix) (lines : LineSet) (place : PlacedPivot) (is : IsMatrix m) 
   unfolding spot_key
   shows s f =
       let found = first_two_apart m lines place is are.rows are.columns place_in s.row s.column f.has.row_in
-          (record { column_in = f.has.column_in; two = f.has.two; columns_before = λ j j_in l. small s f s.row j f.has.row_in j_in (inr (refl, inl l)) }) in
+      (record { column_in = f.has.column_in; two = f.has.two; columns_before = λ j j_in l. small s f s.row j f.has.row_in j_in (inr (refl, inl l)) }) in
       record {
         other_row = s.row;
         other_column = s.column;

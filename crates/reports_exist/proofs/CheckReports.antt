@@ -3,6 +3,7 @@ use Rattle.std.proofs.Common.{◌≡◌, ◌≢◌, ◌<◌, ◌≤◌, ◌+◌,
 use Rattle.std.proofs.Math.Seq.{take-append_seam, drop-append_seam}
 use Rattle.std.proofs.lemmas.List.{length-append}
 use Rattle.cmr_base.specs.Matrix.{Matrix, IsMatrix, entry, height}
+use Rattle.cmr_base.specs.LineSets.{IsColumnSet, IsRowSet}
 use Rattle.cmr_base.specs.Trees.{IsBinary}
 use Rattle.cmr_base.specs.Violator.{IsViolator}
 use Rattle.cmr_base.specs.declared.line_set.LineSet.{LineSet}
@@ -91,8 +92,8 @@ pub violator_has_report : (m : Matrix) (bytes : List ℕ) (lines : LineSet) → 
 violator_has_report m bytes lines e none = one_of_two (IsViolator (entry m) lines.rows lines.columns) (λ either. elim either [
   | inl violator ↦
       let named = found (height m) m.width (text_of bytes) (Ok lines) e in
-      let rows = record { increasing = named.rows_increase; in_range = named.rows_in } in
-      let columns = record { increasing = named.columns_increase; in_range = named.columns_in } in
+      let rows : IsRowSet m lines.rows = record { increasing = named.rows_increase; in_range = named.rows_in } in
+      let columns : IsColumnSet m lines.columns = record { increasing = named.columns_increase; in_range = named.columns_in } in
       none (accepted_report m (verdicts.No lines), accepted (refuted_by m lines rows columns violator) refl)
   | inr other ↦ none (refused_report [] NotViolator, refused other refl)
 ])

@@ -21,7 +21,7 @@ this_report report none = none (report, refl)
 
 -- on a text that represents something, or is at fault
 pub on_text : {A K : Type 0} (kind_of : K → FaultKind) (file : List ℕ) (Decides : A → Report → Type 0) (read : Result A (Fault K)) → ((x : A) → read ≡ Ok x → HasReport (Decides x)) → HasReport (ReportsText kind_of file Decides read)
-on_text kind_of file Decides (Ok x) decided = decided x refl
+on_text kind_of file Decides (Ok x) decided none = decided x refl none
 on_text kind_of file Decides (Err fault) decided none = none (bad_text file (kind_of fault.0) fault.1, refl)
 
 pub on_one : (On : List ℕ → Report → Type 0) → ((bytes : List ℕ) → HasReport (On bytes)) → (texts : List (List ℕ)) → length texts ≡ 1 → HasReport (ReportsOne On texts)

@@ -1,0 +1,17 @@
+pub mod TextReports
+pub mod UpgradeReports
+pub mod SoundTrees
+pub mod CheckReports
+pub mod MinimalReports
+pub mod SeriesParallelReports
+pub mod PathReports
+pub mod CamionReports
+pub mod FilledShapes
+pub mod ComposeReports
+pub mod SignedParts
+pub mod PartsReports
+pub mod UnimodularReports
+pub mod BalancedReports
+pub mod NetworkMatrices
+pub mod GraphReports
+pub mod GenerateReports
