@@ -41,14 +41,14 @@ next_exists m lines state none = one_of_two ((place : PlacedPivot) × IsSeparati
 
 -- ---- the first 2 or -2
 
-entry_or_not : (z : ℤ) → IsEntry z ⊎ (¬ IsEntry z)
+pub entry_or_not : (z : ℤ) → IsEntry z ⊎ (¬ IsEntry z)
 entry_or_not (pos zero) = inl (record { low = omega (arith, sums); high = omega (arith, sums) })
 entry_or_not (pos (suc zero)) = inl (record { low = omega (arith, sums); high = omega (arith, sums) })
 entry_or_not (pos (suc (suc n))) = inr (λ h. let l = h.high in omega (arith, sums, l))
 entry_or_not (negsuc zero) = inl (record { low = omega (arith, sums); high = omega (arith, sums) })
 entry_or_not (negsuc (suc n)) = inr (λ h. let l = h.low in omega (arith, sums, l))
 
-entry_unless : (z : ℤ) → NotExcluded (IsEntry z) → IsEntry z
+pub entry_unless : (z : ℤ) → NotExcluded (IsEntry z) → IsEntry z
 entry_unless z some = elim (entry_or_not z) [
   | inl is ↦ is
   | inr not ↦ absurd (some not)

@@ -15,3 +15,8 @@ pub mod BalancedReports
 pub mod NetworkMatrices
 pub mod GraphReports
 pub mod GenerateReports
+pub mod SigningsExist
+pub mod RegularReports
+pub mod RunsExist
+pub mod SignReports
+pub mod OrderReports

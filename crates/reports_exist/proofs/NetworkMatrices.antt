@@ -69,15 +69,15 @@ module _ (arcs : List Pair) where
 
 direction_is_entry : (steps : List WalkStep) (row : ℕ) → IsEntry (direction steps row)
 direction_is_entry [] row = zero_is_entry
-direction_is_entry (step ∷ steps) row = go (nat_eq row step.arc) step.forwards
+direction_is_entry (step ∷ steps) row = go (nat_eq row step.arc) step.forwards (direction_is_entry steps row)
   where
     sign : (b : Bool) → IsEntry (cond b (pos 1) (negsuc 0))
     sign true = record { low = omega (arith, sums); high = omega (arith, sums) }
     sign false = record { low = omega (arith, sums); high = omega (arith, sums) }
 
-    go : (b c : Bool) → IsEntry (cond b (cond c (pos 1) (negsuc 0)) (direction steps row))
-    go true c = sign c
-    go false c = direction_is_entry steps row
+    go : (b c : Bool) → IsEntry (direction steps row) → IsEntry (cond b (cond c (pos 1) (negsuc 0)) (direction steps row))
+    go true c later = sign c
+    go false c later = later
 
 module _ (net : Net) (m n : ℕ) (is : IsNetworkOf net m n) where
   column_path : (column : ℕ) → column < n → IsPath net.arcs (tail net.walks column) (head net.walks column)
