@@ -28,22 +28,25 @@ decided o low a is binary none = signing_exists a is (λ signing.
     let signed = signing.1 in
     let whole = signing.2 in
     let signed_is = signs_are_matrix a signed is whole.signs in
-    decomposition_exists o.lines o.pivots signed low signed_is (λ tree. none (regular_report o a steps signed tree.0, record {
-      steps = steps;
-      signed = signed;
-      signing = record {
-        binary = binary;
-        matrix = is;
-        signed_matrix = signed_is;
-        by_camion = whole.by_camion;
-        one_support = whole.one_support;
-        chain = chain_steps a is binary steps (unsigned a) signed (unsigned_signs a) whole.by_camion.steps_are;
-      };
-      tree = tree.0;
-      decomposition = tree.1;
-      told = told o.lines o.pivots signed signed_is tree.0 tree.1;
-      report_is = refl;
-    })))
+    decomposition_exists o.lines o.pivots signed low signed_is (λ tree. none (
+      regular_report o a steps signed tree.0,
+      record {
+        steps = steps;
+        signed = signed;
+        signing = record {
+          binary = binary;
+          matrix = is;
+          signed_matrix = signed_is;
+          by_camion = whole.by_camion;
+          one_support = whole.one_support;
+          chain = chain_steps a is binary steps (unsigned a) signed (unsigned_signs a) whole.by_camion.steps_are;
+        };
+        tree = tree.0;
+        decomposition = tree.1;
+        told = told o.lines o.pivots signed signed_is tree.0 tree.1;
+        report_is = refl;
+      },
+    )))
 
 pub regular_has_report : (o : RegularOrder) → o.lines ≤ MAX_LINES → (texts : List (List ℕ)) → length texts ≡ 1 → HasReport ((regular_tool o).Reports texts)
 regular_has_report o low = on_matrix (regular_source o) (RegularDecides o) (λ bytes m e. decided o low m (read_is_matrix o.form true bytes m e) (read_is_binary o.form bytes m e))

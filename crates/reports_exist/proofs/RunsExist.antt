@@ -80,10 +80,10 @@ ends_aside m row left is small none (signed steps signs sums found run) =
     let many = found.one_each in
     let count = length-map-range_with_len (λ column. get_or sums column (pos 0) +ℤ entry m row column) 0 m.width in
     signed (record { row = row; column = None } ∷ steps) (set signs row (pos 1)) (sums_with m row sums)
-        (signs_with_aside m row left signs sums (sums_with m row sums) row_in out (small row (inl refl)) (λ column l. aside_quiet m (row ∷ left) left row column more (small row (inl refl) column l) (none column l)) found
-        (count ∙ sym found.sum_each)
-        (λ column l. get_or-map-range_with_len (λ k. get_or sums k (pos 0) +ℤ entry m row k) 0 m.width column column (pos 0) l (omega arith)))
-        (signs_set_aside m (row ∷ left) left row steps signs (set signs row (pos 1)) (record { no_pivot = none; rows_are = refl }) out (omega (arith, row_in, many)) refl run)
+    (signs_with_aside m row left signs sums (sums_with m row sums) row_in out (small row (inl refl)) (λ column l. aside_quiet m (row ∷ left) left row column more (small row (inl refl) column l) (none column l)) found
+    (count ∙ sym found.sum_each)
+    (λ column l. get_or-map-range_with_len (λ k. get_or sums k (pos 0) +ℤ entry m row k) 0 m.width column column (pos 0) l (omega arith)))
+    (signs_set_aside m (row ∷ left) left row steps signs (set signs row (pos 1)) (record { no_pivot = none; rows_are = refl }) out (omega (arith, row_in, many)) refl run)
 ends_aside m row left is small none (violated steps row_marks column_marks odd found run) =
     violated (record { row = row; column = None } ∷ steps) row_marks column_marks odd
     (marks_among_more m left (row ∷ left) row_marks column_marks odd (λ r h. contains_from_in (row ∷ left) r (inr (in_from_contains left r h))) found) (left, (record { no_pivot = none; rows_are = refl }, run))
@@ -223,9 +223,9 @@ module _ (m : Matrix) (rows : List ℕ) (is : IsRowSet m rows) (small : AreSmall
           column_in = has.column_in;
           square = elim (small_or_square (entry m row column) (entry m other column) (entry m row s.column) (entry m other s.column) first.pivot.nonzero
               (left_small other there column first.pivot.column_in) (row_small s.column has.column_in) (left_small other there s.column has.column_in)) [
-            | inl entry_is ↦ absurd (has.two entry_is)
-            | inr square ↦ square
-          ];
+                | inl entry_is ↦ absurd (has.two entry_is)
+                | inr square ↦ square
+              ];
         }
 
     ends_square : (s : Spot) → IsFirstBy spot_key HasTwo s → Ends m rows
@@ -305,17 +305,17 @@ module _ (m : Matrix) (rows : List ℕ) (is : IsRowSet m rows) (small : AreSmall
           let high = after_height in
           let low = row_in in
           signed (step ∷ steps) (set signs row (get_or sums column (pos 0))) (set sums column (pos 0))
-              (signs_reordered m row left rows (set signs row (get_or sums column (pos 0))) (set sums column (pos 0)) more
-              (signs_before_pivot m after row column left signs sums after_height refl row_in first.pivot.column_in out first.pivot.nonzero odd_there pivots found))
-              (signs_set_pivot m after rows left row column steps signs sums (set signs row (get_or sums column (pos 0))) next made out (omega (arith, many, high, low)) first.pivot.column_in found refl run)
+          (signs_reordered m row left rows (set signs row (get_or sums column (pos 0))) (set sums column (pos 0)) more
+          (signs_before_pivot m after row column left signs sums after_height refl row_in first.pivot.column_in out first.pivot.nonzero odd_there pivots found))
+          (signs_set_pivot m after rows left row column steps signs sums (set signs row (get_or sums column (pos 0))) next made out (omega (arith, many, high, low)) first.pivot.column_in found refl run)
       ends_after (violated steps row_marks column_marks odd found run) =
           let mark = parity_of (sum_over (marked (set column_marks column false)) (entry m row) +ℤ bit (get_or column_marks column false)) in
           let columns' = set column_marks column mark.0 in
           let again : MarksAgain (entry m row) column column_marks columns' = record { mark = mark.0; new_is = refl; parity = mark.1 } in
           violated (step ∷ steps) (set row_marks row (get_or odd column false)) columns' (set odd column false)
-              (marks_among_more m (row ∷ left) rows (set row_marks row (get_or odd column false)) columns' (set odd column false) more_rows
-              (marks_before_pivot m after row column left row_in first.pivot.column_in out first.pivot.nonzero after_height refl pivots row_marks column_marks odd columns' found again))
-              (left, (next, (after, made, (marked row_marks, marked column_marks, run, pulled_back m after row column left row_in first.pivot.column_in out first.pivot.nonzero after_height refl pivots row_marks column_marks odd columns' found again))))
+          (marks_among_more m (row ∷ left) rows (set row_marks row (get_or odd column false)) columns' (set odd column false) more_rows
+          (marks_before_pivot m after row column left row_in first.pivot.column_in out first.pivot.nonzero after_height refl pivots row_marks column_marks odd columns' found again))
+          (left, (next, (after, made, (marked row_marks, marked column_marks, run, pulled_back m after row column left row_in first.pivot.column_in out first.pivot.nonzero after_height refl pivots row_marks column_marks odd columns' found again))))
 
 -- ---- the run
 

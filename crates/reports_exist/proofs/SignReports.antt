@@ -54,22 +54,28 @@ module _ (m : Matrix) (rows : List ℕ) (is : IsRowSet m rows) where
   by_end (signed steps signs sums s run) none =
       let sign = λ (row : ℕ). get_or signs row (pos 0) in
       let answer = Signed (map sign rows) steps in
-      none (sign_report m rows answer, record {
-        answer = answer;
-        is_answer = record {
-          right = signing signs sums s;
-          run = (sign, refl, run);
-          steps = names_each_once steps sign m rows run (increasing_are_distinct 0 (height m) rows (row_set_increases m rows is));
-        };
-        report_is = refl;
-      })
+      none (
+        sign_report m rows answer,
+        record {
+          answer = answer;
+          is_answer = record {
+            right = signing signs sums s;
+            run = (sign, refl, run);
+            steps = names_each_once steps sign m rows run (increasing_are_distinct 0 (height m) rows (row_set_increases m rows is));
+          };
+          report_is = refl;
+        },
+      )
   by_end (violated steps row_marks column_marks odd v run) none =
       let lines : LineSet = record { rows = marked row_marks; columns = marked column_marks } in
-      none (sign_report m rows (Violated lines), record {
-        answer = Violated lines;
-        is_answer = record { right = violator row_marks column_marks odd v; run = (steps, run); steps = tt };
-        report_is = refl;
-      })
+      none (
+        sign_report m rows (Violated lines),
+        record {
+          answer = Violated lines;
+          is_answer = record { right = violator row_marks column_marks odd v; run = (steps, run); steps = tt };
+          report_is = refl;
+        },
+      )
 
   decided : IsMatrix m → HasReport (SignDecides m rows)
   decided matrix none = ends_exist (suc (length rows)) m rows (omega arith) is (λ row h column l. matrix.small row column) (λ ends. by_end ends none)

@@ -73,16 +73,19 @@ module _ (a : Matrix) (is : IsMatrix a) where
         let odd = odd_sum a s is signs row partner.0 column turn least.has.here forces.0 cycle.0 cycle.1 in
         let v = closing (submatrix_sum s cycle.0.rows cycle.0.columns) odd in
         let sum = sum_more a s is signs row partner.0 column turn least.has.here forces.0 cycle.0 cycle.1 v.0 in
-        let rule : IsNextSign a s (Forced row column cycle.0) v.0 = (turn, record {
-          here = least.has.here;
-          partner = partner.0;
-          signed = forces.0;
-          cycle_is = cycle.1;
-          least_column = λ d l one c forced. least.least d l (record { here = one; partner = c; forces = forced });
-          least_partner = partner.1.least;
-          is_sign = v.1;
-          four = subst IsZeroModFour (sym sum) v.2;
-        }) in
+        let rule : IsNextSign a s (Forced row column cycle.0) v.0 = (
+          turn,
+          record {
+            here = least.has.here;
+            partner = partner.0;
+            signed = forces.0;
+            cycle_is = cycle.1;
+            least_column = λ d l one c forced. least.least d l (record { here = one; partner = c; forces = forced });
+            least_partner = partner.1.least;
+            is_sign = v.1;
+            four = subst IsZeroModFour (sym sum) v.2;
+          },
+        ) in
         none (record {
           step = Forced row column cycle.0;
           column = column;
@@ -185,10 +188,13 @@ module _ (a : Matrix) (is : IsMatrix a) where
       one_support = record {
         height_same = sym state.signs.same_height;
         width_same = sym state.signs.same_width;
-        zeros_same = λ i j. (state.signs.inside i j, λ z. elim (int_dec (entry a i j) (pos 0)) [
-          | inl e ↦ e
-          | inr one ↦ absurd (state.turn.earlier i j (row_in a i j one) one z)
-        ]);
+        zeros_same = λ i j. (
+          state.signs.inside i j,
+          λ z. elim (int_dec (entry a i j) (pos 0)) [
+            | inl e ↦ e
+            | inr one ↦ absurd (state.turn.earlier i j (row_in a i j one) one z)
+          ],
+        );
       };
     },
   ))

@@ -21,13 +21,16 @@ pub decomposition_exists : (budget pivots : ℕ) (m : Matrix) → budget ≤ MAX
 decomposition_exists budget pivots m low is none = shape_with_exists budget pivots m is (λ found.
     let fits = pivoted_shapes_are_trees budget pivots m found.0 is found.1 in
     let node = node_of_tree (height m) m.width found.0 fits in
-    none (record { rows = height m; columns = m.width; root = node.0 }, record {
-      rows = refl;
-      columns = refl;
-      is_tree = subst (IsTreeFor (height m) m.width) (sym node.1) fits;
-      shape = subst (IsShapeWith budget pivots m) (sym node.1) found.1;
-      sound = subst (IsSoundTree m (height m) m.width) (sym node.1) (pivoted_shapes_are_sound budget pivots m found.0 low is found.1);
-    }))
+    none (
+      record { rows = height m; columns = m.width; root = node.0 },
+      record {
+        rows = refl;
+        columns = refl;
+        is_tree = subst (IsTreeFor (height m) m.width) (sym node.1) fits;
+        shape = subst (IsShapeWith budget pivots m) (sym node.1) found.1;
+        sound = subst (IsSoundTree m (height m) m.width) (sym node.1) (pivoted_shapes_are_sound budget pivots m found.0 low is found.1);
+      },
+    ))
 
 pub verdict_has_report : (o : VerdictOrder) (m : Matrix) → o.lines ≤ MAX_LINES → IsMatrix m → HasReport (Decides o m)
 verdict_has_report o m low is none = decomposition_exists o.lines o.pivots m low is (λ found.
