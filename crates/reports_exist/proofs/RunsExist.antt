@@ -177,7 +177,7 @@ module _ (m : Matrix) (rows : List ℕ) (is : IsRowSet m rows) (small : AreSmall
     next : IsPivotNext m rows row column left
     next = record { place = place; first = first; row_is = refl; left_is = refl }
 
-    step : Pivot
+    abbrev step : Pivot
     step = record { row = row; column = Some column }
 
     left_small : AreSmall m left
