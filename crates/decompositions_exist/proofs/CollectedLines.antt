@@ -1,7 +1,6 @@
 -- The numbers below a bound that have a property, in increasing order.
-use Rattle.std.proofs.Common.{◌≡◌, ◌<◌, ◌+◌, ◌++◌, ◌⊎◌, inl, inr, ℕ, zero, suc, List, [], ◌∷◌, refl, subst, arith}
+use Rattle.std.proofs.Common.{◌≡◌, ◌+◌, ◌++◌, inl, inr, ℕ, zero, suc, List, [], ◌∷◌, refl, subst, arith}
 use Rattle.std.proofs.lemmas.Bool.{cases_eq}
-use Rattle.cmr_base.specs.Members.{IsIn}
 use Rattle.camion_sign.specs.FaultLines.{IsBuilt}
 use Rattle.camion_sign.proofs.LineLists.{pushed}
 use Rattle.decompositions_exist.proofs.NotExcluded.{NotExcluded, one_of_two}

@@ -1,5 +1,5 @@
 -- A matrix with a cycle fault has a first one.
-use Rattle.std.proofs.Common.{◌≡◌, ◌<◌, ◌⊎◌, inl, inr, filter, nat_eq, ℕ, Bool, true, List, [], ◌∷◌, length, refl}
+use Rattle.std.proofs.Common.{◌≡◌, inl, inr, filter, nat_eq, ℕ, Bool, List, [], ◌∷◌, length, refl}
 use Rattle.std.specs.List.{list_any}
 use Rattle.std.proofs.lemmas.List.Kept.{IsStrictlyIncreasing-filter}
 use Rattle.cmr_base.specs.declared.line_set.LineSet.{LineSet}

@@ -1,5 +1,5 @@
 -- Among things with keys there is one with the first key.
-use Rattle.std.proofs.Common.{◌≡◌, ◌<◌, ◌≤◌, ◌∙◌, inl, inr, ℕ, zero, suc, List, [], ◌∷◌, length, refl, ap, sym, subst, arith}
+use Rattle.std.proofs.Common.{◌≡◌, ◌<◌, inl, inr, ℕ, zero, suc, List, [], ◌∷◌, length, refl, ap, subst, arith}
 use Rattle.cmr_base.specs.Seeds.{IsBefore}
 use Rattle.decompositions_exist.proofs.NotExcluded.{NotExcluded}
 

@@ -1,18 +1,17 @@
 -- A matrix has a decomposition that makes pivots.
-use Rattle.std.proofs.Common.{◌≡◌, ◌<◌, ◌≤◌, ◌+◌, ◌-◌, ◌⊎◌, inl, inr, ℕ, zero, suc, Bool, true, false, [], Contains, Option, Some, None, refl, sym, subst, arith}
-use Rattle.std.proofs.lemmas.Bool.{true≢false}
+use Rattle.std.proofs.Common.{◌≡◌, ◌<◌, ◌+◌, ◌-◌, ◌⊎◌, inl, inr, ℕ, zero, suc, Bool, true, false, [], Contains, Option, Some, None, refl, sym, subst, arith}
 use Rattle.cmr_base.specs.declared.line_set.LineSet.{LineSet}
 use Rattle.cmr_base.specs.declared.placed_pivot.PlacedPivot.{PlacedPivot}
 use Rattle.cmr_base.specs.Matrix.{Matrix, height, IsMatrix}
 use Rattle.cmr_base.specs.Members.{IsIn}
-use Rattle.cmr_base.specs.PlacedPivots.{IsPlaceIn, IsTernaryPivot, pivoted_part}
+use Rattle.cmr_base.specs.PlacedPivots.{IsPlaceIn, pivoted_part}
 use Rattle.cmr_base.proofs.ListsWithout.{contains_from_in}
 use Rattle.cmr_base.proofs.Lists.{all_contained}
 use Rattle.cmr_base.proofs.Places.{contained_below}
 use Rattle.pivots.specs.declared.drawn.DrawnPlace.{DrawnPlace}
 use Rattle.separating_places.proofs.ChosenPlaces.{chosen_place_in}
 use Rattle.separating_places.specs.SeparatingPlaces.{IsNextPlace}
-use Rattle.tree_type.specs.DecompositionTrees.{Finding, Undecided, Pivoted, Violator, Tree, Trees, Branch, NoTrees, MoreTrees, one_tree, lines_at_root}
+use Rattle.tree_type.specs.DecompositionTrees.{Finding, Pivoted, Violator, Tree, Trees, Branch, NoTrees, MoreTrees, one_tree, lines_at_root}
 use Rattle.tree_type.specs.Invariant.{AreLines, AreLinesOf, size_of, IsTreeWithin, AreTreesWithin}
 use Rattle.tree_type.specs.Places.{These}
 use Rattle.tree_type.specs.Verdicts.{Verdict, Yes, No, Open, verdict_of}
@@ -28,7 +27,7 @@ use Rattle.decomp_tree.proofs.RefinedTrees.{refined_kept}
 use Rattle.decomp_tree.proofs.Settled.{only_undecided_is}
 use Rattle.decomp_tree.proofs.ShapedNodes.{shape_within}
 use Rattle.decomp_tree.proofs.ShapeTrees.{shape_lines}
-use Rattle.decompositions_exist.proofs.NotExcluded.{NotExcluded, one_of_two}
+use Rattle.decompositions_exist.proofs.NotExcluded.{NotExcluded}
 use Rattle.decompositions_exist.proofs.LeastKeys.{least_number}
 use Rattle.decompositions_exist.proofs.PivotsExist.{before_exists, next_exists, ternary_or_two}
 use Rattle.decompositions_exist.proofs.ShapesExist.{shape_exists}

@@ -1,10 +1,9 @@
 -- Positions of pivots, the first 2 or -2 after a pivot, and the lines of a fault before it.
-use Rattle.std.proofs.Common.{◌≡◌, ◌≢◌, ◌<◌, ◌≤◌, ◌⊎◌, ◌∙◌, ◌↔◌, inl, inr, ℕ, zero, suc, ℤ, pos, negsuc, min, max, List, [], ◌∷◌, length, Contains, Option, Some, None, refl, sym, subst, arith}
+use Rattle.std.proofs.Common.{◌≡◌, ◌≢◌, ◌<◌, ◌⊎◌, ◌↔◌, inl, inr, ℕ, zero, suc, ℤ, pos, negsuc, min, max, List, [], ◌∷◌, length, Contains, Option, Some, None, refl, subst, arith}
 use Rattle.std.specs.List.{AllByRecursion}
 use Rattle.std.proofs.lemmas.Bool.{cases_lt}
 use Rattle.cmr_base.specs.declared.line_set.LineSet.{LineSet}
 use Rattle.cmr_base.specs.declared.placed_pivot.PlacedPivot.{PlacedPivot}
-use Rattle.cmr_base.specs.LineSets.{IsRowSet, IsColumnSet, AllBelow}
 use Rattle.cmr_base.specs.Matrix.{Matrix, height, entry, IsEntry, IsMatrix}
 use Rattle.cmr_base.specs.Members.{IsIn}
 use Rattle.cmr_base.specs.PlacedPivots.{IsPlaceIn, IsTernaryPivot, pivot_entry}
@@ -12,7 +11,6 @@ use Rattle.cmr_base.specs.Sums.{IsOdd, sum_over}
 use Rattle.cmr_base.proofs.IncreasingLists.{IncreasesIn, increasing_row_set, increasing_column_set}
 use Rattle.cmr_base.proofs.Integers.{sums}
 use Rattle.cmr_base.proofs.Places.{contained_below}
-use Rattle.ghouila.specs.PivotLaws.{AreLinesBefore}
 use Rattle.pivots.specs.declared.drawn.DrawnPlace.{DrawnPlace}
 use Rattle.pivots.specs.ChosenLines.{two_lines}
 use Rattle.pivots.specs.DrawnPlaces.{drawn_place}
@@ -21,7 +19,7 @@ use Rattle.pivots.proofs.PivotedRows.{first_two_apart}
 use Rattle.camion_sign.specs.FaultLines.{IsBuilt}
 use Rattle.camion_sign.proofs.LineLists.{above}
 use Rattle.separating_places.specs.SeparatingPlaces.{IsSeparatingPlace, IsNextPlace}
-use Rattle.tree_type.specs.Invariant.{AreLines, AreLinesOf}
+use Rattle.tree_type.specs.Invariant.{AreLines}
 use Rattle.decomp_tree.specs.PivotedShapes.{AreBefore}
 use Rattle.decompositions_exist.proofs.NotExcluded.{NotExcluded, one_of_two}
 use Rattle.decompositions_exist.proofs.LeastKeys.{IsFirstBy, first_key}

@@ -1,6 +1,5 @@
 -- A matrix with a separation has the separation of the first good seed.
-use Rattle.std.proofs.Common.{◌≡◌, ◌≤◌, ◌∙◌, filter, nat_eq, ℕ, ℤ, Bool, true, false, List, [], ◌∷◌, length, refl, sym, arith}
-use Rattle.std.specs.List.{list_any}
+use Rattle.std.proofs.Common.{◌≡◌, ◌∙◌, filter, ℕ, ℤ, List, length, refl, sym, arith}
 use Rattle.std.proofs.lemmas.List.Kept.{IsStrictlyIncreasing-filter}
 use Rattle.cmr_base.specs.declared.line.Line.{Line}
 use Rattle.cmr_base.specs.declared.line.Line.TheVariants.{Row, Column}
@@ -12,7 +11,7 @@ use Rattle.cmr_base.specs.declared.separation.Three.{Three}
 use Rattle.cmr_base.specs.Matrix.{Matrix, height, entry}
 use Rattle.cmr_base.specs.LineSets.{first_lines}
 use Rattle.cmr_base.specs.Separations.{Lines, TwoSeparates, ThreeSeparates, listed}
-use Rattle.cmr_base.specs.Seeds.{IsLine, IsGoodTwo, two_key, three_key}
+use Rattle.cmr_base.specs.Seeds.{IsLine, IsGoodTwo, two_key}
 use Rattle.cmr_base.proofs.ListedLines.{first_lines_contain}
 use Rattle.cmr_base.proofs.RowLists.{in_filter}
 use Rattle.cmr_base.proofs.RemovedLines.{first_lines_increase, row_set_from_within, column_set_from_within}
@@ -20,7 +19,6 @@ use Rattle.cmr_base.proofs.SeedLemmas.{good_two_seed, good_three_seed, outside_g
 use Rattle.two_sep.specs.FirstSeeds.{IsFirstTwoSeparation}
 use Rattle.two_sep.proofs.FirstTwo.{listed_filter}
 use Rattle.three_sep.specs.NumberedSeeds.{IsGoodSeed, Seed, seed_key}
-use Rattle.three_sep.specs.Searches.{IsFirstOf}
 use Rattle.three_sep.specs.ThreeSeparations.{IsFirstThreeSeparation}
 use Rattle.three_sep.proofs.SideLemmas.{lines_of_filters}
 use Rattle.three_sep.proofs.SeedForms.{first_three}

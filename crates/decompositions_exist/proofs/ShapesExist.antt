@@ -1,5 +1,5 @@
 -- A matrix has a decomposition.
-use Rattle.std.proofs.Common.{◌≡◌, ◌<◌, ◌≤◌, ◌⊎◌, inl, inr, ℕ, zero, suc, false, min, List, [], ◌∷◌, length, map, refl, subst, sym, arith}
+use Rattle.std.proofs.Common.{◌≡◌, ◌<◌, inl, inr, ℕ, zero, suc, false, min, List, [], ◌∷◌, length, refl, arith}
 use Rattle.std.specs.List.{AllByRecursion}
 use Rattle.std.proofs.lemmas.Bool.{cases_lt}
 use Rattle.cmr_base.specs.declared.line_set.LineSet.{LineSet}
@@ -21,7 +21,7 @@ use Rattle.decomp_tree.proofs.PivotedRoots.{all_are_lines}
 use Rattle.decomp_tree.proofs.ShapeTrees.{shape_moved}
 use Rattle.tree_type.specs.Places.{AllLines}
 use Rattle.decompositions_exist.proofs.NotExcluded.{NotExcluded}
-use Rattle.decompositions_exist.proofs.LeastKeys.{IsLeast, least_number}
+use Rattle.decompositions_exist.proofs.LeastKeys.{least_number}
 use Rattle.decompositions_exist.proofs.FaultsExist.{first_fault}
 use Rattle.decompositions_exist.proofs.SeparationsExist.{two_exists, three_exists}
 use Rattle.decompositions_exist.proofs.ViolatorsExist.{least_or_none}

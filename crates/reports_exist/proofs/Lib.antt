@@ -20,3 +20,5 @@ pub mod RegularReports
 pub mod RunsExist
 pub mod SignReports
 pub mod OrderReports
+pub mod OrderRanges
+pub mod RunReports
