@@ -1,5 +1,5 @@
 -- `balanced` has a report on each text.
-use Rattle.std.proofs.Common.{◌≡◌, ◌≤◌, ◌<◌, ◌⊎◌, inl, inr, ◌∙◌, ℕ, false, List, [], ◌∷◌, length, refl, sym, subst, arith}
+use Rattle.std.proofs.Common.{◌≡◌, ◌≤◌, inl, inr, ℕ, false, List, [], ◌∷◌, length, refl, sym, subst, arith}
 use Rattle.std.proofs.lemmas.Bool.{cases_lt}
 use Rattle.cmr_base.specs.CyclePlaces.{HasNoCycleFault, IsFaultAt}
 use Rattle.cmr_base.specs.LineSets.{IsColumnSet, IsRowSet, set_number}
@@ -9,7 +9,7 @@ use Rattle.cmr_base.specs.declared.line_set.LineSet.{LineSet}
 use Rattle.cmr_front.proofs.MatrixText.{read_is_matrix}
 use Rattle.balance.specs.BalanceFaults.{IsBalanceFault, IsBalanced, IsLeastFault, IsLeastFaultByColumns, IsLeastFaultByRows}
 use Rattle.balance.specs.SearchedFaults.{HasSearchedFaults}
-use Rattle.tree_type.specs.DecompositionTrees.{SizedTree, tree_of}
+use Rattle.tree_type.specs.DecompositionTrees.{SizedTree}
 use Rattle.tree_type.specs.Soundness.{IsSoundTree}
 use Rattle.tree_type.specs.Invariant.{IsTreeFor}
 use Rattle.tree_type.specs.Verdicts as verdicts

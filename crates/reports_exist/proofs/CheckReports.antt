@@ -1,5 +1,5 @@
 -- `check` has a report on each matrix and each evidence.
-use Rattle.std.proofs.Common.{◌≡◌, ◌≢◌, ◌<◌, ◌≤◌, ◌+◌, ◌++◌, ◌⊎◌, inl, inr, ℕ, zero, suc, ℤ, true, false, List, [], ◌∷◌, length, take, drop, Result, Ok, Err, refl, ap, subst, sym, append_assoc, arith, ◌∙◌}
+use Rattle.std.proofs.Common.{◌≡◌, ◌+◌, ◌++◌, ◌⊎◌, inl, inr, ℕ, ℤ, true, false, List, [], ◌∷◌, length, take, drop, Ok, refl, ap, subst, sym, append_assoc, arith, ◌∙◌}
 use Rattle.std.proofs.Math.Seq.{take-append_seam, drop-append_seam}
 use Rattle.std.proofs.lemmas.List.{length-append}
 use Rattle.cmr_base.specs.Matrix.{Matrix, IsMatrix, entry, height}
@@ -12,21 +12,19 @@ use Rattle.matrix_text.specs.Submatrix.{named_lines}
 use Rattle.matrix_text.proofs.SubmatrixTexts.{found}
 use Rattle.chains.specs.declared.step.SignStep.{SignStep}
 use Rattle.chains.specs.declared.step.SizedChain.{SizedChain}
-use Rattle.chains.specs.Chains.{Breaks, HasChainSizes, IsFirstBrokenPart, IsSignedViolator, IsSoundChain, KeepsRule}
+use Rattle.chains.specs.Chains.{Breaks, HasChainSizes, IsFirstBrokenPart, IsSignedViolator, KeepsRule}
 use Rattle.chains.specs.ChainTexts.{chain}
 use Rattle.chains.proofs.GivenSigns.{lead_more}
 use Rattle.chains.specs.SignSteps.{LeadTo, signed_by, unsigned}
 use Rattle.tree_type.specs.Laws.{SoundOrBroken}
 use Rattle.tree_type.specs.Verdicts as verdicts
 use Rattle.tree_type.specs.Verdicts.{verdict_of}
-use Rattle.tree_type.specs.declared.refusal.Rule.{Rule}
 use Rattle.tree_type.specs.declared.refusal.Rule.TheVariants.{NotViolator}
 use Rattle.tree_text.specs.TreeReading.{PlainTree, tree}
 use Rattle.tree_text.proofs.ReadTrees.{read_for}
 use Rattle.tree_laws.proofs.SoundTrees.{tells}
 use Rattle.cmr_front.specs.declared.matrix_file.MatrixForm.{MatrixForm}
 use Rattle.cmr_front.specs.declared.outcome.FaultKind.TheVariants as faults
-use Rattle.cmr_front.specs.Evidence.{IsBrokenFor, IsSoundFor, ReportsTree}
 use Rattle.cmr_front.specs.MatrixText.{matrix_in}
 use Rattle.cmr_front.proofs.MatrixText.{read_is_binary, read_is_matrix}
 use Rattle.cmr_evidence.specs.declared.tools.check.EvidenceKind.{EvidenceKind}

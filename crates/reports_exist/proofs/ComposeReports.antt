@@ -1,6 +1,6 @@
 -- `compose` has a report on each two texts.
-use Rattle.std.proofs.Common.{◌≡◌, ◌≤◌, ◌<◌, ◌+◌, inl, inr, ℕ, false, List, length, refl, arith}
-use Rattle.cmr_base.specs.Matrix.{Matrix, HasTernaryEntries, IsMatrix, IsRectangular, height}
+use Rattle.std.proofs.Common.{◌≡◌, inl, inr, ℕ, false, List, length, refl, arith}
+use Rattle.cmr_base.specs.Matrix.{Matrix, HasTernaryEntries, IsMatrix, IsRectangular}
 use Rattle.compose.specs.declared.sum_kind.SumKind.{SumKind}
 use Rattle.compose.specs.declared.sum_kind.SumKind.TheVariants.{Concentrated, Delta, Mixed, One, Two, YForm}
 use Rattle.compose.specs.SumKinds.{HaveSum, sum_of}
@@ -8,7 +8,7 @@ use Rattle.compose.proofs.SumSizes.{sums_lose_lines}
 use Rattle.cmr_front.specs.declared.outcome.FaultKind.TheVariants as faults
 use Rattle.cmr_front.specs.MatrixText.{matrix_in}
 use Rattle.cmr_reach.specs.declared.tools.compose_tool.Obstacle.TheVariants.{BadConnector, BadEntry, TooManyColumns, TooManyRows}
-use Rattle.cmr_reach.specs.Compose.{ComposeDecides, ComposeOrder, ComposeReports, HaveFewColumns, HaveFewRows, IsComposed, composed, composed_report, compose_tool, obstacle_report, refused}
+use Rattle.cmr_reach.specs.Compose.{ComposeDecides, ComposeOrder, ComposeReports, HaveFewColumns, HaveFewRows, composed, composed_report, compose_tool, obstacle_report, refused}
 use Rattle.decompositions_exist.proofs.NotExcluded.{one_of_two}
 use Rattle.reports_exist.proofs.TextReports.{HasReport, on_pair, on_text}
 use Rattle.reports_exist.proofs.FilledShapes.{filled_rectangular}

@@ -1,11 +1,10 @@
 -- `generate` has a report.
-use Rattle.std.proofs.Common.{◌≡◌, ◌≤◌, ◌<◌, ◌+◌, ◌-◌, ◌*◌, ◌∙◌, ℕ, zero, suc, ℤ, pos, negsuc, ◌*ℤ◌, Bool, true, false, cond, nat_lt, List, [], ◌∷◌, length, get_or, refl, ap, sym, subst, arith}
+use Rattle.std.proofs.Common.{◌≡◌, ◌≤◌, ◌+◌, ◌-◌, ℕ, zero, suc, ℤ, pos, negsuc, ◌*ℤ◌, Bool, true, false, cond, nat_lt, List, [], ◌∷◌, get_or, refl, sym, subst, arith}
 use Rattle.std.specs.List.{AllByRecursion}
 use Rattle.cmr_base.specs.Draws.{draws}
 use Rattle.cmr_base.specs.Matrix.{HasTernaryEntries, IsEntry, IsMatrix, IsRectangular, Matrix, entry, height}
 use Rattle.cmr_base.specs.MatrixSums.{four_blocks, two_sum}
 use Rattle.cmr_base.specs.Separations.{zeros}
-use Rattle.cmr_base.specs.declared.limits.TheConstants.{MAX_LINES}
 use Rattle.cmr_base.proofs.FilledCells.{filled_small}
 use Rattle.cmr_base.proofs.Integers.{sums}
 use Rattle.cmr_base.proofs.Lists.{all_at}
@@ -15,7 +14,7 @@ use Rattle.generate.specs.declared.making.MakeKind.TheVariants.{Network, TwoSum}
 use Rattle.generate.specs.Generated.{circulant, circulant_sum, generated_network, generated_sum, IsGenerated}
 use Rattle.generate.proofs.JoinedRows.{IsRow, all_negated_rows, length-negated_rows, matrix_rows, sum_height, sum_width}
 use Rattle.generate.proofs.RandomTrees.{is_network}
-use Rattle.cmr_unimodular.specs.Generate.{GenerateDecides, GenerateOrder, IsInRange, IsMade, generate_report, generate_tool, generate_verdict, most_size}
+use Rattle.cmr_unimodular.specs.Generate.{GenerateOrder, IsInRange, IsMade, generate_report, generate_tool, generate_verdict}
 use Rattle.cmr_unimodular.proofs.GenerateAnswers.{size_low, sum_size_low}
 use Rattle.reports_exist.proofs.FilledShapes.{filled_rectangular}
 use Rattle.reports_exist.proofs.NetworkMatrices.{network_height, network_is_matrix, network_matrix, network_reproduces, network_width}

@@ -1,5 +1,5 @@
 -- `graphic` and `network` have a report on each graph text.
-use Rattle.std.proofs.Common.{◌≡◌, ◌≤◌, ◌∙◌, inl, inr, ℕ, Bool, true, false, List, length, Result, Ok, Err, refl, subst, sym}
+use Rattle.std.proofs.Common.{◌≡◌, ◌∙◌, inl, inr, ℕ, Bool, true, false, List, length, Result, Ok, Err, refl, subst, sym}
 use Rattle.cmr_base.specs.Matrix.{Matrix, height}
 use Rattle.cmr_base.specs.Trees.{IsTree}
 use Rattle.cmr_base.proofs.FilledMatrices.{height-filled}

@@ -1,5 +1,5 @@
 -- A matrix without a property has a greedy set of lines.
-use Rattle.std.proofs.Common.{◌≡◌, ◌⊎◌, inl, inr, ℕ, List, [], ◌∷◌, Option, Some, None, refl}
+use Rattle.std.proofs.Common.{inl, inr, ℕ, List, [], ◌∷◌, Option, Some, None, refl}
 use Rattle.cmr_base.specs.declared.line.Line.{Line}
 use Rattle.cmr_base.specs.declared.line_set.LineSet.{LineSet}
 use Rattle.cmr_base.specs.GreedySets.{IsGreedyFrom, IsGreedySet, IsMinimalWithout}

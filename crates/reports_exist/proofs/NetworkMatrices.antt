@@ -1,12 +1,12 @@
 -- A network has a matrix.
-use Rattle.std.proofs.Common.{◌≡◌, ◌≤◌, ◌<◌, ◌∙◌, ◌⊎◌, inl, inr, ℕ, ℤ, pos, negsuc, Bool, true, false, cond, List, [], ◌∷◌, nat_eq, length, refl, ap, sym, subst, arith}
-use Rattle.std.proofs.lemmas.Bool.{cases_eq, cases_lt}
+use Rattle.std.proofs.Common.{◌≡◌, ◌≤◌, ◌<◌, ◌∙◌, ◌⊎◌, inl, inr, ℕ, ℤ, pos, negsuc, Bool, true, false, cond, List, [], ◌∷◌, nat_eq, refl, ap, sym, subst, arith}
+use Rattle.std.proofs.lemmas.Bool.{cases_lt}
 use Rattle.cmr_base.specs.declared.network.Network.{Network as Net}
 use Rattle.cmr_base.specs.declared.network.Pair.{Pair}
 use Rattle.cmr_base.specs.Matrix.{Matrix, IsEntry, IsMatrix, entry, height}
 use Rattle.cmr_base.specs.MatrixSums.{filled}
 use Rattle.cmr_base.specs.Members.{IsDistinct, IsIn}
-use Rattle.cmr_base.specs.Trees.{IsDirectedPathOf, IsNetworkOf, IsTree, IsWalk, Realises, Reproduces, WalkStep, arcs_of, direction, from, head, tail, to}
+use Rattle.cmr_base.specs.Trees.{IsDirectedPathOf, IsNetworkOf, IsWalk, Realises, Reproduces, WalkStep, arcs_of, direction, from, head, tail, to}
 use Rattle.cmr_base.proofs.FilledCells.{filled_small}
 use Rattle.cmr_base.proofs.FilledMatrices.{entry-filled, height-filled}
 use Rattle.cmr_base.proofs.Integers.{sums}

@@ -1,6 +1,7 @@
 -- The numbers of an order of the command line are in their ranges.
-use Rattle.std.proofs.Common.{◌≡◌, ◌∙◌, ℕ, Bool, true, false, List, [], ◌∷◌, Option, Some, None, option_map, codes, refl, sym, subst}
+use Rattle.std.proofs.Common.{◌≡◌, ◌∙◌, ◌⊎◌, inl, inr, ℕ, true, false, List, [], ◌∷◌, Option, Some, None, option_map, codes, refl, sym, subst}
 use Rattle.std.specs.Str.{bytes_eq}
+use Rattle.cmr_base.proofs.Booleans.{two_cases}
 use Rattle.cmr_base.proofs.Options.{some_same}
 use Rattle.cmr_tools.specs.ToolOrders.{Order, balanced, camion, check, compose, generate, order, parts, regular, series_parallel, sign, test, tool_of, tu, upgrade}
 use Rattle.cmr_classes.specs.declared.tools.graphic_network.TestedProperty.TheVariants.{Graphic, Network}
@@ -30,66 +31,70 @@ mapped f (Some a) ranges o e = subst (λ other. (tool_of other).InRanges) (some_
 none_given : (o : Order) → ◌≡◌ {A = Option Order} None (Some o) → (tool_of o).InRanges
 none_given o e = cc
 
--- the arguments after the name of the tool
+-- the arguments after the name of the tool, by the first name that the word is
 module _ (word : List ℕ) (words : List (List ℕ)) (o : Order) (e : order (word ∷ words) ≡ Some o) where
+  is_or_not : (name : List ℕ) → (bytes_eq word name ≡ true) ⊎ (bytes_eq word name ≡ false)
+  is_or_not name = two_cases (bytes_eq word name)
+
   by_word : (found : Option Order) → order (word ∷ words) ≡ found → (found ≡ Some o → (tool_of o).InRanges) → (tool_of o).InRanges
   by_word found f ranges = ranges (sym f ∙ e)
 
-  none_named : bytes_eq word (codes "tu") ≡ false → bytes_eq word (codes "regular") ≡ false → bytes_eq word (codes "series-parallel") ≡ false → bytes_eq word (codes "graphic") ≡ false → bytes_eq word (codes "network") ≡ false → bytes_eq word (codes "generate") ≡ false → bytes_eq word (codes "check") ≡ false → bytes_eq word (codes "upgrade") ≡ false → bytes_eq word (codes "camion") ≡ false → bytes_eq word (codes "sign") ≡ false → bytes_eq word (codes "balanced") ≡ false → bytes_eq word (codes "parts") ≡ false → bytes_eq word (codes "compose") ≡ false → (tool_of o).InRanges
-  none_named f0 f1 f2 f3 f4 f5 f6 f7 f8 f9 f10 f11 f12 = by_word None (rw (f0, f1, f2, f3, f4, f5, f6, f7, f8, f9, f10, f11, f12) refl) (none_given o)
-
-  from_compose : (is : Bool) → bytes_eq word (codes "compose") ≡ is → bytes_eq word (codes "tu") ≡ false → bytes_eq word (codes "regular") ≡ false → bytes_eq word (codes "series-parallel") ≡ false → bytes_eq word (codes "graphic") ≡ false → bytes_eq word (codes "network") ≡ false → bytes_eq word (codes "generate") ≡ false → bytes_eq word (codes "check") ≡ false → bytes_eq word (codes "upgrade") ≡ false → bytes_eq word (codes "camion") ≡ false → bytes_eq word (codes "sign") ≡ false → bytes_eq word (codes "balanced") ≡ false → bytes_eq word (codes "parts") ≡ false → (tool_of o).InRanges
-  from_compose true f f0 f1 f2 f3 f4 f5 f6 f7 f8 f9 f10 f11 = by_word (option_map compose (compose_order words)) (rw (f0, f1, f2, f3, f4, f5, f6, f7, f8, f9, f10, f11, f) refl) (mapped compose (compose_order words) (λ o e. tt) o)
-  from_compose false f f0 f1 f2 f3 f4 f5 f6 f7 f8 f9 f10 f11 = none_named f0 f1 f2 f3 f4 f5 f6 f7 f8 f9 f10 f11 f
-
-  from_parts : (is : Bool) → bytes_eq word (codes "parts") ≡ is → bytes_eq word (codes "tu") ≡ false → bytes_eq word (codes "regular") ≡ false → bytes_eq word (codes "series-parallel") ≡ false → bytes_eq word (codes "graphic") ≡ false → bytes_eq word (codes "network") ≡ false → bytes_eq word (codes "generate") ≡ false → bytes_eq word (codes "check") ≡ false → bytes_eq word (codes "upgrade") ≡ false → bytes_eq word (codes "camion") ≡ false → bytes_eq word (codes "sign") ≡ false → bytes_eq word (codes "balanced") ≡ false → (tool_of o).InRanges
-  from_parts true f f0 f1 f2 f3 f4 f5 f6 f7 f8 f9 f10 = by_word (option_map parts (parts_order words)) (rw (f0, f1, f2, f3, f4, f5, f6, f7, f8, f9, f10, f) refl) (mapped parts (parts_order words) (λ o e. tt) o)
-  from_parts false f f0 f1 f2 f3 f4 f5 f6 f7 f8 f9 f10 = from_compose (bytes_eq word (codes "compose")) refl f0 f1 f2 f3 f4 f5 f6 f7 f8 f9 f10 f
-
-  from_balanced : (is : Bool) → bytes_eq word (codes "balanced") ≡ is → bytes_eq word (codes "tu") ≡ false → bytes_eq word (codes "regular") ≡ false → bytes_eq word (codes "series-parallel") ≡ false → bytes_eq word (codes "graphic") ≡ false → bytes_eq word (codes "network") ≡ false → bytes_eq word (codes "generate") ≡ false → bytes_eq word (codes "check") ≡ false → bytes_eq word (codes "upgrade") ≡ false → bytes_eq word (codes "camion") ≡ false → bytes_eq word (codes "sign") ≡ false → (tool_of o).InRanges
-  from_balanced true f f0 f1 f2 f3 f4 f5 f6 f7 f8 f9 = by_word (option_map balanced (balanced_order words)) (rw (f0, f1, f2, f3, f4, f5, f6, f7, f8, f9, f) refl) (mapped balanced (balanced_order words) (λ o e. (balanced_order-ranges words o e).0) o)
-  from_balanced false f f0 f1 f2 f3 f4 f5 f6 f7 f8 f9 = from_parts (bytes_eq word (codes "parts")) refl f0 f1 f2 f3 f4 f5 f6 f7 f8 f9 f
-
-  from_sign : (is : Bool) → bytes_eq word (codes "sign") ≡ is → bytes_eq word (codes "tu") ≡ false → bytes_eq word (codes "regular") ≡ false → bytes_eq word (codes "series-parallel") ≡ false → bytes_eq word (codes "graphic") ≡ false → bytes_eq word (codes "network") ≡ false → bytes_eq word (codes "generate") ≡ false → bytes_eq word (codes "check") ≡ false → bytes_eq word (codes "upgrade") ≡ false → bytes_eq word (codes "camion") ≡ false → (tool_of o).InRanges
-  from_sign true f f0 f1 f2 f3 f4 f5 f6 f7 f8 = by_word (option_map sign (sign_order words)) (rw (f0, f1, f2, f3, f4, f5, f6, f7, f8, f) refl) (mapped sign (sign_order words) (λ o e. tt) o)
-  from_sign false f f0 f1 f2 f3 f4 f5 f6 f7 f8 = from_balanced (bytes_eq word (codes "balanced")) refl f0 f1 f2 f3 f4 f5 f6 f7 f8 f
-
-  from_camion : (is : Bool) → bytes_eq word (codes "camion") ≡ is → bytes_eq word (codes "tu") ≡ false → bytes_eq word (codes "regular") ≡ false → bytes_eq word (codes "series-parallel") ≡ false → bytes_eq word (codes "graphic") ≡ false → bytes_eq word (codes "network") ≡ false → bytes_eq word (codes "generate") ≡ false → bytes_eq word (codes "check") ≡ false → bytes_eq word (codes "upgrade") ≡ false → (tool_of o).InRanges
-  from_camion true f f0 f1 f2 f3 f4 f5 f6 f7 = by_word (option_map camion (camion_order words)) (rw (f0, f1, f2, f3, f4, f5, f6, f7, f) refl) (mapped camion (camion_order words) (λ o e. tt) o)
-  from_camion false f f0 f1 f2 f3 f4 f5 f6 f7 = from_sign (bytes_eq word (codes "sign")) refl f0 f1 f2 f3 f4 f5 f6 f7 f
-
-  from_upgrade : (is : Bool) → bytes_eq word (codes "upgrade") ≡ is → bytes_eq word (codes "tu") ≡ false → bytes_eq word (codes "regular") ≡ false → bytes_eq word (codes "series-parallel") ≡ false → bytes_eq word (codes "graphic") ≡ false → bytes_eq word (codes "network") ≡ false → bytes_eq word (codes "generate") ≡ false → bytes_eq word (codes "check") ≡ false → (tool_of o).InRanges
-  from_upgrade true f f0 f1 f2 f3 f4 f5 f6 = by_word (option_map upgrade (upgrade_order words)) (rw (f0, f1, f2, f3, f4, f5, f6, f) refl) (mapped upgrade (upgrade_order words) (λ o e. tt) o)
-  from_upgrade false f f0 f1 f2 f3 f4 f5 f6 = from_camion (bytes_eq word (codes "camion")) refl f0 f1 f2 f3 f4 f5 f6 f
-
-  from_check : (is : Bool) → bytes_eq word (codes "check") ≡ is → bytes_eq word (codes "tu") ≡ false → bytes_eq word (codes "regular") ≡ false → bytes_eq word (codes "series-parallel") ≡ false → bytes_eq word (codes "graphic") ≡ false → bytes_eq word (codes "network") ≡ false → bytes_eq word (codes "generate") ≡ false → (tool_of o).InRanges
-  from_check true f f0 f1 f2 f3 f4 f5 = by_word (option_map check (check_order words)) (rw (f0, f1, f2, f3, f4, f5, f) refl) (mapped check (check_order words) (λ o e. tt) o)
-  from_check false f f0 f1 f2 f3 f4 f5 = from_upgrade (bytes_eq word (codes "upgrade")) refl f0 f1 f2 f3 f4 f5 f
-
-  from_generate : (is : Bool) → bytes_eq word (codes "generate") ≡ is → bytes_eq word (codes "tu") ≡ false → bytes_eq word (codes "regular") ≡ false → bytes_eq word (codes "series-parallel") ≡ false → bytes_eq word (codes "graphic") ≡ false → bytes_eq word (codes "network") ≡ false → (tool_of o).InRanges
-  from_generate true f f0 f1 f2 f3 f4 = by_word (option_map generate (generate_order words)) (rw (f0, f1, f2, f3, f4, f) refl) (mapped generate (generate_order words) (λ o e. (generate_order-ranges words o e).0) o)
-  from_generate false f f0 f1 f2 f3 f4 = from_check (bytes_eq word (codes "check")) refl f0 f1 f2 f3 f4 f
-
-  from_network : (is : Bool) → bytes_eq word (codes "network") ≡ is → bytes_eq word (codes "tu") ≡ false → bytes_eq word (codes "regular") ≡ false → bytes_eq word (codes "series-parallel") ≡ false → bytes_eq word (codes "graphic") ≡ false → (tool_of o).InRanges
-  from_network true f f0 f1 f2 f3 = by_word (option_map (test Network) (test_order Network words)) (rw (f0, f1, f2, f3, f) refl) (mapped (test Network) (test_order Network words) (λ o e. test_in_ranges Network o) o)
-  from_network false f f0 f1 f2 f3 = from_generate (bytes_eq word (codes "generate")) refl f0 f1 f2 f3 f
-
-  from_graphic : (is : Bool) → bytes_eq word (codes "graphic") ≡ is → bytes_eq word (codes "tu") ≡ false → bytes_eq word (codes "regular") ≡ false → bytes_eq word (codes "series-parallel") ≡ false → (tool_of o).InRanges
-  from_graphic true f f0 f1 f2 = by_word (option_map (test Graphic) (test_order Graphic words)) (rw (f0, f1, f2, f) refl) (mapped (test Graphic) (test_order Graphic words) (λ o e. test_in_ranges Graphic o) o)
-  from_graphic false f f0 f1 f2 = from_network (bytes_eq word (codes "network")) refl f0 f1 f2 f
-
-  from_series_parallel : (is : Bool) → bytes_eq word (codes "series-parallel") ≡ is → bytes_eq word (codes "tu") ≡ false → bytes_eq word (codes "regular") ≡ false → (tool_of o).InRanges
-  from_series_parallel true f f0 f1 = by_word (option_map series_parallel (series_parallel_order words)) (rw (f0, f1, f) refl) (mapped series_parallel (series_parallel_order words) (λ o e. tt) o)
-  from_series_parallel false f f0 f1 = from_graphic (bytes_eq word (codes "graphic")) refl f0 f1 f
-
-  from_regular : (is : Bool) → bytes_eq word (codes "regular") ≡ is → bytes_eq word (codes "tu") ≡ false → (tool_of o).InRanges
-  from_regular true f f0 = by_word (option_map regular (regular_order words)) (rw (f0, f) refl) (mapped regular (regular_order words) (λ o e. (regular_order-ranges words o e).0) o)
-  from_regular false f f0 = from_series_parallel (bytes_eq word (codes "series-parallel")) refl f0 f
-
-  from_tu : (is : Bool) → bytes_eq word (codes "tu") ≡ is → (tool_of o).InRanges
-  from_tu true f = by_word (option_map tu (tu_order words)) (rw f refl) (mapped tu (tu_order words) (λ o e. (tu_order-ranges words o e).0) o)
-  from_tu false f = from_regular (bytes_eq word (codes "regular")) refl f
+  by_name : (tool_of o).InRanges
+  by_name =
+      elim (is_or_not (codes "tu")) [
+        | inl f0 ↦ by_word (option_map tu (tu_order words)) (rw f0 refl) (mapped tu (tu_order words) (λ o e. (tu_order-ranges words o e).0) o)
+        | inr f0 ↦
+            elim (is_or_not (codes "regular")) [
+              | inl f1 ↦ by_word (option_map regular (regular_order words)) (rw (f0, f1) refl) (mapped regular (regular_order words) (λ o e. (regular_order-ranges words o e).0) o)
+              | inr f1 ↦
+                  elim (is_or_not (codes "series-parallel")) [
+                    | inl f2 ↦ by_word (option_map series_parallel (series_parallel_order words)) (rw (f0, f1, f2) refl) (mapped series_parallel (series_parallel_order words) (λ o e. tt) o)
+                    | inr f2 ↦
+                        elim (is_or_not (codes "graphic")) [
+                          | inl f3 ↦ by_word (option_map (test Graphic) (test_order Graphic words)) (rw (f0, f1, f2, f3) refl) (mapped (test Graphic) (test_order Graphic words) (λ o e. test_in_ranges Graphic o) o)
+                          | inr f3 ↦
+                              elim (is_or_not (codes "network")) [
+                                | inl f4 ↦ by_word (option_map (test Network) (test_order Network words)) (rw (f0, f1, f2, f3, f4) refl) (mapped (test Network) (test_order Network words) (λ o e. test_in_ranges Network o) o)
+                                | inr f4 ↦
+                                    elim (is_or_not (codes "generate")) [
+                                      | inl f5 ↦ by_word (option_map generate (generate_order words)) (rw (f0, f1, f2, f3, f4, f5) refl) (mapped generate (generate_order words) (λ o e. (generate_order-ranges words o e).0) o)
+                                      | inr f5 ↦
+                                          elim (is_or_not (codes "check")) [
+                                            | inl f6 ↦ by_word (option_map check (check_order words)) (rw (f0, f1, f2, f3, f4, f5, f6) refl) (mapped check (check_order words) (λ o e. tt) o)
+                                            | inr f6 ↦
+                                                elim (is_or_not (codes "upgrade")) [
+                                                  | inl f7 ↦ by_word (option_map upgrade (upgrade_order words)) (rw (f0, f1, f2, f3, f4, f5, f6, f7) refl) (mapped upgrade (upgrade_order words) (λ o e. tt) o)
+                                                  | inr f7 ↦
+                                                      elim (is_or_not (codes "camion")) [
+                                                        | inl f8 ↦ by_word (option_map camion (camion_order words)) (rw (f0, f1, f2, f3, f4, f5, f6, f7, f8) refl) (mapped camion (camion_order words) (λ o e. tt) o)
+                                                        | inr f8 ↦
+                                                            elim (is_or_not (codes "sign")) [
+                                                              | inl f9 ↦ by_word (option_map sign (sign_order words)) (rw (f0, f1, f2, f3, f4, f5, f6, f7, f8, f9) refl) (mapped sign (sign_order words) (λ o e. tt) o)
+                                                              | inr f9 ↦
+                                                                  elim (is_or_not (codes "balanced")) [
+                                                                    | inl f10 ↦ by_word (option_map balanced (balanced_order words)) (rw (f0, f1, f2, f3, f4, f5, f6, f7, f8, f9, f10) refl) (mapped balanced (balanced_order words) (λ o e. (balanced_order-ranges words o e).0) o)
+                                                                    | inr f10 ↦
+                                                                        elim (is_or_not (codes "parts")) [
+                                                                          | inl f11 ↦ by_word (option_map parts (parts_order words)) (rw (f0, f1, f2, f3, f4, f5, f6, f7, f8, f9, f10, f11) refl) (mapped parts (parts_order words) (λ o e. tt) o)
+                                                                          | inr f11 ↦
+                                                                              elim (is_or_not (codes "compose")) [
+                                                                                | inl f12 ↦ by_word (option_map compose (compose_order words)) (rw (f0, f1, f2, f3, f4, f5, f6, f7, f8, f9, f10, f11, f12) refl) (mapped compose (compose_order words) (λ o e. tt) o)
+                                                                                | inr f12 ↦
+                                                                                    by_word None (rw (f0, f1, f2, f3, f4, f5, f6, f7, f8, f9, f10, f11, f12) refl) (none_given o)
+                                                                              ]
+                                                                        ]
+                                                                  ]
+                                                            ]
+                                                      ]
+                                                ]
+                                          ]
+                                    ]
+                              ]
+                        ]
+                  ]
+            ]
+      ]
 
 pub order_in_ranges : (words : List (List ℕ)) (o : Order) → order words ≡ Some o → (tool_of o).InRanges
 order_in_ranges [] o e = none_given o e
-order_in_ranges (word ∷ words) o e = from_tu word words o e (bytes_eq word (codes "tu")) refl
+order_in_ranges (word ∷ words) o e = by_name word words o e

@@ -1,6 +1,5 @@
 -- Each order has a report.
-use Rattle.std.proofs.Common.{◌≡◌, ℕ, List, length, ap, subst, ◌∙◌}
-use Rattle.cmr_front.specs.Tool.{Tool}
+use Rattle.std.proofs.Common.{◌≡◌, ℕ, List, length, ap, ◌∙◌}
 use Rattle.cmr_classes.proofs.GraphMatrixAnswers.{test_inputs}
 use Rattle.cmr_tools.specs.ToolOrders.{Order, balanced, camion, check, compose, generate, parts, regular, series_parallel, sign, test, tool_of, tu, upgrade}
 use Rattle.tree_type.specs.Laws.{SoundOrBroken}

@@ -1,5 +1,5 @@
 -- `parts` has a report on each matrix and each tree.
-use Rattle.std.proofs.Common.{◌≡◌, ◌≤◌, ◌<◌, ◌⊎◌, ◌∙◌, inl, inr, ℕ, ℤ, false, List, [], ◌∷◌, length, map, get_or, Ok, refl, ap, subst, arith}
+use Rattle.std.proofs.Common.{◌≡◌, ◌⊎◌, inl, inr, ℕ, false, List, length, Ok, refl}
 use Rattle.cmr_base.specs.Matrix.{Matrix, IsMatrix}
 use Rattle.cmr_base.specs.declared.separation.Three.{Three}
 use Rattle.cmr_base.specs.declared.separation.Two.{Two}
@@ -19,13 +19,12 @@ use Rattle.tree_type.specs.Soundness.{IsSoundTree}
 use Rattle.tree_text.specs.TreeReading.{PlainTree, tree}
 use Rattle.tree_text.proofs.ReadTrees.{read_for}
 use Rattle.cmr_front.specs.declared.outcome.FaultKind.TheVariants as faults
-use Rattle.cmr_front.specs.Evidence.{IsSoundFor, ReportsTree}
+use Rattle.cmr_front.specs.Evidence.{ReportsTree}
 use Rattle.cmr_front.specs.MatrixText.{matrix_in}
 use Rattle.cmr_front.specs.Refusals.{refusal_line}
 use Rattle.cmr_front.proofs.MatrixText.{read_is_matrix}
 use Rattle.cmr_reach.specs.Parts.{ArePartsOfRoot, HasNoParts, IsRootSum, PartsDecides, PartsOrder, PartsReports, other_root, other_root_report, parted, parts_report, parts_tool, refused, root_of, root_word, said_refused}
 use Rattle.cmr_reach.proofs.RootSums.{three_of_root, two_of_root}
-use Rattle.decompositions_exist.proofs.NotExcluded.{NotExcluded}
 use Rattle.reports_exist.proofs.SignedParts.{first_is_matrix, second_is_matrix}
 use Rattle.reports_exist.proofs.SoundTrees.{sound_or_refused}
 use Rattle.reports_exist.proofs.TextReports.{HasReport, on_pair, on_text}

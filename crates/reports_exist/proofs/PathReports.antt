@@ -1,9 +1,9 @@
 -- `graphic` and `network` have a report on each matrix text.
-use Rattle.std.proofs.Common.{◌≡◌, inl, inr, ◌∙◌, ℕ, Bool, true, false, List, Option, Some, None, length, option_map, refl, sym, subst}
+use Rattle.std.proofs.Common.{◌≡◌, inl, inr, ℕ, Bool, true, false, List, Option, Some, None, length, option_map, refl, sym, subst}
 use Rattle.cmr_base.specs.declared.line_set.LineSet.{LineSet}
 use Rattle.cmr_base.specs.declared.network.Network.{Network as Net}
 use Rattle.cmr_base.specs.GreedySets.{IsGreedySet, IsHereditary, IsMinimalWithout}
-use Rattle.cmr_base.specs.Matrix.{Matrix, IsMatrix, transposed}
+use Rattle.cmr_base.specs.Matrix.{Matrix, IsMatrix}
 use Rattle.cmr_base.proofs.GraphicMatrices.{graphic_hereditary, network_matrix_hereditary}
 use Rattle.cmr_base.proofs.GreedyLemmas.{greedy_set_minimal}
 use Rattle.cmr_base.proofs.Submatrices.{inherited_from_hereditary}
@@ -15,7 +15,7 @@ use Rattle.cmr_classes.specs.declared.tools.graphic_network.TestedProperty.{Test
 use Rattle.cmr_classes.specs.declared.tools.graphic_network.TestedProperty.TheVariants.{Graphic, Network}
 use Rattle.cmr_classes.specs.GraphicNetwork.{Has, IsTestable, Shows, TestDecides, TestOrder, is_binary, path_tool, test_no, test_source, test_yes, tested_lines, tested_matrix}
 use Rattle.cmr_classes.specs.GraphicNetwork as decides
-use Rattle.decompositions_exist.proofs.NotExcluded.{NotExcluded, one_of_two}
+use Rattle.decompositions_exist.proofs.NotExcluded.{one_of_two}
 use Rattle.reports_exist.proofs.MinimalReports.{asked_exists}
 use Rattle.reports_exist.proofs.TextReports.{HasReport, on_matrix}
 

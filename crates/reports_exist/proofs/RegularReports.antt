@@ -1,6 +1,6 @@
 -- `regular` has a report on each text.
-use Rattle.std.proofs.Common.{◌≡◌, ◌≤◌, ℕ, true, List, length, refl, sym, subst, arith}
-use Rattle.cmr_base.specs.Matrix.{Matrix, IsMatrix, height}
+use Rattle.std.proofs.Common.{◌≡◌, ◌≤◌, ℕ, true, List, length, refl, arith}
+use Rattle.cmr_base.specs.Matrix.{Matrix, IsMatrix}
 use Rattle.cmr_base.specs.Trees.{IsBinary}
 use Rattle.cmr_base.specs.declared.limits.TheConstants.{MAX_LINES}
 use Rattle.chains.specs.SignSteps.{AreSigns, unsigned}
@@ -9,7 +9,6 @@ use Rattle.camion_sign.proofs.FreeSteps.{chain_steps}
 use Rattle.cmr_front.proofs.MatrixText.{read_is_binary, read_is_matrix}
 use Rattle.cmr_unimodular.specs.Regular.{RegularDecides, RegularOrder, regular_report, regular_source, regular_tool}
 use Rattle.cmr_unimodular.proofs.Told.{told}
-use Rattle.decompositions_exist.proofs.NotExcluded.{NotExcluded}
 use Rattle.reports_exist.proofs.SigningsExist.{signing_exists}
 use Rattle.reports_exist.proofs.TextReports.{HasReport, on_matrix}
 use Rattle.reports_exist.proofs.UnimodularReports.{decomposition_exists}

@@ -1,7 +1,6 @@
 -- Arguments have a report on the contents of the names.
-use Rattle.std.proofs.Common.{◌≡◌, ◌∙◌, ◌⊎◌, inl, inr, ℕ, suc, Bool, true, false, nat_lt, List, [], ◌∷◌, Option, Some, None, length, refl, ap, sym, subst}
-use Rattle.std.specs.List.{AllByRecursion}
-use Rattle.cmr_front.specs.Inputs.{Given, InputFile, Reading, and_then, given, most_bytes, reading, reading_of, texts, too_much}
+use Rattle.std.proofs.Common.{◌≡◌, ◌⊎◌, inl, inr, ℕ, suc, Bool, true, false, nat_lt, List, [], ◌∷◌, Option, Some, None, length, refl, ap, sym, subst}
+use Rattle.cmr_front.specs.Inputs.{Given, InputFile, and_then, given, most_bytes, reading_of, texts, too_much}
 use Rattle.cmr_front.specs.Outcome.{bad_words, too_long}
 use Rattle.cmr_front.specs.Report.{Held, Report}
 use Rattle.cmr_front.specs.Run.{Reports, ReportsGiven}
@@ -25,7 +24,7 @@ are_given held [] exist = inl ([], refl, refl)
 are_given held (file ∷ files) exist =
     let here = exist.0 in
     subst (λ found. AreGiven (file ∷ files) (and_then file.name (reading_of (most_bytes file.kind) found) (given held files))) (sym here.1)
-        (one_more file files here.0 (nat_lt (most_bytes file.kind) (length here.0)) (given held files) refl (are_given held files exist.1))
+    (one_more file files here.0 (nat_lt (most_bytes file.kind) (length here.0)) (given held files) refl (are_given held files exist.1))
 
 module _ (either : SoundOrBroken) (held : Held) where
   by_order : (words : List (List ℕ)) (found : Option Order) → order words ≡ found → FilesExist (ordered found) held → ((report : Report) → ¬ (Reports (ordered found) held report)) → ⊥

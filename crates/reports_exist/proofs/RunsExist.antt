@@ -1,13 +1,12 @@
 -- The run that signs a set of rows has an end.
-use Rattle.std.proofs.Common.{◌≡◌, ◌≢◌, ◌≤◌, ◌<◌, ◌+◌, ◌+ℤ◌, ◌-ℤ◌, ◌*ℤ◌, neg_ℤ, ◌∙◌, ◌⊎◌, ◌↔◌, inl, inr, ℕ, zero, suc, ℤ, pos, Bool, true, false, cond, eqb, List, [], ◌∷◌, Contains, Some, None, length, map, get_or, set, replicate, refl, ap, sym, subst, arith}
+use Rattle.std.proofs.Common.{◌≡◌, ◌≢◌, ◌<◌, ◌+ℤ◌, ◌*ℤ◌, neg_ℤ, ◌∙◌, ◌⊎◌, inl, inr, ℕ, zero, suc, ℤ, pos, Bool, true, false, cond, eqb, List, [], ◌∷◌, Contains, Some, None, length, map, get_or, set, replicate, refl, sym, subst, arith}
 use Rattle.std.specs.List.{AllByRecursion, remove}
-use Rattle.std.proofs.lemmas.Bool.{cases_eq, cases_lt}
-use Rattle.std.proofs.lemmas.List.{get_or-replicate, length-map, length-replicate, get_or_past}
+use Rattle.std.proofs.lemmas.List.{get_or-replicate, length-replicate}
 use Rattle.std.proofs.lemmas.List.Edits.{length-remove}
 use Rattle.std.proofs.lemmas.List.FromFn.{get_or-map-range_with_len, length-map-range_with_len}
 use Rattle.cmr_base.specs.Cuts.{bit}
 use Rattle.cmr_base.specs.LineSets.{IsRowSet, first_lines}
-use Rattle.cmr_base.specs.Matrix.{Matrix, IsEntry, IsMatrix, entry, height}
+use Rattle.cmr_base.specs.Matrix.{Matrix, IsEntry, entry, height}
 use Rattle.cmr_base.specs.MatrixSums.{filled}
 use Rattle.cmr_base.specs.Members.{IsIn}
 use Rattle.cmr_base.specs.PlacedPivots.{pivoted, reduced}
@@ -16,7 +15,7 @@ use Rattle.cmr_base.specs.Sums.{IsEven, IsOdd, sum_over}
 use Rattle.cmr_base.proofs.FilledMatrices.{entry-filled, height-filled}
 use Rattle.cmr_base.proofs.GrownSets.{int_dec}
 use Rattle.cmr_base.proofs.Integers.{sums}
-use Rattle.cmr_base.proofs.Lists.{HasOneMore, all_weaker}
+use Rattle.cmr_base.proofs.Lists.{HasOneMore}
 use Rattle.cmr_base.proofs.ListsWithout.{contains_from_in, in_from_contains, place_is, place_of}
 use Rattle.cmr_base.proofs.Members.{in_at}
 use Rattle.cmr_base.proofs.Parity.{even_or_odd}
@@ -24,12 +23,11 @@ use Rattle.cmr_base.proofs.SignEntries.{sign_nonzero}
 use Rattle.cmr_base.proofs.SmallEntries.{negative_is_entry, product_is_entry, zero_is_entry}
 use Rattle.ghouila.specs.declared.by_pivots.Pivot.{Pivot}
 use Rattle.ghouila.specs.Found.{HasParity, MarksAgain, MarksViolator, SignsRows, marked}
-use Rattle.ghouila.specs.Pivot.{HasNoPivot, HasSquareViolator, IsFirstPivot, IsFirstTwoEntry, IsOutside, IsPivot, IsSquareViolator, IsTernaryRow, PivotsRows}
-use Rattle.ghouila.specs.SignRuns.{IsPivotMade, IsPivotNext, IsPutAside, SignsBySteps, ViolatesBySteps}
+use Rattle.ghouila.specs.Pivot.{HasNoPivot, HasSquareViolator, IsFirstPivot, IsFirstTwoEntry, IsOutside, IsPivot, IsTernaryRow, PivotsRows}
+use Rattle.ghouila.specs.SignRuns.{IsPivotMade, IsPivotNext, SignsBySteps, ViolatesBySteps}
 use Rattle.ghouila.proofs.LeftRows.{aside_quiet, one_more-remove, outside-remove, pivot_odd, row_set-remove}
 use Rattle.ghouila.proofs.MarkedMembers.{in_two_marks}
 use Rattle.ghouila.proofs.MarksBack.{marks_among_more, marks_before_pivot, pulled_back}
-use Rattle.ghouila.proofs.PivotSums.{pivoted_at}
 use Rattle.ghouila.proofs.RunSteps.{signs_set_aside, signs_set_pivot}
 use Rattle.ghouila.proofs.SignedSums.{zero_or_sign}
 use Rattle.ghouila.proofs.SignsBack.{signs_before_pivot, signs_reordered, signs_with_aside}

@@ -1,21 +1,17 @@
 -- `sign` has a report on each matrix and each set of its rows.
-use Rattle.std.proofs.Common.{◌≡◌, ◌<◌, ◌*ℤ◌, ◌+ℤ◌, ℕ, zero, suc, ℤ, pos, Bool, true, false, ◌∙◌, List, [], ◌∷◌, Contains, Ok, length, map, get_or, refl, ap, sym, subst, arith}
-use Rattle.std.specs.List.{All, AllByRecursion}
+use Rattle.std.proofs.Common.{◌≡◌, ◌*ℤ◌, ◌+ℤ◌, ℕ, suc, ℤ, pos, Bool, true, false, ◌∙◌, List, [], ◌∷◌, Contains, Ok, length, map, get_or, refl, ap, subst, arith}
 use Rattle.std.proofs.lemmas.List.{length-map}
 use Rattle.std.proofs.lemmas.List.Elements.{All-from_recursion}
 use Rattle.cmr_base.specs.declared.line_set.LineSet.{LineSet}
 use Rattle.cmr_base.specs.LineSets.{IsRowSet}
 use Rattle.cmr_base.specs.Matrix.{IsEntry, IsMatrix, Matrix, entry, height}
-use Rattle.cmr_base.specs.Members.{IsIn}
 use Rattle.cmr_base.specs.Signing.{IsSign, IsSigning, signed_sum}
 use Rattle.cmr_base.specs.Sums.{sum_over}
 use Rattle.cmr_base.proofs.IncreasingLists.{increasing_column_set, increasing_row_set, row_set_increases}
 use Rattle.cmr_base.proofs.Lists.{all-map}
 use Rattle.cmr_base.proofs.Members.{increasing_are_distinct}
-use Rattle.matrix_text.specs.Submatrix.{named_lines}
 use Rattle.matrix_text.proofs.SubmatrixTexts.{found}
 use Rattle.text_fields.specs.TextWords.{text_of}
-use Rattle.ghouila.specs.declared.by_pivots.Pivot.{Pivot}
 use Rattle.ghouila.specs.Answer.{IsViolatorAmong}
 use Rattle.ghouila.specs.Found.{MarksViolator, SignsRows, marked}
 use Rattle.ghouila.proofs.Marks.{all_marked, marked_increases}

@@ -1,5 +1,5 @@
 -- A matrix has a signing by Camion.
-use Rattle.std.proofs.Common.{◌≡◌, ◌≢◌, ◌≤◌, ◌<◌, ◌+◌, ◌-◌, ◌+ℤ◌, ◌++◌, ◌∙◌, ◌⊎◌, inl, inr, ℕ, zero, suc, ℤ, pos, negsuc, List, [], ◌∷◌, Ok, refl, sym, subst, arith}
+use Rattle.std.proofs.Common.{◌≡◌, ◌≢◌, ◌<◌, ◌+ℤ◌, ◌++◌, ◌∙◌, ◌⊎◌, inl, inr, ℕ, zero, suc, ℤ, pos, negsuc, List, [], ◌∷◌, Ok, refl, sym, subst, arith}
 use Rattle.std.proofs.lemmas.Bool.{cases_eq}
 use Rattle.cmr_base.specs.declared.line_set.LineSet.{LineSet}
 use Rattle.cmr_base.specs.CyclePlaces.{IsCyclePlace, cycle_columns, cycle_rows}
@@ -17,8 +17,8 @@ use Rattle.chains.specs.declared.step.SignStep.{SignStep}
 use Rattle.chains.specs.declared.step.SignStep.TheVariants.{Forced, Free}
 use Rattle.chains.specs.SignSteps.{AreSigns, IsUnsignedOne, IsZeroModFour, LeadTo, unsigned}
 use Rattle.chains.proofs.ChainViolators.{entry-unsigned, unsigned_signs}
-use Rattle.chains.proofs.GivenSigns.{HasOneMore, keeps, lead_more, one_more, signs_more}
-use Rattle.camion_sign.specs.SignOrder.{IsCycleLines, IsForcedBy, IsNextForced, IsNextFree, IsNextSign, IsPlaceOf, IsRowsTurn, IsSignedBy}
+use Rattle.chains.proofs.GivenSigns.{keeps, lead_more, one_more, signs_more}
+use Rattle.camion_sign.specs.SignOrder.{IsCycleLines, IsForcedBy, IsNextSign, IsPlaceOf, IsRowsTurn, IsSignedBy}
 use Rattle.camion_sign.specs.Signings.{unsigned_before}
 use Rattle.camion_sign.proofs.ForcedCycles.{exchanged, odd_sum, sum_more}
 use Rattle.camion_sign.proofs.LineLists.{cycle_lines_are}

@@ -1,11 +1,10 @@
 -- A tree of a text keeps its rules, or a node is the first that breaks one.
-use Rattle.std.proofs.Common.{◌≡◌, ◌⊎◌, inl, inr, ℕ, List, sym, subst}
+use Rattle.std.proofs.Common.{◌⊎◌, inl, inr, ℕ, List, subst}
 use Rattle.cmr_base.specs.Matrix.{Matrix}
-use Rattle.tree_type.specs.DecompositionTrees.{SizedTree, Tree, tree_of}
+use Rattle.tree_type.specs.DecompositionTrees.{SizedTree}
 use Rattle.tree_type.specs.Invariant.{IsTreeFor}
 use Rattle.tree_type.specs.Laws.{SoundOrBroken}
 use Rattle.tree_type.specs.Soundness.{IsBrokenTree, IsSoundTree}
-use Rattle.tree_type.specs.declared.refusal.Refusal.{Refusal}
 use Rattle.tree_type.specs.declared.refusal.Rule.{Rule}
 use Rattle.tree_text.specs.TreeReading.{PlainTree}
 use Rattle.cmr_front.specs.Evidence.{IsBrokenFor, IsSoundFor}

@@ -3,7 +3,7 @@ use Rattle.std.proofs.Common.{◌≡◌, ◌≤◌, ℕ, false, List, length, re
 use Rattle.cmr_base.specs.Matrix.{Matrix, IsMatrix, height}
 use Rattle.cmr_base.specs.declared.limits.TheConstants.{MAX_LINES}
 use Rattle.cmr_front.proofs.MatrixText.{read_is_matrix}
-use Rattle.tree_type.specs.DecompositionTrees.{SizedTree, tree_of}
+use Rattle.tree_type.specs.DecompositionTrees.{SizedTree}
 use Rattle.tree_type.specs.Invariant.{IsTreeFor}
 use Rattle.tree_type.specs.Soundness.{IsSoundTree}
 use Rattle.decomp_tree.specs.PivotedShapes.{IsShapeWith}
