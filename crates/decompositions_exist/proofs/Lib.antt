@@ -1,0 +1,10 @@
+pub mod NotExcluded
+pub mod LeastKeys
+pub mod ViolatorsExist
+pub mod FaultsExist
+pub mod CollectedLines
+pub mod SeparationsExist
+pub mod ShapesExist
+pub mod PivotsExist
+pub mod PivotedExist
+pub mod NodesExist

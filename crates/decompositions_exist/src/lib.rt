@@ -1,0 +1,4 @@
+//! Laws that every matrix has a decomposition.
+#![tactic(auto)]
+
+pub mod laws;
