@@ -5,11 +5,5 @@ use Rattle.std.proofs.Common.{◌⊎◌, inl, inr}
 abbrev pub NotExcluded : Type 0 → Type 0
 NotExcluded A = ¬ (¬ A)
 
-pub given : {A : Type 0} → A → NotExcluded A
-given a none = none a
-
-pub and_then : {A B : Type 0} → NotExcluded A → (A → NotExcluded B) → NotExcluded B
-and_then some next none = some (λ a. next a none)
-
 pub one_of_two : (A : Type 0) → NotExcluded (A ⊎ (¬ A))
 one_of_two A none = none (inr (λ a. none (inl a)))

@@ -36,7 +36,7 @@ module _ (arcs : List Pair) where
   last_part r x y (step ∷ steps) walk once (inl e) = record { step = step; after = steps; arc_is = sym e; walk = (walk.0, refl, walk.2); once = once }
   last_part r x y (step ∷ steps) walk once (inr h) = last_part r (to arcs step) y steps walk.2 once.1 h
 
-  -- a step and the path behind it, where the path uses the arc of the step again
+  -- a step and the path after it, which uses the arc of the step again
   around : (step : WalkStep) (y : ℕ) → IsLastPart step.arc y → IsPath arcs (from arcs step) y
   around step y part = go step.forwards part.step.forwards refl refl
     where
