@@ -8,3 +8,4 @@ pub mod ShapesExist
 pub mod PivotsExist
 pub mod PivotedExist
 pub mod NodesExist
+pub mod TriedExist

@@ -1,5 +1,5 @@
 //! Laws over the definitions. Each function does nothing: its contract is the law.
-ghost use Rattle.decompositions_exist.specs.Laws.{SubmatricesHaveShapes, MatricesHaveShapes};
+ghost use Rattle.decompositions_exist.specs.Laws.{SubmatricesHaveShapes, MatricesHaveShapes, MatricesHaveTriedShapes};
 
 /// No submatrix is without a decomposition, for every budget of lines.
 pub fn submatrices_have_shapes()
@@ -9,4 +9,9 @@ pub fn submatrices_have_shapes()
 /// No matrix is without a decomposition, for every budget of lines and every number of pivots on the path to a node.
 pub fn matrices_have_shapes()
     ensures { MatricesHaveShapes }
+{}
+
+/// The same for decompositions whose open parts are tried.
+pub fn matrices_have_tried_shapes()
+    ensures { MatricesHaveTriedShapes }
 {}

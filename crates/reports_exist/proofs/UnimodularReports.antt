@@ -6,20 +6,20 @@ use Rattle.cmr_front.proofs.MatrixText.{read_is_matrix}
 use Rattle.tree_type.specs.DecompositionTrees.{SizedTree}
 use Rattle.tree_type.specs.Invariant.{IsTreeFor}
 use Rattle.tree_type.specs.Soundness.{IsSoundTree}
-use Rattle.decomp_tree.specs.PivotedShapes.{IsShapeWith}
-use Rattle.decomp_tree.proofs.PivotedRoots.{pivoted_shapes_are_sound, pivoted_shapes_are_trees}
+use Rattle.open_parts.specs.TriedShapes.{IsTriedWith}
+use Rattle.open_parts.proofs.TriedRoots.{tried_shapes_are_sound, tried_shapes_are_trees}
 use Rattle.cmr_unimodular.specs.Tu.{TuOrder, tu_source, tu_tool, tu_verdict}
 use Rattle.cmr_unimodular.specs.Verdict.{Decides, IsDecomposition, VerdictOrder, verdict_report}
 use Rattle.cmr_unimodular.proofs.Told.{told}
 use Rattle.decompositions_exist.proofs.NodesExist.{node_of_tree}
 use Rattle.decompositions_exist.proofs.NotExcluded.{NotExcluded}
-use Rattle.decompositions_exist.proofs.PivotedExist.{shape_with_exists}
+use Rattle.decompositions_exist.proofs.TriedExist.{tried_with_exists}
 use Rattle.reports_exist.proofs.TextReports.{HasReport, on_matrix}
 
 -- a matrix has a tree of the stated shape that keeps all rules
 pub decomposition_exists : (budget pivots : ℕ) (m : Matrix) → budget ≤ MAX_LINES → IsMatrix m → NotExcluded ((tree : SizedTree) × IsDecomposition budget pivots m tree)
-decomposition_exists budget pivots m low is none = shape_with_exists budget pivots m is (λ found.
-    let fits = pivoted_shapes_are_trees budget pivots m found.0 is found.1 in
+decomposition_exists budget pivots m low is none = tried_with_exists budget m is pivots (λ found.
+    let fits = tried_shapes_are_trees budget pivots m found.0 is found.1 in
     let node = node_of_tree (height m) m.width found.0 fits in
     none (
       record { rows = height m; columns = m.width; root = node.0 },
@@ -27,8 +27,8 @@ decomposition_exists budget pivots m low is none = shape_with_exists budget pivo
         rows = refl;
         columns = refl;
         is_tree = subst (IsTreeFor (height m) m.width) (sym node.1) fits;
-        shape = subst (IsShapeWith budget pivots m) (sym node.1) found.1;
-        sound = subst (IsSoundTree m (height m) m.width) (sym node.1) (pivoted_shapes_are_sound budget pivots m found.0 low is found.1);
+        shape = subst (IsTriedWith budget pivots m) (sym node.1) found.1;
+        sound = subst (IsSoundTree m (height m) m.width) (sym node.1) (tried_shapes_are_sound budget pivots m found.0 low is found.1);
       },
     ))
 
