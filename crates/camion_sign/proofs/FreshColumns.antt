@@ -1,5 +1,5 @@
 -- The first column of a set that a walk has not reached.
-use Rattle.std.proofs.Common.{◌≡◌, ◌≢◌, ◌<◌, ◌≤◌, ◌+◌, ◌-◌, ◌*◌, ◌/◌, ◌%◌, ◌^◌, ◌&&◌, ◌∙◌, ℕ, zero, suc, pos, Bool, true, false, not, cond, eqb, List, length, get_or, set, replicate, ◌⊎◌, inl, inr, refl, ap, ap₂, sym, subst, arith, w64}
+use Rattle.std.proofs.Common.{◌≡◌, ◌≢◌, ◌<◌, ◌≤◌, ◌+◌, ◌-◌, ◌*◌, ◌/◌, ◌%◌, ◌^◌, ◌&&◌, ◌∙◌, ℕ, zero, suc, pos, true, false, not, cond, eqb, List, length, get_or, set, replicate, ◌⊎◌, inl, inr, refl, ap, ap₂, sym, subst, arith, w64}
 use Rattle.std.specs.Int.{bit_at, trailing_zeros}
 use Rattle.std.proofs.lemmas.Bool.{cases_lt}
 use Rattle.std.proofs.Math.Nat.{div-le_self}

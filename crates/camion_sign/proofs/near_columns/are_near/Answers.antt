@@ -1,6 +1,5 @@
-use Rattle.std.proofs.Common.{◌≡◌, ◌<◌, ◌∙◌, ℕ, List, get_or, ap, sym, subst, refl, arith}
-use Rattle.cmr_base.specs.Matrix.{Matrix, height, row_of, is_nonzero}
-use Rattle.cmr_base.specs.Planes.{words_for, words_of}
+use Rattle.std.proofs.Common.{◌<◌, ◌∙◌, ℕ, List, get_or, ap, sym, refl, arith}
+use Rattle.cmr_base.specs.Matrix.{height}
 use Rattle.cmr_base.specs.ColumnSets.{has_column}
 use Rattle.cmr_base.proofs.ColumnWords.{words_long}
 use Rattle.camion_sign.proofs.FreshColumns.{words_of_row}

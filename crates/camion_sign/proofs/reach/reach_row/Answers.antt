@@ -1,4 +1,4 @@
-use Rattle.std.proofs.Common.{◌≡◌, ◌≢◌, ◌<◌, ◌+◌, ◌-◌, ◌∙◌, ◌++◌, ◌∷◌, [], ℕ, List, Bool, pos, length, subst, arith, ap, sym, refl, of_z, w8, nat_eq}
+use Rattle.std.proofs.Common.{◌≢◌, ◌<◌, ◌+◌, ◌-◌, ◌∙◌, ◌++◌, ◌∷◌, [], Bool, pos, subst, arith, ap, sym, refl, of_z, w8, nat_eq}
 use Rattle.camion_sign.specs.declared.walk.ReachedColumn.{ReachedColumn}
 use Rattle.camion_sign.specs.Walks.{progress}
 use Rattle.camion_sign.proofs.EntryTests.{test_two}
