@@ -1,9 +1,11 @@
 -- The places and faults that a walk determines.
-use Rattle.std.proofs.Common.{ℕ, zero, suc, ◌+◌, List, [], ◌∷◌, ◌++◌, ◌≡◌, ◌≢◌, ◌<◌, ℤ, pos, ◌+ℤ◌, Bool, true, length, get_or, reverse, Option, Some, MatchOption, ◌⊎◌, inl, inr, ◌∙◌, sym, ap, refl, arith, subst, append_assoc}
+use Rattle.std.proofs.Common.{ℕ, zero, suc, ◌+◌, List, [], ◌∷◌, ◌++◌, ◌≡◌, ◌≢◌, ◌<◌, ℤ, pos, ◌+ℤ◌, Bool, true, false, ◌≤◌, length, get_or, reverse, Option, Some, MatchOption, ◌⊎◌, inl, inr, ◌∙◌, sym, ap, refl, arith, subst, append_assoc}
 use Rattle.std.proofs.lemmas.Bool.{cases_lt}
 use Rattle.std.proofs.lemmas.List.{reverse-append}
 use Rattle.cmr_base.specs.Matrix.{Matrix, entry, IsEntry}
 use Rattle.cmr_base.specs.CyclePlaces.{IsPath, IsNotAfter, IsCyclePlace, IsFaultAt, cycle_rows, cycle_columns, path_sum}
+use Rattle.cmr_base.specs.Trees.{support}
+use Rattle.cmr_base.proofs.Booleans.{zero_is}
 use Rattle.cmr_base.specs.Sums.{sum_over, IsTwoModFour}
 use Rattle.cmr_base.proofs.Integers.{sums}
 use Rattle.ghouila.proofs.Routes.{route, place_sum}
@@ -113,6 +115,13 @@ pub one_more_last : (m : Matrix) (t c d : ℕ) → ((y : ℕ) → y < d → HasN
 one_more_last m t c d before here y l = elim (cases_lt y d) [
   | inl lt ↦ before y lt
   | inr ge ↦ let q : d ≡ y = omega arith in subst (HasNoFaultAt m t c) q here
+]
+
+-- columns in which the row is 0 are last columns of no place
+pub zeros_last : (m a : Matrix) (t c from last : ℕ) → a ≡ m → ((y : ℕ) → y < from → HasNoFaultAt m t c y) → ((y : ℕ) → from ≤ y → y < last → support a t y ≡ false) → (y : ℕ) → y < last → HasNoFaultAt m t c y
+zeros_last m a t c from last is before zeros y l path f = elim (cases_lt y from) [
+  | inl lt ↦ before y lt path f
+  | inr ge ↦ f.place.last (zero_is (entry m t y) (sym (ap (λ (x : Matrix). support x t y) is) ∙ zeros y ge l))
 ]
 
 -- the first fault of the first row with one

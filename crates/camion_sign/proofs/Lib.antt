@@ -1,3 +1,4 @@
+pub mod FreshColumns
 pub mod FullSquares
 pub mod LineCuts
 pub mod NonzeroLists

@@ -10,7 +10,7 @@ use Rattle.camion_sign.specs.declared.walk.ReachedColumn.{ReachedColumn}
 use Rattle.camion_sign.specs.declared.walk.Walk.{Walk}
 use Rattle.camion_sign.specs.Nonzeros.{AreNonzeros}
 use Rattle.camion_sign.specs.Trails.{IsUpTo}
-use Rattle.camion_sign.specs.Walks.{Progress, IsQueue, Goes, IsMet, IsPrefix, IsSettled, TwoIf, flip, step_at, place_in, progress, HasPlacesAndMarks, IsWalking, IsReaching, IsOpen, GrowsFrom, IsUntouched, NoneWaits, IsSpreading, HasSettled, IsGoing, HasWalked}
+use Rattle.camion_sign.specs.Walks.{Progress, IsQueue, Goes, IsMet, IsPrefix, IsSettled, TwoIf, flip, step_at, place_in, progress, AreInStep, HasPlacesAndMarks, IsWalking, IsReaching, IsOpen, GrowsFrom, IsUntouched, NoneWaits, IsSpreading, HasSettled, IsGoing, HasWalked}
 use Rattle.camion_sign.proofs.Trails.{path_trail}
 use Rattle.camion_sign.proofs.Walks.{IsOneMore, few, fewer, met_before, next, settles, least, all_met, all_settled, begin, with_key, kept_here, reached, visit}
 
@@ -72,54 +72,64 @@ grows_same walk = record { longer = omega arith; steps = λ j l. refl; places = 
 
 -- ---- the columns of a row
 
-pub start_row : (m : Matrix) (t c h r : ℕ) (columns : List ℕ) (from : ReachedColumn) (walk : Walk) → IsWalking m t c h r walk → IsOpen m t h walk → from ≡ get_or walk.steps.items h from → IsReaching m t c h r columns 0 from walk walk
-start_row m t c h r columns from walk w o e = record {
+pub start_row : (m : Matrix) (t c h r : ℕ) (from : ReachedColumn) (walk : Walk) → IsWalking m t c h r walk → IsOpen m t h walk → from ≡ get_or walk.steps.items h from → IsReaching m t c h r 0 from walk walk
+start_row m t c h r from walk w o e = record {
   fits = w.fits;
   grows = grows_same walk;
   used = refl;
   within = o.within;
   from_is = step_is walk.steps.items h from o.within e;
   key = w.key;
-  prefix = fewer (entry m) t c m.width (progress walk.steps.items walk.places.items walk.used.items) w.key h (λ s x. r ≤ s) (λ s x. (r < s) ⊎ ((r ≡ s) × ((i : ℕ) → i < 0 → get_or columns i 0 < x))) w.prefix
+  prefix = fewer (entry m) t c m.width (progress walk.steps.items walk.places.items walk.used.items) w.key h (λ s x. r ≤ s) (λ s x. (r < s) ⊎ ((r ≡ s) × (0 ≤ x))) w.prefix
       (λ s x q. elim q [ inl l ↦ omega arith | inr p ↦ let f = p.0 in omega arith ]);
-  met = λ i l. absurd (omega arith);
+  met = λ x l. absurd (omega arith);
 }
 
-module _ (m : Matrix) (t c h r : ℕ) (columns : List ℕ) (k : ℕ) (from : ReachedColumn) (old walk : Walk) (w : IsReaching m t c h r columns k from old walk) (nonzeros : AreNonzeros (entry m r) columns) (inside : k < length columns) where
-  here : ((i : ℕ) → i < k → get_or columns i 0 < get_or columns k 0)
-  here i l = nonzeros.increasing i k l inside
+module _ (m : Matrix) (t c h r low : ℕ) (from : ReachedColumn) (old walk : Walk) (w : IsReaching m t c h r low from old walk) where
+  -- a column that the walk has reached before is met
+  passed : (x : ℕ) → low ≤ x → place_in walk.places.items x < 4294967295 → IsMet (entry m) t c m.width (progress walk.steps.items walk.places.items walk.used.items) w.key x (w.key h ++ r ∷ x ∷ [])
+  passed x after met = met_before (entry m) t c m.width (progress walk.steps.items walk.places.items walk.used.items) w.key h r x (λ s y. (r < s) ⊎ ((r ≡ s) × (low ≤ y))) w.prefix w.within met (inr (refl, after))
 
-  one_step : (s x : ℕ) → (r < s) ⊎ ((r ≡ s) × ((i : ℕ) → i < k + 1 → get_or columns i 0 < x)) → (r < s) ⊎ ((r ≡ s) × ((i : ℕ) → i < k → get_or columns i 0 < x))
-  one_step s x (inl l) = inl l
-  one_step s x (inr p) = inr (p.0, λ i l. p.1 i (omega arith))
-
-  -- the walk has reached the column before
-  pub pass_column : (walk2 : Walk) → walk2 ≡ walk → place_in walk.places.items (get_or columns k 0) < 4294967295 → IsReaching m t c h r columns (k + 1) from old walk2
-  pass_column walk2 e there = subst (IsReaching m t c h r columns (k + 1) from old) (sym e) (record {
+  -- the walk has reached the columns of the row below `high` before
+  pub pass_columns : (high : ℕ) → low ≤ high → ((x : ℕ) → low ≤ x → x < high → entry m r x ≢ pos 0 → place_in walk.places.items x < 4294967295) → IsReaching m t c h r high from old walk
+  pass_columns high up there = record {
     fits = w.fits;
     grows = w.grows;
     used = w.used;
     within = w.within;
     from_is = w.from_is;
     key = w.key;
-    prefix = fewer (entry m) t c m.width (progress walk.steps.items walk.places.items walk.used.items) w.key h (λ s x. (r < s) ⊎ ((r ≡ s) × ((i : ℕ) → i < k → get_or columns i 0 < x))) (λ s x. (r < s) ⊎ ((r ≡ s) × ((i : ℕ) → i < k + 1 → get_or columns i 0 < x))) w.prefix one_step;
-    met = λ i l. elim (cases_lt i k) [
-      | inl lt ↦ w.met i lt
-      | inr ge ↦ let q : k ≡ i = omega arith in
-          subst (λ (j : ℕ). IsMet (entry m) t c m.width (progress walk.steps.items walk.places.items walk.used.items) w.key (get_or columns j 0) (w.key h ++ r ∷ get_or columns j 0 ∷ [])) q
-          (met_before (entry m) t c m.width (progress walk.steps.items walk.places.items walk.used.items) w.key h r (get_or columns k 0) (λ s x. (r < s) ⊎ ((r ≡ s) × ((i : ℕ) → i < k → get_or columns i 0 < x))) w.prefix w.within
-          there (inr (refl, here)))
+    prefix = fewer (entry m) t c m.width (progress walk.steps.items walk.places.items walk.used.items) w.key h (λ s x. (r < s) ⊎ ((r ≡ s) × (low ≤ x))) (λ s x. (r < s) ⊎ ((r ≡ s) × (high ≤ x))) w.prefix
+        (λ s x q. elim q [ inl l ↦ inl l | inr p ↦ inr (p.0, (let f = p.1 in omega arith)) ]);
+    met = λ x l n. elim (cases_lt x low) [
+      | inl before ↦ w.met x before n
+      | inr after ↦ passed x after (there x after l n)
     ];
-  })
+  }
 
-  -- the walk reaches the column now
-  pub reach_column : (walk2 : Walk) (same : Bool) → get_or columns k 0 < m.width → place_in walk.places.items (get_or columns k 0) ≡ 4294967295
-      → Goes (entry m) t c m.width (progress walk.steps.items walk.places.items walk.used.items) w.key h → r < t → entry m r from.column ≢ pos 0 → TwoIf same (entry m r from.column +ℤ entry m r (get_or columns k 0))
-      → walk2.steps.items ≡ walk.steps.items ++ record { column = get_or columns k 0; row = r; before = h; is_two = flip from.is_two same } ∷ []
-      → walk2.places.items ≡ set walk.places.items (get_or columns k 0) (length walk.steps.items) → walk2.used.items ≡ walk.used.items
-      → IsReaching m t c h r columns (k + 1) from old walk2
-  reach_column walk2 same low unmet goes early leads two steps2 places2 used2 = record {
-    fits = record { matrix = w.fits.matrix; places = ap length places2 ∙ length-set walk.places.items x (length walk.steps.items) ∙ w.fits.places; used = ap length used2 ∙ w.fits.used };
+  -- all columns of the row are met, if those from `low` on are reached
+  pub met_all : ((x : ℕ) → low ≤ x → entry m r x ≢ pos 0 → place_in walk.places.items x < 4294967295) → (x : ℕ) → entry m r x ≢ pos 0 → IsMet (entry m) t c m.width (progress walk.steps.items walk.places.items walk.used.items) w.key x (w.key h ++ r ∷ x ∷ [])
+  met_all rest x n = elim (cases_lt x low) [
+    | inl before ↦ w.met x before n
+    | inr after ↦ passed x after (rest x after n)
+  ]
+
+-- the walk reaches a column of the row now
+module _ (m : Matrix) (t c h r x : ℕ) (from : ReachedColumn) (old walk : Walk) (w : IsReaching m t c h r x from old walk) where
+  pub reach_column : (walk2 : Walk) (same : Bool) → x < m.width → entry m r x ≢ pos 0 → place_in walk.places.items x ≡ 4294967295
+      → Goes (entry m) t c m.width (progress walk.steps.items walk.places.items walk.used.items) w.key h → r < t → entry m r from.column ≢ pos 0 → TwoIf same (entry m r from.column +ℤ entry m r x)
+      → walk2.steps.items ≡ walk.steps.items ++ record { column = x; row = r; before = h; is_two = flip from.is_two same } ∷ []
+      → walk2.places.items ≡ set walk.places.items x (length walk.steps.items) → walk2.used.items ≡ walk.used.items
+      → length walk2.reached.items ≡ length walk.reached.items → AreInStep walk2.places.items walk2.reached.items
+      → IsReaching m t c h r (x + 1) from old walk2
+  reach_column walk2 same low to unmet goes early leads two steps2 places2 used2 long2 in_step2 = record {
+    fits = record {
+      matrix = w.fits.matrix;
+      places = ap length places2 ∙ length-set walk.places.items x (length walk.steps.items) ∙ w.fits.places;
+      used = ap length used2 ∙ w.fits.used;
+      reached = long2 ∙ w.fits.reached;
+      in_step = in_step2;
+    };
     grows = record {
       longer = let a = w.grows.longer in let b = more in omega arith;
       steps = λ j l. kept j (let a = w.grows.longer in omega arith) ∙ w.grows.steps j l;
@@ -129,20 +139,17 @@ module _ (m : Matrix) (t c h r : ℕ) (columns : List ℕ) (k : ℕ) (from : Rea
     within = let a = w.within in let b = more in omega arith;
     from_is = kept h w.within ∙ w.from_is;
     key = with_key M t c m.width s s' w.key h r x same;
-    prefix = subst (λ (v : Progress). IsPrefix M t c m.width v (with_key M t c m.width s s' w.key h r x same) h Q) (sym now) (visit M t c m.width s s' w.key h r x same P Q top_width w.prefix w.within one unmet' goes early leads' to low (inr (refl, here)) two' still);
-    met = λ i l. subst (λ (v : Progress). IsMet M t c m.width v (with_key M t c m.width s s' w.key h r x same) (get_or columns i 0) (with_key M t c m.width s s' w.key h r x same h ++ r ∷ get_or columns i 0 ∷ [])) (sym now) (elim (cases_lt i k) [
-      | inl lt ↦ kept_here M t c m.width s s' w.key h r x same P Q top_width w.prefix w.within one unmet' (get_or columns i 0) r (get_or columns i 0) (w.met i lt)
-      | inr ge ↦ let q : k ≡ i = omega arith in
-          subst (λ (j : ℕ). IsMet M t c m.width s' (with_key M t c m.width s s' w.key h r x same) (get_or columns j 0) (with_key M t c m.width s s' w.key h r x same h ++ r ∷ get_or columns j 0 ∷ [])) q
+    prefix = subst (λ (v : Progress). IsPrefix M t c m.width v (with_key M t c m.width s s' w.key h r x same) h Q) (sym now) (visit M t c m.width s s' w.key h r x same P Q top_width w.prefix w.within one unmet' goes early leads' to low (inr (refl, omega arith)) two' still);
+    met = λ y l n. subst (λ (v : Progress). IsMet M t c m.width v (with_key M t c m.width s s' w.key h r x same) y (with_key M t c m.width s s' w.key h r x same h ++ r ∷ y ∷ [])) (sym now) (elim (cases_lt y x) [
+      | inl lt ↦ kept_here M t c m.width s s' w.key h r x same P Q top_width w.prefix w.within one unmet' y r y (w.met y lt n)
+      | inr ge ↦ let q : x ≡ y = omega arith in
+          subst (λ (z : ℕ). IsMet M t c m.width s' (with_key M t c m.width s s' w.key h r x same) z (with_key M t c m.width s s' w.key h r x same h ++ r ∷ z ∷ [])) q
           (reached M t c m.width s s' w.key h r x same P Q top_width w.prefix w.within one unmet')
     ]);
   }
     where
       M : ℕ → ℕ → ℤ
       M = entry m
-
-      x : ℕ
-      x = get_or columns k 0
 
       new : ReachedColumn
       new = record { column = x; row = r; before = h; is_two = flip from.is_two same }
@@ -154,10 +161,10 @@ module _ (m : Matrix) (t c h r : ℕ) (columns : List ℕ) (k : ℕ) (from : Rea
       s' = progress (walk.steps.items ++ new ∷ []) (set walk.places.items x (length walk.steps.items)) walk.used.items
 
       P : ℕ → ℕ → Type 0
-      P q y = (r < q) ⊎ ((r ≡ q) × ((i : ℕ) → i < k → get_or columns i 0 < y))
+      P q y = (r < q) ⊎ ((r ≡ q) × (x ≤ y))
 
       Q : ℕ → ℕ → Type 0
-      Q q y = (r < q) ⊎ ((r ≡ q) × ((i : ℕ) → i < k + 1 → get_or columns i 0 < y))
+      Q q y = (r < q) ⊎ ((r ≡ q) × (x + 1 ≤ y))
 
       now : progress walk2.steps.items walk2.places.items walk2.used.items ≡ s'
       now = same_progress walk2 (walk.steps.items ++ new ∷ []) (set walk.places.items x (length walk.steps.items)) walk.used.items steps2 places2 used2
@@ -178,12 +185,9 @@ module _ (m : Matrix) (t c h r : ℕ) (columns : List ℕ) (k : ℕ) (from : Rea
       two' : TwoIf same (M r (s.column h) +ℤ M r x)
       two' = subst (λ (step : ReachedColumn). TwoIf same (M r step.column +ℤ M r x)) (sym w.from_is) two
 
-      to : M r x ≢ pos 0
-      to = nonzeros.nonzero k inside
-
       still : (q y : ℕ) → Q q y → P q y × ((r < q) ⊎ ((r ≡ q) × (x < y)))
       still q y (inl l) = (inl l, inl l)
-      still q y (inr p) = (inr (p.0, λ i l. p.1 i (omega arith)), inr (p.0, p.1 k (omega arith)))
+      still q y (inr p) = (inr (p.0, (let f = p.1 in omega arith)), inr (p.0, (let f = p.1 in omega arith)))
 
       more : length walk2.steps.items ≡ suc (length walk.steps.items)
       more = ap length steps2 ∙ length-more walk.steps.items new
@@ -198,10 +202,16 @@ module _ (m : Matrix) (t c h r : ℕ) (columns : List ℕ) (k : ℕ) (from : Rea
       ]
 
 -- the walk has reached all columns of the row: the row is taken
-pub end_row : (m : Matrix) (t c h r : ℕ) (columns : List ℕ) (k : ℕ) (from : ReachedColumn) (old walk walk2 : Walk) → IsReaching m t c h r columns k from old walk → AreNonzeros (entry m r) columns → length columns ≤ k → r < height m
-    → walk2.steps.items ≡ walk.steps.items → walk2.places.items ≡ walk.places.items → walk2.used.items ≡ set walk.used.items r true → IsWalking m t c h (r + 1) walk2
-end_row m t c h r columns k from old walk walk2 w nonzeros l tall steps2 places2 used2 = record {
-  fits = record { matrix = w.fits.matrix; places = ap length places2 ∙ w.fits.places; used = ap length used2 ∙ length-set walk.used.items r true ∙ w.fits.used };
+pub end_row : (m : Matrix) (t c h r low : ℕ) (from : ReachedColumn) (old walk walk2 : Walk) → IsReaching m t c h r low from old walk → ((x : ℕ) → low ≤ x → entry m r x ≢ pos 0 → place_in walk.places.items x < 4294967295)
+    → walk2.steps.items ≡ walk.steps.items → walk2.places.items ≡ walk.places.items → walk2.used.items ≡ set walk.used.items r true → walk2.reached.items ≡ walk.reached.items → IsWalking m t c h (r + 1) walk2
+end_row m t c h r low from old walk walk2 w rest steps2 places2 used2 reached2 = record {
+  fits = record {
+    matrix = w.fits.matrix;
+    places = ap length places2 ∙ w.fits.places;
+    used = ap length used2 ∙ length-set walk.used.items r true ∙ w.fits.used;
+    reached = ap length reached2 ∙ w.fits.reached;
+    in_step = subst (λ (v : List ℕ). AreInStep v walk2.reached.items) (sym places2) (subst (AreInStep walk.places.items) (sym reached2) w.fits.in_step);
+  };
   key = w.key;
   prefix = subst (λ (v : Progress). IsPrefix (entry m) t c m.width v w.key h (λ s x. r + 1 ≤ s)) (sym (same_progress walk2 walk.steps.items walk.places.items (set walk.used.items r true) steps2 places2 used2)) (record {
     queue = record {
@@ -223,9 +233,7 @@ end_row m t c h r columns k from old walk walk2 w nonzeros l tall steps2 places2
     done = w.prefix.done;
     gone = λ s x u n. elim (cases_eq s r) [
       | inl q ↦
-          let v = nonzeros.all x (subst (λ (y : ℕ). entry m y x ≢ pos 0) q n) in
-          let met = w.met v.0 (let a = v.1 in omega arith) in
-          let met' = subst (λ (y : ℕ). IsMet (entry m) t c m.width (progress walk.steps.items walk.places.items walk.used.items) w.key y (w.key h ++ r ∷ y ∷ [])) v.2 met in
+          let met' = met_all m t c h r low from old walk w rest x (subst (λ (y : ℕ). entry m y x ≢ pos 0) q n) in
           (met'.0, λ k. subst (λ (y : ℕ). IsUpTo (w.key (place_in walk.places.items x)) (w.key h ++ y ∷ x ∷ [])) (sym q) met'.1)
       | inr q ↦ w.prefix.gone s x (sym (get_or-set_other walk.used.items r s true false q) ∙ u) n
     ];
@@ -241,8 +249,8 @@ grows_used old walk walk2 g steps2 places2 = record {
   places = λ x l. let a = g.places x l in let b = ap (λ (places : List ℕ). place_in places x) places2 in omega arith;
 }
 
-pub same_goes : (m : Matrix) (t c h r : ℕ) (columns : List ℕ) (k : ℕ) (from : ReachedColumn) (old walk : Walk) (w : IsReaching m t c h r columns k from old walk) → IsOpen m t h old → Goes (entry m) t c m.width (progress walk.steps.items walk.places.items walk.used.items) w.key h
-same_goes m t c h r columns k from old walk w o = elim o.goes [ inl z ↦ inl z | inr z ↦ inr (ap (λ (v : ReachedColumn). entry m t v.column) (w.grows.steps h o.within) ∙ z) ]
+pub same_goes : (m : Matrix) (t c h r low : ℕ) (from : ReachedColumn) (old walk : Walk) (w : IsReaching m t c h r low from old walk) → IsOpen m t h old → Goes (entry m) t c m.width (progress walk.steps.items walk.places.items walk.used.items) w.key h
+same_goes m t c h r low from old walk w o = elim o.goes [ inl z ↦ inl z | inr z ↦ inr (ap (λ (v : ReachedColumn). entry m t v.column) (w.grows.steps h o.within) ∙ z) ]
 
 -- ---- the rows of a column
 
@@ -372,13 +380,16 @@ one_more_settled m t c from x places before here d a b n = elim (cases_lt d x) [
 -- ---- the whole walk
 
 pub begin_walk : (m : Matrix) (t c : ℕ) (walk walk2 : Walk) → HasPlacesAndMarks m walk → c < m.width → walk2.steps.items ≡ record { column = c; row = 0; before = 0; is_two = false } ∷ []
-    → walk2.places.items ≡ set (replicate (length walk.places.items) 4294967295) c 0 → walk2.used.items ≡ replicate (length walk.used.items) false → IsGoing m t c 0 (c + 1) walk2
-begin_walk m t c walk walk2 f l steps2 places2 used2 = record {
+    → walk2.places.items ≡ set (replicate (length walk.places.items) 4294967295) c 0 → walk2.used.items ≡ replicate (length walk.used.items) false
+    → length walk2.reached.items ≡ length walk.reached.items → AreInStep walk2.places.items walk2.reached.items → IsGoing m t c 0 (c + 1) walk2
+begin_walk m t c walk walk2 f l steps2 places2 used2 long2 in_step2 = record {
   state = inl (record {
     fits = record {
       matrix = f.matrix;
       places = ap length places2 ∙ length-set (replicate (length walk.places.items) 4294967295) c 0 ∙ length-replicate (length walk.places.items) 4294967295 ∙ f.places;
       used = ap length used2 ∙ length-replicate (length walk.used.items) false ∙ f.used;
+      reached = long2 ∙ f.reached;
+      in_step = in_step2;
     };
     key = λ j. [];
     prefix = subst (λ (v : Progress). IsPrefix (entry m) t c m.width v (λ j. []) 0 (λ r x. 0 ≤ r)) (sym (same_progress walk2 first (set (replicate (length walk.places.items) 4294967295) c 0) (replicate (length walk.used.items) false) steps2 places2 used2))

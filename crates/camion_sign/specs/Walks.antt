@@ -1,7 +1,9 @@
 -- Breadth-first walks from a column over the rows before t. The walk reaches columns in the order of their least trails.
-use Rattle.std.specs.Prelude.{ℕ, List, [], ◌∷◌, ◌++◌, Bool, true, false, not, ℤ, pos, ◌+ℤ◌, ◌≡◌, ◌≢◌, ◌<◌, ◌≤◌, ◌⊎◌, length, slice_index, slice_index_or}
+use Rattle.std.specs.Prelude.{ℕ, List, [], ◌∷◌, ◌++◌, Bool, true, false, not, ◌&&◌, ℤ, pos, ◌+ℤ◌, ◌≡◌, ◌≢◌, ◌<◌, ◌≤◌, ◌⊎◌, length, slice_index, slice_index_or}
 use Rattle.cmr_base.specs.Matrix.{Matrix, height, entry, IsMatrix}
+use Rattle.cmr_base.specs.ColumnSets.{has_column}
 use Rattle.cmr_base.specs.CyclePlaces.{IsPath}
+use Rattle.cmr_base.specs.Planes.{words_for}
 use Rattle.cmr_base.specs.Sums.{IsTwoModFour}
 use Rattle.camion_sign.specs.declared.walk.ReachedColumn.{ReachedColumn}
 use Rattle.camion_sign.specs.declared.walk.TheConstants.{UNREACHED}
@@ -86,11 +88,22 @@ module _ (M : ℕ → ℕ → ℤ) (t c n : ℕ) (s : Progress) (key : ℕ → L
   IsSettled = (i r x : ℕ) (lines : List ℕ) → i < s.count → Goes i → r < t → M r (s.column i) ≢ pos 0 → M r x ≢ pos 0 → IsUpTo (key i) lines
       → IsMet x (lines ++ r ∷ x ∷ []) ⊎ ((j : ℕ) → j < s.count → IsShortlexBefore (key j) (lines ++ r ∷ x ∷ []))
 
--- as many positions as columns, and as many marks as rows
+-- in the first set and not in the set of reached columns
+abbrev pub is_fresh : List ℕ → List ℕ → ℕ → Bool
+is_fresh columns reached x = has_column columns x && not (has_column reached x)
+
+-- the set of reached columns has the columns with a position, and no others
+pub record AreInStep (positions reached : List ℕ) : Type 0 where
+  pub has : (x : ℕ) → has_column reached x ≡ true → place_in positions x < UNREACHED
+  pub lacks : (x : ℕ) → has_column reached x ≡ false → place_in positions x ≡ UNREACHED
+
+-- as many positions as columns, as many marks as rows, and the set of the columns with a position
 pub record HasPlacesAndMarks (m : Matrix) (walk : Walk) : Type 0 where
   pub matrix : IsMatrix m
   pub places : length walk.places.items ≡ m.width
   pub used : length walk.used.items ≡ height m
+  pub reached : length walk.reached.items ≡ words_for m.width
+  pub in_step : AreInStep walk.places.items walk.reached.items
 
 -- a walk from column c over the rows before t, at position h; it examines no row below `low` again for this position
 pub record IsWalking (m : Matrix) (t c h low : ℕ) (walk : Walk) : Type 0 where
@@ -109,17 +122,16 @@ pub record GrowsFrom (old new : Walk) : Type 0 where
   pub steps : (j : ℕ) → j < length old.steps.items → step_at new.steps.items j ≡ step_at old.steps.items j
   pub places : (x : ℕ) → place_in old.places.items x < UNREACHED → place_in new.places.items x < UNREACHED
 
--- among the columns that row r meets, from the step at position h: the first k are reached
-pub record IsReaching (m : Matrix) (t c h r : ℕ) (columns : List ℕ) (k : ℕ) (from : ReachedColumn) (old walk : Walk) : Type 0 where
+-- among the columns that row r meets, from the step at position h: those below `low` are reached
+pub record IsReaching (m : Matrix) (t c h r low : ℕ) (from : ReachedColumn) (old walk : Walk) : Type 0 where
   pub fits : HasPlacesAndMarks m walk
   pub grows : GrowsFrom old walk
   pub used : walk.used.items ≡ old.used.items
   pub within : h < length walk.steps.items
   pub from_is : step_at walk.steps.items h ≡ from
   pub key : ℕ → List ℕ
-  pub prefix : IsPrefix (entry m) t c m.width (progress walk.steps.items walk.places.items walk.used.items) key h
-      (λ s x. (r < s) ⊎ ((r ≡ s) × ((i : ℕ) → i < k → slice_index columns i < x)))
-  pub met : (i : ℕ) → i < k → IsMet (entry m) t c m.width (progress walk.steps.items walk.places.items walk.used.items) key (slice_index columns i) (key h ++ r ∷ slice_index columns i ∷ [])
+  pub prefix : IsPrefix (entry m) t c m.width (progress walk.steps.items walk.places.items walk.used.items) key h (λ s x. (r < s) ⊎ ((r ≡ s) × (low ≤ x)))
+  pub met : (x : ℕ) → x < low → entry m r x ≢ pos 0 → IsMet (entry m) t c m.width (progress walk.steps.items walk.places.items walk.used.items) key x (key h ++ r ∷ x ∷ [])
 
 -- no row before t meets the column
 abbrev pub IsUntouched : Matrix → ℕ → ℕ → Type 0

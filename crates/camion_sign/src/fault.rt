@@ -158,7 +158,8 @@ fn fault_from(
     ensures fits { IfOk result (λ found. HasPlacesAndMarks matrix.now walk.new) }
 {
     walk_from(matrix, walk, start)?;
-    for last in start.column + 1..matrix.columns() {
+    let mut from = start.column + 1;
+    while let Some(last) = matrix.by_rows().next_nonzero(start.row, from) {
         if is_fault(matrix, walk, start, last) {
             return Ok(Some(Fault {
                 row: start.row,
@@ -167,6 +168,7 @@ fn fault_from(
                 lines: path_to(alloc, matrix, walk, start, last)?,
             }));
         }
+        from = last + 1;
     }
     Ok(None)
 }

@@ -93,16 +93,17 @@ fn reach_row(
 {
     let from = walk.steps[head];
     let sign = matrix.entry(row, from.column);
-    for column in matrix.row(row) {
-        if !walk.has_reached(*column) {
-            let is_same = sign == matrix.entry(row, *column);
-            walk.reach(ReachedColumn {
-                column: *column,
-                row,
-                before: head as u32,
-                is_two: flipped(from.is_two, is_same),
-            })?;
-        }
+    let columns = matrix.by_rows().support_words(row);
+    let mut low = 0;
+    while let Some(column) = walk.next_unreached(columns, low) {
+        let is_same = sign == matrix.entry(row, column);
+        walk.reach(ReachedColumn {
+            column,
+            row,
+            before: head as u32,
+            is_two: flipped(from.is_two, is_same),
+        })?;
+        low = column + 1;
     }
     walk.used[row as usize] = true;
     Ok(())

@@ -1,7 +1,9 @@
 // The state of a breadth-first walk.
-ghost use Rattle.std.specs.Prelude.{◌≡◌, ◌<◌, ◌≤◌, ◌++◌, [], ◌∷◌, IfOk, OnOk, IsTrue, length, replicate, slice_set, false};
-ghost use Rattle.camion_sign.specs.Walks.{place_in};
+ghost use Rattle.std.specs.Prelude.{◌≡◌, ◌<◌, ◌≤◌, ◌/◌, ◌++◌, [], ◌∷◌, ℕ, IfOk, OnOk, IsTrue, MatchOption, length, replicate, slice_set, true, false};
+ghost use Rattle.cmr_base.specs.Planes.{words_for};
+ghost use Rattle.camion_sign.specs.Walks.{AreInStep, is_fresh, place_in};
 
+use cmr_base::columns::{add_column, clear_set, empty_set, outside};
 use cmr_base::{MAX_COLUMNS, Memory};
 use std::alloc::Global;
 
@@ -20,42 +22,53 @@ pub struct ReachedColumn {
     pub is_two: bool,
 }
 
-/// The reached columns in order, the position of each column, and the rows that the walk has taken. All walks share one
-/// allocation.
+/// The reached columns in order, the position of each column, the rows that the walk has taken, and the set of the reached
+/// columns. All walks share one allocation.
 #[derive(Drop)]
 pub struct Walk {
     pub steps: Vec<ReachedColumn>,
     pub places: Vec<u32>,
     pub used: Vec<bool>,
+    pub reached: Vec<u64>,
 }
 
 impl Walk {
     /// Room for walks in a matrix of `rows` rows and `columns` columns.
     pub fn new(alloc: Global, rows: u32, columns: u32) -> Result<Walk, Memory>
+        requires { columns ≤ MAX_COLUMNS }
         ensures places { IfOk result (λ walk. length walk.places.items ≡ columns) }
         ensures used { IfOk result (λ walk. length walk.used.items ≡ rows) }
+        ensures reached { IfOk result (λ walk. length walk.reached.items ≡ words_for columns) }
+        ensures in_step { IfOk result (λ walk. AreInStep walk.places.items walk.reached.items) }
     {
         Ok(Walk {
             steps: Vec::with_capacity(alloc, columns as usize)?,
             places: vec![in alloc; UNREACHED; columns as usize]?,
             used: vec![in alloc; false; rows as usize]?,
+            reached: empty_set(alloc, columns)?,
         })
     }
 
     /// Begins a walk from a column.
     pub fn begin(&mut self, column: u32) -> Result<(), Memory>
-        requires { column < length self.old.places.items }
+        requires column { column < length self.old.places.items }
+        requires word { column / 64 < length self.old.reached.items }
         ensures steps { OnOk result (self.new.steps.items
             ≡ record { column = column; row = 0; before = 0; is_two = false } ∷ []) }
         ensures places { OnOk result (self.new.places.items
             ≡ slice_set (replicate (length self.old.places.items) UNREACHED) column 0) }
         ensures used { OnOk result (self.new.used.items
             ≡ replicate (length self.old.used.items) false) }
+        ensures reached { OnOk result (length self.new.reached.items
+            ≡ length self.old.reached.items) }
+        ensures in_step { OnOk result (AreInStep self.new.places.items self.new.reached.items) }
     {
         self.steps.clear();
         self.places.fill(UNREACHED);
         self.used.fill(false);
         self.places[column as usize] = 0;
+        clear_set(&mut self.reached);
+        add_column(&mut self.reached, column);
         self.steps.push(ReachedColumn {
             column,
             row: 0,
@@ -74,16 +87,47 @@ impl Walk {
         self.places[column as usize] < UNREACHED
     }
 
+    /// The first column of a set that is at least `from` and that the walk has not reached. The search reads 64 columns at a time.
+    pub fn next_unreached(&self, set: &[u64], from: u32) -> Option<u32>
+        requires size { length set.now ≤ 16 }
+        requires reached { length self.now.reached.items ≡ length set.now }
+        requires from { from ≤ MAX_COLUMNS }
+        ensures { MatchOption result
+            ((x : ℕ) → from ≤ x → is_fresh set.now self.now.reached.items x ≡ false)
+            (λ next. (from ≤ next)
+            × (is_fresh set.now self.now.reached.items next ≡ true)
+            × ((x : ℕ) → from ≤ x → x < next
+            → is_fresh set.now self.now.reached.items x ≡ false)) }
+    {
+        let reached = self.reached.as_slice();
+        let mut column = from;
+        while (column as usize) < 64 * set.len() {
+            let chunk = column as usize / 64;
+            let word = outside(set[chunk], reached[chunk]) >> (column % 64);
+            if word != 0 {
+                return Some(column + word.trailing_zeros());
+            }
+            column = column - column % 64 + 64;
+        }
+        None
+    }
+
     /// Adds a reached column.
     pub fn reach(&mut self, step: ReachedColumn) -> Result<(), Memory>
         requires column { step.column < length self.old.places.items }
         requires few { length self.old.steps.items ≤ MAX_COLUMNS }
+        requires word { step.column / 64 < length self.old.reached.items }
+        requires in_step { AreInStep self.old.places.items self.old.reached.items }
         ensures steps { OnOk result (self.new.steps.items ≡ self.old.steps.items ++ step ∷ []) }
         ensures places { OnOk result (self.new.places.items
             ≡ slice_set self.old.places.items step.column (length self.old.steps.items)) }
         ensures used { OnOk result (self.new.used.items ≡ self.old.used.items) }
+        ensures reached { OnOk result (length self.new.reached.items
+            ≡ length self.old.reached.items) }
+        ensures in_step { OnOk result (AreInStep self.new.places.items self.new.reached.items) }
     {
         self.places[step.column as usize] = self.steps.len() as u32;
+        add_column(&mut self.reached, step.column);
         self.steps.push(step)?;
         Ok(())
     }

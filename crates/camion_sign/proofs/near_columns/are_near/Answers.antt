@@ -1,14 +1,10 @@
-use Rattle.std.proofs.Common.{◌≡◌, ◌<◌, ◌∙◌, ℕ, List, get_or, ap, sym, subst, refl, arith}
-use Rattle.cmr_base.specs.Matrix.{Matrix, height, row_of, is_nonzero}
-use Rattle.cmr_base.specs.Planes.{words_for, words_of}
+use Rattle.std.proofs.Common.{◌<◌, ◌∙◌, ℕ, List, get_or, ap, sym, refl, arith}
+use Rattle.cmr_base.specs.Matrix.{height}
 use Rattle.cmr_base.specs.ColumnSets.{has_column}
 use Rattle.cmr_base.proofs.ColumnWords.{words_long}
+use Rattle.camion_sign.proofs.FreshColumns.{words_of_row}
 use Rattle.camion_sign.proofs.NearFaults.{shares_more}
 use Rattle.camion_sign.proofs.near_columns.are_near.Goals as goal
-
--- the words of a row of the matrix itself
-words_of_row : (a m : Matrix) (row : ℕ) (words : List ℕ) → a ≡ m → words ≡ words_of (words_for a.width) is_nonzero (row_of a row) → words ≡ words_of (words_for m.width) is_nonzero (row_of m row)
-words_of_row a m row words e is = subst (λ (x : Matrix). words ≡ words_of (words_for x.width) is_nonzero (row_of x row)) e is
 
 pub add_set-requires : goal.add_set-requires
 add_set-requires c =

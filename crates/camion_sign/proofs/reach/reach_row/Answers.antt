@@ -1,72 +1,107 @@
-use Rattle.std.proofs.Common.{◌≢◌, ◌∙◌, ◌++◌, ◌∷◌, [], List, Bool, true, pos, set, subst, arith, get_or, ap, refl, of_z, w8, nat_eq}
+use Rattle.std.proofs.Common.{◌≢◌, ◌<◌, ◌+◌, ◌-◌, ◌∙◌, ◌++◌, ◌∷◌, [], Bool, pos, subst, arith, ap, sym, refl, of_z, w8, nat_eq}
 use Rattle.camion_sign.specs.declared.walk.ReachedColumn.{ReachedColumn}
 use Rattle.camion_sign.specs.Walks.{progress}
 use Rattle.camion_sign.proofs.EntryTests.{test_two}
-use Rattle.cmr_base.specs.Matrix.{entry}
+use Rattle.cmr_base.specs.Matrix.{entry, height}
+use Rattle.cmr_base.proofs.ColumnWords.{words_long}
+use Rattle.camion_sign.proofs.FreshColumns.{words_of_row, fresh_in, fresh_is, not_fresh}
 use Rattle.camion_sign.proofs.Walks.{few}
-use Rattle.camion_sign.proofs.Steps.{within, start_row, pass_column, reach_column, end_row, grows_used, same_goes, step_is}
+use Rattle.camion_sign.proofs.Steps.{start_row, pass_columns, reach_column, end_row, same_goes, step_is}
 use Rattle.camion_sign.proofs.reach.reach_row.Goals as goal
-use Rattle.camion_sign.proofs.reach.reach_row.Goals.{then-not-has_reached+in_ok-reach, else-not-has_reached}
 
 pub loop-column-init : goal.loop-column-init
-loop-column-init c = start_row c.args.matrix.now c.args.start.row c.args.start.column c.args.head c.args.row c.row-column-items.result.now c.index-from.result.now c.args.walk.now c.requires.walking c.requires.open c.index-from.ensures
+loop-column-init c = record {
+  state = start_row c.args.matrix.now c.args.start.row c.args.start.column c.args.head c.args.row c.index-from.result.now c.args.walk.now c.requires.walking c.requires.open c.index-from.ensures;
+  low_in = omega arith;
+}
 
-pub has_reached-requires : goal.has_reached-requires
-has_reached-requires c =
-    let w = c.loop-column.invariant in
-    let low = within c.args.matrix.now c.args.row (get_or c.row-column-items.result.now c.loop-column.column-index 0) w.fits.matrix (let e = c.requires.early in let h = c.requires.row in omega arith) (c.row-column-items.ensures.nonzero c.loop-column.column-index c.loop-column-test.true) in
-    omega (arith, w.fits.places, low, c.loop-column.walk.places.ok.0)
+pub next_unreached-requires-clause-size : goal.next_unreached-requires-clause-size
+next_unreached-requires-clause-size c =
+    let words = c.support_words-columns.result.now in
+    let is = words_of_row c.by_rows.result.now c.args.matrix.now c.args.row words c.by_rows.ensures.value c.support_words-columns.ensures in
+    omega (arith, words_long c.args.matrix.now c.args.row words is, c.by_rows.ensures.shape.width_in)
+
+pub next_unreached-requires-clause-reached : goal.next_unreached-requires-clause-reached
+next_unreached-requires-clause-reached c =
+    let words = c.support_words-columns.result.now in
+    let is = words_of_row c.by_rows.result.now c.args.matrix.now c.args.row words c.by_rows.ensures.value c.support_words-columns.ensures in
+    c.loop-column.invariant.state.fits.reached ∙ sym (words_long c.args.matrix.now c.args.row words is)
 
 pub entry-requires-clause-column : goal.entry-requires-clause-column
 entry-requires-clause-column c =
-    within c.args.matrix.now c.args.row (get_or c.row-column-items.result.now c.loop-column.column-index 0) c.loop-column.invariant.fits.matrix (let e = c.requires.early in let h = c.requires.row in omega arith) (c.row-column-items.ensures.nonzero c.loop-column.column-index c.loop-column-test.true)
+    fresh_in c.by_rows.result.now c.args.matrix.now c.args.row c.args.start.row c.support_words-columns.result.now c.loop-column.walk.reached.items c.by_rows.ensures.value c.support_words-columns.ensures c.by_rows.ensures.shape c.requires.early c.requires.row c.in-Some.column c.in-Some.ensures.1
+
+pub overflow_cast-head : goal.overflow_cast-head
+overflow_cast-head c =
+    let w = c.loop-column.invariant.state in
+    let m = c.args.matrix.now in
+    omega (arith, w.within, w.fits.matrix.width_in, few (entry m) c.args.start.row c.args.start.column m.width (progress c.loop-column.walk.steps.items c.loop-column.walk.places.items c.loop-column.walk.used.items) w.key w.prefix.queue)
 
 pub reach-requires-clause-column : goal.reach-requires-clause-column
 reach-requires-clause-column c =
-    let w = c.loop-column.invariant in
-    let low = within c.args.matrix.now c.args.row (get_or c.row-column-items.result.now c.loop-column.column-index 0) w.fits.matrix (let e = c.requires.early in let h = c.requires.row in omega arith) (c.row-column-items.ensures.nonzero c.loop-column.column-index c.loop-column-test.true) in
-    omega (arith, w.fits.places, low)
+    let low = fresh_in c.by_rows.result.now c.args.matrix.now c.args.row c.args.start.row c.support_words-columns.result.now c.loop-column.walk.reached.items c.by_rows.ensures.value c.support_words-columns.ensures c.by_rows.ensures.shape c.requires.early c.requires.row c.in-Some.column c.in-Some.ensures.1 in
+    omega (arith, c.loop-column.invariant.state.fits.places, low)
 
 pub reach-requires-clause-few : goal.reach-requires-clause-few
 reach-requires-clause-few c =
-    let w = c.loop-column.invariant in
+    let w = c.loop-column.invariant.state in
     let m = c.args.matrix.now in
     omega (arith, w.fits.matrix.width_in, few (entry m) c.args.start.row c.args.start.column m.width (progress c.loop-column.walk.steps.items c.loop-column.walk.places.items c.loop-column.walk.used.items) w.key w.prefix.queue)
+
+pub reach-requires-clause-word : goal.reach-requires-clause-word
+reach-requires-clause-word c =
+    let low = fresh_in c.by_rows.result.now c.args.matrix.now c.args.row c.args.start.row c.support_words-columns.result.now c.loop-column.walk.reached.items c.by_rows.ensures.value c.support_words-columns.ensures c.by_rows.ensures.shape c.requires.early c.requires.row c.in-Some.column c.in-Some.ensures.1 in
+    omega (arith, c.loop-column.invariant.state.fits.reached, low)
+
+pub overflow_add-low : goal.overflow_add-low
+overflow_add-low c =
+    let low = fresh_in c.by_rows.result.now c.args.matrix.now c.args.row c.args.start.row c.support_words-columns.result.now c.loop-column.walk.reached.items c.by_rows.ensures.value c.support_words-columns.ensures c.by_rows.ensures.shape c.requires.early c.requires.row c.in-Some.column c.in-Some.ensures.1 in
+    omega (arith, low, c.by_rows.ensures.shape.width_in)
+
+pub loop-column-smaller : goal.loop-column-smaller
+loop-column-smaller c =
+    let low = fresh_in c.by_rows.result.now c.args.matrix.now c.args.row c.args.start.row c.support_words-columns.result.now c.loop-column.walk.reached.items c.by_rows.ensures.value c.support_words-columns.ensures c.by_rows.ensures.shape c.requires.early c.requires.row c.in-Some.column c.in-Some.ensures.1 in
+    let less : c.args.matrix.now.width - (c.in-Some.column + 1) < c.args.matrix.now.width - c.loop-column.low = omega (arith, low, c.in-Some.ensures.0) in
+    less
 
 pub loop-column-preserved : goal.loop-column-preserved
 loop-column-preserved c =
     let m = c.args.matrix.now in
-    let i = c.loop-column.invariant in
-    let columns = c.row-column-items.result.now in
-    let k = c.loop-column.column-index in
+    let t = c.args.start.row in
+    let first = c.args.start.column in
+    let h = c.args.head in
+    let r = c.args.row in
+    let walk = c.loop-column.walk in
+    let state = c.loop-column.invariant.state in
+    let words = c.support_words-columns.result.now in
+    let shape = c.by_rows.ensures.shape in
+    let tall : r < height m = omega (arith, c.requires.early, c.requires.row) in
+    let is = words_of_row c.by_rows.result.now m r words c.by_rows.ensures.value c.support_words-columns.ensures in
     let from = c.index-from.result.now in
-    let x = get_or columns k 0 in
-    let nonzero = c.row-column-items.ensures.nonzero k c.loop-column-test.true in
-    let low = within m c.args.row x i.fits.matrix (let e = c.requires.early in let h = c.requires.row in omega arith) nonzero in
-    let leads = subst (λ (v : ReachedColumn). entry m c.args.row v.column ≢ pos 0) (step_is c.args.walk.now.steps.items c.args.head from c.requires.open.within c.index-from.ensures) c.requires.leads in
-    elim c.if-not-has_reached.branch [
-      | then-not-has_reached+in_ok-reach w ↦
-          reach_column m c.args.start.row c.args.start.column c.args.head c.args.row columns k from c.args.walk.now c.loop-column.walk i c.row-column-items.ensures c.loop-column-test.true
-          c.if-not-has_reached.walk (nat_eq (of_z w8 c.entry-sign.result) (of_z w8 w.entry.result)) low (c.has_reached.ensures.no w.if-not-has_reached.true)
-          (same_goes m c.args.start.row c.args.start.column c.args.head c.args.row columns k from c.args.walk.now c.loop-column.walk i c.requires.open)
-          c.requires.early leads
-          (test_two m c.args.row from.column c.args.row x c.entry-sign.result w.entry.result i.fits.matrix c.entry-sign.ensures.value w.entry.ensures.value c.entry-sign.ensures.small w.entry.ensures.small leads nonzero)
-          (ap (λ v. v.steps.items) w.walk-is ∙ w.in_ok-reach.ensures.steps ∙ ap (λ (b : Bool). c.loop-column.walk.steps.items ++ record { column = x; row = c.args.row; before = c.args.head; is_two = b } ∷ []) w.flipped.ensures) (ap (λ v. v.places.items) w.walk-is ∙ w.in_ok-reach.ensures.places) (ap (λ v. v.used.items) w.walk-is ∙ w.in_ok-reach.ensures.used)
-      | else-not-has_reached w ↦
-          pass_column m c.args.start.row c.args.start.column c.args.head c.args.row columns k from c.args.walk.now c.loop-column.walk i c.row-column-items.ensures c.loop-column-test.true
-          c.if-not-has_reached.walk w.walk-is (c.has_reached.ensures.yes w.if-not-has_reached.false)
-    ]
-
-pub index_mut-requires : goal.index_mut-requires
-index_mut-requires c = omega (arith, c.loop-column.invariant.fits.used, c.loop-column.walk.used.ok.0, c.requires.early, c.requires.row)
+    let x = c.in-Some.column in
+    let low = fresh_in c.by_rows.result.now c.args.matrix.now c.args.row c.args.start.row c.support_words-columns.result.now c.loop-column.walk.reached.items c.by_rows.ensures.value c.support_words-columns.ensures c.by_rows.ensures.shape c.requires.early c.requires.row c.in-Some.column c.in-Some.ensures.1 in
+    let fresh = fresh_is m r words walk.places.items walk.reached.items is shape tall state.fits.in_step x c.in-Some.ensures.1 in
+    let passed = pass_columns m t first h r c.loop-column.low from c.args.walk.now walk state x c.in-Some.ensures.0
+    (λ y up below n. not_fresh m r words walk.places.items walk.reached.items is shape tall state.fits.in_step y (c.in-Some.ensures.2 y up below) n) in
+    let leads = subst (λ (v : ReachedColumn). entry m r v.column ≢ pos 0) (step_is c.args.walk.now.steps.items h from c.requires.open.within c.index-from.ensures) c.requires.leads in
+    record {
+      state = reach_column m t first h r x from c.args.walk.now walk passed c.reach.new.self (nat_eq (of_z w8 c.entry-sign.result) (of_z w8 c.entry.result)) low fresh.0 fresh.1
+          (same_goes m t first h r x from c.args.walk.now walk passed c.requires.open) c.requires.early leads
+          (test_two m r from.column r x c.entry-sign.result c.entry.result shape c.entry-sign.ensures.value c.entry.ensures.value c.entry-sign.ensures.small c.entry.ensures.small leads fresh.0)
+          (c.in_ok-reach.ensures.steps ∙ ap (λ (b : Bool). walk.steps.items ++ record { column = x; row = r; before = h; is_two = b } ∷ []) c.flipped.ensures)
+          c.in_ok-reach.ensures.places c.in_ok-reach.ensures.used c.in_ok-reach.ensures.reached c.in_ok-reach.ensures.in_step;
+      low_in = omega (arith, low);
+    }
 
 pub returns-clause-walking : goal.returns-clause-walking
 returns-clause-walking c =
-    end_row c.args.matrix.now c.args.start.row c.args.start.column c.args.head c.args.row c.row-column-items.result.now c.loop-column.column-index c.index-from.result.now c.args.walk.now c.loop-column.walk _
-    c.loop-column.invariant c.row-column-items.ensures c.loop-column-test.false (let e = c.requires.early in let h = c.requires.row in omega arith) refl refl refl
-
-pub returns-clause-grows : goal.returns-clause-grows
-returns-clause-grows c = grows_used c.args.walk.now c.loop-column.walk _ c.loop-column.invariant.grows refl refl
-
-pub returns-clause-used : goal.returns-clause-used
-returns-clause-used c = ap (λ (used : List Bool). set used c.args.row true) c.loop-column.invariant.used
+    let m = c.args.matrix.now in
+    let r = c.args.row in
+    let walk = c.loop-column.walk in
+    let state = c.loop-column.invariant.state in
+    let words = c.support_words-columns.result.now in
+    let shape = c.by_rows.ensures.shape in
+    let tall : r < height m = omega (arith, c.requires.early, c.requires.row) in
+    let is = words_of_row c.by_rows.result.now m r words c.by_rows.ensures.value c.support_words-columns.ensures in
+    end_row m c.args.start.row c.args.start.column c.args.head r c.loop-column.low c.index-from.result.now c.args.walk.now walk _ state
+    (λ x up n. not_fresh m r words walk.places.items walk.reached.items is shape tall state.fits.in_step x (c.in_default.ensures x up) n) refl refl refl refl

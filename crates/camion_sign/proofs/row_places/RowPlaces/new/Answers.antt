@@ -1,6 +1,7 @@
 use Rattle.std.proofs.Common.{◌≡◌, ◌≤◌, ◌∙◌, pos, replicate, false, rules, length, ap, sym, subst, arith}
 use Rattle.std.proofs.lemmas.List.{length-replicate}
 use Rattle.cmr_base.specs.Matrix.{Matrix, height, IsMatrix}
+use Rattle.cmr_base.specs.Planes.{words_for}
 use Rattle.cmr_base.proofs.PlaneSteps.{is_matrix-zero}
 use Rattle.camion_sign.proofs.row_places.RowPlaces.new.Goals as goal
 
@@ -13,7 +14,13 @@ returns c =
     let few : size ≤ 1000 = let most = shape.width_in in omega (arith, wide, most) in
     let known : c.in_ok-vec.field-0.items ≡ replicate size false = search rules in
     record {
-      fits = record { matrix = shape; places = c.in_ok-new.ensures.places ∙ wide; used = c.in_ok-new.ensures.used ∙ c.rows.ensures.rows };
+      fits = record {
+        matrix = shape;
+        places = c.in_ok-new.ensures.places ∙ wide;
+        used = c.in_ok-new.ensures.used ∙ c.rows.ensures.rows;
+        reached = c.in_ok-new.ensures.reached ∙ ap words_for wide;
+        in_step = c.in_ok-new.ensures.in_step;
+      };
       square = record {
         matrix = subst IsMatrix (sym links) (is_matrix-zero size size few few);
         links_height = ap height links ∙ length-replicate size (replicate size (pos 0)) ∙ wide;
