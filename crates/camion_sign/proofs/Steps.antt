@@ -241,14 +241,6 @@ end_row m t c h r low from old walk walk2 w rest steps2 places2 used2 reached2 =
   });
 }
 
--- only the marks of rows change
-pub grows_used : (old walk walk2 : Walk) → GrowsFrom old walk → walk2.steps.items ≡ walk.steps.items → walk2.places.items ≡ walk.places.items → GrowsFrom old walk2
-grows_used old walk walk2 g steps2 places2 = record {
-  longer = let a = g.longer in let b = ap length steps2 in omega arith;
-  steps = λ j l. ap (λ (steps : List ReachedColumn). step_at steps j) steps2 ∙ g.steps j l;
-  places = λ x l. let a = g.places x l in let b = ap (λ (places : List ℕ). place_in places x) places2 in omega arith;
-}
-
 pub same_goes : (m : Matrix) (t c h r low : ℕ) (from : ReachedColumn) (old walk : Walk) (w : IsReaching m t c h r low from old walk) → IsOpen m t h old → Goes (entry m) t c m.width (progress walk.steps.items walk.places.items walk.used.items) w.key h
 same_goes m t c h r low from old walk w o = elim o.goes [ inl z ↦ inl z | inr z ↦ inr (ap (λ (v : ReachedColumn). entry m t v.column) (w.grows.steps h o.within) ∙ z) ]
 

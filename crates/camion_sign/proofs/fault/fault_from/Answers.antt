@@ -1,4 +1,4 @@
-use Rattle.std.proofs.Common.{◌∙◌, ◌<◌, ap, arith, refl, subst, sym}
+use Rattle.std.proofs.Common.{◌∙◌, ◌<◌, arith, refl, subst, sym}
 use Rattle.cmr_base.specs.Matrix.{Matrix}
 use Rattle.cmr_base.proofs.Booleans.{true_is_false}
 use Rattle.camion_sign.proofs.FirstFaults.{column_fault, one_more_last, zeros_last}
@@ -9,7 +9,7 @@ returns-then-is_fault-clause-found c = (
   refl,
   refl,
   column_fault c.args.matrix.now c.args.start.row c.args.start.column c.in-Some.last c.in_ok-path_to.field-0.items (c.is_fault.ensures.fault.0 c.if-is_fault.true) c.in_ok-path_to.ensures
-  (zeros_last c.args.matrix.now c.by_rows.result.now c.args.start.row c.args.start.column c.loop-last.from c.in-Some.last c.by_rows.ensures.value c.loop-last.invariant.none c.in-Some.ensures.first.3),
+      (zeros_last c.args.matrix.now c.by_rows.result.now c.args.start.row c.args.start.column c.loop-last.from c.in-Some.last c.by_rows.ensures.value c.loop-last.invariant.none c.in-Some.ensures.first.3),
 )
 
 pub loop-last-preserved : goal.loop-last-preserved
