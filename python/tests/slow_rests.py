@@ -1,4 +1,4 @@
-"""A plain slow program for undecided parts whose lines are left out in turn. It asks the program itself only for the answer of each rest.
+"""A plain slow program for undecided parts whose lines are removed in turn. It asks the program itself only for the answer of each rest.
 
 It follows the rule of docs/DEFINITIONS.md. Tests compare the results.
 """
@@ -27,7 +27,7 @@ def tried_tree(matrix: Matrix, tree: Tree, lines: int) -> Tree:
 
 
 def fault_in_rests(matrix: Matrix, part: LineSet, lines: int) -> LineSet | None:
-    """The violator of the first rest that is a no. A line stays if the rest without it is a yes, and is left out if the rest is open."""
+    """The violator of the first rest that is a no. A line stays if the rest without it is a yes, and is removed if the rest is open."""
     kept = part
     for line in part:
         rest = LineSet(

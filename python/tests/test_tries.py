@@ -140,7 +140,7 @@ class Tried(unittest.TestCase):
         self.assertEqual((answer.verdict, answer.tries), ("undecided", 2))
 
     def test_with_pivots(self) -> None:
-        """A pivot is too few for this matrix as it stands, also if its lines are left out in turn, and enough in another order."""
+        """A pivot is too few for this matrix as it stands, also if its lines are removed in turn, and enough in another order."""
         matrix = Matrix.of(ONE_PIVOT)
         self.assertEqual(asked_once("totally unimodular", matrix, lines=0, pivots=1).verdict, "undecided")
         answer = tried("totally unimodular", matrix, 20, lines=0, pivots=1)

@@ -62,7 +62,8 @@ pub fn decomposed<R: Threads + Sync>(
     requires workers { (1 ≤ options.now.workers) × (options.now.workers ≤ 64) }
     ensures decomposition { IfOk result (IsDecomposition options.now.lines options.now.pivots
         matrix.now) }
-    ensures told { IfOk result (λ tree. IsTold options.now.lines options.now.pivots matrix.now (verdict_in tree)) }
+    ensures told { IfOk result (λ tree.
+        IsTold options.now.lines options.now.pivots matrix.now (verdict_in tree)) }
     ensures tells { IfOk result (λ tree. Tells matrix.now (verdict_in tree)) }
 {
     let tree = decompose(

@@ -73,7 +73,7 @@ found_form limit (suc pivots) state m lines tree (chosen, choice, found) =
 
 -- ---- the undecided nodes of a decomposition without pivots
 
--- what replaces a node, and that its lines alone would be left undecided
+-- what replaces a node, and that only its lines would be left undecided
 pub record StandsOpen (limit : ℕ) (m : Matrix) (Stands : LineSet → Tree → Type 0) (lines : LineSet) (tree : Tree) : Type 0 where
   pub stands : Stands lines tree
   pub are : AreLines m lines

@@ -14,7 +14,7 @@ use Rattle.tree_type.proofs.PlacedLines.{lines_within}
 use Rattle.decomp_tree.specs.Refined.{AllRefine, Refines, is_undecided}
 use Rattle.decomp_tree.proofs.RefinedTrees.{count_refined, refined_kept, refined_more}
 use Rattle.decomp_tree.proofs.Settled.{only_undecided_is}
-use Rattle.open_parts.specs.Nodes.{HasLinesOf}
+use Rattle.open_parts.specs.LinesOfNodes.{HasLinesOf}
 
 pub root_lines_is : (node : Node) → lines_at_root (tree_of node) ≡ node.lines
 root_lines_is node = ap lines_at_root (tree_is node)

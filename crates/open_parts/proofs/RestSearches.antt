@@ -13,7 +13,7 @@ use Rattle.decomp_tree.specs.Shapes.{IsShape, set_in}
 use Rattle.decomp_tree.proofs.FaultLines.{lines_of_lines}
 use Rattle.decomp_tree.proofs.OneTree.{one_shape}
 use Rattle.decomp_tree.proofs.PlainVerdicts.{verdict_plain}
-use Rattle.open_parts.specs.Rests.{GoesOn, LeavesOut, rest_without}
+use Rattle.open_parts.specs.Rests.{GoesOnAfter, LeavesOut, rest_without}
 use Rattle.open_parts.proofs.RestFaults.{fault_among, fault_violates}
 use Rattle.open_parts.proofs.RestLines.{rest_among, rest_lines}
 
@@ -23,7 +23,7 @@ one_rest_verdict limit n tree other shape shape' = verdict_plain tree ∙ ap ver
 
 module _ (limit : ℕ) (m : Matrix) where
   one_result : (turns : List Line) (kept rest : LineSet) (v : Verdict) (one other : Option LineSet) → ((next : LineSet) → LeavesOut limit m turns next one → LeavesOut limit m turns next other → one ≡ other)
-      → GoesOn (LeavesOut limit m turns) kept rest v one → GoesOn (LeavesOut limit m turns) kept rest v other → one ≡ other
+      → GoesOnAfter (LeavesOut limit m turns) kept rest v one → GoesOnAfter (LeavesOut limit m turns) kept rest v other → one ≡ other
   one_result turns kept rest Yes one other later f g = later kept f g
   one_result turns kept rest (No fault) one other later f g = f ∙ sym g
   one_result turns kept rest (Open left) one other later f g = later rest f g
@@ -34,7 +34,7 @@ module _ (limit : ℕ) (m : Matrix) where
       let rest = rest_without kept line in
       let same = one_rest_verdict limit (part m rest) tree' tree shape' shape in
       one_result turns kept rest (verdict_of tree) one other (λ next f g. one_found turns next one other f g) goes
-      (subst (λ v. GoesOn (LeavesOut limit m turns) kept rest v other) same goes')
+      (subst (λ v. GoesOnAfter (LeavesOut limit m turns) kept rest v other) same goes')
 
   -- a fault is a violator on some of these lines
   pub record Violates (lines fault : LineSet) : Type 0 where
@@ -44,7 +44,7 @@ module _ (limit : ℕ) (m : Matrix) where
   module _ (is : IsMatrix m) where
     violates_after : (turns : List Line) (kept : LineSet) (line : Line) (are : AreLines m kept) (tree : Tree) (shape : IsShape limit (part m (rest_without kept line)) tree) (fault : LineSet) (v : Verdict) → verdict_of tree ≡ v
         → ((next : LineSet) → AreLines m next → LeavesOut limit m turns next (Some fault) → Violates next fault)
-        → GoesOn (LeavesOut limit m turns) kept (rest_without kept line) v (Some fault) → Violates kept fault
+        → GoesOnAfter (LeavesOut limit m turns) kept (rest_without kept line) v (Some fault) → Violates kept fault
     violates_after turns kept line are tree shape fault Yes e later goes = later kept are goes
     violates_after turns kept line are tree shape fault (No found) e later goes =
         let rest = rest_without kept line in

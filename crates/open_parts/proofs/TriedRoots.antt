@@ -19,7 +19,7 @@ use Rattle.decomp_tree.proofs.PlainVerdicts.{verdict_plain}
 use Rattle.decomp_tree.proofs.RefinedTrees.{refined_lines}
 use Rattle.decomp_tree.proofs.Roots.{root_lines}
 use Rattle.open_parts.specs.Laws.{FoundFaultsAreViolators, NoPivotsTryNothing, OneTriedShape, OpenLinesAreTried, TriedShapesAreSound, TriedShapesAreTrees}
-use Rattle.open_parts.specs.Nodes.{HasLinesOf}
+use Rattle.open_parts.specs.LinesOfNodes.{HasLinesOf}
 use Rattle.open_parts.specs.Rests.{IsFoundInRests, turns_of}
 use Rattle.open_parts.specs.TriedShapes.{IsTriedIf, IsTriedIfOpen, IsTriedLeaf, IsTriedWith, is_open}
 use Rattle.open_parts.proofs.RestSearches.{found_violates}

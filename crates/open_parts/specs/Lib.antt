@@ -1,5 +1,5 @@
 pub mod Rests
-pub mod Turns
+pub mod LineTurns
 pub mod TriedShapes
-pub mod Nodes
+pub mod LinesOfNodes
 pub mod Laws

@@ -16,7 +16,7 @@ use std::thread::Threads;
 use tree_type::{DecTree, VerdictOf, verdict};
 
 /// The decomposition of a matrix with at most `pivots` pivots on the path to a node. If its verdict is open and pivots are allowed, each
-/// undecided node is tried once more: its lines are left out in turn, and the first rest that is a no gives its violator.
+/// undecided node is tried once more: its lines are removed in turn, and the first rest that is a no gives its violator.
 pub fn decompose<R: Threads + Sync>(
     rt: &R,
     alloc: Global,

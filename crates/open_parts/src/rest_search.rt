@@ -1,4 +1,4 @@
-// A matrix in whose open parts lines are left out.
+// A matrix in whose open parts lines are removed.
 ghost use Rattle.std.specs.Prelude.{◌≡◌, ◌≤◌};
 ghost use Rattle.cmr_base.specs.declared.limits.TheConstants.{MAX_LINES};
 ghost use Rattle.cmr_base.specs.Matrix.{IsMatrix};

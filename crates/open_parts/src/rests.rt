@@ -1,11 +1,11 @@
-// The rests of an open part: its lines are left out in turn.
+// The rests of an open part: its lines are removed in turn.
 ghost use Rattle.std.specs.Prelude.{◌≡◌, ◌++◌, map, length, IfOk, OnOk};
 ghost use Rattle.cmr_base.specs.declared.line.Line.TheVariants.{Row, Column};
 ghost use Rattle.cmr_base.specs.LineSets.{AllBelow};
 ghost use Rattle.tree_type.specs.Invariant.{AreLines};
 ghost use Rattle.decomp_tree.specs.Shapes.{numbered, set_in};
 ghost use Rattle.open_parts.specs.Rests.{IsFoundInRests, rest_without, turns_of};
-ghost use Rattle.open_parts.specs.Turns.{IsTurn};
+ghost use Rattle.open_parts.specs.LineTurns.{IsTurnOfLine};
 
 use crate::rest_search::RestSearch;
 use cmr_base::{Indices, Line, LineList, LineSet, Memory};
@@ -20,8 +20,8 @@ pub enum Turn {
     Found(LineSet),
 }
 
-/// The fault of the first rest whose decomposition is a no. Each line is left out in its turn. It stays if the rest is a yes, and is left
-/// out for good if the rest is open.
+/// The fault of the first rest whose decomposition is a no. Each line is removed in its turn. It stays if the rest is a yes, and is
+/// removed for good if the rest is open.
 pub fn fault_in_rests<R: Threads + Sync>(
     rt: &R,
     alloc: Global,
@@ -79,7 +79,7 @@ fn take_turn<R: Threads + Sync>(
     line: Line,
 ) -> Result<Turn, Memory>
     requires { AreLines search.now.matrix.now kept }
-    ensures { IfOk result (IsTurn search.now.limit search.now.matrix.now kept line) }
+    ensures { IfOk result (IsTurnOfLine search.now.limit search.now.matrix.now kept line) }
 {
     let rest = rest_without(alloc, &kept, line)?;
     let part = search.matrix.part(alloc, &rest)?;

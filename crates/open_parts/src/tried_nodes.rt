@@ -4,7 +4,7 @@ ghost use Rattle.tree_type.specs.DecompositionTrees.{Branch, NoTrees, finding_of
 ghost use Rattle.tree_type.specs.Findings.{finding_shown};
 ghost use Rattle.tree_type.specs.Invariant.{AreLines, HasChildren};
 ghost use Rattle.decomp_tree.specs.Refined.{AllRefine, Refines, is_undecided};
-ghost use Rattle.open_parts.specs.Nodes.{HasLinesOf};
+ghost use Rattle.open_parts.specs.LinesOfNodes.{HasLinesOf};
 ghost use Rattle.open_parts.specs.TriedShapes.{IsTriedLeaf};
 
 use crate::copies::with_children;

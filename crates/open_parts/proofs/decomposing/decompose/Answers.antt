@@ -1,7 +1,7 @@
 use Rattle.std.proofs.Common.{◌∙◌, refl, sym, subst}
 use Rattle.tree_type.specs.DecompositionTrees.{SizedTree, tree_of}
 use Rattle.tree_type.specs.Soundness.{IsSoundTree}
-use Rattle.open_parts.specs.Nodes.{HasLinesOf}
+use Rattle.open_parts.specs.LinesOfNodes.{HasLinesOf}
 use Rattle.open_parts.specs.TriedShapes.{IsTriedWith}
 use Rattle.open_parts.proofs.TriedRoots.{drawn_has_lines, open_is_tried, stays_if_decided, stays_without_pivots, whole_sound, whole_tree}
 use Rattle.open_parts.proofs.decomposing.decompose.Goals as goal

@@ -5,7 +5,7 @@ use Rattle.cmr_base.specs.declared.line.Line.TheVariants.{Row}
 use Rattle.cmr_base.specs.declared.line_set.LineSet.{LineSet}
 use Rattle.tree_type.specs.Invariant.{AreLines}
 use Rattle.open_parts.specs.Rests.{LeavesOut, turns_of}
-use Rattle.open_parts.specs.Turns.{IsTurn}
+use Rattle.open_parts.specs.LineTurns.{IsTurnOfLine}
 use Rattle.open_parts.proofs.TurnSteps.{turn_ends, turn_goes, turn_lines}
 use Rattle.open_parts.proofs.rests.fault_in_rests.Goals as goal
 
@@ -26,7 +26,7 @@ returns-in-Found g c =
     let items = c.as_slice-line-items.result.now in
     let i = c.loop-line.line-index in
     let kept = c.loop-line.kept in
-    let turn = subst (IsTurn limit m kept (get_or items i (Row 0))) c.in-Found.is c.in_ok-next.ensures in
+    let turn = subst (IsTurnOfLine limit m kept (get_or items i (Row 0))) c.in-Found.is c.in_ok-next.ensures in
     c.loop-line.invariant.later (Some c.in-Found.fault) (subst (λ (turns : List Line). LeavesOut limit m turns kept (Some c.in-Found.fault)) (sym (drop_more items i (Row 0) c.loop-line-test.true))
     (turn_ends limit m kept (get_or items i (Row 0)) (drop (i + 1) items) c.in-Found.fault turn))
 
@@ -37,7 +37,7 @@ loop-line-preserved g c =
     let items = c.as_slice-line-items.result.now in
     let i = c.loop-line.line-index in
     let kept = c.loop-line.kept in
-    let turn = subst (IsTurn limit m kept (get_or items i (Row 0))) c.in-Kept.is c.in_ok-next.ensures in
+    let turn = subst (IsTurnOfLine limit m kept (get_or items i (Row 0))) c.in-Kept.is c.in_ok-next.ensures in
     record {
       are = turn_lines limit m kept (get_or items i (Row 0)) (drop (i + 1) items) c.in-Kept.next turn c.loop-line.invariant.are;
       later = λ found f. c.loop-line.invariant.later found (subst (λ (turns : List Line). LeavesOut limit m turns kept found) (sym (drop_more items i (Row 0) c.loop-line-test.true))

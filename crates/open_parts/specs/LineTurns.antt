@@ -18,6 +18,6 @@ turn_of kept rest (No fault) = Found (set_in rest fault)
 turn_of kept rest (Open left) = Kept rest
 
 -- the turn of a line, by a decomposition of the rest
-abbrev pub IsTurn : (limit : ℕ) → Matrix → LineSet → Line → Turn → Type 0
-IsTurn limit m kept line turn =
+abbrev pub IsTurnOfLine : (limit : ℕ) → Matrix → LineSet → Line → Turn → Type 0
+IsTurnOfLine limit m kept line turn =
     (tree : Tree) × IsShape limit (part m (rest_without kept line)) tree × (turn ≡ turn_of kept (rest_without kept line) (verdict_of tree))
