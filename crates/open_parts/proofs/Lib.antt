@@ -1,0 +1,9 @@
+pub mod RestLines
+pub mod RestFaults
+pub mod RestSearches
+pub mod TriedTrees
+pub mod TriedVerdicts
+pub mod TriedRoots
+pub mod MorePivots
+pub mod NodeSteps
+pub mod TurnSteps

@@ -1,0 +1,5 @@
+pub mod Rests
+pub mod Turns
+pub mod TriedShapes
+pub mod Nodes
+pub mod Laws
