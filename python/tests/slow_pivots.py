@@ -10,6 +10,7 @@ from dataclasses import dataclass, replace
 
 from cmr_matrices import BadEntry, Line, LineSet, Matrix, Node, Tree
 from cmr_matrices.line_orders import LineOrder
+from tests.slow_rests import tried_tree
 from tests.slow_separating import Place, separating_place
 from tests.support import asked_once
 
@@ -45,12 +46,18 @@ def violator_before(matrix: Matrix, row: int, column: int, fault: LineSet) -> Li
 def slow_tree(matrix: Matrix, pivots: int, lines: int) -> tuple[Tree, int]:
     """The decomposition with up to `pivots` pivots on the path to a node and the budget `lines`, and the most pivots that a path has.
 
-    It has the most pivots with which no node is deeper than 2,000.
+    If pivots are allowed, the undecided nodes of an open tree are tried once more.
     """
+    tree, deepest = _drawn_tree(matrix, pivots, lines)
+    return (tried_tree(matrix, tree, lines) if pivots else tree), deepest
+
+
+def _drawn_tree(matrix: Matrix, pivots: int, lines: int) -> tuple[Tree, int]:
+    """The tree with the most pivots with which no node is deeper than 2,000."""
     search = _Search(lines)
     tree = search.tree(matrix, pivots, Draws())
     if pivots and max(depth for depth, _ in tree.walk()) > MOST_DEPTH:
-        return slow_tree(matrix, pivots - 1, lines)
+        return _drawn_tree(matrix, pivots - 1, lines)
     return tree, search.deepest
 
 

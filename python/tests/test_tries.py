@@ -16,6 +16,19 @@ from tests.support import FANO, R10, asked_once, needs_program, tried
 from tests.test_random import drawn
 from tests.test_written_texts import trees_by_hand
 
+ONE_PIVOT = [
+    [1, 0, 0, 1, 0, 0, 1],
+    [0, 1, 0, 1, 1, 0, 0],
+    [0, 0, 0, 0, 0, 1, 1],
+    [1, 0, 0, 1, 0, 0, 0],
+    [1, 0, 0, 0, 0, 1, 1],
+    [1, 0, 1, 1, 1, 1, 1],
+    [1, 0, 1, 0, 0, 1, 0],
+    [0, 1, -1, 0, 0, 0, 0],
+]
+"""A matrix that is not totally unimodular."""
+
+
 def any_order(matrix: Matrix, seed: int) -> LineOrder:
     lines = LineSet(tuple(range(matrix.shape[0])), tuple(range(matrix.shape[1])))
     return next(drawn_orders(matrix, lines, 1, seed))
@@ -127,8 +140,8 @@ class Tried(unittest.TestCase):
         self.assertEqual((answer.verdict, answer.tries), ("undecided", 2))
 
     def test_with_pivots(self) -> None:
-        """A pivot is too few for a Latin square as it stands, and in another order it has a cycle fault."""
-        matrix = Matrix.of(latin_square(3))
+        """A pivot is too few for this matrix as it stands, also if its lines are left out in turn, and enough in another order."""
+        matrix = Matrix.of(ONE_PIVOT)
         self.assertEqual(asked_once("totally unimodular", matrix, lines=0, pivots=1).verdict, "undecided")
         answer = tried("totally unimodular", matrix, 20, lines=0, pivots=1)
         self.assertGreater(answer.tries, 0)

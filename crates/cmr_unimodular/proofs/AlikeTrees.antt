@@ -6,8 +6,8 @@ use Rattle.tree_type.specs.DecompositionTrees.{SizedTree, tree_of}
 use Rattle.tree_type.specs.Verdicts.{Verdict, verdict_of}
 use Rattle.tree_text.specs.CanonicalTrees.{tree_text}
 use Rattle.decomp_tree.specs.PlainTrees.{plain_tree}
-use Rattle.decomp_tree.proofs.OnePivoted.{one_pivoted_shape}
 use Rattle.decomp_tree.proofs.PlainVerdicts.{verdict_plain}
+use Rattle.open_parts.proofs.TriedRoots.{one_tried_shape}
 use Rattle.cmr_front.specs.AlikeReports.{AllAlike, DifferInFiles, HasAlikeReports}
 use Rattle.cmr_front.specs.Report.{File, Report}
 use Rattle.cmr_front.specs.Status.{answer_status}
@@ -31,7 +31,7 @@ same_file f = same refl
 
 module _ (budget pivots : ℕ) (m : Matrix) (t u : SizedTree) (is : IsDecomposition budget pivots m t) (other : IsDecomposition budget pivots m u) where
   plain_same : plain_tree (tree_of t.root) ≡ plain_tree (tree_of u.root)
-  plain_same = one_pivoted_shape budget pivots m (tree_of t.root) (tree_of u.root) is.shape other.shape
+  plain_same = one_tried_shape budget pivots m (tree_of t.root) (tree_of u.root) is.shape other.shape
 
   verdict_same : verdict_in t ≡ verdict_in u
   verdict_same = verdict_plain (tree_of t.root) ∙ ap verdict_of plain_same ∙ sym (verdict_plain (tree_of u.root))

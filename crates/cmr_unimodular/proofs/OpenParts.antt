@@ -8,10 +8,10 @@ use Rattle.cmr_base.specs.LineSets.{first_lines}
 use Rattle.cmr_base.specs.Reductions.{line_reason}
 use Rattle.tree_type.specs.Soundness.{part}
 use Rattle.tree_type.specs.DecompositionTrees.{Tree}
-use Rattle.tree_type.specs.Verdicts.{first_in, open_at}
-use Rattle.decomp_tree.specs.PivotedShapes.{IsShapeWith}
+use Rattle.tree_type.specs.Verdicts.{Open, verdict_of}
 use Rattle.decomp_tree.specs.Shapes.{HasFault, IsReducible, IsApart, IsNetwork, IsConetwork, IsR10Matrix, IsTwoSum, IsThreeSum, IsShort, IsLeft, IsFirstCase}
-use Rattle.decomp_tree.proofs.OpenNodes.{open_case}
+use Rattle.open_parts.specs.TriedShapes.{IsTriedWith}
+use Rattle.open_parts.proofs.TriedRoots.{open_lines_are_tried}
 use Rattle.cmr_unimodular.specs.Verdict.{IsLeftOpen, IsOpenPart}
 
 no_reason : {X : Type 0} (reason : Option X) → ¬ (IsSome reason) → reason ≡ None
@@ -31,8 +31,8 @@ left_open budget n is = record {
   above = elim (cases_lt budget (min (height n) n.width)) [ inl less ↦ less | inr short ↦ absurd (is.first IsShort (omega arith) short) ];
 }
 
--- the lines of the first undecided node
-pub open_part : (budget pivots : ℕ) (m : Matrix) (tree : Tree) (lines : LineSet) → IsMatrix m → IsShapeWith budget pivots m tree → first_in open_at tree ≡ Some lines → IsOpenPart budget m lines
-open_part budget pivots m tree lines is shape found =
-    let case = open_case budget pivots m tree lines is shape found in
-    record { are_lines = case.0; left = left_open budget (part m lines) case.1 }
+-- the lines that a verdict leaves open
+pub open_part : (budget pivots : ℕ) (m : Matrix) (tree : Tree) (lines : LineSet) → IsMatrix m → IsTriedWith budget pivots m tree → verdict_of tree ≡ Open lines → IsOpenPart budget pivots m lines
+open_part budget pivots m tree lines is shape says =
+    let case = open_lines_are_tried budget pivots m tree lines is shape says in
+    record { are_lines = case.0; left = left_open budget (part m lines) case.1; tried = case.2 }

@@ -104,7 +104,7 @@ pub fault_lines : (rows columns : ℕ) (v : Verdict) (fault : LineSet) → v ≡
 fault_lines rows columns v fault e lines = subst (HasLinesIn rows columns) e lines
 
 -- the report
-pub reported : (o : RegularOrder) (a signed : Matrix) (steps : List SignStep) (tree : SizedTree) (r : Result Outcome Memory) → IsSignedTo a steps signed → IsDecomposition o.lines o.pivots signed tree → IsTold o.lines signed (verdict_in tree)
+pub reported : (o : RegularOrder) (a signed : Matrix) (steps : List SignStep) (tree : SizedTree) (r : Result Outcome Memory) → IsSignedTo a steps signed → IsDecomposition o.lines o.pivots signed tree → IsTold o.lines o.pivots signed (verdict_in tree)
     → IfOk r (λ outcome. outcome_report outcome ≡ regular_report o a steps signed tree) → IfOk r (λ outcome. RegularDecides o a (outcome_report outcome))
 reported o a signed steps tree (Ok outcome) signing decomposition told is = record { steps = steps; signed = signed; signing = signing; tree = tree; decomposition = decomposition; told = told; report_is = is }
 reported o a signed steps tree (Err memory) signing decomposition told is = tt

@@ -1,36 +1,29 @@
 -- The verdict of a decomposition is right.
-use Rattle.std.proofs.Common.{◌≡◌, ◌∙◌, ℕ, length, Option, Some, None, refl, ap, sym}
+use Rattle.std.proofs.Common.{◌≡◌, ◌∙◌, ℕ, length, refl, ap, sym}
 use Rattle.std.proofs.lemmas.List.FromFn.{length-range_with_len}
 use Rattle.cmr_base.specs.declared.line_set.LineSet.{LineSet}
 use Rattle.cmr_base.specs.Matrix.{Matrix, height, IsMatrix}
-use Rattle.decomp_tree.specs.PivotedShapes.{IsShapeWith}
-use Rattle.decomp_tree.proofs.PivotedRoots.{root_is_whole}
+use Rattle.open_parts.specs.TriedShapes.{IsTriedWith}
+use Rattle.open_parts.proofs.TriedRoots.{root_is_all}
 use Rattle.tree_type.specs.declared.tree.Node.{Node}
 use Rattle.tree_type.specs.DecompositionTrees.{SizedTree, tree_of}
 use Rattle.tree_type.specs.Verdicts as verdicts
-use Rattle.tree_type.specs.Verdicts.{Verdict, fault_at, first_in, open_at, verdict_from}
+use Rattle.tree_type.specs.Verdicts.{Verdict}
 use Rattle.tree_laws.specs.Laws.{Tells}
 use Rattle.cert_check.proofs.Answering.{lines_is}
 use Rattle.tree_laws.proofs.SoundTrees.{tells}
 use Rattle.cmr_unimodular.specs.Verdict.{IsDecomposition, IsTold, verdict_in}
 use Rattle.cmr_unimodular.proofs.OpenParts.{open_part}
 
-open_from : (fault undecided : Option LineSet) (lines : LineSet) → verdict_from fault undecided ≡ verdicts.Open lines → undecided ≡ Some lines
-open_from None None lines e = cc
-open_from None (Some found) lines e = cc
-open_from (Some fault) undecided lines e = cc
-
-pub told : (budget pivots : ℕ) (m : Matrix) → IsMatrix m → (tree : SizedTree) → IsDecomposition budget pivots m tree → IsTold budget m (verdict_in tree)
+pub told : (budget pivots : ℕ) (m : Matrix) → IsMatrix m → (tree : SizedTree) → IsDecomposition budget pivots m tree → IsTold budget pivots m (verdict_in tree)
 told budget pivots m is tree d = go (verdict_in tree) refl (tells m is tree.rows tree.columns (tree_of tree.root) d.is_tree d.sound)
   where
-    go : (v : Verdict) → verdict_in tree ≡ v → Tells m v → IsTold budget m v
+    go : (v : Verdict) → verdict_in tree ≡ v → Tells m v → IsTold budget pivots m v
     go verdicts.Yes e right = right
     go (verdicts.No fault) e right = right
-    go (verdicts.Open lines) e right =
-        let root = tree_of tree.root in
-        open_part budget pivots m root lines is d.shape (open_from (first_in fault_at root) (first_in open_at root) lines e)
+    go (verdicts.Open lines) e right = open_part budget pivots m (tree_of tree.root) lines is d.shape e
 
 -- the root of a decomposition has all rows
-pub root_height : (budget pivots : ℕ) (m : Matrix) (root : Node) → IsShapeWith budget pivots m (tree_of root) → length root.lines.rows ≡ height m
+pub root_height : (budget pivots : ℕ) (m : Matrix) (root : Node) → IsTriedWith budget pivots m (tree_of root) → length root.lines.rows ≡ height m
 root_height budget pivots m root shape =
-    ap (λ (lines : LineSet). length lines.rows) (sym (lines_is root)) ∙ ap length (root_is_whole budget pivots m (tree_of root) shape).0 ∙ length-range_with_len 0 (height m)
+    ap (λ (lines : LineSet). length lines.rows) (sym (lines_is root)) ∙ ap length (root_is_all budget pivots m (tree_of root) shape).0 ∙ length-range_with_len 0 (height m)

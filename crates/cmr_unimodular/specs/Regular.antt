@@ -131,7 +131,7 @@ pub record RegularDecides (o : RegularOrder) (a : Matrix) (report : Report) : Ty
   pub signing : IsSignedTo a steps signed
   pub tree : SizedTree
   pub decomposition : IsDecomposition o.lines o.pivots signed tree
-  pub told : IsTold o.lines signed (verdict_in tree)
+  pub told : IsTold o.lines o.pivots signed (verdict_in tree)
   pub report_is : report ≡ regular_report o a steps signed tree
 
 -- this signing of the support is totally unimodular
@@ -149,7 +149,7 @@ pub record HasNoGoodSigning (a : Matrix) (steps : List SignStep) (signed : Matri
 abbrev pub RegularSays : RegularOrder → Matrix → List SignStep → Matrix → Answer → Type 0
 RegularSays o a steps signed Yes = (tree : SizedTree) × IsDecomposition o.lines o.pivots signed tree × (verdict_in tree ≡ verdicts.Yes) × HasGoodSigning a signed
 RegularSays o a steps signed No = (tree : SizedTree) × IsDecomposition o.lines o.pivots signed tree × (fault : LineSet) × (verdict_in tree ≡ verdicts.No fault) × HasNoGoodSigning a steps signed fault
-RegularSays o a steps signed Undecided = (tree : SizedTree) × IsDecomposition o.lines o.pivots signed tree × (lines : LineSet) × (verdict_in tree ≡ verdicts.Open lines) × IsOpenPart o.lines signed lines
+RegularSays o a steps signed Undecided = (tree : SizedTree) × IsDecomposition o.lines o.pivots signed tree × (lines : LineSet) × (verdict_in tree ≡ verdicts.Open lines) × IsOpenPart o.lines o.pivots signed lines
 RegularSays o a steps signed Refused = ⊥
 
 -- For the signing by Camion: a yes has a tree that the checker accepts for the signed matrix; a no names a violator; undecided names

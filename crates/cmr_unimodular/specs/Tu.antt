@@ -69,7 +69,7 @@ tu_source o = source o.form false o.file
 abbrev pub UnimodularMeans : ℕ → ℕ → Matrix → Answer → Type 0
 UnimodularMeans budget pivots m Yes = (tree : SizedTree) × IsDecomposition budget pivots m tree × (verdict_in tree ≡ verdicts.Yes) × IsUnimodular m
 UnimodularMeans budget pivots m No = (tree : SizedTree) × IsDecomposition budget pivots m tree × (fault : LineSet) × (verdict_in tree ≡ verdicts.No fault) × IsNotUnimodular m fault
-UnimodularMeans budget pivots m Undecided = (tree : SizedTree) × IsDecomposition budget pivots m tree × (lines : LineSet) × (verdict_in tree ≡ verdicts.Open lines) × IsOpenPart budget m lines
+UnimodularMeans budget pivots m Undecided = (tree : SizedTree) × IsDecomposition budget pivots m tree × (lines : LineSet) × (verdict_in tree ≡ verdicts.Open lines) × IsOpenPart budget pivots m lines
 UnimodularMeans budget pivots m Refused = ⊥
 
 abbrev pub TuMeans : TuOrder → Matrix → Answer → Type 0

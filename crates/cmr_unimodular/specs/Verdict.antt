@@ -1,5 +1,5 @@
 -- The reports on total unimodularity, under the label of a tool and within a budget of lines.
-use Rattle.std.specs.Prelude.{◌≡◌, ◌<◌, ◌++◌, ℕ, false, min, List, [], length, Option, option_map}
+use Rattle.std.specs.Prelude.{◌≡◌, ◌<◌, ◌++◌, ℕ, false, min, List, [], length, Option, None, option_map}
 use Rattle.cmr_base.specs.declared.line_set.LineSet.{LineSet}
 use Rattle.cmr_base.specs.Matrix.{Matrix, height, entry}
 use Rattle.cmr_base.specs.Components.{AreComponents}
@@ -15,7 +15,8 @@ use Rattle.tree_type.specs.DecompositionTrees.{SizedTree, tree_of}
 use Rattle.tree_type.specs.Verdicts as verdicts
 use Rattle.tree_type.specs.Verdicts.{Verdict, verdict_of}
 use Rattle.tree_text.specs.CanonicalTrees.{tree_text}
-use Rattle.decomp_tree.specs.PivotedShapes.{IsShapeWith}
+use Rattle.open_parts.specs.Rests.{IsFoundInRests}
+use Rattle.open_parts.specs.TriedShapes.{IsTriedWith}
 use Rattle.tree_laws.specs.Laws.{Tells}
 use Rattle.cmr_evidence.specs.VerdictWords.{answer_of, answer_word, named_line}
 use Rattle.cmr_unimodular.specs.declared.verdict.VerdictOptions.{VerdictOptions}
@@ -48,7 +49,7 @@ pub record IsDecomposition (budget pivots : ℕ) (m : Matrix) (tree : SizedTree)
   pub rows : tree.rows ≡ height m
   pub columns : tree.columns ≡ m.width
   pub is_tree : IsDecTree tree
-  pub shape : IsShapeWith budget pivots m (tree_of tree.root)
+  pub shape : IsTriedWith budget pivots m (tree_of tree.root)
   pub sound : IsSound m tree
 
 abbrev pub verdict_in : SizedTree → Verdict
@@ -70,10 +71,11 @@ pub record IsLeftOpen (budget : ℕ) (m : Matrix) : Type 0 where
   pub no_three_separation : HasNoThreeSeparation m
   pub above : budget < min (height m) m.width
 
--- the submatrix with these lines is left open
-pub record IsOpenPart (budget : ℕ) (m : Matrix) (lines : LineSet) : Type 0 where
+-- The submatrix with these lines is left open. If pivots are allowed, no rest of it that was tried is a no.
+pub record IsOpenPart (budget pivots : ℕ) (m : Matrix) (lines : LineSet) : Type 0 where
   pub are_lines : AreLines m lines
   pub left : IsLeftOpen budget (part m lines)
+  pub tried : 0 < pivots → IsFoundInRests budget m lines None
 
 -- ---- the report
 
@@ -97,14 +99,14 @@ verdict_report o m tree = record {
 }
 
 -- the meaning of a verdict for the matrix
-abbrev pub IsTold : ℕ → Matrix → Verdict → Type 0
-IsTold budget m verdicts.Yes = Tells m verdicts.Yes
-IsTold budget m (verdicts.No fault) = Tells m (verdicts.No fault)
-IsTold budget m (verdicts.Open lines) = IsOpenPart budget m lines
+abbrev pub IsTold : (budget pivots : ℕ) → Matrix → Verdict → Type 0
+IsTold budget pivots m verdicts.Yes = Tells m verdicts.Yes
+IsTold budget pivots m (verdicts.No fault) = Tells m (verdicts.No fault)
+IsTold budget pivots m (verdicts.Open lines) = IsOpenPart budget pivots m lines
 
 -- on a matrix: by a decomposition; there are several with networks, since the nodes of a network have any numbers
 pub record Decides (o : VerdictOrder) (m : Matrix) (report : Report) : Type 0 where
   pub tree : SizedTree
   pub decomposition : IsDecomposition o.lines o.pivots m tree
-  pub told : IsTold o.lines m (verdict_in tree)
+  pub told : IsTold o.lines o.pivots m (verdict_in tree)
   pub report_is : report ≡ verdict_report o m tree

@@ -10,8 +10,8 @@ use cmr_base::{MAX_LINES, Matrix, Memory};
 use cmr_evidence::verdict_words::{answer_of, answer_word, push_named_line};
 use cmr_front::asked::push_submatrix;
 use cmr_front::outcome::{Outcome, OutputFile};
-use decomp_tree::decompose;
 use first_hit::Workers;
+use open_parts::decompose;
 use std::alloc::Global;
 use std::thread::Threads;
 use tree_text::write_tree;
@@ -62,7 +62,8 @@ pub fn decomposed<R: Threads + Sync>(
     requires workers { (1 ≤ options.now.workers) × (options.now.workers ≤ 64) }
     ensures decomposition { IfOk result (IsDecomposition options.now.lines options.now.pivots
         matrix.now) }
-    ensures told { IfOk result (λ tree. IsTold options.now.lines matrix.now (verdict_in tree)) }
+    ensures told { IfOk result (λ tree.
+        IsTold options.now.lines options.now.pivots matrix.now (verdict_in tree)) }
     ensures tells { IfOk result (λ tree. Tells matrix.now (verdict_in tree)) }
 {
     let tree = decompose(

@@ -52,6 +52,7 @@ tu --lines 0 f | f: 3 3/1 1 0/0 1 1/1 0 1/ | 1 | totally unimodular: no/violator
 tu --lines 4 f | f: 4 4/1 1 0 0/1 0 1 0/1 0 0 1/1 1 1 1/ | 1 | totally unimodular: no/violator rows 1 2 3 4 columns 1 2 3 4 sum 10/0 violator 4x4/ | none
 tu --lines=+3 four | four: 4 4/1 1 0 0/1 0 1 0/1 0 0 1/1 1 1 1/ | 6 | totally unimodular: undecided/open rows 1 2 3 4 columns 1 2 3 4/0 undecided 4x4/ | none
 tu --pivots 0 --lines 3 f | f: 4 4/1 1 0 0/1 0 1 0/1 0 0 1/1 1 1 1/ | 6 | totally unimodular: undecided/open rows 1 2 3 4 columns 1 2 3 4/0 undecided 4x4/ | none
+tu --lines 0 --pivots 1 -E e f | f: 9 6/0 0 1 1 0 0/0 1 1 1 1 0/0 0 1 1 1 0/0 1 0 1 1 0/0 0 1 1 1 -1/0 1 1 1 1 -1/0 0 0 1 1 0/1 -1 0 0 0 0/1 0 1 1 0 -1/ | 1 | totally unimodular: no/violator rows 4 5 8 9 columns 1 2 5 6 sum 2/0 violator 9x6/ | e: 9 6 4 4/4 5 8 9/1 2 5 6/
 tu -w 3 f | f: 7 7/1 1 1 0 1 1 0/0 0 0 -1 1 1 0/1 0 1 1 0 0 0/0 0 0 0 1 0 1/0 1 1 0 1 0 0/0 1 1 0 1 0 1/0 0 0 0 0 -1 1/ | 0 | totally unimodular: yes/0 mixed 7x7/1 conetwork 6x4/1 network 4x6/ | none
 tu '' | : 0 0/ | 0 | totally unimodular: yes/0 empty 0x0/ | none
 tu -- -t | -t: 0 0/ | 0 | totally unimodular: yes/0 empty 0x0/ | none

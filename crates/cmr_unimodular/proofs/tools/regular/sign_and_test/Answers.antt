@@ -10,5 +10,5 @@ returns g c =
     let tree = c.in_ok-tree.tree in
     reported (regular_order_of c.args.options.now) c.args.matrix.now signed c.in_ok-signing.signing.steps tree c.report_signing.result c.in_ok-signing.ensures.signed
     (subst (λ (o : VerdictOrder). IsDecomposition o.lines o.pivots signed tree) c.verdict_options-asked.ensures.order c.in_ok-tree.ensures.decomposition)
-    (subst (λ (o : VerdictOrder). IsTold o.lines signed (verdict_in tree)) c.verdict_options-asked.ensures.order c.in_ok-tree.ensures.told)
+    (subst (λ (o : VerdictOrder). IsTold o.lines o.pivots signed (verdict_in tree)) c.verdict_options-asked.ensures.order c.in_ok-tree.ensures.told)
     c.report_signing.ensures
