@@ -22,6 +22,20 @@ Rows = list[list[int]]
 MOST_NONZEROS, MOST_SLOW = 1000, 60
 """Models with more nonzeros are for `bench/pivots.py`, and the slow program has those with up to `MOST_SLOW`."""
 
+A_NO_IN_A_REST = [
+    [0, 0, 1, 1, 0, 0],
+    [0, 1, 1, 1, 1, 0],
+    [0, 0, 1, 1, 1, 0],
+    [0, 1, 0, 1, 1, 0],
+    [0, 0, 1, 1, 1, -1],
+    [0, 1, 1, 1, 1, -1],
+    [0, 0, 0, 1, 1, 0],
+    [1, -1, 0, 0, 0, 0],
+    [1, 0, 1, 1, 0, -1],
+]
+OPEN = [[0, 1, 1, 1, 1], [0, 0, 1, 0, 1], [0, 0, 0, 1, 1], [1, 0, 0, 0, 1], [1, -1, 0, 0, 0]]
+"""Matrices that are not totally unimodular, and undecided after a pivot if no row sets are searched."""
+
 
 class Rules(unittest.TestCase):
     """The parts of the slow program."""
@@ -180,13 +194,24 @@ class Models(AnswerTest):
         self.shows_yes(answer.signed.to_lists(), answer)
         self.is_the_slow_tree(answer.signed, answer.tree, 20, 0)
 
+    def test_lines_that_are_removed(self) -> None:
+        """Too few pivots leave the part open, and a rest of it is a no if lines are removed."""
+        for matrix in (Matrix.of(latin_square(3)), Matrix.of(A_NO_IN_A_REST)):
+            answer = asked_once("totally unimodular", matrix, lines=0)
+            assert answer.tree is not None
+            size = f"{matrix.shape[0]}x{matrix.shape[1]}"
+            self.assertEqual((answer.verdict, str(answer.tree)), ("undecided", f"0 undecided {size}"))
+            answer = asked_once("totally unimodular", matrix, lines=0, pivots=1)
+            self.shows_no(matrix, answer)
+            self.assertEqual(str(answer.tree), f"0 violator {size}")
+            self.is_the_slow_tree(matrix, answer.tree, 1, 0)
+
     def test_what_stays_undecided(self) -> None:
-        """Too few pivots leave the part open, as if none were made."""
-        rows = latin_square(3)
-        for pivots in (0, 1, 2):
-            answer = asked_once("totally unimodular", rows, lines=0, pivots=pivots)
+        """Neither a pivot nor leaving lines out decides, so the part is open as if neither were tried."""
+        for pivots in (0, 1):
+            answer = asked_once("totally unimodular", OPEN, lines=0, pivots=pivots)
             assert answer.tree is not None and answer.open is not None
-            self.assertEqual((answer.verdict, str(answer.tree)), ("undecided", "0 undecided 27x27"))
+            self.assertEqual((answer.verdict, str(answer.tree)), ("undecided", "0 undecided 5x5"))
             self.assertIn("`pivots=100`", str(undecided(answer)))
 
     def test_numbers_out_of_their_range(self) -> None:
