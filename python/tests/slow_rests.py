@@ -27,7 +27,7 @@ def tried_tree(matrix: Matrix, tree: Tree, lines: int) -> Tree:
 
 
 def fault_in_rests(matrix: Matrix, part: LineSet, lines: int) -> LineSet | None:
-    """The violator of the first rest that is a no. A line stays if the rest without it is a yes, and is removed if the rest is open."""
+    """The violator of the first rest that is a no. A line is put back if the rest without it is a yes."""
     kept = part
     for line in part:
         rest = LineSet(

@@ -359,7 +359,7 @@ m m 0 m m 0 0 0 0 0 0 0
 0 0 0 0 0 1 0 0 0 0 0 1
 """
 
-# Neither a pivot nor leaving lines out decides this matrix if no row sets are searched.
+# Neither a pivot nor removing lines decides this matrix if no row sets are searched.
 OPEN = """5 5
 0 1 1 1 1
 0 0 1 0 1
