@@ -1,5 +1,5 @@
 -- The number of lines of a set.
-use Rattle.std.proofs.Common.{◌≡◌, ◌≢◌, ◌<◌, ◌≤◌, ◌+◌, ◌++◌, ◌∙◌, ℕ, zero, suc, Bool, true, false, cond, filter, nat_eq, List, [], ◌∷◌, length, ap, ap₂, sym, subst, refl, arith, zero-add}
+use Rattle.std.proofs.Common.{◌≡◌, ◌≢◌, ◌<◌, ◌≤◌, ◌+◌, ◌++◌, ◌∙◌, ℕ, zero, suc, Bool, true, false, not, cond, filter, nat_eq, List, [], ◌∷◌, length, ap, ap₂, sym, subst, refl, arith, zero-add}
 use Rattle.std.proofs.lemmas.Bool.{false≢true}
 use Rattle.std.proofs.lemmas.Bool.Decides.{nat_tests}
 use Rattle.std.specs.List.{AllByRecursion}
@@ -171,3 +171,12 @@ at_least m n (x ∷ xs) S ls ins far =
     stay : (ys : List Line) → AllByRecursion (λ y. S y ≡ true) ys → AllByRecursion (λ y. x ≢ y) ys → AllByRecursion (λ y. without x S y ≡ true) ys
     stay [] h k = tt
     stay (y ∷ ys) h k = (not_same y (same x y) refl k.0 h.0, stay ys h.1 k.1)
+
+-- each of the first k numbers passes a test or does not
+pub count_both : (p : ℕ → Bool) (k : ℕ) → count p k + count (λ x. not (p x)) k ≡ k
+count_both p zero = refl
+count_both p (suc k) = go (p k) (count_both p k)
+  where
+    go : (t : Bool) → count p k + count (λ x. not (p x)) k ≡ k → cond t (suc (count p k)) (count p k) + cond (not t) (suc (count (λ x. not (p x)) k)) (count (λ x. not (p x)) k) ≡ suc k
+    go true h = omega (arith, h)
+    go false h = omega (arith, h)

@@ -32,6 +32,8 @@ pub mod Determinants
 pub mod Cores
 pub mod R10
 pub mod ColumnSets
+pub mod BitSets
+pub mod LineMasks
 pub mod Runs
 pub mod TransposedPlanes
 pub mod Draws

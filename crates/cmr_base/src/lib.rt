@@ -2,6 +2,7 @@
 //! numbers are counted from 0.
 #![tactic(auto)]
 
+mod bit_set;
 pub mod columns;
 mod cores;
 mod differences;
@@ -12,6 +13,7 @@ mod item_list;
 mod labels;
 mod limits;
 mod line;
+mod line_mask;
 mod line_set;
 mod matrix;
 mod matrix_sum;
@@ -32,6 +34,7 @@ mod set_numbers;
 mod transposed_plane;
 mod word;
 
+pub use bit_set::{BitSet, columns_of};
 pub use cores::{Core, Factors};
 pub use draws::{Drawn, DrawnNumber, draw, draw_below};
 pub use indices::Indices;
@@ -39,6 +42,7 @@ pub use item_list::{ItemList, PartList, SideList, SignList, WordList};
 pub use labels::{join_labels, own_labels};
 pub use limits::{MAX_COLUMNS, MAX_DEPTH, MAX_EVIDENCE, MAX_LINES, MAX_ROWS, MAX_TEXT};
 pub use line::{Line, LineList, Reason, Step, StepList};
+pub use line_mask::LineMask;
 pub use line_set::LineSet;
 pub use matrix::Matrix;
 pub use memory::Memory;
