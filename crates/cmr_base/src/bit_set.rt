@@ -71,6 +71,14 @@ impl BitSet {
         })
     }
 
+    /// Becomes equal to a set of the same size.
+    pub fn copy(&mut self, other: &BitSet)
+        requires { other.now.size ≡ self.old.size }
+        ensures { self.new ≡ other.now }
+    {
+        self.words.copy_from_slice(&other.words);
+    }
+
     /// The numbers below the size that are not in the set.
     pub fn others(&self, alloc: Global) -> Result<BitSet, Memory>
         ensures size { IfOk result (λ rest. rest.size ≡ self.now.size) }

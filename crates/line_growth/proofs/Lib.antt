@@ -1,4 +1,3 @@
 pub mod LineSteps
 pub mod Sums
-pub mod FilteredLines
 pub mod SetSteps

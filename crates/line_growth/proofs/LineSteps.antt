@@ -3,19 +3,19 @@ use Rattle.std.proofs.Common.{ℕ, zero, suc, ◌+◌, ◌*◌, ◌%◌, ◌*ℤ
 use Rattle.std.specs.Ordering.{int_eq}
 use Rattle.std.proofs.lemmas.Bool.{false≢true, cases_lt, cases_eq}
 use Rattle.std.proofs.lemmas.Bool.Decides.{Decides-int_eq}
+use Rattle.cmr_base.specs.BitSets.{Bits}
 use Rattle.cmr_base.specs.ColumnSets.{has_column}
 use Rattle.cmr_base.specs.Differences.{differ, differs_at}
 use Rattle.cmr_base.specs.Matrix.{Matrix, entry}
 use Rattle.cmr_base.specs.Members.{IsIn}
-use Rattle.cmr_base.specs.Planes.{has_bit, words_for}
+use Rattle.cmr_base.specs.Planes.{has_bit}
 use Rattle.cmr_base.specs.Seeds.{count as number_of_lines}
 use Rattle.cmr_base.proofs.ColumnWords.{column_at}
 use Rattle.cmr_base.proofs.LineCounts.{count_more, count_same, less}
 use Rattle.cmr_base.proofs.Members.{in-append}
 use Rattle.cmr_base.proofs.RowLists.{two_cases}
 use Rattle.cmr_base.proofs.Booleans.{false_is, is_ne, not_both, same_test, self_eq}
-use Rattle.line_growth.specs.declared.growing_lines.GrowingLines.{GrowingLines}
-use Rattle.line_growth.specs.GrowingLines.{is_inside, AreGrowing, AreSame, HasGrown, HasAdded, HasTaken}
+use Rattle.line_growth.specs.GrowingLines.{Growth, is_inside, count_left, IsGrowth, HasGrown, HasAdded, HasTaken}
 
 -- ---- lists of waiting lines
 
@@ -61,94 +61,97 @@ all_left test zero h = refl
 all_left test (suc k) h = rw (h k) (ap suc (all_left test k h))
 
 -- no line is in the set
-pub empty : (count : ℕ) (lines : GrowingLines) → count ≤ 1000 → lines.size ≡ count → length lines.inside.items ≡ words_for count → ((x : ℕ) → is_inside lines x ≡ false) → lines.left ≡ count → lines.fresh.items ≡ [] → AreGrowing count lines
-empty count lines few size words none left fresh =
-    let nothing : (x : ℕ) → ¬ (IsIn x lines.fresh.items) = λ x h. subst (λ (v : List ℕ). IsIn x v) fresh h in
+pub empty : (lines : Growth) (left : ℕ) → ((x : ℕ) → is_inside lines x ≡ false) → left ≡ lines.inside.size → lines.fresh ≡ [] → IsGrowth lines left
+empty lines left none all fresh =
+    let nothing : (x : ℕ) → ¬ (IsIn x lines.fresh) = λ x h. subst (λ (v : List ℕ). IsIn x v) fresh h in
     record {
-      size = size;
-      few = few;
-      words = words;
       fresh_in = λ x h. absurd (nothing x h);
       fresh_inside = λ x h. absurd (nothing x h);
-      left = left ∙ sym (all_left (λ x. not (is_inside lines x)) count (λ x. ap not (none x)));
+      left = all ∙ sym (all_left (λ x. not (is_inside lines x)) lines.inside.size (λ x. ap not (none x)));
     }
 
 -- ---- lines that pass a test
 
-module _ (count : ℕ) (P : ℕ → Type 0) where
-  pub grown_none : (lines : GrowingLines) → AreGrowing count lines → HasGrown count P lines lines
-  grown_none lines w = record { whole = w; kept = λ x h. h; only = λ x h. inl h; news = λ x h. inl h; waits = λ x h. h; room_same = refl }
+module _ (P : ℕ → Type 0) where
+  pub grown_none : (lines : Growth) → HasGrown P lines lines
+  grown_none lines = record { size = refl; kept = λ x h. h; only = λ x h. inl h; news = λ x h. inl h; waits = λ x h. h; room_same = refl }
 
-  pub grown_joined : (before lines after : GrowingLines) → HasGrown count P before lines → (Q : ℕ → Type 0) → HasGrown count Q lines after → ((x : ℕ) → Q x → P x) → HasGrown count P before after
+  pub grown_joined : (before lines after : Growth) → HasGrown P before lines → (Q : ℕ → Type 0) → HasGrown Q lines after → ((x : ℕ) → Q x → P x) → HasGrown P before after
   grown_joined before lines after g Q a into = record {
-    whole = a.whole;
+    size = a.size ∙ g.size;
     kept = λ x e. a.kept x (g.kept x e);
-    only = λ x e. elim (a.only x e) [ inl h ↦ g.only x h | inr q ↦ inr (q.0, into x q.1) ];
+    only = λ x e. elim (a.only x e) [ inl h ↦ g.only x h | inr q ↦ inr (into x q) ];
     news = λ x e. elim (a.news x e) [ inl h ↦ elim (g.news x h) [ inl k ↦ inl k | inr k ↦ inr (a.waits x k) ] | inr h ↦ inr h ];
     waits = λ x h. a.waits x (g.waits x h);
     room_same = a.room_same ∙ g.room_same;
   }
 
-  pub grown_more : (before lines after : GrowingLines) → HasGrown count P before lines → (line : ℕ) → HasAdded count line lines after → P line → HasGrown count P before after
+  pub grown_more : (before lines after : Growth) → HasGrown P before lines → (line : ℕ) → HasAdded line lines after → P line → HasGrown P before after
   grown_more before lines after g line a fits = grown_joined before lines after g (λ x. x ≡ line) a.grown (λ x q. subst P (sym q) fits)
 
 -- ---- one line
 
-pub added_already : (count line : ℕ) (lines : GrowingLines) → AreGrowing count lines → is_inside lines line ≡ true → HasAdded count line lines lines
-added_already count line lines w e = record { line_in = e; grown = grown_none count (λ x. x ≡ line) lines w }
+pub added_already : (line : ℕ) (lines : Growth) → is_inside lines line ≡ true → HasAdded line lines lines
+added_already line lines e = record { line_in = e; grown = grown_none (λ x. x ≡ line) lines }
 
-pub adds : (count line : ℕ) (before after : GrowingLines) → AreGrowing count before → line < count → is_inside before line ≡ false → after.size ≡ before.size → length after.inside.items ≡ length before.inside.items
-    → is_inside after line ≡ true → ((x : ℕ) → is_inside before x ≡ true → is_inside after x ≡ true) → ((x : ℕ) → is_inside after x ≡ true → (x ≡ line) ⊎ (is_inside before x ≡ true))
-    → after.left + 1 ≡ before.left → after.fresh.items ≡ before.fresh.items ++ line ∷ [] → HasAdded count line before after
-adds count line before after w l out size words here kept only left fresh = record {
-  line_in = here;
-  grown = record {
-    whole = record {
-      size = size ∙ w.size;
-      few = w.few;
-      words = words ∙ w.words;
-      fresh_in = λ x h. elim (in_pushed before.fresh.items after.fresh.items line x fresh h) [ inl g ↦ w.fresh_in x g | inr e ↦ subst (λ (z : ℕ). z < count) (sym e) l ];
-      fresh_inside = λ x h. elim (in_pushed before.fresh.items after.fresh.items line x fresh h) [ inl g ↦ kept x (w.fresh_inside x g) | inr e ↦ subst (λ (z : ℕ). is_inside after z ≡ true) (sym e) here ];
-      left = let a = w.left in let b = left_less (is_inside before) (is_inside after) line count l out here kept only in omega arith;
+pub some_left : (line left : ℕ) (lines : Growth) → IsGrowth lines left → line < lines.inside.size → is_inside lines line ≡ false → 1 ≤ left
+some_left line left lines w l out = let a = w.left in let b = count_more line (λ x. not (is_inside lines x)) lines.inside.size l (ap not out) in omega arith
+
+-- a line is put into the set
+module _ (line left : ℕ) (before after : Growth) (w : IsGrowth before left) (l : line < before.inside.size) (out : is_inside before line ≡ false) (size : after.inside.size ≡ before.inside.size)
+    (only : (x : ℕ) → is_inside after x ≡ true → (x ≡ line) ⊎ (is_inside before x ≡ true)) (here : is_inside after line ≡ true) (kept : (x : ℕ) → is_inside before x ≡ true → is_inside after x ≡ true) where
+  fewer : count_left before ≡ suc (count_left after)
+  fewer = left_less (is_inside before) (is_inside after) line before.inside.size l out here kept only ∙ ap (λ (n : ℕ). suc (number_of_lines (λ x. not (is_inside after x)) n)) (sym size)
+
+  -- the line does not wait yet
+  pub inserted : (now : ℕ) → after.fresh ≡ before.fresh → now + 1 ≡ left → IsGrowth after now
+  inserted now fresh less =
+      let waits : (x : ℕ) → IsIn x after.fresh → IsIn x before.fresh = λ x h. subst (λ (z : List ℕ). IsIn x z) fresh h in
+      record {
+        fresh_in = λ x h. subst (λ (n : ℕ). x < n) (sym size) (w.fresh_in x (waits x h));
+        fresh_inside = λ x h. kept x (w.fresh_inside x (waits x h));
+        left = let a = w.left in let b = fewer in omega arith;
+      }
+
+  -- the line waits
+  pub pushed : (now : ℕ) → after.fresh ≡ before.fresh ++ line ∷ [] → now + 1 ≡ left → IsGrowth after now
+  pushed now fresh less = record {
+    fresh_in = λ x h. subst (λ (n : ℕ). x < n) (sym size) (elim (in_pushed before.fresh after.fresh line x fresh h) [ inl g ↦ w.fresh_in x g | inr e ↦ subst (λ (z : ℕ). z < before.inside.size) (sym e) l ]);
+    fresh_inside = λ x h. elim (in_pushed before.fresh after.fresh line x fresh h) [ inl g ↦ kept x (w.fresh_inside x g) | inr e ↦ subst (λ (z : ℕ). is_inside after z ≡ true) (sym e) here ];
+    left = let a = w.left in let b = fewer in omega arith;
+  }
+
+  pub adds : after.fresh ≡ before.fresh ++ line ∷ [] → HasAdded line before after
+  adds fresh = record {
+    line_in = here;
+    grown = record {
+      size = size;
+      kept = kept;
+      only = λ x e. elim (only x e) [ inl q ↦ inr q | inr h ↦ inl h ];
+      news = λ x e. elim (only x e) [ inl q ↦ inr (subst (λ (z : ℕ). IsIn z after.fresh) (sym q) (pushed_last before.fresh after.fresh line fresh)) | inr h ↦ inl h ];
+      waits = λ x h. pushed_more before.fresh after.fresh line x fresh h;
+      room_same = let a = pushed_length before.fresh after.fresh line fresh in let b = fewer in omega arith;
     };
-    kept = kept;
-    only = λ x e. elim (only x e) [ inl q ↦ inr (subst (λ (z : ℕ). z < count) (sym q) l, q) | inr h ↦ inl h ];
-    news = λ x e. elim (only x e) [ inl q ↦ inr (subst (λ (z : ℕ). IsIn z after.fresh.items) (sym q) (pushed_last before.fresh.items after.fresh.items line fresh)) | inr h ↦ inl h ];
-    waits = λ x h. pushed_more before.fresh.items after.fresh.items line x fresh h;
-    room_same = let a = pushed_length before.fresh.items after.fresh.items line fresh in omega arith;
-  };
+  }
+
+-- fewer lines wait
+pub waits_less : (left : ℕ) (before after : Growth) → IsGrowth before left → after.inside ≡ before.inside → ((x : ℕ) → IsIn x after.fresh → IsIn x before.fresh) → IsGrowth after left
+waits_less left before after w inside less = record {
+  fresh_in = λ x h. subst (λ (set : Bits). x < set.size) (sym inside) (w.fresh_in x (less x h));
+  fresh_inside = λ x h. subst (λ (set : Bits). has_column set.words x ≡ true) (sym inside) (w.fresh_inside x (less x h));
+  left = w.left ∙ ap (λ (set : Bits). number_of_lines (λ x. not (has_column set.words x)) set.size) (sym inside);
 }
 
-pub some_left : (count line : ℕ) (lines : GrowingLines) → AreGrowing count lines → line < count → is_inside lines line ≡ false → 1 ≤ lines.left
-some_left count line lines w l out = let a = w.left in let b = count_more line (λ x. not (is_inside lines x)) count l (ap not out) in omega arith
-
-pub takes : (count line : ℕ) (before after : GrowingLines) → AreGrowing count before → before.fresh.items ≡ after.fresh.items ++ line ∷ [] → after.inside ≡ before.inside → after.size ≡ before.size → after.left ≡ before.left → HasTaken count line before after
-takes count line before after w fresh inside size left =
-    let is : (x : ℕ) → is_inside after x ≡ is_inside before x = λ x. ap (λ v. has_column v.items x) inside in
-    record {
-      whole = record {
-        size = size ∙ w.size;
-        few = w.few;
-        words = ap (λ v. length v.items) inside ∙ w.words;
-        fresh_in = λ x h. w.fresh_in x (pushed_more after.fresh.items before.fresh.items line x fresh h);
-        fresh_inside = λ x h. is x ∙ w.fresh_inside x (pushed_more after.fresh.items before.fresh.items line x fresh h);
-        left = left ∙ w.left ∙ count_same (λ x. not (is_inside before x)) (λ x. not (is_inside after x)) count (λ x l. ap not (sym (is x)));
-      };
-      inside_same = inside;
-      line_inside = w.fresh_inside line (pushed_last after.fresh.items before.fresh.items line fresh);
-      line_in = w.fresh_in line (pushed_last after.fresh.items before.fresh.items line fresh);
-      others = λ x h. elim (in_pushed after.fresh.items before.fresh.items line x fresh h) [ inl g ↦ inr g | inr e ↦ inl e ];
-      room_less = let a = pushed_length after.fresh.items before.fresh.items line fresh in omega arith;
-    }
-
-pub same_growing : (count : ℕ) (one two : GrowingLines) → AreSame one two → AreGrowing count two → AreGrowing count one
-same_growing count one two s w = record {
-  size = s.size ∙ w.size;
-  few = w.few;
-  words = ap (λ (v : List ℕ). length v) s.inside ∙ w.words;
-  fresh_in = λ x h. w.fresh_in x (subst (λ (v : List ℕ). IsIn x v) s.fresh h);
-  fresh_inside = λ x h. ap (λ (v : List ℕ). has_column v x) s.inside ∙ w.fresh_inside x (subst (λ (v : List ℕ). IsIn x v) s.fresh h);
-  left = s.left ∙ w.left ∙ count_same (λ x. not (is_inside two x)) (λ x. not (is_inside one x)) count (λ x l. ap not (ap (λ (v : List ℕ). has_column v x) (sym s.inside)));
+pub takes : (line left : ℕ) (before after : Growth) → IsGrowth before left → before.fresh ≡ after.fresh ++ line ∷ [] → after.inside ≡ before.inside → HasTaken line before after
+takes line left before after w fresh inside = record {
+  inside_same = inside;
+  line_inside = w.fresh_inside line (pushed_last after.fresh before.fresh line fresh);
+  line_in = w.fresh_in line (pushed_last after.fresh before.fresh line fresh);
+  others = λ x h. elim (in_pushed after.fresh before.fresh line x fresh h) [ inl g ↦ inr g | inr e ↦ inl e ];
+  room_less =
+      let a = pushed_length after.fresh before.fresh line fresh in
+      let b = ap (λ (set : Bits). number_of_lines (λ x. not (has_column set.words x)) set.size) inside in
+      omega arith;
 }
 
 -- ---- pulls, a word at a time
@@ -179,7 +182,7 @@ pub bit_in : (word k : ℕ) → k < 64 → has_column (word ∷ []) k ≡ has_bi
 bit_in word k l = ap (has_column (word ∷ [])) (omega arith) ∙ column_at (word ∷ []) 0 k l
 
 -- the bits up to the next bit are inside
-pub found_until : (bits : List ℕ) (lines after : GrowingLines) (first from next : ℕ) → ((line : ℕ) → is_inside lines line ≡ true → is_inside after line ≡ true) → ((k : ℕ) → k < from → has_column bits k ≡ true → is_inside lines (first + k) ≡ true)
+pub found_until : (bits : List ℕ) (lines after : Growth) (first from next : ℕ) → ((line : ℕ) → is_inside lines line ≡ true → is_inside after line ≡ true) → ((k : ℕ) → k < from → has_column bits k ≡ true → is_inside lines (first + k) ≡ true)
     → ((k : ℕ) → from ≤ k → k < next → has_column bits k ≡ false) → is_inside after (first + next) ≡ true → (k : ℕ) → k < next + 1 → has_column bits k ≡ true → is_inside after (first + k) ≡ true
 found_until bits lines after first from next kept before none here k l e = elim (cases_lt k from) [
   | inl h ↦ kept (first + k) (before k h e)
@@ -190,7 +193,7 @@ found_until bits lines after first from next kept before none here k l e = elim 
 ]
 
 -- at the end all bits are inside
-pub found_all : (bits : List ℕ) (lines : GrowingLines) (first from : ℕ) → ((k : ℕ) → k < from → has_column bits k ≡ true → is_inside lines (first + k) ≡ true) → ((k : ℕ) → from ≤ k → has_column bits k ≡ false) → (k : ℕ) → has_column bits k ≡ true
+pub found_all : (bits : List ℕ) (lines : Growth) (first from : ℕ) → ((k : ℕ) → k < from → has_column bits k ≡ true → is_inside lines (first + k) ≡ true) → ((k : ℕ) → from ≤ k → has_column bits k ≡ false) → (k : ℕ) → has_column bits k ≡ true
     → is_inside lines (first + k) ≡ true
 found_all bits lines first from before none k e = elim (cases_lt k from) [
   | inl h ↦ before k h e
@@ -205,7 +208,7 @@ module _ (m : Matrix) (row : ℕ) (factor : ℤ) (model : ℕ) where
   differing x e = differs_from (entry m row x) (factor *ℤ entry m model x) e
 
   -- the lines of a chunk and of the chunks before it
-  pub pulled_until : (chunk word : ℕ) (lines after : GrowingLines) → ((k : ℕ) → k < 64 → has_bit word k ≡ (differs_at m row factor model (64 * chunk + k) && not (is_inside lines (64 * chunk + k))))
+  pub pulled_until : (chunk word : ℕ) (lines after : Growth) → ((k : ℕ) → k < 64 → has_bit word k ≡ (differs_at m row factor model (64 * chunk + k) && not (is_inside lines (64 * chunk + k))))
       → ((x : ℕ) → x < 64 * chunk → is_inside lines x ≡ false → IsMultipleAt x) → ((x : ℕ) → is_inside lines x ≡ true → is_inside after x ≡ true) → ((k : ℕ) → k < 64 → has_bit word k ≡ true → is_inside after (64 * chunk + k) ≡ true)
       → (x : ℕ) → x < 64 * (chunk + 1) → is_inside after x ≡ false → IsMultipleAt x
   pulled_until chunk word lines after is done kept taken x l e = elim (cases_lt x (64 * chunk)) [

@@ -1,5 +1,5 @@
 -- A growing set, step by step.
-use Rattle.std.proofs.Common.{ℕ, ◌+◌, ◌-◌, drop, ap₂, true, false, not, List, [], ◌∷◌, ◌≡◌, ◌<◌, ◌≤◌, ◌∙◌, sym, ap, refl, arith, subst, ◌⊎◌, inl, inr, length, get_or, ℤ, suc, Bool}
+use Rattle.std.proofs.Common.{ℕ, ◌+◌, ◌-◌, drop, ap₂, true, false, List, [], ◌∷◌, ◌≡◌, ◌<◌, ◌≤◌, ◌∙◌, sym, ap, refl, arith, subst, ◌⊎◌, inl, inr, length, get_or, ℤ, suc, Bool}
 use Rattle.std.specs.List.{AllByRecursion}
 use Rattle.std.proofs.lemmas.List.{drop_all, drop_more}
 use Rattle.cmr_base.specs.declared.line.Line.{Line}
@@ -15,31 +15,30 @@ use Rattle.cmr_base.proofs.ListedLines.{contains_first_lines, first_lines_contai
 use Rattle.cmr_base.proofs.Lists.{all_both, all_of, all_weaker}
 use Rattle.cmr_base.proofs.Parts.{entry-transposed}
 use Rattle.cmr_base.proofs.SeedLemmas.{outside_grows}
-use Rattle.line_growth.specs.declared.growing_lines.GrowingLines.{GrowingLines}
 use Rattle.line_growth.specs.declared.growing_set.GrowingSet.{GrowingSet}
 use Rattle.line_growth.specs.declared.rule.GrowthRule.{GrowthRule}
 use Rattle.line_growth.specs.declared.rule.Sum.{Sum}
-use Rattle.line_growth.specs.GrowingLines.{is_inside, AreSame, HasPulled, HasAdded, HasTaken}
-use Rattle.line_growth.specs.GrowingSets.{HasNoLeaving, HasNone, HasRoom, IsClosedIn, IsGrowing, IsLeaving, Leaves, TellsClosed, set_of}
+use Rattle.line_growth.specs.GrowingLines.{Growth, is_inside, HasPulled, HasAdded, HasTaken}
+use Rattle.line_growth.specs.GrowingSets.{DecidesLeaving, HasNoLeaving, HasNone, HasSameSizes, IsClosedIn, IsGrowing, IsLeaving, IsLineFor, IsSizedFor, Leaves, set_of}
 use Rattle.line_growth.specs.Rules.{lower_of, sum_at, upper_of}
-use Rattle.line_growth.proofs.LineSteps.{count_most, same_growing}
 
--- ---- counts
+-- ---- sizes
 
-pub outside_left : (m : Matrix) (set : GrowingSet) → HasRoom m set → count_outside (height m) m.width (set_of set) ≡ set.rows.left + set.columns.left
-outside_left m set w = let a = w.rows.left in let b = w.columns.left in omega arith
+pub still_sized : (m : Matrix) (before after : GrowingSet) → IsSizedFor m before → HasSameSizes before after → IsSizedFor m after
+still_sized m before after sized same = record { rows = same.rows ∙ sized.rows; columns = same.columns ∙ sized.columns }
 
-pub left_few : (m : Matrix) (set : GrowingSet) → HasRoom m set → set.rows.left + set.columns.left ≤ 2000
-left_few m set w =
-    let a = count_most (λ line. not (is_inside set.rows line)) (height m) in
-    let b = count_most (λ line. not (is_inside set.columns line)) m.width in
-    let c = w.rows.left in
-    let d = w.columns.left in
-    let e = w.rows.few in
-    let f = w.columns.few in
-    omega arith
+pub same_sizes : (before between after : GrowingSet) → HasSameSizes before between → HasSameSizes between after → HasSameSizes before after
+same_sizes before between after first then = record { rows = then.rows ∙ first.rows; columns = then.columns ∙ first.columns }
 
--- ---- no line, and the same lines
+-- lines of the matrix are lines for which the set has room
+pub lines_for : (m : Matrix) (set : GrowingSet) (lines : List Line) → IsSizedFor m set → AllByRecursion (IsLine (height m) m.width) lines → AllByRecursion (IsLineFor set) lines
+lines_for m set lines sized all = rw (sized.rows, sized.columns) all
+
+-- the set has the lines of the matrix outside
+pub outside_of : (m : Matrix) (set : GrowingSet) → IsSizedFor m set → count_outside set.rows.inside.size set.columns.inside.size (set_of set) ≡ count_outside (height m) m.width (set_of set)
+outside_of m set sized = ap₂ (λ (rows columns : ℕ). count_outside rows columns (set_of set)) sized.rows sized.columns
+
+-- ---- no line
 
 pub none_growing : (m : Matrix) (upper lower : ℕ → ℕ → ℤ) (set : GrowingSet) → ((r : ℕ) → is_inside set.rows r ≡ false) → ((k : ℕ) → is_inside set.columns k ≡ false) → IsGrowing m upper lower [] set
 none_growing m upper lower set rows columns = record {
@@ -53,29 +52,16 @@ none_growing m upper lower set rows columns = record {
     nothing (Row r) e = not_both (is_inside set.rows r) e (rows r)
     nothing (Column k) e = not_both (is_inside set.columns k) e (columns k)
 
-module _ (m : Matrix) (one two : GrowingSet) (rows : AreSame one.rows two.rows) (columns : AreSame one.columns two.columns) where
-  pub room_same : HasRoom m two → HasRoom m one
-  room_same w = record { rows = same_growing (height m) one.rows two.rows rows w.rows; columns = same_growing m.width one.columns two.columns columns w.columns }
-
-  is : (x : Line) → set_of one x ≡ set_of two x
-  is (Row r) = ap (λ (v : List ℕ). has_column v r) rows.inside
-  is (Column k) = ap (λ (v : List ℕ). has_column v k) columns.inside
-
-  pub growing_same : (upper lower : ℕ → ℕ → ℤ) (start : List Line) → IsGrowing m upper lower start two → IsGrowing m upper lower start one
-  growing_same upper lower start g = record {
-    has = all_weaker (λ x. set_of two x ≡ true) (λ x. set_of one x ≡ true) (λ x e. is x ∙ e) start g.has;
-    least = λ T closed has x l e. g.least T closed has x l (sym (is x) ∙ e);
-    upper = λ r k lr lk er ek. elim (g.upper r k lr lk (sym (is (Row r)) ∙ er) (sym (is (Column k)) ∙ ek)) [ inl h ↦ inl (subst (λ (v : List ℕ). IsIn r v) (sym rows.fresh) h) | inr e ↦ inr e ];
-    lower = λ r k lr lk er ek. elim (g.lower r k lr lk (sym (is (Row r)) ∙ er) (sym (is (Column k)) ∙ ek)) [ inl h ↦ inl (subst (λ (v : List ℕ). IsIn k v) (sym columns.fresh) h) | inr e ↦ inr e ];
-  }
-
 -- ---- the pulls of a row
 
-module _ (m : Matrix) (upper lower : ℕ → ℕ → ℤ) (before after : GrowingSet) (taken : GrowingLines) (row : ℕ) (agrees : ℕ → Type 0)
-    (t : HasTaken (height m) row before.rows taken) (rows : after.rows ≡ taken) (w : HasPulled m.width agrees before.columns after.columns)
+module _ (m : Matrix) (upper lower : ℕ → ℕ → ℤ) (before after : GrowingSet) (taken : Growth) (row : ℕ) (agrees : ℕ → Type 0)
+    (sized : IsSizedFor m before) (t : HasTaken row before.rows taken) (rows : after.rows ≡ taken) (w : HasPulled agrees before.columns after.columns)
     (agrees_of : (k : ℕ) → entry m row k ≡ upper row k → agrees k) (of_agrees : (k : ℕ) → agrees k → entry m row k ≡ upper row k) (start : List Line) (g : IsGrowing m upper lower start before) where
+  row_in : row < height m
+  row_in = subst (λ (n : ℕ). row < n) sized.rows t.line_in
+
   row_same : (r : ℕ) → is_inside after.rows r ≡ is_inside before.rows r
-  row_same r = ap (λ v. is_inside v r) rows ∙ ap (λ v. has_column v.items r) t.inside_same
+  row_same r = ap (λ v. is_inside v r) rows ∙ ap (λ v. has_column v.words r) t.inside_same
 
   column_out : (k : ℕ) → is_inside after.columns k ≡ false → is_inside before.columns k ≡ false
   column_out k e = false_is (is_inside before.columns k) (λ h. not_both (is_inside after.columns k) (w.grown.kept k h) e)
@@ -88,19 +74,19 @@ module _ (m : Matrix) (upper lower : ℕ → ℕ → ℤ) (before after : Growin
   row_least T closed has (Row r) l e = g.least T closed has (Row r) l (sym (row_same r) ∙ e)
   row_least T closed has (Column k) l e = elim (w.grown.only k e) [
     | inl h ↦ g.least T closed has (Column k) l h
-    | inr h ↦ true_is (T (Column k)) (λ out. h.1 (agrees_of k (closed.upper row k (contains_first_lines (height m) row t.line_in) (contains_first_lines m.width k l) (g.least T closed has (Row row) t.line_in t.line_inside) out)))
+    | inr h ↦ true_is (T (Column k)) (λ out. h (agrees_of k (closed.upper row k (contains_first_lines (height m) row row_in) (contains_first_lines m.width k l) (g.least T closed has (Row row) row_in t.line_inside) out)))
   ]
 
-  row_right : (r k : ℕ) → r < height m → k < m.width → set_of after (Row r) ≡ true → set_of after (Column k) ≡ false → IsIn r after.rows.fresh.items ⊎ (entry m r k ≡ upper r k)
+  row_right : (r k : ℕ) → r < height m → k < m.width → set_of after (Row r) ≡ true → set_of after (Column k) ≡ false → IsIn r after.rows.fresh ⊎ (entry m r k ≡ upper r k)
   row_right r k lr lk er ek = elim (g.upper r k lr lk (sym (row_same r) ∙ er) (column_out k ek)) [
     | inl h ↦ elim (t.others r h) [
-      | inl e ↦ inr (subst (λ (z : ℕ). entry m z k ≡ upper z k) (sym e) (of_agrees k (w.agree k lk ek)))
-      | inr h' ↦ inl (subst (λ v. IsIn r v.fresh.items) (sym rows) h')
+      | inl e ↦ inr (subst (λ (z : ℕ). entry m z k ≡ upper z k) (sym e) (of_agrees k (w.agree k (subst (λ (n : ℕ). k < n) (sym (w.grown.size ∙ sized.columns)) lk) ek)))
+      | inr h' ↦ inl (subst (λ v. IsIn r v.fresh) (sym rows) h')
     ]
     | inr e ↦ inr e
   ]
 
-  row_below : (r k : ℕ) → r < height m → k < m.width → set_of after (Row r) ≡ false → set_of after (Column k) ≡ true → IsIn k after.columns.fresh.items ⊎ (entry m r k ≡ lower r k)
+  row_below : (r k : ℕ) → r < height m → k < m.width → set_of after (Row r) ≡ false → set_of after (Column k) ≡ true → IsIn k after.columns.fresh ⊎ (entry m r k ≡ lower r k)
   row_below r k lr lk er ek = elim (w.grown.news k ek) [
     | inl h ↦ elim (g.lower r k lr lk (sym (row_same r) ∙ er) h) [ inl h' ↦ inl (w.grown.waits k h') | inr e ↦ inr e ]
     | inr h ↦ inl h
@@ -110,11 +96,14 @@ module _ (m : Matrix) (upper lower : ℕ → ℕ → ℤ) (before after : Growin
   row_followed = record { has = all_weaker (λ x. set_of before x ≡ true) (λ x. set_of after x ≡ true) row_has start g.has; least = row_least; upper = row_right; lower = row_below }
 
 -- the pulls of a column
-module _ (m : Matrix) (upper lower : ℕ → ℕ → ℤ) (before after : GrowingSet) (taken : GrowingLines) (column : ℕ) (agrees : ℕ → Type 0)
-    (t : HasTaken m.width column before.columns taken) (columns : after.columns ≡ taken) (w : HasPulled (height m) agrees before.rows after.rows)
+module _ (m : Matrix) (upper lower : ℕ → ℕ → ℤ) (before after : GrowingSet) (taken : Growth) (column : ℕ) (agrees : ℕ → Type 0)
+    (sized : IsSizedFor m before) (t : HasTaken column before.columns taken) (columns : after.columns ≡ taken) (w : HasPulled agrees before.rows after.rows)
     (agrees_of : (r : ℕ) → entry m r column ≡ lower r column → agrees r) (of_agrees : (r : ℕ) → agrees r → entry m r column ≡ lower r column) (start : List Line) (g : IsGrowing m upper lower start before) where
+  column_in : column < m.width
+  column_in = subst (λ (n : ℕ). column < n) sized.columns t.line_in
+
   column_same : (k : ℕ) → is_inside after.columns k ≡ is_inside before.columns k
-  column_same k = ap (λ v. is_inside v k) columns ∙ ap (λ v. has_column v.items k) t.inside_same
+  column_same k = ap (λ v. is_inside v k) columns ∙ ap (λ v. has_column v.words k) t.inside_same
 
   row_out : (r : ℕ) → is_inside after.rows r ≡ false → is_inside before.rows r ≡ false
   row_out r e = false_is (is_inside before.rows r) (λ h. not_both (is_inside after.rows r) (w.grown.kept r h) e)
@@ -127,20 +116,20 @@ module _ (m : Matrix) (upper lower : ℕ → ℕ → ℤ) (before after : Growin
   column_least T closed has (Column k) l e = g.least T closed has (Column k) l (sym (column_same k) ∙ e)
   column_least T closed has (Row r) l e = elim (w.grown.only r e) [
     | inl h ↦ g.least T closed has (Row r) l h
-    | inr h ↦ true_is (T (Row r)) (λ out. h.1 (agrees_of r (closed.lower r column (contains_first_lines (height m) r l) (contains_first_lines m.width column t.line_in) out (g.least T closed has (Column column) t.line_in t.line_inside))))
+    | inr h ↦ true_is (T (Row r)) (λ out. h (agrees_of r (closed.lower r column (contains_first_lines (height m) r l) (contains_first_lines m.width column column_in) out (g.least T closed has (Column column) column_in t.line_inside))))
   ]
 
-  column_right : (r k : ℕ) → r < height m → k < m.width → set_of after (Row r) ≡ true → set_of after (Column k) ≡ false → IsIn r after.rows.fresh.items ⊎ (entry m r k ≡ upper r k)
+  column_right : (r k : ℕ) → r < height m → k < m.width → set_of after (Row r) ≡ true → set_of after (Column k) ≡ false → IsIn r after.rows.fresh ⊎ (entry m r k ≡ upper r k)
   column_right r k lr lk er ek = elim (w.grown.news r er) [
     | inl h ↦ elim (g.upper r k lr lk h (sym (column_same k) ∙ ek)) [ inl h' ↦ inl (w.grown.waits r h') | inr e ↦ inr e ]
     | inr h ↦ inl h
   ]
 
-  column_below : (r k : ℕ) → r < height m → k < m.width → set_of after (Row r) ≡ false → set_of after (Column k) ≡ true → IsIn k after.columns.fresh.items ⊎ (entry m r k ≡ lower r k)
+  column_below : (r k : ℕ) → r < height m → k < m.width → set_of after (Row r) ≡ false → set_of after (Column k) ≡ true → IsIn k after.columns.fresh ⊎ (entry m r k ≡ lower r k)
   column_below r k lr lk er ek = elim (g.lower r k lr lk (row_out r er) (sym (column_same k) ∙ ek)) [
     | inl h ↦ elim (t.others k h) [
-      | inl e ↦ inr (subst (λ (z : ℕ). entry m r z ≡ lower r z) (sym e) (of_agrees r (w.agree r lr er)))
-      | inr h' ↦ inl (subst (λ v. IsIn k v.fresh.items) (sym columns) h')
+      | inl e ↦ inr (subst (λ (z : ℕ). entry m r z ≡ lower r z) (sym e) (of_agrees r (w.agree r (subst (λ (n : ℕ). r < n) (sym (w.grown.size ∙ sized.rows)) lr) er)))
+      | inr h' ↦ inl (subst (λ v. IsIn k v.fresh) (sym columns) h')
     ]
     | inr e ↦ inr e
   ]
@@ -150,29 +139,25 @@ module _ (m : Matrix) (upper lower : ℕ → ℕ → ℤ) (before after : Growin
 
 -- ---- the steps as the code takes them
 
-module _ (m : Matrix) (upper lower : ℕ → ℕ → ℤ) (before after : GrowingSet) (room : HasRoom m before) where
-  pub row_step : (row : ℕ) (n : Matrix) (sum : Sum) → n ≡ m → HasTaken before.rows.size row before.rows after.rows → HasPulled before.columns.size (λ x. entry n row x ≡ sum_at n sum x) before.columns after.columns
+module _ (m : Matrix) (upper lower : ℕ → ℕ → ℤ) (before after : GrowingSet) (sized : IsSizedFor m before) where
+  pub row_step : (row : ℕ) (n : Matrix) (sum : Sum) → n ≡ m → HasTaken row before.rows after.rows → HasPulled (λ x. entry n row x ≡ sum_at n sum x) before.columns after.columns
       → ((k : ℕ) → sum_at m sum k ≡ upper row k) → (start : List Line) → IsGrowing m upper lower start before → IsGrowing m upper lower start after
   row_step row n sum same t w is start g =
-      row_followed m upper lower before after after.rows row (λ x. entry m row x ≡ sum_at m sum x)
-      (subst (λ (z : ℕ). HasTaken z row before.rows after.rows) room.rows.size t) refl
-      (subst (λ (z : ℕ). HasPulled z (λ x. entry m row x ≡ sum_at m sum x) before.columns after.columns) room.columns.size
-      (subst (λ (z : Matrix). HasPulled before.columns.size (λ x. entry z row x ≡ sum_at z sum x) before.columns after.columns) same w))
+      row_followed m upper lower before after after.rows row (λ x. entry m row x ≡ sum_at m sum x) sized t refl
+      (subst (λ (z : Matrix). HasPulled (λ x. entry z row x ≡ sum_at z sum x) before.columns after.columns) same w)
       (λ k h. h ∙ sym (is k)) (λ k h. h ∙ is k) start g
 
-  pub column_step : IsMatrix m → (column : ℕ) (n : Matrix) (sum : Sum) → n ≡ transposed m → HasTaken before.columns.size column before.columns after.columns
-      → HasPulled before.rows.size (λ x. entry n column x ≡ sum_at n sum x) before.rows after.rows → ((r : ℕ) → sum_at (transposed m) sum r ≡ lower r column) → (start : List Line) → IsGrowing m upper lower start before → IsGrowing m upper lower start after
+  pub column_step : IsMatrix m → (column : ℕ) (n : Matrix) (sum : Sum) → n ≡ transposed m → HasTaken column before.columns after.columns
+      → HasPulled (λ x. entry n column x ≡ sum_at n sum x) before.rows after.rows → ((r : ℕ) → sum_at (transposed m) sum r ≡ lower r column) → (start : List Line) → IsGrowing m upper lower start before → IsGrowing m upper lower start after
   column_step shape column n sum same t w is start g =
-      column_followed m upper lower before after after.columns column (λ x. entry (transposed m) column x ≡ sum_at (transposed m) sum x)
-      (subst (λ (z : ℕ). HasTaken z column before.columns after.columns) room.columns.size t) refl
-      (subst (λ (z : ℕ). HasPulled z (λ x. entry (transposed m) column x ≡ sum_at (transposed m) sum x) before.rows after.rows) room.rows.size
-      (subst (λ (z : Matrix). HasPulled before.rows.size (λ x. entry z column x ≡ sum_at z sum x) before.rows after.rows) same w))
+      column_followed m upper lower before after after.columns column (λ x. entry (transposed m) column x ≡ sum_at (transposed m) sum x) sized t refl
+      (subst (λ (z : Matrix). HasPulled (λ x. entry z column x ≡ sum_at z sum x) before.rows after.rows) same w)
       (λ r h. entry-transposed m r column shape ∙ h ∙ sym (is r)) (λ r h. sym (entry-transposed m r column shape) ∙ h ∙ is r) start g
 
 -- ---- another line
 
 module _ (m : Matrix) (upper lower : ℕ → ℕ → ℤ) (before after : GrowingSet) (start : List Line) (g : IsGrowing m upper lower start before) where
-  pub row_added : (row : ℕ) → HasAdded (height m) row before.rows after.rows → after.columns ≡ before.columns → IsGrowing m upper lower (Row row ∷ start) after
+  pub row_added : (row : ℕ) → HasAdded row before.rows after.rows → after.columns ≡ before.columns → IsGrowing m upper lower (Row row ∷ start) after
   row_added row w columns = record { has = (w.line_in, all_weaker (λ x. set_of before x ≡ true) (λ x. set_of after x ≡ true) has start g.has); least = least; upper = upper_kept; lower = lower_kept }
     where
       same : (k : ℕ) → is_inside after.columns k ≡ is_inside before.columns k
@@ -189,19 +174,19 @@ module _ (m : Matrix) (upper lower : ℕ → ℕ → ℤ) (before after : Growin
       least T closed all (Column k) l e = g.least T closed all.1 (Column k) l (sym (same k) ∙ e)
       least T closed all (Row r) l e = elim (w.grown.only r e) [
         | inl h ↦ g.least T closed all.1 (Row r) l h
-        | inr h ↦ ap (λ (z : ℕ). T (Row z)) h.1 ∙ all.0
+        | inr h ↦ ap (λ (z : ℕ). T (Row z)) h ∙ all.0
       ]
 
-      upper_kept : (r k : ℕ) → r < height m → k < m.width → set_of after (Row r) ≡ true → set_of after (Column k) ≡ false → IsIn r after.rows.fresh.items ⊎ (entry m r k ≡ upper r k)
+      upper_kept : (r k : ℕ) → r < height m → k < m.width → set_of after (Row r) ≡ true → set_of after (Column k) ≡ false → IsIn r after.rows.fresh ⊎ (entry m r k ≡ upper r k)
       upper_kept r k lr lk er ek = elim (w.grown.news r er) [
         | inl h ↦ elim (g.upper r k lr lk h (sym (same k) ∙ ek)) [ inl h' ↦ inl (w.grown.waits r h') | inr e ↦ inr e ]
         | inr h ↦ inl h
       ]
 
-      lower_kept : (r k : ℕ) → r < height m → k < m.width → set_of after (Row r) ≡ false → set_of after (Column k) ≡ true → IsIn k after.columns.fresh.items ⊎ (entry m r k ≡ lower r k)
-      lower_kept r k lr lk er ek = elim (g.lower r k lr lk (out r er) (sym (same k) ∙ ek)) [ inl h' ↦ inl (subst (λ v. IsIn k v.fresh.items) (sym columns) h') | inr e ↦ inr e ]
+      lower_kept : (r k : ℕ) → r < height m → k < m.width → set_of after (Row r) ≡ false → set_of after (Column k) ≡ true → IsIn k after.columns.fresh ⊎ (entry m r k ≡ lower r k)
+      lower_kept r k lr lk er ek = elim (g.lower r k lr lk (out r er) (sym (same k) ∙ ek)) [ inl h' ↦ inl (subst (λ v. IsIn k v.fresh) (sym columns) h') | inr e ↦ inr e ]
 
-  pub column_added : (column : ℕ) → HasAdded m.width column before.columns after.columns → after.rows ≡ before.rows → IsGrowing m upper lower (Column column ∷ start) after
+  pub column_added : (column : ℕ) → HasAdded column before.columns after.columns → after.rows ≡ before.rows → IsGrowing m upper lower (Column column ∷ start) after
   column_added column w rows = record { has = (w.line_in, all_weaker (λ x. set_of before x ≡ true) (λ x. set_of after x ≡ true) has start g.has); least = least; upper = upper_kept; lower = lower_kept }
     where
       same : (r : ℕ) → is_inside after.rows r ≡ is_inside before.rows r
@@ -218,27 +203,25 @@ module _ (m : Matrix) (upper lower : ℕ → ℕ → ℤ) (before after : Growin
       least T closed all (Row r) l e = g.least T closed all.1 (Row r) l (sym (same r) ∙ e)
       least T closed all (Column k) l e = elim (w.grown.only k e) [
         | inl h ↦ g.least T closed all.1 (Column k) l h
-        | inr h ↦ ap (λ (z : ℕ). T (Column z)) h.1 ∙ all.0
+        | inr h ↦ ap (λ (z : ℕ). T (Column z)) h ∙ all.0
       ]
 
-      upper_kept : (r k : ℕ) → r < height m → k < m.width → set_of after (Row r) ≡ true → set_of after (Column k) ≡ false → IsIn r after.rows.fresh.items ⊎ (entry m r k ≡ upper r k)
-      upper_kept r k lr lk er ek = elim (g.upper r k lr lk (sym (same r) ∙ er) (out k ek)) [ inl h' ↦ inl (subst (λ v. IsIn r v.fresh.items) (sym rows) h') | inr e ↦ inr e ]
+      upper_kept : (r k : ℕ) → r < height m → k < m.width → set_of after (Row r) ≡ true → set_of after (Column k) ≡ false → IsIn r after.rows.fresh ⊎ (entry m r k ≡ upper r k)
+      upper_kept r k lr lk er ek = elim (g.upper r k lr lk (sym (same r) ∙ er) (out k ek)) [ inl h' ↦ inl (subst (λ v. IsIn r v.fresh) (sym rows) h') | inr e ↦ inr e ]
 
-      lower_kept : (r k : ℕ) → r < height m → k < m.width → set_of after (Row r) ≡ false → set_of after (Column k) ≡ true → IsIn k after.columns.fresh.items ⊎ (entry m r k ≡ lower r k)
+      lower_kept : (r k : ℕ) → r < height m → k < m.width → set_of after (Row r) ≡ false → set_of after (Column k) ≡ true → IsIn k after.columns.fresh ⊎ (entry m r k ≡ lower r k)
       lower_kept r k lr lk er ek = elim (w.grown.news k ek) [
         | inl h ↦ elim (g.lower r k lr lk (sym (same r) ∙ er) h) [ inl h' ↦ inl (w.grown.waits k h') | inr e ↦ inr e ]
         | inr h ↦ inl h
       ]
 
-pub row_added_as : (m : Matrix) (upper lower : ℕ → ℕ → ℤ) (before after : GrowingSet) (start : List Line) (line : Line) (row : ℕ) → line ≡ Row row → HasRoom m before → IsGrowing m upper lower start before
-    → HasAdded before.rows.size row before.rows after.rows → after.columns ≡ before.columns → IsGrowing m upper lower (line ∷ start) after
-row_added_as m upper lower before after start line row is room g w same =
-    subst (λ (z : Line). IsGrowing m upper lower (z ∷ start) after) (sym is) (row_added m upper lower before after start g row (subst (λ (z : ℕ). HasAdded z row before.rows after.rows) room.rows.size w) same)
+pub row_added_as : (m : Matrix) (upper lower : ℕ → ℕ → ℤ) (before after : GrowingSet) (start : List Line) (line : Line) (row : ℕ) → line ≡ Row row → IsGrowing m upper lower start before
+    → HasAdded row before.rows after.rows → after.columns ≡ before.columns → IsGrowing m upper lower (line ∷ start) after
+row_added_as m upper lower before after start line row is g w same = subst (λ (z : Line). IsGrowing m upper lower (z ∷ start) after) (sym is) (row_added m upper lower before after start g row w same)
 
-pub column_added_as : (m : Matrix) (upper lower : ℕ → ℕ → ℤ) (before after : GrowingSet) (start : List Line) (line : Line) (column : ℕ) → line ≡ Column column → HasRoom m before → IsGrowing m upper lower start before
-    → HasAdded before.columns.size column before.columns after.columns → after.rows ≡ before.rows → IsGrowing m upper lower (line ∷ start) after
-column_added_as m upper lower before after start line column is room g w same =
-    subst (λ (z : Line). IsGrowing m upper lower (z ∷ start) after) (sym is) (column_added m upper lower before after start g column (subst (λ (z : ℕ). HasAdded z column before.columns after.columns) room.columns.size w) same)
+pub column_added_as : (m : Matrix) (upper lower : ℕ → ℕ → ℤ) (before after : GrowingSet) (start : List Line) (line : Line) (column : ℕ) → line ≡ Column column → IsGrowing m upper lower start before
+    → HasAdded column before.columns after.columns → after.rows ≡ before.rows → IsGrowing m upper lower (line ∷ start) after
+column_added_as m upper lower before after start line column is g w same = subst (λ (z : Line). IsGrowing m upper lower (z ∷ start) after) (sym is) (column_added m upper lower before after start g column w same)
 
 -- ---- the end
 
@@ -246,13 +229,13 @@ none_in : (xs : List ℕ) (x : ℕ) → length xs ≡ 0 → ¬ (IsIn x xs)
 none_in [] x e h = h
 none_in (y ∷ ys) x e h = absurd (omega arith)
 
-module _ (m : Matrix) (rule : GrowthRule) (start out : List Line) (least : ℕ) (set : GrowingSet) (room : HasRoom m set) (g : IsGrowing m (upper_of m rule) (lower_of m rule) start set) where
-  pub closed_leaving : length set.rows.fresh.items ≡ 0 → length set.columns.fresh.items ≡ 0 → HasNone (set_of set) out → least ≤ count_outside (height m) m.width (set_of set) → IsLeaving m rule start out least (set_of set)
+module _ (m : Matrix) (rule : GrowthRule) (start out : List Line) (least : ℕ) (set : GrowingSet) (g : IsGrowing m (upper_of m rule) (lower_of m rule) start set) where
+  pub closed_leaving : length set.rows.fresh ≡ 0 → length set.columns.fresh ≡ 0 → HasNone (set_of set) out → least ≤ count_outside (height m) m.width (set_of set) → IsLeaving m rule start out least (set_of set)
   closed_leaving nr nc none enough = record {
     grown = record {
       closed = record {
-        upper = λ r k hr hk er ek. elim (g.upper r k (first_lines_contain (height m) r hr) (first_lines_contain m.width k hk) er ek) [ inl h ↦ absurd (none_in set.rows.fresh.items r nr h) | inr e ↦ e ];
-        lower = λ r k hr hk er ek. elim (g.lower r k (first_lines_contain (height m) r hr) (first_lines_contain m.width k hk) er ek) [ inl h ↦ absurd (none_in set.columns.fresh.items k nc h) | inr e ↦ e ];
+        upper = λ r k hr hk er ek. elim (g.upper r k (first_lines_contain (height m) r hr) (first_lines_contain m.width k hk) er ek) [ inl h ↦ absurd (none_in set.rows.fresh r nr h) | inr e ↦ e ];
+        lower = λ r k hr hk er ek. elim (g.lower r k (first_lines_contain (height m) r hr) (first_lines_contain m.width k hk) er ek) [ inl h ↦ absurd (none_in set.columns.fresh k nc h) | inr e ↦ e ];
       };
       has = g.has;
       least = g.least;
@@ -275,19 +258,19 @@ pub few_shown : (m : Matrix) (out : List Line) (least : ℕ) (set : GrowingSet) 
 few_shown m out least set leaves few = let b = outside_is (height m) m.width (set_of set) in let c = leaves.enough in omega arith
 
 -- a set that needs no lines outside is closed in the end, since the set of all lines is
-pub always_closed : (m : Matrix) (rule : GrowthRule) (start : List Line) (told : Bool) (S : Lines) → TellsClosed m rule start [] 0 told S → IsGrown (height m) m.width (entry m) (upper_of m rule) (lower_of m rule) start S
-always_closed m rule start true S told = told.grown
-always_closed m rule start false S told = absurd (told (λ x. true) (record { upper = λ r k hr hk er ek. absurd (not_both true refl ek); lower = λ r k hr hk er ek. absurd (not_both true refl er) }) (all_of (λ x. true ≡ true) (λ x. refl) start) (record { none = tt; enough = omega arith }))
+pub always_closed : (m : Matrix) (rule : GrowthRule) (start : List Line) (answer : Bool) (S : Lines) → DecidesLeaving m rule start [] 0 answer S → IsGrown (height m) m.width (entry m) (upper_of m rule) (lower_of m rule) start S
+always_closed m rule start true S decided = decided.grown
+always_closed m rule start false S decided = absurd (decided (λ x. true) (record { upper = λ r k hr hk er ek. absurd (not_both true refl ek); lower = λ r k hr hk er ek. absurd (not_both true refl er) }) (all_of (λ x. true ≡ true) (λ x. refl) start) (record { none = tt; enough = omega arith }))
 
 -- the meaning of each answer
 module _ (m : Matrix) (rule : GrowthRule) (start out : List Line) (least : ℕ) where
-  pub told_yes : (told : Bool) (S : Lines) → TellsClosed m rule start out least told S → told ≡ true → IsLeaving m rule start out least S
-  told_yes true S h e = h
-  told_yes false S h e = absurd (not_both false e refl)
+  pub decided_yes : (answer : Bool) (S : Lines) → DecidesLeaving m rule start out least answer S → answer ≡ true → IsLeaving m rule start out least S
+  decided_yes true S h e = h
+  decided_yes false S h e = absurd (not_both false e refl)
 
-  pub told_no : (told : Bool) (S : Lines) → TellsClosed m rule start out least told S → told ≡ false → HasNoLeaving m rule start out least
-  told_no true S h e = absurd (not_both true refl e)
-  told_no false S h e = h
+  pub decided_no : (answer : Bool) (S : Lines) → DecidesLeaving m rule start out least answer S → answer ≡ false → HasNoLeaving m rule start out least
+  decided_no true S h e = absurd (not_both true refl e)
+  decided_no false S h e = h
 
 -- ---- lists of lines
 

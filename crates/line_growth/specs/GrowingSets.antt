@@ -10,7 +10,7 @@ use Rattle.cmr_base.specs.Separations.{Lines, count_lines_in, opposite}
 use Rattle.cmr_base.specs.Seeds.{HasAll, IsClosed, IsGrown, IsLine}
 use Rattle.line_growth.specs.declared.growing_set.GrowingSet.{GrowingSet}
 use Rattle.line_growth.specs.declared.rule.GrowthRule.{GrowthRule}
-use Rattle.line_growth.specs.GrowingLines.{AreGrowing, is_inside, room}
+use Rattle.line_growth.specs.GrowingLines.{is_inside, room}
 use Rattle.line_growth.specs.Rules.{lower_of, upper_of}
 
 -- the lines of the set
@@ -18,9 +18,19 @@ abbrev pub set_of : GrowingSet → Lines
 set_of set (Row row) = is_inside set.rows row
 set_of set (Column column) = is_inside set.columns column
 
-pub record HasRoom (m : Matrix) (set : GrowingSet) : Type 0 where
-  pub rows : AreGrowing (height m) set.rows
-  pub columns : AreGrowing m.width set.columns
+-- the set has room for the lines of the matrix
+pub record IsSizedFor (m : Matrix) (set : GrowingSet) : Type 0 where
+  pub rows : set.rows.inside.size ≡ height m
+  pub columns : set.columns.inside.size ≡ m.width
+
+-- both sets have room for the same lines
+pub record HasSameSizes (before after : GrowingSet) : Type 0 where
+  pub rows : after.rows.inside.size ≡ before.rows.inside.size
+  pub columns : after.columns.inside.size ≡ before.columns.inside.size
+
+-- a line for which the set has room
+abbrev pub IsLineFor : GrowingSet → Line → Type 0
+IsLineFor set = IsLine set.rows.inside.size set.columns.inside.size
 
 -- a bound on the remaining work
 abbrev pub work : GrowingSet → ℕ
@@ -36,9 +46,9 @@ pub record IsGrowing (m : Matrix) (upper_entry lower_entry : ℕ → ℕ → ℤ
   pub has : HasAll (set_of set) start
   pub least : (T : Lines) → IsClosedIn m upper_entry lower_entry T → HasAll T start → (x : Line) → IsLine (height m) m.width x → set_of set x ≡ true → T x ≡ true
   pub upper : (r k : ℕ) → r < height m → k < m.width → set_of set (Row r) ≡ true → set_of set (Column k) ≡ false
-      → IsIn r set.rows.fresh.items ⊎ (entry m r k ≡ upper_entry r k)
+      → IsIn r set.rows.fresh ⊎ (entry m r k ≡ upper_entry r k)
   pub lower : (r k : ℕ) → r < height m → k < m.width → set_of set (Row r) ≡ false → set_of set (Column k) ≡ true
-      → IsIn k set.columns.fresh.items ⊎ (entry m r k ≡ lower_entry r k)
+      → IsIn k set.columns.fresh ⊎ (entry m r k ≡ lower_entry r k)
 
 -- a set that is growing from a start before is growing from it after
 abbrev pub KeepsGrowing : Matrix → (upper lower : ℕ → ℕ → ℤ) → GrowingSet → GrowingSet → Type 0
@@ -64,6 +74,6 @@ pub record IsLeaving (m : Matrix) (rule : GrowthRule) (start out : List Line) (l
   pub leaves : Leaves m out least S
 
 -- the set is the least closed set with the start and satisfies `Leaves`, or no closed set with the start does
-abbrev pub TellsClosed : Matrix → GrowthRule → (start out : List Line) → ℕ → Bool → Lines → Type 0
-TellsClosed m rule start out least true S = IsLeaving m rule start out least S
-TellsClosed m rule start out least false S = HasNoLeaving m rule start out least
+abbrev pub DecidesLeaving : Matrix → GrowthRule → (start out : List Line) → ℕ → Bool → Lines → Type 0
+DecidesLeaving m rule start out least true S = IsLeaving m rule start out least S
+DecidesLeaving m rule start out least false S = HasNoLeaving m rule start out least

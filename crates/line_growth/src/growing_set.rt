@@ -1,19 +1,17 @@
 // Sets of lines that grow until they are closed.
 ghost use Rattle.std.specs.Prelude.{◌≡◌, ◌<◌, ◌+◌, ◌∷◌, ◌↔◌, [], filter, ℕ, ℤ, List, length, true, false, IsTrue, IfOk, OnOk};
 ghost use Rattle.std.specs.List.{AllByRecursion};
-ghost use Rattle.cmr_base.specs.ColumnSets.{has_column};
 ghost use Rattle.cmr_base.specs.LineSets.{first_lines};
 ghost use Rattle.cmr_base.specs.Matrix.{Matrix, height};
-ghost use Rattle.cmr_base.specs.Planes.{words_for};
 ghost use Rattle.cmr_base.specs.Seeds.{IsLine, line_number, count_outside};
 ghost use Rattle.cmr_base.specs.declared.line.Line.{Line};
 ghost use Rattle.cmr_base.specs.declared.line.Line.TheVariants.{Row, Column};
 ghost use Rattle.line_growth.specs.Rules.{IsRuleOf, lower_of, upper_of};
-ghost use Rattle.line_growth.specs.GrowingSets.{HasNone, HasRoom, IsGrowing, KeepsGrowing, Leaves, TellsClosed, set_of, work};
+ghost use Rattle.line_growth.specs.GrowingSets.{DecidesLeaving, HasNone, HasSameSizes, IsGrowing, IsLineFor, IsSizedFor, KeepsGrowing, Leaves, set_of, work};
 
 use crate::growing_lines::GrowingLines;
 use crate::rule::{Block, GrowthRule};
-use cmr_base::{Line, LineSet, Memory, RowsAndColumns};
+use cmr_base::{BitSet, Line, LineSet, Memory, RowsAndColumns};
 use std::alloc::Global;
 
 /// A growing set of lines of a matrix. It begins with given lines and grows by a rule: the set adds each line outside that
@@ -27,10 +25,8 @@ pub struct GrowingSet {
 impl GrowingSet {
     /// The empty set of the lines of a matrix.
     pub fn new(alloc: Global, matrix: &RowsAndColumns<'_>) -> Result<GrowingSet, Memory>
-        ensures room { IfOk result (HasRoom matrix.now) }
-        ensures rows { IfOk result (λ set. (row : ℕ) → set_of set (Row row) ≡ false) }
-        ensures columns { IfOk result (λ set. (column : ℕ)
-            → set_of set (Column column) ≡ false) }
+        ensures size { IfOk result (IsSizedFor matrix.now) }
+        ensures none { IfOk result (λ set. (x : Line) → set_of set x ≡ false) }
     {
         Ok(GrowingSet {
             rows: GrowingLines::new(alloc, matrix.rows())?,
@@ -39,41 +35,38 @@ impl GrowingSet {
     }
 
     // Removes all lines.
-    fn clear(&mut self, matrix: &RowsAndColumns<'_>)
-        requires { HasRoom matrix.now self.old }
-        ensures room { HasRoom matrix.now self.new }
-        ensures growing { (upper lower : ℕ → ℕ → ℤ) → IsGrowing matrix.now upper lower []
-            self.new }
+    fn clear(&mut self)
+        ensures size { HasSameSizes self.old self.new }
+        ensures growing { (m : Matrix) (upper lower : ℕ → ℕ → ℤ)
+            → IsGrowing m upper lower [] self.new }
     {
         self.rows.clear();
         self.columns.clear();
     }
 
     /// Begins with these lines.
-    pub fn start(&mut self, matrix: &RowsAndColumns<'_>, lines: &[Line]) -> Result<(), Memory>
-        requires room { HasRoom matrix.now self.old }
-        requires lines { AllByRecursion (IsLine (height matrix.now) matrix.now.width) lines.now }
-        ensures room { OnOk result (HasRoom matrix.now self.new) }
-        ensures growing { OnOk result ((upper lower : ℕ → ℕ → ℤ)
-            → IsGrowing matrix.now upper lower lines.now self.new) }
+    pub fn start(&mut self, lines: &[Line]) -> Result<(), Memory>
+        requires { AllByRecursion (IsLineFor self.old) lines.now }
+        ensures size { OnOk result (HasSameSizes self.old self.new) }
+        ensures growing { OnOk result ((m : Matrix) (upper lower : ℕ → ℕ → ℤ)
+            → IsGrowing m upper lower lines.now self.new) }
     {
-        self.clear(matrix);
+        self.clear();
         let mut from = lines.len();
         'lines: while from > 0 {
             from -= 1;
-            self.add(matrix, lines[from])?;
+            self.add(lines[from])?;
         }
         Ok(())
     }
 
     /// Adds a line.
-    pub fn add(&mut self, matrix: &RowsAndColumns<'_>, line: Line) -> Result<(), Memory>
-        requires room { HasRoom matrix.now self.old }
-        requires line { IsLine (height matrix.now) matrix.now.width line }
-        ensures room { OnOk result (HasRoom matrix.now self.new) }
-        ensures growing { OnOk result ((upper lower : ℕ → ℕ → ℤ) (start : List Line)
-            → IsGrowing matrix.now upper lower start self.old
-            → IsGrowing matrix.now upper lower (line ∷ start) self.new) }
+    pub fn add(&mut self, line: Line) -> Result<(), Memory>
+        requires { IsLineFor self.old line }
+        ensures size { OnOk result (HasSameSizes self.old self.new) }
+        ensures growing { OnOk result ((m : Matrix) (upper lower : ℕ → ℕ → ℤ) (start : List Line)
+            → IsGrowing m upper lower start self.old
+            → IsGrowing m upper lower (line ∷ start) self.new) }
     {
         match line {
             Line::Row(row) => {
@@ -87,12 +80,10 @@ impl GrowingSet {
         }
     }
 
-    /// Becomes equal to `other`.
+    /// Becomes equal to `other`, which has room for the same lines.
     pub fn copy(&mut self, other: &GrowingSet) -> Result<(), Memory>
-        ensures room { OnOk result ((m : Matrix) → HasRoom m other.now → HasRoom m self.new) }
-        ensures growing { OnOk result ((m : Matrix) (upper lower : ℕ → ℕ → ℤ) (start : List Line)
-            → IsGrowing m upper lower start other.now
-            → IsGrowing m upper lower start self.new) }
+        requires { HasSameSizes self.old other.now }
+        ensures { OnOk result (self.new ≡ other.now) }
     {
         self.rows.copy(&other.rows)?;
         self.columns.copy(&other.columns)?;
@@ -108,24 +99,24 @@ impl GrowingSet {
         out: &[Line],
         least: u32,
     ) -> Result<bool, Memory>
-        requires room { HasRoom matrix.now self.old }
+        requires size { IsSizedFor matrix.now self.old }
         requires rule { IsRuleOf matrix.now rule }
         requires out { AllByRecursion (IsLine (height matrix.now) matrix.now.width) out.now }
-        ensures room { OnOk result (HasRoom matrix.now self.new) }
+        ensures size { OnOk result (HasSameSizes self.old self.new) }
         ensures growing { OnOk result (KeepsGrowing matrix.now (upper_of matrix.now rule)
             (lower_of matrix.now rule) self.old self.new) }
         ensures closed { IfOk result (λ closed. (start : List Line)
             → IsGrowing matrix.now (upper_of matrix.now rule) (lower_of matrix.now rule) start
             self.old
-            → TellsClosed matrix.now rule start out.now least closed (set_of self.new)) }
+            → DecidesLeaving matrix.now rule start out.now least closed (set_of self.new)) }
         ensures shown { IfOk result (λ closed. closed ≡ false
             → ¬ (Leaves matrix.now out.now least (set_of self.new))) }
     {
-        'lines: while self.left(matrix) >= least {
-            if !self.has_none(matrix, out) {
+        'lines: while self.left() >= least {
+            if !self.has_none(out) {
                 return Ok(false);
             }
-            if self.rows.waiting() + self.columns.waiting() == 0 {
+            if self.rows.waiting() == 0 && self.columns.waiting() == 0 {
                 return Ok(true);
             }
             self.follow(matrix, rule)?;
@@ -134,33 +125,31 @@ impl GrowingSet {
     }
 
     /// The number of lines outside.
-    pub fn left(&self, matrix: &RowsAndColumns<'_>) -> u32
-        requires { HasRoom matrix.now self.now }
-        ensures { result ≡ count_outside (height matrix.now) matrix.now.width (set_of self.now) }
+    pub fn left(&self) -> u32
+        ensures { result ≡ count_outside self.now.rows.inside.size self.now.columns.inside.size
+            (set_of self.now) }
     {
         self.rows.left() + self.columns.left()
     }
 
     /// Whether a line is in the set.
-    pub fn has(&self, matrix: &RowsAndColumns<'_>, line: Line) -> bool
-        requires room { HasRoom matrix.now self.now }
-        requires line { IsLine (height matrix.now) matrix.now.width line }
+    pub fn has(&self, line: Line) -> bool
+        requires { IsLineFor self.now line }
         ensures { result ≡ set_of self.now line }
     {
         match line {
-            Line::Row(row) => self.rows.has(row),
-            Line::Column(column) => self.columns.has(column),
+            Line::Row(row) => self.rows.inside().has(row),
+            Line::Column(column) => self.columns.inside().has(column),
         }
     }
 
     // Whether the set has none of these lines.
-    fn has_none(&self, matrix: &RowsAndColumns<'_>, lines: &[Line]) -> bool
-        requires room { HasRoom matrix.now self.now }
-        requires lines { AllByRecursion (IsLine (height matrix.now) matrix.now.width) lines.now }
+    fn has_none(&self, lines: &[Line]) -> bool
+        requires { AllByRecursion (IsLineFor self.now) lines.now }
         ensures { IsTrue result ↔ HasNone (set_of self.now) lines.now }
     {
         for line in lines {
-            if self.has(matrix, *line) {
+            if self.has(*line) {
                 return false;
             }
         }
@@ -169,11 +158,11 @@ impl GrowingSet {
 
     // Follows the pulls of one waiting line.
     fn follow(&mut self, matrix: &RowsAndColumns<'_>, rule: GrowthRule) -> Result<(), Memory>
-        requires room { HasRoom matrix.now self.old }
+        requires size { IsSizedFor matrix.now self.old }
         requires rule { IsRuleOf matrix.now rule }
         requires waits { 0
-            < length self.old.rows.fresh.items + length self.old.columns.fresh.items }
-        ensures room { OnOk result (HasRoom matrix.now self.new) }
+            < length self.old.rows.fresh + length self.old.columns.fresh }
+        ensures size { OnOk result (HasSameSizes self.old self.new) }
         ensures growing { OnOk result (KeepsGrowing matrix.now (upper_of matrix.now rule)
             (lower_of matrix.now rule) self.old self.new) }
         ensures less { OnOk result (work self.new < work self.old) }
@@ -187,9 +176,9 @@ impl GrowingSet {
 
     // Whether to follow a row next, that is if fewer rows are outside than columns.
     fn rows_first(&self) -> bool
-        requires { 0 < length self.now.rows.fresh.items + length self.now.columns.fresh.items }
-        ensures row { result ≡ true → 0 < length self.now.rows.fresh.items }
-        ensures column { result ≡ false → 0 < length self.now.columns.fresh.items }
+        requires { 0 < length self.now.rows.fresh + length self.now.columns.fresh }
+        ensures row { result ≡ true → 0 < length self.now.rows.fresh }
+        ensures column { result ≡ false → 0 < length self.now.columns.fresh }
     {
         if self.columns.waiting() == 0 {
             return true;
@@ -201,10 +190,10 @@ impl GrowingSet {
     }
 
     fn follow_row(&mut self, matrix: &RowsAndColumns<'_>, rule: GrowthRule) -> Result<(), Memory>
-        requires room { HasRoom matrix.now self.old }
+        requires size { IsSizedFor matrix.now self.old }
         requires rule { IsRuleOf matrix.now rule }
-        requires waits { 0 < length self.old.rows.fresh.items }
-        ensures room { OnOk result (HasRoom matrix.now self.new) }
+        requires waits { 0 < length self.old.rows.fresh }
+        ensures size { OnOk result (HasSameSizes self.old self.new) }
         ensures growing { OnOk result (KeepsGrowing matrix.now (upper_of matrix.now rule)
             (lower_of matrix.now rule) self.old self.new) }
         ensures less { OnOk result (work self.new < work self.old) }
@@ -217,10 +206,10 @@ impl GrowingSet {
     }
 
     fn follow_column(&mut self, matrix: &RowsAndColumns<'_>, rule: GrowthRule) -> Result<(), Memory>
-        requires room { HasRoom matrix.now self.old }
+        requires size { IsSizedFor matrix.now self.old }
         requires rule { IsRuleOf matrix.now rule }
-        requires waits { 0 < length self.old.columns.fresh.items }
-        ensures room { OnOk result (HasRoom matrix.now self.new) }
+        requires waits { 0 < length self.old.columns.fresh }
+        ensures size { OnOk result (HasSameSizes self.old self.new) }
         ensures growing { OnOk result (KeepsGrowing matrix.now (upper_of matrix.now rule)
             (lower_of matrix.now rule) self.old self.new) }
         ensures less { OnOk result (work self.new < work self.old) }
@@ -232,36 +221,32 @@ impl GrowingSet {
         Ok(())
     }
 
-    /// The rows of the set, as a set of words.
-    pub fn rows(&self, matrix: &RowsAndColumns<'_>) -> &[u64]
-        requires { HasRoom matrix.now self.now }
-        ensures size { length result.now ≡ words_for (height matrix.now) }
-        ensures rows { (row : ℕ) → has_column result.now row ≡ set_of self.now (Row row) }
+    /// The rows of the set.
+    pub fn rows(&self) -> &BitSet
+        ensures { result.now ≡ self.now.rows.inside }
     {
-        self.rows.words()
+        self.rows.inside()
     }
 
-    /// The columns of the set, as a set of words.
-    pub fn columns(&self, matrix: &RowsAndColumns<'_>) -> &[u64]
-        requires { HasRoom matrix.now self.now }
-        ensures size { length result.now ≡ words_for matrix.now.width }
-        ensures columns { (column : ℕ)
-            → has_column result.now column ≡ set_of self.now (Column column) }
+    /// The columns of the set.
+    pub fn columns(&self) -> &BitSet
+        ensures { result.now ≡ self.now.columns.inside }
     {
-        self.columns.words()
+        self.columns.inside()
     }
 
     /// The lines of the set, as lists.
-    pub fn line_set(&self, alloc: Global, matrix: &RowsAndColumns<'_>) -> Result<LineSet, Memory>
-        requires { HasRoom matrix.now self.now }
+    pub fn line_set(&self, alloc: Global) -> Result<LineSet, Memory>
         ensures rows { IfOk result (λ lines. lines.rows
-            ≡ filter (λ row. set_of self.now (Row row)) (first_lines (height matrix.now))) }
+            ≡ filter (λ row. set_of self.now (Row row))
+            (first_lines self.now.rows.inside.size)) }
         ensures columns { IfOk result (λ lines. lines.columns
-            ≡ filter (λ column. set_of self.now (Column column)) (first_lines matrix.now.width)) }
+            ≡ filter (λ column. set_of self.now (Column column))
+            (first_lines self.now.columns.inside.size)) }
     {
         Ok(LineSet {
-            rows: self.rows.listed(alloc)?,
-            columns: self.columns.listed(alloc)?,
+            rows: self.rows().listed(alloc)?,
+            columns: self.columns().listed(alloc)?,
         })
     }
 }

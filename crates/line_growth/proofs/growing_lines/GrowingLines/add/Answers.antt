@@ -1,19 +1,36 @@
-use Rattle.std.proofs.Common.{◌≡◌, ◌∙◌, sym, ap, refl, arith, false}
-use Rattle.cmr_base.specs.ColumnSets.{has_column}
-use Rattle.line_growth.specs.GrowingLines.{is_inside}
-use Rattle.line_growth.proofs.LineSteps.{added_already, adds, some_left}
+use Rattle.std.proofs.Common.{◌≡◌, ◌<◌, ◌-◌, ◌∙◌, sym, subst, arith, false}
+use Rattle.line_growth.specs.GrowingLines.{Growth, HasAdded, is_inside}
+use Rattle.line_growth.proofs.LineSteps.{adds, inserted, pushed, some_left}
 use Rattle.line_growth.proofs.growing_lines.GrowingLines.add.Goals as goal
 
 pub overflow_sub-self : goal.overflow_sub-self
-overflow_sub-self c = some_left c.args.self.now.size c.args.line c.args.self.now c.requires.lines c.requires.line (ap (λ v. has_column v c.args.line) (sym c.deref.ensures.value) ∙ sym c.has_column.ensures ∙ c.if-has_column.false)
+overflow_sub-self c =
+    some_left c.args.line c.self.inside.left (record { inside = c.self.inside.inside; fresh = c.self.inside.fresh.items }) c.self.invariant
+    (subst (λ (lines : Growth). c.args.line < lines.inside.size) (sym c.self.view_is) c.requires) (sym c.has.ensures ∙ c.if-has.false)
 
-pub returns-then-has_column : goal.returns-then-has_column
-returns-then-has_column c = added_already c.args.self.now.size c.args.line c.args.self.now c.requires.lines (ap (λ v. has_column v c.args.line) (sym c.deref.ensures.value) ∙ sym c.has_column.ensures ∙ c.if-has_column.true)
+pub invariant_of-self : goal.invariant_of-self
+invariant_of-self c =
+    let before : Growth = record { inside = c.self.inside.inside; fresh = c.self.inside.fresh.items } in
+    let room = subst (λ (lines : Growth). c.args.line < lines.inside.size) (sym c.self.view_is) c.requires in
+    let out : is_inside before c.args.line ≡ false = sym c.has.ensures ∙ c.if-has.false in
+    let some = some_left c.args.line c.self.inside.left before c.self.invariant room out in
+    let set = c.insert.ensures in
+    inserted c.args.line c.self.inside.left before _ c.self.invariant room out set.size set.only set.here set.kept (c.self.inside.left - 1) c.in_err-push.ensures.items (omega (arith, some))
+
+pub invariant_of-self-2 : goal.invariant_of-self-2
+invariant_of-self-2 c =
+    let before : Growth = record { inside = c.self.inside.inside; fresh = c.self.inside.fresh.items } in
+    let room = subst (λ (lines : Growth). c.args.line < lines.inside.size) (sym c.self.view_is) c.requires in
+    let out : is_inside before c.args.line ≡ false = sym c.has.ensures ∙ c.if-has.false in
+    let some = some_left c.args.line c.self.inside.left before c.self.invariant room out in
+    let set = c.insert.ensures in
+    pushed c.args.line c.self.inside.left before _ c.self.invariant room out set.size set.only set.here set.kept (c.self.inside.left - 1) c.in_ok-push.ensures.items (omega (arith, some))
 
 pub returns : goal.returns
 returns c =
-    let lines = c.args.self.now in
-    let out : is_inside lines c.args.line ≡ false = ap (λ v. has_column v c.args.line) (sym c.deref.ensures.value) ∙ sym c.has_column.ensures ∙ c.if-has_column.false in
-    let some = some_left lines.size c.args.line lines c.requires.lines c.requires.line out in
-    let set = c.add_column.ensures in
-    adds lines.size c.args.line lines _ c.requires.lines c.requires.line out refl set.size set.here set.kept set.only (omega (arith, some)) c.in_ok-push.ensures.items
+    let before : Growth = record { inside = c.self.inside.inside; fresh = c.self.inside.fresh.items } in
+    let room = subst (λ (lines : Growth). c.args.line < lines.inside.size) (sym c.self.view_is) c.requires in
+    let out : is_inside before c.args.line ≡ false = sym c.has.ensures ∙ c.if-has.false in
+    let after : Growth = record { inside = c.insert.new.self; fresh = c.push.new.self.items } in
+    let set = c.insert.ensures in
+    subst (λ (lines : Growth). HasAdded c.args.line lines after) c.self.view_is (adds c.args.line c.self.inside.left before after c.self.invariant room out set.size set.only set.here set.kept c.in_ok-push.ensures.items)

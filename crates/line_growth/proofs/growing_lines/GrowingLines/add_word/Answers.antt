@@ -1,22 +1,21 @@
-use Rattle.std.proofs.Common.{◌≡◌, ◌<◌, ◌+◌, ◌∙◌, sym, refl, subst, ℕ, true, [], ◌∷◌, arith}
+use Rattle.std.proofs.Common.{◌≡◌, ◌<◌, ◌+◌, ◌∙◌, sym, refl, true, [], ◌∷◌, arith}
 use Rattle.cmr_base.specs.Planes.{has_bit}
-use Rattle.line_growth.specs.GrowingLines.{HasAdded, IsBitOf}
+use Rattle.line_growth.specs.GrowingLines.{IsBitOf}
 use Rattle.line_growth.proofs.LineSteps.{bit_in, found_until, found_all, grown_more}
 use Rattle.line_growth.proofs.growing_lines.GrowingLines.add_word.Goals as goal
 
 pub loop-bit-preserved : goal.loop-bit-preserved
 loop-bit-preserved c =
-    let count = c.args.self.now.size in
     let lines = c.loop-bit.self in
     let so = c.loop-bit.invariant in
     let bit = c.in-Some.bit in
     let low : bit < 64 = let l = c.in-Some.ensures.1 in omega arith in
     let has : has_bit c.args.word bit ≡ true = sym (bit_in c.args.word bit low) ∙ c.in-Some.ensures.2 in
-    let added : HasAdded count (c.args.first + bit) lines c.add.new.self = subst (λ (n : ℕ). HasAdded n (c.args.first + bit) lines c.add.new.self) so.grown.whole.size c.in_ok-add.ensures in
+    let added = c.in_ok-add.ensures in
     record {
       from_in = omega arith;
       found = found_until (c.args.word ∷ []) lines c.add.new.self c.args.first c.loop-bit.from bit added.grown.kept so.found c.in-Some.ensures.3 added.line_in;
-      grown = grown_more count (IsBitOf c.args.first c.args.word) c.args.self.now lines c.add.new.self so.grown (c.args.first + bit) added (bit, low, has, refl);
+      grown = grown_more (IsBitOf c.args.first c.args.word) c.args.self.now lines c.add.new.self so.grown (c.args.first + bit) added (bit, low, has, refl);
     }
 
 pub returns-clause-taken : goal.returns-clause-taken

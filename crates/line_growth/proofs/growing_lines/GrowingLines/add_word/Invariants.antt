@@ -7,7 +7,7 @@ abbrev pub invariant-loop-bit : goal.invariant-loop-bit
 invariant-loop-bit l = record {
   from_in : l.from ≤ 64;
   found : (k : ℕ) → k < l.from → has_column (l.word ∷ []) k ≡ true → is_inside l.self (l.first + k) ≡ true;
-  grown : HasGrown l.initial.self.size (IsBitOf l.first l.word) l.initial.self l.self;
+  grown : HasGrown (IsBitOf l.first l.word) l.initial.self l.self;
 }
 
 abbrev pub decreases-loop-bit : goal.decreases-loop-bit

@@ -7,7 +7,7 @@ use Rattle.line_growth.proofs.growing_lines.GrowingLines.pull_along.Given as goa
 
 abbrev pub invariant-loop-line : goal.invariant-loop-line
 invariant-loop-line l = record {
-  grown : HasGrown l.initial.self.size (λ line. ¬ (entry l.matrix l.row line ≡ sum_at l.matrix l.sum line)) l.initial.self l.self;
+  grown : HasGrown (λ line. ¬ (entry l.matrix l.row line ≡ sum_at l.matrix l.sum line)) l.initial.self l.self;
   done : (line : ℕ) → line < l.from → support l.matrix l.along line ≡ true → is_inside l.self line ≡ false → entry l.matrix l.row line ≡ sum_at l.matrix l.sum line;
   few : l.from ≤ 1000;
 }
