@@ -1,11 +1,12 @@
 -- A growing set, step by step.
-use Rattle.std.proofs.Common.{ℕ, ◌+◌, ◌-◌, drop, ap₂, true, false, List, [], ◌∷◌, ◌≡◌, ◌<◌, ◌≤◌, ◌∙◌, sym, ap, refl, arith, subst, ◌⊎◌, inl, inr, length, get_or, ℤ, suc, Bool}
+use Rattle.std.proofs.Common.{ℕ, ◌+◌, ◌-◌, drop, ap₂, true, false, filter, List, [], ◌∷◌, ◌≡◌, ◌<◌, ◌≤◌, ◌∙◌, sym, ap, refl, arith, subst, ◌⊎◌, inl, inr, length, get_or, ℤ, suc, Bool}
 use Rattle.std.specs.List.{AllByRecursion}
 use Rattle.std.proofs.lemmas.List.{drop_all, drop_more}
 use Rattle.cmr_base.specs.declared.line.Line.{Line}
 use Rattle.cmr_base.specs.declared.line.Line.TheVariants.{Row, Column}
 use Rattle.cmr_base.specs.ColumnSets.{has_column}
 use Rattle.cmr_base.specs.Matrix.{transposed, IsMatrix, Matrix, height, entry}
+use Rattle.cmr_base.specs.LineSets.{first_lines}
 use Rattle.cmr_base.specs.Members.{IsIn}
 use Rattle.cmr_base.specs.Separations.{Lines}
 use Rattle.cmr_base.specs.Seeds.{HasAll, IsGrown, IsLine, count_outside}
@@ -37,6 +38,14 @@ lines_for m set lines sized all = rw (sized.rows, sized.columns) all
 -- the set has the lines of the matrix outside
 pub outside_of : (m : Matrix) (set : GrowingSet) → IsSizedFor m set → count_outside set.rows.inside.size set.columns.inside.size (set_of set) ≡ count_outside (height m) m.width (set_of set)
 outside_of m set sized = ap₂ (λ (rows columns : ℕ). count_outside rows columns (set_of set)) sized.rows sized.columns
+
+-- the lists of the lines of a set
+pub listed_rows : (m : Matrix) (set : GrowingSet) → IsSizedFor m set → (rows : List ℕ) → rows ≡ filter (λ row. set_of set (Row row)) (first_lines set.rows.inside.size) → rows ≡ filter (λ row. set_of set (Row row)) (first_lines (height m))
+listed_rows m set sized rows is = is ∙ ap (λ (n : ℕ). filter (λ row. set_of set (Row row)) (first_lines n)) sized.rows
+
+pub listed_columns : (m : Matrix) (set : GrowingSet) → IsSizedFor m set → (columns : List ℕ) → columns ≡ filter (λ column. set_of set (Column column)) (first_lines set.columns.inside.size)
+    → columns ≡ filter (λ column. set_of set (Column column)) (first_lines m.width)
+listed_columns m set sized columns is = is ∙ ap (λ (n : ℕ). filter (λ column. set_of set (Column column)) (first_lines n)) sized.columns
 
 -- ---- no line
 

@@ -59,7 +59,8 @@ impl GrowingLines {
     /// Becomes equal to `other`, which has the same size.
     pub fn copy(&mut self, other: &GrowingLines) -> Result<(), Memory>
         requires { other.now.inside.size ≡ self.old.inside.size }
-        ensures { OnOk result (self.new ≡ other.now) }
+        ensures size { self.new.inside.size ≡ self.old.inside.size }
+        ensures same { OnOk result (self.new ≡ other.now) }
     {
         self.fresh.clear();
         self.inside.copy(&other.inside);
@@ -102,7 +103,8 @@ impl GrowingLines {
     /// Adds a line.
     pub fn add(&mut self, line: u32) -> Result<(), Memory>
         requires { line < self.old.inside.size }
-        ensures { OnOk result (HasAdded line self.old self.new) }
+        ensures size { self.new.inside.size ≡ self.old.inside.size }
+        ensures added { OnOk result (HasAdded line self.old self.new) }
     {
         if self.inside.has(line) {
             return Ok(());
@@ -119,7 +121,8 @@ impl GrowingLines {
         requires width { matrix.now.width ≡ self.old.inside.size }
         requires row { row < height matrix.now }
         requires sum { IsSumOf matrix.now sum }
-        ensures { OnOk result (HasPulled (λ line. entry matrix.now row line ≡ sum_at matrix.now sum line) self.old self.new) }
+        ensures size { self.new.inside.size ≡ self.old.inside.size }
+        ensures pulled { OnOk result (HasPulled (λ line. entry matrix.now row line ≡ sum_at matrix.now sum line) self.old self.new) }
     {
         match sum.as_multiple() {
             Some(multiple) => self.pull_by_words(matrix, row, multiple),
@@ -133,7 +136,8 @@ impl GrowingLines {
         requires row { row < height matrix.now }
         requires model { multiple.model < height matrix.now }
         requires factor { IsEntry multiple.factor }
-        ensures { OnOk result (HasPulled (λ line. entry matrix.now row line
+        ensures size { self.new.inside.size ≡ self.old.inside.size }
+        ensures pulled { OnOk result (HasPulled (λ line. entry matrix.now row line
             ≡ multiple.factor *ℤ entry matrix.now multiple.model line) self.old self.new) }
     {
         for chunk in 0..words_for(matrix.columns()) {
@@ -170,6 +174,7 @@ impl GrowingLines {
     fn add_word(&mut self, first: u32, word: u64) -> Result<(), Memory>
         requires first { first ≤ MAX_ROWS }
         requires lines { (k : ℕ) → k < 64 → has_bit word k ≡ true → first + k < self.old.inside.size }
+        ensures size { self.new.inside.size ≡ self.old.inside.size }
         ensures taken { OnOk result ((k : ℕ) → k < 64 → has_bit word k ≡ true
             → is_inside self.new (first + k) ≡ true) }
         ensures grown { OnOk result (HasGrown (IsBitOf first word) self.old
@@ -189,7 +194,8 @@ impl GrowingLines {
         requires width { matrix.now.width ≡ self.old.inside.size }
         requires row { row < height matrix.now }
         requires sum { IsSumOf matrix.now sum }
-        ensures { OnOk result (HasPulled (λ line. entry matrix.now row line ≡ sum_at matrix.now sum line) self.old self.new) }
+        ensures size { self.new.inside.size ≡ self.old.inside.size }
+        ensures pulled { OnOk result (HasPulled (λ line. entry matrix.now row line ≡ sum_at matrix.now sum line) self.old self.new) }
     {
         self.pull_along(matrix, row, row, sum)?;
         self.pull_along(matrix, sum.first, row, sum)?;
@@ -204,6 +210,7 @@ impl GrowingLines {
         requires along { along < height matrix.now }
         requires row { row < height matrix.now }
         requires sum { IsSumOf matrix.now sum }
+        ensures size { self.new.inside.size ≡ self.old.inside.size }
         ensures grown { OnOk result (HasGrown (λ line. ¬ (entry matrix.now row line ≡ sum_at matrix.now sum line))
             self.old self.new) }
         ensures agree { OnOk result ((line : ℕ) → support matrix.now along line ≡ true

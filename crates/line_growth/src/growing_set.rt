@@ -47,7 +47,7 @@ impl GrowingSet {
     /// Begins with these lines.
     pub fn start(&mut self, lines: &[Line]) -> Result<(), Memory>
         requires { AllByRecursion (IsLineFor self.old) lines.now }
-        ensures size { OnOk result (HasSameSizes self.old self.new) }
+        ensures size { HasSameSizes self.old self.new }
         ensures growing { OnOk result ((m : Matrix) (upper lower : ℕ → ℕ → ℤ)
             → IsGrowing m upper lower lines.now self.new) }
     {
@@ -63,7 +63,7 @@ impl GrowingSet {
     /// Adds a line.
     pub fn add(&mut self, line: Line) -> Result<(), Memory>
         requires { IsLineFor self.old line }
-        ensures size { OnOk result (HasSameSizes self.old self.new) }
+        ensures size { HasSameSizes self.old self.new }
         ensures growing { OnOk result ((m : Matrix) (upper lower : ℕ → ℕ → ℤ) (start : List Line)
             → IsGrowing m upper lower start self.old
             → IsGrowing m upper lower (line ∷ start) self.new) }
@@ -83,7 +83,8 @@ impl GrowingSet {
     /// Becomes equal to `other`, which has room for the same lines.
     pub fn copy(&mut self, other: &GrowingSet) -> Result<(), Memory>
         requires { HasSameSizes self.old other.now }
-        ensures { OnOk result (self.new ≡ other.now) }
+        ensures size { HasSameSizes self.old self.new }
+        ensures same { OnOk result (self.new ≡ other.now) }
     {
         self.rows.copy(&other.rows)?;
         self.columns.copy(&other.columns)?;
@@ -102,7 +103,7 @@ impl GrowingSet {
         requires size { IsSizedFor matrix.now self.old }
         requires rule { IsRuleOf matrix.now rule }
         requires out { AllByRecursion (IsLine (height matrix.now) matrix.now.width) out.now }
-        ensures size { OnOk result (HasSameSizes self.old self.new) }
+        ensures size { HasSameSizes self.old self.new }
         ensures growing { OnOk result (KeepsGrowing matrix.now (upper_of matrix.now rule)
             (lower_of matrix.now rule) self.old self.new) }
         ensures closed { IfOk result (λ closed. (start : List Line)
@@ -162,7 +163,7 @@ impl GrowingSet {
         requires rule { IsRuleOf matrix.now rule }
         requires waits { 0
             < length self.old.rows.fresh + length self.old.columns.fresh }
-        ensures size { OnOk result (HasSameSizes self.old self.new) }
+        ensures size { HasSameSizes self.old self.new }
         ensures growing { OnOk result (KeepsGrowing matrix.now (upper_of matrix.now rule)
             (lower_of matrix.now rule) self.old self.new) }
         ensures less { OnOk result (work self.new < work self.old) }
@@ -193,7 +194,7 @@ impl GrowingSet {
         requires size { IsSizedFor matrix.now self.old }
         requires rule { IsRuleOf matrix.now rule }
         requires waits { 0 < length self.old.rows.fresh }
-        ensures size { OnOk result (HasSameSizes self.old self.new) }
+        ensures size { HasSameSizes self.old self.new }
         ensures growing { OnOk result (KeepsGrowing matrix.now (upper_of matrix.now rule)
             (lower_of matrix.now rule) self.old self.new) }
         ensures less { OnOk result (work self.new < work self.old) }
@@ -209,7 +210,7 @@ impl GrowingSet {
         requires size { IsSizedFor matrix.now self.old }
         requires rule { IsRuleOf matrix.now rule }
         requires waits { 0 < length self.old.columns.fresh }
-        ensures size { OnOk result (HasSameSizes self.old self.new) }
+        ensures size { HasSameSizes self.old self.new }
         ensures growing { OnOk result (KeepsGrowing matrix.now (upper_of matrix.now rule)
             (lower_of matrix.now rule) self.old self.new) }
         ensures less { OnOk result (work self.new < work self.old) }

@@ -26,8 +26,8 @@ invariant_of-self-2 c =
     let set = c.insert.ensures in
     pushed c.args.line c.self.inside.left before _ c.self.invariant room out set.size set.only set.here set.kept (c.self.inside.left - 1) c.in_ok-push.ensures.items (omega (arith, some))
 
-pub returns : goal.returns
-returns c =
+pub returns-clause-added : goal.returns-clause-added
+returns-clause-added c =
     let before : Growth = record { inside = c.self.inside.inside; fresh = c.self.inside.fresh.items } in
     let room = subst (λ (lines : Growth). c.args.line < lines.inside.size) (sym c.self.view_is) c.requires in
     let out : is_inside before c.args.line ≡ false = sym c.has.ensures ∙ c.if-has.false in

@@ -11,7 +11,7 @@ loop-bit-preserved c =
     let bit = c.in-Some.bit in
     let low : bit < 64 = let l = c.in-Some.ensures.1 in omega arith in
     let has : has_bit c.args.word bit ≡ true = sym (bit_in c.args.word bit low) ∙ c.in-Some.ensures.2 in
-    let added = c.in_ok-add.ensures in
+    let added = c.in_ok-add.ensures.added in
     record {
       from_in = omega arith;
       found = found_until (c.args.word ∷ []) lines c.add.new.self c.args.first c.loop-bit.from bit added.grown.kept so.found c.in-Some.ensures.3 added.line_in;

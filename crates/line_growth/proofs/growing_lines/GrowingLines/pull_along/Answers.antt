@@ -33,7 +33,7 @@ loop-line-preserved c =
     let few : line + 1 ≤ 1000 = let l = c.in-Some.ensures.small in omega arith in
     elim c.if-is_unlike.branch [
       | then-is_unlike+in_ok-add w ↦
-          let added = w.in_ok-add.ensures in
+          let added = w.in_ok-add.ensures.added in
           record {
             grown = subst (λ (h : Growth). HasGrown (λ x. ¬ (agrees x)) c.args.self.now h) (sym w.self-is)
                 (grown_more (λ x. ¬ (agrees x)) c.args.self.now lines w.add.new.self so.grown line added (c.is_unlike.ensures.yes w.if-is_unlike.true));

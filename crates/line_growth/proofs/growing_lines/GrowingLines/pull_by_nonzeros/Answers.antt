@@ -44,8 +44,8 @@ module _ (m : Matrix) (row : ℕ) (sum : Sum) where
             ];
       }
 
-pub returns : goal.returns
-returns c =
+pub returns-clause-pulled : goal.returns-clause-pulled
+returns-clause-pulled c =
     all_pulled c.args.matrix.now c.args.row c.args.sum c.args.self.now c.pull_along.new.self c.pull_along-2.new.self c.pull_along-3.new.self
     c.in_ok-pull_along.ensures.grown c.in_ok-pull_along-2.ensures.grown c.in_ok-pull_along-3.ensures.grown
     c.in_ok-pull_along.ensures.agree c.in_ok-pull_along-2.ensures.agree c.in_ok-pull_along-3.ensures.agree

@@ -52,8 +52,8 @@ loop-chunk-preserved c =
           }
     ]
 
-pub returns : goal.returns
-returns c = record {
+pub returns-clause-pulled : goal.returns-clause-pulled
+returns-clause-pulled c = record {
   grown = c.loop-chunk.invariant.grown;
   agree = λ x l e. c.loop-chunk.invariant.done x (let t = c.loop-chunk-test.false in let s = c.loop-chunk.invariant.grown.size in omega (arith, c.requires.width)) e;
 }

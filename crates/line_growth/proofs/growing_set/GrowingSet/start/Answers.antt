@@ -15,7 +15,7 @@ lines-preserved c =
     let so = c.lines.invariant in
     record {
       inside = omega (arith, so.inside);
-      size = same_sizes c.args.self.now c.lines.self c.add.new.self so.size c.in_ok-add.ensures.size;
+      size = same_sizes c.args.self.now c.lines.self c.add.new.self so.size c.add.ensures.size;
       growing = λ m upper lower. one_taken m upper lower c.args.lines.now from _ c.add.new.self c.lines-test.true so.inside refl (c.in_ok-add.ensures.growing m upper lower _ (so.growing m upper lower));
     }
 
