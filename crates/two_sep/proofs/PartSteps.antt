@@ -20,10 +20,14 @@ use Rattle.cmr_base.proofs.Booleans.{not_is, or_is, or_left, or_right, not_false
 use Rattle.cmr_base.specs.Seeds.{IsGrown, IsLine, line_number}
 use Rattle.cmr_base.proofs.SeedLemmas.{line_is}
 use Rattle.cmr_base.specs.ColumnSets.{has_column}
+use Rattle.cmr_base.specs.LineMasks.{as_set}
+use Rattle.cmr_base.specs.declared.line_mask.LineMask.{LineMask}
+use Rattle.line_growth.specs.declared.growing_set.GrowingSet.{GrowingSet}
+use Rattle.line_growth.specs.GrowingSets.{set_of}
 use Rattle.two_sep.specs.declared.parts.FoundParts.{FoundParts}
-use Rattle.two_sep.specs.FoundParts.{HasFound, HasPartLine, ArePartsFound, lines_found, seen_lines}
+use Rattle.two_sep.specs.FoundParts.{HasFound, HasPartLine, ArePartsFound}
 use Rattle.two_sep.proofs.LineNumbers.{number_in}
-use Rattle.line_growth.proofs.FilteredLines.{filter_more}
+use Rattle.cmr_base.proofs.FilteredLines.{filter_more}
 use Rattle.two_sep.proofs.FirstTwo.{listed_filter}
 
 -- ---- lists
@@ -74,15 +78,11 @@ opposite_apart m n M S s = record {
   lower = λ r c hr hc e f. s.upper r c hr hc (not_false (S (Row r)) e) (not_is (S (Column c)) f);
 }
 
-pub none_seen : (rows columns : List ℕ) → ((r : ℕ) → has_column rows r ≡ false) → ((c : ℕ) → has_column columns c ≡ false) → (x : Line) → seen_lines rows columns x ≡ false
-none_seen rows columns no_row no_column (Row r) = no_row r
-none_seen rows columns no_row no_column (Column c) = no_column c
-
--- the lines seen before, joined with a set
-pub seen_joined : (rows columns rows' columns' more_rows more_columns : List ℕ) (S : Lines) → ((r : ℕ) → has_column rows' r ≡ (has_column rows r || has_column more_rows r)) → ((c : ℕ) → has_column columns' c ≡ (has_column columns c || has_column more_columns c))
-    → ((r : ℕ) → has_column more_rows r ≡ S (Row r)) → ((c : ℕ) → has_column more_columns c ≡ S (Column c)) → (x : Line) → seen_lines rows' columns' x ≡ (seen_lines rows columns x || S x)
-seen_joined rows columns rows' columns' more_rows more_columns S added_rows added_columns are_rows are_columns (Row r) = added_rows r ∙ ap (λ (t : Bool). has_column rows r || t) (are_rows r)
-seen_joined rows columns rows' columns' more_rows more_columns S added_rows added_columns are_rows are_columns (Column c) = added_columns c ∙ ap (λ (t : Bool). has_column columns c || t) (are_columns c)
+-- the lines seen before, with the lines of a set
+pub seen_joined : (before after : LineMask) (part : GrowingSet) → ((r : ℕ) → has_column after.rows.words r ≡ (has_column before.rows.words r || has_column part.rows.inside.words r))
+    → ((c : ℕ) → has_column after.columns.words c ≡ (has_column before.columns.words c || has_column part.columns.inside.words c)) → (x : Line) → as_set after x ≡ (as_set before x || set_of part x)
+seen_joined before after part rows columns (Row r) = rows r
+seen_joined before after part rows columns (Column c) = columns c
 
 module _ (m : Matrix) where
   abbrev h : ℕ
@@ -284,9 +284,8 @@ module _ (m : Matrix) where
   }
 
 -- a line of a part found before adds none
-pub found_passed : (m : Matrix) (number : ℕ) (found : FoundParts) → HasFound m number found → (line : Line) → IsLine (height m) m.width line → line_number (height m) line ≡ number → lines_found found line ≡ true → HasFound m (number + 1) found
+pub found_passed : (m : Matrix) (number : ℕ) (found : FoundParts) → HasFound m number found → (line : Line) → IsLine (height m) m.width line → line_number (height m) line ≡ number → as_set found.lines line ≡ true → HasFound m (number + 1) found
 found_passed m number found has line inside number_is here = record {
-  rows = has.rows;
-  columns = has.columns;
-  are = found_passes m found.parts (lines_found found) number has.are line inside number_is here;
+  size = has.size;
+  are = found_passes m found.parts (as_set found.lines) number has.are line inside number_is here;
 }

@@ -1,7 +1,6 @@
 -- Connected parts, found one after another.
 use Rattle.std.specs.Prelude.{◌≡◌, ◌<◌, ℕ, true, List, length}
 use Rattle.cmr_base.specs.declared.line.Line.{Line}
-use Rattle.cmr_base.specs.declared.line.Line.TheVariants.{Column, Row}
 use Rattle.cmr_base.specs.declared.line_set.LineSet.{LineSet}
 use Rattle.cmr_base.specs.Matrix.{Matrix, height, entry}
 use Rattle.cmr_base.specs.LineSets.{IsRowSet, IsColumnSet}
@@ -9,17 +8,11 @@ use Rattle.cmr_base.specs.Reductions.{HasLine}
 use Rattle.cmr_base.specs.Separations.{Lines, listed}
 use Rattle.cmr_base.specs.Seeds.{IsLine, line_number}
 use Rattle.cmr_base.specs.Components.{IsComponent, part_at, first_number}
-use Rattle.cmr_base.specs.ColumnSets.{has_column}
-use Rattle.cmr_base.specs.Planes.{words_for}
+use Rattle.cmr_base.specs.LineMasks.{IsMaskOf, as_set}
 use Rattle.two_sep.specs.declared.parts.FoundParts.{FoundParts}
 
 abbrev pub HasPartLine : List LineSet → ℕ → Line → Type 0
 HasPartLine parts a line = HasLine (part_at parts a).rows (part_at parts a).columns line
-
--- the lines of two sets of words
-abbrev pub seen_lines : (rows columns : List ℕ) → Lines
-seen_lines rows columns (Row row) = has_column rows row
-seen_lines rows columns (Column column) = has_column columns column
 
 -- the parts of the lines with numbers below `number`; their lines are the lines seen
 pub record ArePartsFound (m : Matrix) (parts : List LineSet) (seen : Lines) (number : ℕ) : Type 0 where
@@ -33,12 +26,7 @@ pub record ArePartsFound (m : Matrix) (parts : List LineSet) (seen : Lines) (num
   pub ordered : (a b : ℕ) → a < b → b < length parts → first_number (height m) (part_at parts a) < first_number (height m) (part_at parts b)
   pub early : (a : ℕ) → a < length parts → first_number (height m) (part_at parts a) < number
 
--- the lines of the parts found so far
-abbrev pub lines_found : FoundParts → Lines
-lines_found found = seen_lines found.rows.items found.columns.items
-
 -- the parts of the lines with numbers below `number` are found
 pub record HasFound (m : Matrix) (number : ℕ) (found : FoundParts) : Type 0 where
-  pub rows : length found.rows.items ≡ words_for (height m)
-  pub columns : length found.columns.items ≡ words_for m.width
-  pub are : ArePartsFound m found.parts (lines_found found) number
+  pub size : IsMaskOf m found.lines
+  pub are : ArePartsFound m found.parts (as_set found.lines) number

@@ -1,24 +1,22 @@
 // The connected parts of a matrix.
-ghost use Rattle.std.specs.Prelude.{◌≡◌, ◌+◌, ◌∷◌, [], false, length, IfOk, OnOk};
+ghost use Rattle.std.specs.Prelude.{◌≡◌, ◌+◌, ◌∷◌, [], false, IfOk, OnOk};
 ghost use Rattle.cmr_base.specs.Components.{AreComponents};
+ghost use Rattle.cmr_base.specs.LineMasks.{as_set};
 ghost use Rattle.cmr_base.specs.Matrix.{entry, height};
-ghost use Rattle.cmr_base.specs.Planes.{words_for};
 ghost use Rattle.cmr_base.specs.Seeds.{IsGrown, IsLine, line_number};
 ghost use Rattle.cmr_base.specs.Separations.{zeros};
-ghost use Rattle.line_growth.specs.GrowingSets.{HasRoom, set_of};
-ghost use Rattle.two_sep.specs.FoundParts.{HasFound, lines_found};
+ghost use Rattle.line_growth.specs.GrowingSets.{HasSameSizes, IsSizedFor, set_of};
+ghost use Rattle.two_sep.specs.FoundParts.{HasFound};
 
-use cmr_base::columns::{add_set, empty_set, has_column};
-use cmr_base::{Line, LineSetList, Matrix, Memory, RowsAndColumns};
+use cmr_base::{Line, LineMask, LineSetList, Matrix, Memory, RowsAndColumns};
 use line_growth::{Block, GrowingSet, GrowthRule, line_at};
 use std::alloc::Global;
 
-// The parts found so far, and their lines as sets of words.
+// The parts found so far, and their lines.
 #[derive(Drop)]
 pub struct FoundParts {
     pub parts: LineSetList,
-    pub rows: Vec<u64>,
-    pub columns: Vec<u64>,
+    pub lines: LineMask,
 }
 
 /// The connected parts, in the order of their first lines. Two lines are in one part if and only if a path of nonzeros links
@@ -38,7 +36,7 @@ pub fn components_of(alloc: Global, matrix: &RowsAndColumns<'_>) -> Result<LineS
     let mut part = GrowingSet::new(alloc, matrix)?;
     for place in 0..matrix.rows() + matrix.columns() {
         let line = line_at(matrix, place);
-        if !found.has(matrix, line) {
+        if !found.lines.has(line) {
             found.add_part_of(alloc, matrix, line, &mut part)?;
         }
     }
@@ -51,22 +49,8 @@ impl FoundParts {
     {
         Ok(FoundParts {
             parts: LineSetList::new(alloc),
-            rows: empty_set(alloc, matrix.rows())?,
-            columns: empty_set(alloc, matrix.columns())?,
+            lines: LineMask::new(alloc, matrix.rows(), matrix.columns())?,
         })
-    }
-
-    // Whether a line is in a part found so far.
-    fn has(&self, matrix: &RowsAndColumns<'_>, line: Line) -> bool
-        requires rows { length self.now.rows.items ≡ words_for (height matrix.now) }
-        requires columns { length self.now.columns.items ≡ words_for matrix.now.width }
-        requires line { IsLine (height matrix.now) matrix.now.width line }
-        ensures { result ≡ lines_found self.now line }
-    {
-        match line {
-            Line::Row(row) => has_column(&self.rows, row),
-            Line::Column(column) => has_column(&self.columns, column),
-        }
     }
 
     // Adds the part of a line that is in no part so far. `part` provides room for it.
@@ -77,27 +61,27 @@ impl FoundParts {
         line: Line,
         part: &mut GrowingSet,
     ) -> Result<(), Memory>
-        requires room { HasRoom matrix.now part.old }
+        requires size { IsSizedFor matrix.now part.old }
         requires line { IsLine (height matrix.now) matrix.now.width line }
         requires before { HasFound matrix.now (line_number (height matrix.now) line) self.old }
-        requires other { lines_found self.old line ≡ false }
-        ensures room { OnOk result (HasRoom matrix.now part.new) }
+        requires other { as_set self.old.lines line ≡ false }
+        ensures size { HasSameSizes part.old part.new }
         ensures found { OnOk result (HasFound matrix.now
             (line_number (height matrix.now) line + 1) self.new) }
     {
         grow_part(matrix, part, line)?;
-        self.parts.push(part.line_set(alloc, matrix)?)?;
-        add_set(&mut self.rows, part.rows(matrix));
-        add_set(&mut self.columns, part.columns(matrix));
+        self.parts.push(part.line_set(alloc)?)?;
+        self.lines.rows.add_all(part.rows());
+        self.lines.columns.add_all(part.columns());
         Ok(())
     }
 }
 
 // The part of a line.
 fn grow_part(matrix: &RowsAndColumns<'_>, part: &mut GrowingSet, line: Line) -> Result<(), Memory>
-    requires room { HasRoom matrix.now part.old }
+    requires size { IsSizedFor matrix.now part.old }
     requires line { IsLine (height matrix.now) matrix.now.width line }
-    ensures room { OnOk result (HasRoom matrix.now part.new) }
+    ensures size { HasSameSizes part.old part.new }
     ensures grown { OnOk result (IsGrown (height matrix.now) matrix.now.width (entry matrix.now)
         zeros zeros (line ∷ []) (set_of part.new)) }
 {
@@ -105,7 +89,7 @@ fn grow_part(matrix: &RowsAndColumns<'_>, part: &mut GrowingSet, line: Line) -> 
         upper: Block::Zero,
         lower: Block::Zero,
     };
-    part.start(matrix, &[line])?;
+    part.start(&[line])?;
     part.close(matrix, rule, &[], 0)?;
     Ok(())
 }

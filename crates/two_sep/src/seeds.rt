@@ -1,7 +1,7 @@
 // The first good seed at a nonzero.
 ghost use Rattle.std.specs.Prelude.{◌≢◌, ◌<◌, pos, IfOk, MatchOption};
 ghost use Rattle.cmr_base.specs.Matrix.{height, entry};
-ghost use Rattle.line_growth.specs.GrowingSets.{HasRoom, set_of};
+ghost use Rattle.line_growth.specs.GrowingSets.{IsSizedFor, set_of};
 ghost use Rattle.two_sep.specs.FirstSeeds.{HasNoGoodSeed, IsFirstGoodSide};
 
 use cmr_base::{Line, Memory, RowsAndColumns};
@@ -20,7 +20,7 @@ pub fn first_good_side(
     requires column { column < matrix.now.width }
     requires nonzero { entry matrix.now row column ≢ pos 0 }
     ensures { IfOk result (λ found. MatchOption found (HasNoGoodSeed matrix.now row column)
-        (λ side. HasRoom matrix.now side
+        (λ side. IsSizedFor matrix.now side
         × IsFirstGoodSide matrix.now row column (set_of side))) }
 {
     let rows = matrix.rows();
@@ -32,12 +32,12 @@ pub fn first_good_side(
     let mut bad = GrowingSet::new(alloc, matrix)?;
     for place in 0..rows + matrix.columns() {
         let seed = line_at(matrix, place);
-        if place != row && place != rows + column && !bad.has(matrix, seed) {
-            side.start(matrix, &[seed, Line::Column(column)])?;
+        if place != row && place != rows + column && !bad.has(seed) {
+            side.start(&[seed, Line::Column(column)])?;
             if side.close(matrix, rule, &[Line::Row(row)], 2)? {
                 return Ok(Some(side));
             }
-            bad.start(matrix, &[seed])?;
+            bad.start(&[seed])?;
             bad.close(matrix, rule.exchanged(), &[], 2)?;
         }
     }

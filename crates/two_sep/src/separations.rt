@@ -54,7 +54,7 @@ fn separation_at(
         if label != other && matrix.entry(row, column) != 0 {
             if let Some(side) = first_good_side(alloc, matrix, row, column)? {
                 return Ok(Some(Two {
-                    side: side.line_set(alloc, matrix)?,
+                    side: side.line_set(alloc)?,
                     row,
                     column,
                 }));

@@ -3,23 +3,19 @@ use Rattle.std.proofs.lemmas.List.{get_or_default}
 use Rattle.cmr_base.specs.Matrix.{height}
 use Rattle.cmr_base.proofs.EntryBytes.{zero_byte}
 use Rattle.line_growth.specs.declared.growing_set.GrowingSet.{GrowingSet}
-use Rattle.line_growth.specs.GrowingSets.{HasRoom, set_of}
+use Rattle.line_growth.specs.GrowingSets.{IsSizedFor, set_of}
+use Rattle.line_growth.proofs.SetSteps.{listed_columns, listed_rows}
 use Rattle.two_sep.specs.FirstSeeds.{ArePassed, HasNoGoodSeed, IsFirstGoodSide}
 use Rattle.two_sep.proofs.Crossing.{passed_on, passed_joined}
 use Rattle.two_sep.proofs.FirstTwo.{first_two}
 use Rattle.two_sep.proofs.separations.separation_at.Goals as goal
 use Rattle.two_sep.proofs.separations.separation_at.Goals.{then-label-other+then-entry-ne0+in_ok-side+in_default, else-label-other, else-label-other-via-then-label-other+else-entry-ne0, else-label-other-via-else-label-other}
 
-pub line_set-requires : goal.line_set-requires
-line_set-requires c =
-    let m = c.args.matrix.now in
-    (subst (λ (o : Option GrowingSet). MatchOption o (HasNoGoodSeed m c.args.row c.loop-column.column) (λ side. HasRoom m side × IsFirstGoodSide m c.args.row c.loop-column.column (set_of side))) c.in-Some.is c.in_ok-side.ensures).0
-
 pub returns-in-Some : goal.returns-in-Some
 returns-in-Some c =
     let m = c.args.matrix.now in
-    let found = subst (λ (o : Option GrowingSet). MatchOption o (HasNoGoodSeed m c.args.row c.loop-column.column) (λ side. HasRoom m side × IsFirstGoodSide m c.args.row c.loop-column.column (set_of side))) c.in-Some.is c.in_ok-side.ensures in
-    first_two m c.args.row c.loop-column.column c.loop-column.labels.items c.loop-column.invariant (set_of c.in-Some.side) found.1 c.in_ok-line_set.field-0.rows c.in_ok-line_set.field-0.columns c.in_ok-line_set.ensures.rows c.in_ok-line_set.ensures.columns
+    let found = subst (λ (o : Option GrowingSet). MatchOption o (HasNoGoodSeed m c.args.row c.loop-column.column) (λ side. IsSizedFor m side × IsFirstGoodSide m c.args.row c.loop-column.column (set_of side))) c.in-Some.is c.in_ok-side.ensures in
+    first_two m c.args.row c.loop-column.column c.loop-column.labels.items c.loop-column.invariant (set_of c.in-Some.side) found.1 c.in_ok-line_set.field-0.rows c.in_ok-line_set.field-0.columns (listed_rows m c.in-Some.side found.0 _ c.in_ok-line_set.ensures.rows) (listed_columns m c.in-Some.side found.0 _ c.in_ok-line_set.ensures.columns)
 
 pub loop-column-preserved : goal.loop-column-preserved
 loop-column-preserved c =
@@ -36,7 +32,7 @@ loop-column-preserved c =
     ap (λ (k : ℕ). get_or labels (k + j) 0) (sym rows) ∙ get_or_default labels (c.rows-rows.result + j) 0 c.index-other.result.now (omega arith) ∙ sym c.index-other.ensures in
     elim c.if-label-other.branch [
       | then-label-other+then-entry-ne0+in_ok-side+in_default w ↦
-          let none = subst (λ (o : Option GrowingSet). MatchOption o (HasNoGoodSeed m i j) (λ side. HasRoom m side × IsFirstGoodSide m i j (set_of side))) w.in_default.is w.in_ok-side.ensures in
+          let none = subst (λ (o : Option GrowingSet). MatchOption o (HasNoGoodSeed m i j) (λ side. IsSizedFor m side × IsFirstGoodSide m i j (set_of side))) w.in_default.is w.in_ok-side.ensures in
           let same = ap (λ v. v.items) w.labels-is in
           passed_joined m i j labels p c.requires.row column_in (λ e. w.if-entry-ne0.true (ap (of_z w8) (w.entry.ensures.value ∙ e))) none c.if-label-other.labels.items
           (same ∙ w.join_labels.ensures ∙ ap₂ (λ (a b : ℕ). map (λ l. cond (nat_eq l a) b l) labels) (sym label) (sym other))
