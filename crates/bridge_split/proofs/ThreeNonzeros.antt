@@ -11,7 +11,8 @@ use Rattle.cmr_base.specs.Splits.{HasNoThree}
 use Rattle.cmr_base.specs.Trees.{support}
 use Rattle.cmr_base.proofs.ListsWithout.{increasing_distinct}
 use Rattle.cmr_base.proofs.RowLists.{not_both}
-use Rattle.cmr_base.proofs.Booleans.{false_is, and_is, and_false, and_same, or_true, or_false, is_not_lt, is_lt, lt_of}
+use Rattle.cmr_base.proofs.Booleans.{false_is, and_is, and_false, or_true, or_false, is_not_lt, is_lt, lt_of}
+use Rattle.cmr_base.specs.BitSets.{Bits}
 use Rattle.cmr_base.specs.ColumnSets.{has_column, HasCommon}
 use Rattle.bridge_split.specs.Counting.{AreMore, HaveNoThird}
 use Rattle.bridge_split.specs.SplitCases.{HasThree, IsFirstWithThree}
@@ -111,7 +112,7 @@ more_than k n true = elim (cases_lt k n) [
 ]
 more_than k n false = ap (nat_lt (suc k)) (let e : n + 0 ≡ n = omega arith in e) ∙ sym (ap (λ t. nat_lt (suc k) n || t) (and_false (nat_lt k n)) ∙ or_false (nat_lt (suc k) n))
 
-pub more_than_none : (n : ℕ) (b : Bool) → nat_lt 0 (n + cond b 1 0) ≡ (nat_lt 0 n || (b && b))
+pub more_than_none : (n : ℕ) (b : Bool) → nat_lt 0 (n + cond b 1 0) ≡ (nat_lt 0 n || b)
 more_than_none n true = is_lt 0 (n + 1) (omega arith) ∙ sym (or_true (nat_lt 0 n))
 more_than_none n false = ap (nat_lt 0) (let e : n + 0 ≡ n = omega arith in e) ∙ sym (or_false (nat_lt 0 n))
 
@@ -146,23 +147,23 @@ third_found m S k column increases low two here =
     not_star (support m) S column (three_here (support m) column S (increasing_distinct S increases) (omega arith))
 
 -- another row, without a third nonzero
-pub no_third_more : (m : Matrix) (S : List ℕ) (k : ℕ) (ones twos more_ones more_twos row : List ℕ) → HaveNoThird m S k ones twos → k < length S
-    → length more_ones ≡ length ones → length more_twos ≡ length twos
+pub no_third_more : (m : Matrix) (S : List ℕ) (k : ℕ) (ones twos more_ones more_twos : Bits) (row : List ℕ) → HaveNoThird m S k ones twos → k < length S
+    → more_ones.size ≡ ones.size → more_twos.size ≡ twos.size
     → ((column : ℕ) → has_column row column ≡ support m (get_or S k 0) column)
-    → ((column : ℕ) → has_column more_twos column ≡ (has_column twos column || (has_column ones column && has_column row column)))
-    → ((column : ℕ) → has_column more_ones column ≡ (has_column ones column || has_column row column))
-    → ¬ (HasCommon twos row) → HaveNoThird m S (k + 1) more_ones more_twos
+    → ((column : ℕ) → has_column more_twos.words column ≡ (has_column twos.words column || (has_column ones.words column && has_column row column)))
+    → ((column : ℕ) → has_column more_ones.words column ≡ (has_column ones.words column || has_column row column))
+    → ¬ (HasCommon twos.words row) → HaveNoThird m S (k + 1) more_ones more_twos
 no_third_more m S k ones twos more_ones more_twos row so low ones_size twos_size row_is doubled added none =
     let x = get_or S k 0 in
     let n : ℕ → ℕ = λ column. count_by (λ r. support m r column) (take k S) in
     let more : (column : ℕ) → count_by (λ r. support m r column) (take (k + 1) S) ≡ n column + cond (support m x column) 1 0 = λ column. sum_by_more (λ r. cond (support m r column) 1 0) S k 0 low in
     record {
       matrix = so.matrix;
-      ones_long = ones_size ∙ so.ones_long;
-      twos_long = twos_size ∙ so.twos_long;
+      ones_size = ones_size ∙ so.ones_size;
+      twos_size = twos_size ∙ so.twos_size;
       once = λ column.
           added column ∙ ap₂ (λ s t. s || t) (so.once column) (row_is column)
-          ∙ sym (ap (nat_lt 0) (more column) ∙ more_than_none (n column) (support m x column) ∙ ap (λ t. nat_lt 0 (n column) || t) (and_same (support m x column)));
+          ∙ sym (ap (nat_lt 0) (more column) ∙ more_than_none (n column) (support m x column));
       twice = λ column.
           doubled column ∙ ap₂ (λ s t. s || t) (so.twice column) (ap₂ (λ s t. s && t) (so.once column) (row_is column))
           ∙ sym (ap (nat_lt 1) (more column) ∙ more_than 0 (n column) (support m x column));
@@ -172,7 +173,7 @@ no_third_more m S k ones twos more_ones more_twos row so low ones_size twos_size
     }
 
 -- all rows, without a third nonzero
-pub no_third_ends : (m : Matrix) (S : List ℕ) (k : ℕ) (ones twos : List ℕ) → HaveNoThird m S k ones twos → length S ≤ k → HasNoThree (support m) S
+pub no_third_ends : (m : Matrix) (S : List ℕ) (k : ℕ) (ones twos : Bits) → HaveNoThird m S k ones twos → length S ≤ k → HasNoThree (support m) S
 no_third_ends m S k ones twos so l = λ column r s t hr hs ht er es et rs rt st.
     let p : ℕ → Bool = λ row. support m row column in
     let three = three_count p S r s t hr hs ht rs rt st er es et in

@@ -38,7 +38,7 @@ pub record IsCutTable (M : ℕ → ℕ → Bool) (i : ℕ) (parts : List (List �
   pub right : (a b : ℕ) → a < upto → b < length parts → Denies (slice_index_or cuts (a * length parts + b) false) (IsUncutBy M i (rows_at_part parts a) (rows_at_part parts b))
 
 -- the table is complete for the parts before `upto`, and `common` is a set of the right size
-pub record IsTelling (m : Matrix) (i : ℕ) (parts : List (List ℕ)) (upto : ℕ) (common : List ℕ) (cuts : List Bool) : Type 0 where
+pub record IsTableBefore (m : Matrix) (i : ℕ) (parts : List (List ℕ)) (upto : ℕ) (common : List ℕ) (cuts : List Bool) : Type 0 where
   pub size : length common ≡ words_for m.width
   pub table : IsCutTable (support m) i parts upto cuts
 

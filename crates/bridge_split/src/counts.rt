@@ -1,40 +1,41 @@
 // The columns with three nonzeros or more in some rows.
-ghost use Rattle.std.specs.Prelude.{◌≡◌, ◌<◌, ◌≤◌, ◌&&◌, ◌||◌, true, false, ℕ, length, IfOk, MatchOption};
+ghost use Rattle.std.specs.Prelude.{◌≡◌, ◌<◌, ◌≤◌, ◌&&◌, ◌||◌, true, false, ℕ, IfOk, MatchOption};
+ghost use Rattle.cmr_base.specs.BitSets.{AreWordsOf, IsNextOf};
 ghost use Rattle.cmr_base.specs.LineSets.{AllBelow};
 ghost use Rattle.cmr_base.specs.Matrix.{height};
-ghost use Rattle.cmr_base.specs.Planes.{words_for};
 ghost use Rattle.cmr_base.specs.ColumnSets.{has_column};
-ghost use Rattle.bridge_split.specs.Counting.{AreCounts, HasCountWords};
 
-use cmr_base::columns::{add_common, next_column};
-use cmr_base::{MAX_COLUMNS, Matrix, Memory, words_for};
+use cmr_base::{BitSet, MAX_COLUMNS, Matrix, Memory, columns_of};
 use std::alloc::Global;
 
 /// The columns with at least one nonzero in given rows, with at least two, and with at least three.
 #[derive(Drop)]
 pub struct Counts {
-    once: Vec<u64>,
-    twice: Vec<u64>,
-    thrice: Vec<u64>,
+    once: BitSet,
+    twice: BitSet,
+    thrice: BitSet,
+    ghost twice_size: { twice.size ≡ once.size },
+    ghost thrice_size: { thrice.size ≡ once.size },
 }
 
 impl Counts {
+    ghost use Rattle.bridge_split.specs.Counting.{AreCounts};
+
     // The counts over no rows.
     fn new(alloc: Global, columns: u32) -> Result<Counts, Memory>
         requires { columns ≤ MAX_COLUMNS }
-        ensures words { IfOk result (HasCountWords columns) }
+        ensures size { IfOk result (λ counts. counts.once.size ≡ columns) }
         ensures once { IfOk result (λ counts. (column : ℕ)
-            → has_column counts.once.items column ≡ false) }
+            → has_column counts.once.words column ≡ false) }
         ensures twice { IfOk result (λ counts. (column : ℕ)
-            → has_column counts.twice.items column ≡ false) }
+            → has_column counts.twice.words column ≡ false) }
         ensures thrice { IfOk result (λ counts. (column : ℕ)
-            → has_column counts.thrice.items column ≡ false) }
+            → has_column counts.thrice.words column ≡ false) }
     {
-        let words = words_for(columns);
         Ok(Counts {
-            once: vec![in alloc; 0u64; words]?,
-            twice: vec![in alloc; 0u64; words]?,
-            thrice: vec![in alloc; 0u64; words]?,
+            once: BitSet::new(alloc, columns)?,
+            twice: BitSet::new(alloc, columns)?,
+            thrice: BitSet::new(alloc, columns)?,
         })
     }
 
@@ -45,45 +46,39 @@ impl Counts {
     {
         let mut counts = Counts::new(alloc, matrix.columns())?;
         for row in rows {
-            counts.add(matrix.support_words(*row));
+            counts.add(columns_of(matrix, *row));
         }
         Ok(counts)
     }
 
     // Counts another row.
     fn add(&mut self, row: &[u64])
-        requires once { length self.old.once.items ≡ length row.now }
-        requires twice { length self.old.twice.items ≡ length row.now }
-        requires thrice { length self.old.thrice.items ≡ length row.now }
-        ensures once_long { length self.new.once.items ≡ length self.old.once.items }
-        ensures twice_long { length self.new.twice.items ≡ length self.old.twice.items }
-        ensures thrice_long { length self.new.thrice.items ≡ length self.old.thrice.items }
+        requires { AreWordsOf self.old.once.size row.now }
+        ensures size { self.new.once.size ≡ self.old.once.size }
         ensures once { (column : ℕ)
-            → has_column self.new.once.items column
-            ≡ (has_column self.old.once.items column
-            || (has_column row.now column && has_column row.now column)) }
+            → has_column self.new.once.words column
+            ≡ (has_column self.old.once.words column || has_column row.now column) }
         ensures twice { (column : ℕ)
-            → has_column self.new.twice.items column
-            ≡ (has_column self.old.twice.items column
-            || (has_column self.old.once.items column && has_column row.now column)) }
+            → has_column self.new.twice.words column
+            ≡ (has_column self.old.twice.words column
+            || (has_column self.old.once.words column && has_column row.now column)) }
         ensures thrice { (column : ℕ)
-            → has_column self.new.thrice.items column
-            ≡ (has_column self.old.thrice.items column
-            || (has_column self.old.twice.items column && has_column row.now column)) }
+            → has_column self.new.thrice.words column
+            ≡ (has_column self.old.thrice.words column
+            || (has_column self.old.twice.words column && has_column row.now column)) }
     {
-        add_common(&mut self.thrice, self.twice.as_slice(), row);
-        add_common(&mut self.twice, self.once.as_slice(), row);
-        add_common(&mut self.once, row, row);
+        self.thrice.add_common_words(&self.twice, row);
+        self.twice.add_common_words(&self.once, row);
+        self.once.add_words(row);
     }
 
     /// The first column with three nonzeros or more.
     pub fn first_from_three(&self) -> Option<u32>
-        requires { length self.now.thrice.items ≤ 16 }
         ensures { MatchOption result
-            ((column : ℕ) → has_column self.now.thrice.items column ≡ false)
-            (λ first. (has_column self.now.thrice.items first ≡ true)
-            × ((column : ℕ) → column < first → has_column self.now.thrice.items column ≡ false)) }
+            ((column : ℕ) → has_column self.now.thrice.words column ≡ false)
+            (λ first. (has_column self.now.thrice.words first ≡ true)
+            × ((column : ℕ) → column < first → has_column self.now.thrice.words column ≡ false)) }
     {
-        next_column(self.thrice.as_slice(), 0)
+        self.thrice.next(0)
     }
 }

@@ -189,8 +189,8 @@ module _ (one two : List ℕ) (chunk : ℕ) where
 -- ---- the next column of a set
 
 module _ (words : List ℕ) (from column : ℕ) (fits : get_or words (column / 64) 0 < 2 ^ 64) where
-  tells : (i : ℕ) → i < 64 → bit_at (get_or words (column / 64) 0) i ≡ cond (has_column words (64 * (column / 64) + i)) 1 0
-  tells i small = bit_of (bit_at (get_or words (column / 64) 0) i) (bit_at-lt (get_or words (column / 64) 0) i) ∙ ap (λ t. cond t 1 0) (sym (column_at words (column / 64) i small))
+  bits_are : (i : ℕ) → i < 64 → bit_at (get_or words (column / 64) 0) i ≡ cond (has_column words (64 * (column / 64) + i)) 1 0
+  bits_are i small = bit_of (bit_at (get_or words (column / 64) 0) i) (bit_at-lt (get_or words (column / 64) 0) i) ∙ ap (λ t. cond t 1 0) (sym (column_at words (column / 64) i small))
     where
       bit_of : (b : ℕ) → b < 2 → b ≡ cond (eqb b 1) 1 0
       bit_of zero l = refl
@@ -209,7 +209,7 @@ module _ (words : List ℕ) (from column : ℕ) (fits : get_or words (column / 6
       × ((c : ℕ) → from ≤ c → c < column + trailing_zeros w64 (get_or words (column / 64) 0 / 2 ^ (column % 64)) → has_column words c ≡ false)
   next_found low none some =
       let less = div-le_self (get_or words (column / 64) 0) (2 ^ (column % 64)) in
-      let first = first_by_bits (has_column words) column (get_or words (column / 64) 0) fits tells some (omega (arith, fits, less)) in (
+      let first = first_by_bits (has_column words) column (get_or words (column / 64) 0) fits bits_are some (omega (arith, fits, less)) in (
         omega arith,
         inside (column + trailing_zeros w64 (get_or words (column / 64) 0 / 2 ^ (column % 64))) first.0,
         first.0,
@@ -219,7 +219,7 @@ module _ (words : List ℕ) (from column : ℕ) (fits : get_or words (column / 6
   pub next_skips : ((c : ℕ) → from ≤ c → c < column → has_column words c ≡ false) → get_or words (column / 64) 0 / 2 ^ (column % 64) ≡ 0 → (c : ℕ) → from ≤ c → c < column - column % 64 + 64 → has_column words c ≡ false
   next_skips none empty c l h = elim (cases_lt c column) [
     | inl before ↦ none c l before
-    | inr after ↦ none_by_bits (has_column words) column (get_or words (column / 64) 0) fits tells empty c after h
+    | inr after ↦ none_by_bits (has_column words) column (get_or words (column / 64) 0) fits bits_are empty c after h
   ]
 
 -- ---- two sets by two tests

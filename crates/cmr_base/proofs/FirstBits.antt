@@ -18,7 +18,7 @@ no_bit_is false n e h = refl
 pub moved : (n k i : ℕ) → bit_at (n / 2 ^ k) i ≡ bit_at n (k + i)
 moved n k i = ap (λ (d : ℕ). d % 2) (div-div-eq-div-mul n (2 ^ k) (2 ^ i) ∙ ap (λ (p : ℕ). n / p) (sym (pow-add 2 k i)))
 
-module _ (test : ℕ → Bool) (column word : ℕ) (fits : word < 2 ^ 64) (tells : (i : ℕ) → i < 64 → bit_at word i ≡ cond (test (64 * (column / 64) + i)) 1 0) where
+module _ (test : ℕ → Bool) (column word : ℕ) (fits : word < 2 ^ 64) (bits_are : (i : ℕ) → i < 64 → bit_at word i ≡ cond (test (64 * (column / 64) + i)) 1 0) where
   abbrev rest : ℕ
   rest = word / 2 ^ (column % 64)
 
@@ -26,7 +26,7 @@ module _ (test : ℕ → Bool) (column word : ℕ) (fits : word < 2 ^ 64) (tells
   bit : (i : ℕ) → column % 64 + i < 64 → bit_at (word / 2 ^ (column % 64)) i ≡ cond (test (column + i)) 1 0
   bit i small =
       let at : 64 * (column / 64) + (column % 64 + i) ≡ column + i = omega arith in
-      moved word (column % 64) i ∙ tells (column % 64 + i) small ∙ ap (λ (c : ℕ). cond (test c) 1 0) at
+      moved word (column % 64) i ∙ bits_are (column % 64 + i) small ∙ ap (λ (c : ℕ). cond (test c) 1 0) at
 
   no_bit : (i : ℕ) → 64 ≤ column % 64 + i → bit_at (word / 2 ^ (column % 64)) i ≡ 0
   no_bit i high = moved word (column % 64) i ∙ bit_at_above word 64 (column % 64 + i) fits high

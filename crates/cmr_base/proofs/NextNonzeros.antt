@@ -30,14 +30,14 @@ module _ (m : Matrix) (row column word : ℕ) (is : word ≡ word_of is_nonzero 
   fits : word < 2 ^ 64
   fits = subst (λ (n : ℕ). n < 2 ^ 64) (sym is) (word_of-lt is_nonzero (row_of m row) (column / 64))
 
-  tells : (i : ℕ) → i < 64 → bit_at word i ≡ cond (support m row (64 * (column / 64) + i)) 1 0
-  tells i small = ap (λ (n : ℕ). bit_at n i) is ∙ bit-word_of is_nonzero (row_of m row) (column / 64) i refl small
+  bits_are : (i : ℕ) → i < 64 → bit_at word i ≡ cond (support m row (64 * (column / 64) + i)) 1 0
+  bits_are i small = ap (λ (n : ℕ). bit_at n i) is ∙ bit-word_of is_nonzero (row_of m row) (column / 64) i refl small
 
   -- the rest of the word is empty
   pub none_in_word : word / 2 ^ (column % 64) ≡ 0 → (c : ℕ) → column ≤ c → c < column - column % 64 + 64 → support m row c ≡ false
-  none_in_word = none_by_bits (support m row) column word fits tells
+  none_in_word = none_by_bits (support m row) column word fits bits_are
 
   -- the lowest bit of the rest is the bit of the first nonzero
   pub first_in_word : 0 < word / 2 ^ (column % 64) → word / 2 ^ (column % 64) < 2 ^ 64
       → (support m row (column + trailing_zeros w64 (word / 2 ^ (column % 64))) ≡ true) × ((c : ℕ) → column ≤ c → c < column + trailing_zeros w64 (word / 2 ^ (column % 64)) → support m row c ≡ false)
-  first_in_word = first_by_bits (support m row) column word fits tells
+  first_in_word = first_by_bits (support m row) column word fits bits_are

@@ -25,11 +25,11 @@ none_from_cleared m rows ones twos es is are basis none =
     no_column_set m rows ones twos is are (λ set hold. even_where_cleared m.width ones (equations_of m ones rows) es (without_columns ones twos) set basis none hold)
 
 -- the remaining column decides whether a column set exists
-pub free_tells : (m : Matrix) (rows : List ℕ) (ones twos : ℕ) (es : List Equation) (free : Option ℕ) → IsMatrix m → AreSums m rows ones twos → twos < 2 ^ m.width → IsBasis m.width ones (equations_of m ones rows) es
+pub free_by_search : (m : Matrix) (rows : List ℕ) (ones twos : ℕ) (es : List Equation) (free : Option ℕ) → IsMatrix m → AreSums m rows ones twos → twos < 2 ^ m.width → IsBasis m.width ones (equations_of m ones rows) es
     → IfSome free (IsLowest (reduced_by es (without_columns ones twos))) → IfNone free (reduced_by es (without_columns ones twos) ≡ 0)
     → IfSome free (λ column. IsLeastColumnSet m rows (set_numbered m.width 0 (solved es (2 ^ column)))) × IfNone free (HasNoColumnSet m rows)
-free_tells m rows ones twos es (Some free) is are small basis some none = (least_from_free m rows ones twos free es is are small basis some, tt)
-free_tells m rows ones twos es None is are small basis some none = (tt, none_from_cleared m rows ones twos es is are basis none)
+free_by_search m rows ones twos es (Some free) is are small basis some none = (least_from_free m rows ones twos free es is are small basis some, tt)
+free_by_search m rows ones twos es None is are small basis some none = (tt, none_from_cleared m rows ones twos es is are basis none)
 
 -- no column set exists if no column has a sum of 2 modulo 4
 pub none_without_halves : (m : Matrix) (rows : List ℕ) (ones twos : ℕ) → IsMatrix m → AreSums m rows ones twos → without_columns ones twos ≡ 0 → HasNoColumnSet m rows

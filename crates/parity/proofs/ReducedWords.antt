@@ -34,7 +34,7 @@ reduced_more place words before after lt len so_far (inr (pivot, low, added)) wi
       basis = subst (λ rows. IsBasis width excluded rows (is.equations ++ e ∷ [])) (sym (take_more words place 0 lt))
           (basis_push width excluded (take place words) is.equations row pivot is.basis own.0 own.1 (subst (λ (n : ℕ). IsLowest n pivot) here low));
       rest = λ at le inside.
-          added.behind at (omega (arith, le)) (omega (arith, inside, len))
+          added.later at (omega (arith, le)) (omega (arith, inside, len))
           ∙ ap (λ (n : ℕ). cleared_by (record { pivot = pivot; columns = n }) (get_or before at 0)) here
           ∙ ap (cleared_by e) (is.rest at (omega (arith, le)) inside)
           ∙ sym (reduced_by-append is.equations (e ∷ []) (get_or words at 0));

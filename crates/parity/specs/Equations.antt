@@ -52,14 +52,14 @@ pub record IsBasis (width excluded : ℕ) (rows : List ℕ) (es : List Equation)
   pub small : AllByRecursion (λ e. e.columns < 2 ^ width) es
 
 -- an equation added to each word after a position that contains its pivot; no other word changes
-pub record IsAddedBehind (e : Equation) (place : ℕ) (before after : List ℕ) : Type 0 where
+pub record IsAddedToLater (e : Equation) (place : ℕ) (before after : List ℕ) : Type 0 where
   pub prefix : (at : ℕ) → at ≤ place → slice_index_or after at 0 ≡ slice_index_or before at 0
-  pub behind : (at : ℕ) → place < at → at < length before → slice_index_or after at 0 ≡ cleared_by e (slice_index_or before at 0)
+  pub later : (at : ℕ) → place < at → at < length before → slice_index_or after at 0 ≡ cleared_by e (slice_index_or before at 0)
 
 -- the word at a position, as an equation with its least column as the pivot, added to the words after it; nothing changes if the word is 0
 abbrev pub AreCleared : ℕ → List ℕ → List ℕ → Type 0
 AreCleared place before after = ((slice_index_or before place 0 ≡ 0) × (after ≡ before))
-    ⊎ ((pivot : ℕ) × IsLowest (slice_index_or before place 0) pivot × IsAddedBehind (record { pivot = pivot; columns = slice_index_or before place 0 }) place before after)
+    ⊎ ((pivot : ℕ) × IsLowest (slice_index_or before place 0) pivot × IsAddedToLater (record { pivot = pivot; columns = slice_index_or before place 0 }) place before after)
 
 -- the words from a position on are reduced by a basis of the words before it
 pub record IsReducedBy (width excluded place : ℕ) (before after : List ℕ) : Type 0 where

@@ -93,13 +93,13 @@ fn eliminate(words: &mut [u64], count: usize) -> u64
     ensures next { result ≡ slice_index_or words.new count 0 }
 {
     for place in 0..count {
-        clear_behind(words, place);
+        clear_later(words, place);
     }
     words[count]
 }
 
 // Adds a word to the words after it that contain its least column.
-fn clear_behind(words: &mut [u64], place: usize)
+fn clear_later(words: &mut [u64], place: usize)
     requires { place < length words.old }
     ensures len { length words.new ≡ length words.old }
     ensures cleared { AreCleared place words.old words.new }
@@ -109,8 +109,8 @@ fn clear_behind(words: &mut [u64], place: usize)
         return;
     };
     let equation = Equation { pivot, columns };
-    for behind in place + 1..words.len() {
-        words[behind] = cleared_by(equation, words[behind]);
+    for later in place + 1..words.len() {
+        words[later] = cleared_by(equation, words[later]);
     }
 }
 

@@ -1,12 +1,12 @@
-use Rattle.parity.proofs.ColumnSetSearch.{free_tells}
+use Rattle.parity.proofs.ColumnSetSearch.{free_by_search}
 use Rattle.parity.proofs.column_search.free_column.Goals as goal
 
 pub returns-clause-least : goal.returns-clause-least
 returns-clause-least c =
-    (free_tells c.args.matrix.now c.args.rows.now c.sum_columns.new.sums.ones c.sum_columns.new.sums.twos c.eliminate.new.basis.equations c.lowest_left.result
+    (free_by_search c.args.matrix.now c.args.rows.now c.sum_columns.new.sums.ones c.sum_columns.new.sums.twos c.eliminate.new.basis.equations c.lowest_left.result
     c.requires.shape c.sum_columns.ensures.sums c.sum_columns.ensures.small c.in_ok-eliminate.ensures.basis c.lowest_left.ensures.some c.lowest_left.ensures.none).0
 
 pub returns-clause-none : goal.returns-clause-none
 returns-clause-none c =
-    (free_tells c.args.matrix.now c.args.rows.now c.sum_columns.new.sums.ones c.sum_columns.new.sums.twos c.eliminate.new.basis.equations c.lowest_left.result
+    (free_by_search c.args.matrix.now c.args.rows.now c.sum_columns.new.sums.ones c.sum_columns.new.sums.twos c.eliminate.new.basis.equations c.lowest_left.result
     c.requires.shape c.sum_columns.ensures.sums c.sum_columns.ensures.small c.in_ok-eliminate.ensures.basis c.lowest_left.ensures.some c.lowest_left.ensures.none).1

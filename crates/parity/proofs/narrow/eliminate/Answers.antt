@@ -8,6 +8,6 @@ loop-place-init c = record { len = refl; so_far = reduced_none c.args.words.now 
 pub loop-place-preserved : goal.loop-place-preserved
 loop-place-preserved c =
     let so = c.loop-place.invariant in record {
-      len = c.clear_behind.ensures.len ∙ so.len;
-      so_far = reduced_more c.loop-place.place c.args.words.now c.loop-place.words c.clear_behind.new.words (omega (arith, c.loop-place-test.true, c.requires)) so.len so.so_far c.clear_behind.ensures.cleared;
+      len = c.clear_later.ensures.len ∙ so.len;
+      so_far = reduced_more c.loop-place.place c.args.words.now c.loop-place.words c.clear_later.new.words (omega (arith, c.loop-place-test.true, c.requires)) so.len so.so_far c.clear_later.ensures.cleared;
     }
