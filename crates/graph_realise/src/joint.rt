@@ -170,19 +170,6 @@ fn no_numbers(alloc: Global, columns: u32) -> Result<Vec<Option<usize>>, Memory>
     Ok(vec![in alloc; None; columns as usize]?)
 }
 
-/// Adds the columns of a row to a set.
-pub fn add_row(matrix: &Matrix, row: u32, set: &mut Vec<u64>)
-    requires shape { IsMatrix matrix.now }
-    requires row { row < height matrix.now }
-    requires size { length set.old.items ≡ words_for matrix.now.width }
-    ensures size { length set.new.items ≡ words_for matrix.now.width }
-    ensures columns { (column : ℕ)
-        → has_column set.new.items column
-        ≡ (has_column set.old.items column || support matrix.now row column) }
-{
-    add_common(set, matrix.support_words(row), matrix.support_words(row));
-}
-
 // Sets the columns of the rows of a part in which `row` is 0.
 fn set_columns_of_part(matrix: &Matrix, row: u32, part: &Indices, columns: &mut Vec<u64>)
     requires shape { IsMatrix matrix.now }

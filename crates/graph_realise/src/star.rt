@@ -1,10 +1,9 @@
 // Stars: trees in which no arc separates others.
-ghost use Rattle.std.specs.Prelude.{◌≡◌, ◌<◌, length, OnOk};
+ghost use Rattle.std.specs.Prelude.{◌≡◌, ◌<◌, OnOk};
 ghost use Rattle.cmr_base.specs.Cuts.{IsCuts};
 ghost use Rattle.cmr_base.specs.LineSets.{AllBelow};
-ghost use Rattle.cmr_base.specs.Matrix.{height, IsMatrix};
+ghost use Rattle.cmr_base.specs.Matrix.{height};
 ghost use Rattle.cmr_base.specs.Members.{IsIn};
-ghost use Rattle.cmr_base.specs.Planes.{words_for};
 ghost use Rattle.cmr_base.specs.Splits.{HasNoThree};
 ghost use Rattle.cmr_base.specs.Trees.{support};
 ghost use Rattle.cmr_base.specs.ColumnSets.{has_column};
@@ -12,9 +11,7 @@ ghost use Rattle.graph_realise.specs.SideTables.{AreClear, AreTablesOf, KeepsOth
 ghost use Rattle.graph_realise.specs.Rays.{IsRayAfter};
 
 use crate::arc_sides::ArcSides;
-use crate::joint::add_row;
-use cmr_base::columns::empty_set;
-use cmr_base::{Indices, Matrix, Memory};
+use cmr_base::{BitSet, Indices, Matrix, Memory, columns_of};
 use std::alloc::Global;
 
 /// Draws the rows as a star if no column has three nonzeros in them. The first end of a column is the leaf of its first row.
@@ -34,26 +31,27 @@ pub fn draw_star(
     ensures clear { OnOk result (AreClear (support matrix.now) rows.now sides.new) }
     ensures others { KeepsOutside sides.old sides.new rows.now }
 {
-    let mut seen = empty_set(alloc, matrix.columns())?;
+    let mut seen = BitSet::new(alloc, matrix.columns())?;
     for row in rows.as_slice() {
-        draw_ray(matrix, *row, seen.as_slice(), sides);
-        add_row(matrix, *row, &mut seen);
+        draw_ray(matrix, *row, &seen, sides);
+        seen.add_words(columns_of(matrix, *row));
     }
     Ok(())
 }
 
 // One arc of the star. `seen` contains the columns of earlier rows.
-fn draw_ray(matrix: &Matrix, row: u32, seen: &[u64], sides: &mut ArcSides)
-    requires shape { IsMatrix matrix.now }
+fn draw_ray(matrix: &Matrix, row: u32, seen: &BitSet, sides: &mut ArcSides)
     requires row { row < height matrix.now }
-    requires seen { length seen.now ≡ words_for matrix.now.width }
+    requires seen { seen.now.size ≡ matrix.now.width }
     requires tables { AreTablesOf matrix.now sides.old }
     ensures tables { AreTablesOf matrix.now sides.new }
-    ensures drawn { IsRayAfter (support matrix.now) (has_column seen.now) row sides.new }
+    ensures drawn { IsRayAfter (support matrix.now) (has_column seen.now.words) row sides.new }
     ensures others { KeepsOtherArcs sides.old sides.new row }
 {
-    let columns = matrix.support_words(row);
+    let _rows = matrix.rows();
+    let columns = columns_of(matrix, row);
+    let before = seen.words();
     sides.arcs.clear(row);
-    sides.first.fill_outside(row, columns, seen);
-    sides.last.fill_common(row, columns, seen);
+    sides.first.fill_outside(row, columns, before);
+    sides.last.fill_common(row, columns, before);
 }

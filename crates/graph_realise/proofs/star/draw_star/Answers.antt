@@ -1,6 +1,5 @@
 use Rattle.std.proofs.Common.{◌≡◌, ◌<◌, ◌∙◌, ◌||◌, sym, ap, refl, subst, arith, List, ℕ, length, get_or}
 use Rattle.cmr_base.specs.Members.{IsIn}
-use Rattle.cmr_base.specs.Planes.{words_for}
 use Rattle.cmr_base.specs.Trees.{support}
 use Rattle.graph_realise.specs.Rays.{IsRay, IsRayAfter}
 use Rattle.cmr_base.specs.ColumnSets.{has_column}
@@ -11,8 +10,8 @@ use Rattle.graph_realise.proofs.star.draw_star.Goals as goal
 pub loop-row-init : goal.loop-row-init
 loop-row-init c = record {
   tables = c.requires.tables;
-  long = c.in_ok-seen.ensures.size ∙ ap (λ n. words_for n) c.columns.ensures.columns;
-  seen = seen_none (support c.args.matrix.now) c.args.rows.now (has_column c.in_ok-seen.seen.items) c.in_ok-seen.ensures.none;
+  size = c.in_ok-seen.ensures.size ∙ c.columns.ensures.columns;
+  seen = seen_none (support c.args.matrix.now) c.args.rows.now (has_column c.in_ok-seen.seen.words) c.in_ok-seen.ensures.none;
   drawn = record { done = λ k l. absurd (omega arith); kept = λ r n. record { arcs = λ other. refl; ends = λ end column. refl } };
 }
 
@@ -25,15 +24,14 @@ loop-row-preserved c =
     let items = c.as_slice-row-items.ensures.items in
     let at : get_or c.as_slice-row-items.result.now p 0 ≡ get_or S p 0 = ap (λ (xs : List ℕ). get_or xs p 0) items in
     let inside : p < length S = subst (λ (xs : List ℕ). p < length xs) items c.loop-row-test.true in
-    let ray = subst (λ (z : ℕ). IsRayAfter M (has_column c.loop-row.seen.items) z c.draw_ray.new.sides) at
-    (subst (λ (xs : List ℕ). IsRayAfter M (has_column xs) (get_or c.as_slice-row-items.result.now p 0) c.draw_ray.new.sides) c.as_slice.ensures.value c.draw_ray.ensures.drawn) in
+    let ray = subst (λ (z : ℕ). IsRayAfter M (has_column c.loop-row.seen.words) z c.draw_ray.new.sides) at c.draw_ray.ensures.drawn in
     record {
       tables = c.draw_ray.ensures.tables;
-      long = c.add_row.ensures.size;
-      seen = seen_more M S p (has_column c.loop-row.seen.items) (has_column c.add_row.new.set.items) so.seen
-          (λ column. c.add_row.ensures.columns column ∙ ap (λ (z : ℕ). has_column c.loop-row.seen.items column || M z column) at);
+      size = c.add_words.ensures.size ∙ so.size;
+      seen = seen_more M S p (has_column c.loop-row.seen.words) (has_column c.add_words.new.self.words) so.seen
+          (λ column. c.add_words.ensures.columns column ∙ ap (λ t. has_column c.loop-row.seen.words column || t) (c.columns_of.ensures.columns column ∙ ap (λ (z : ℕ). M z column) at));
       drawn = redrawn_more (IsRay M S) (ray_same M S) c.as_slice-row-items.result.now p c.args.sides.now c.loop-row.sides c.draw_ray.new.sides so.drawn c.draw_ray.ensures.others
-          (subst (λ (z : ℕ). IsRay M S z c.draw_ray.new.sides) (sym at) (ray_after M S p (has_column c.loop-row.seen.items) c.draw_ray.new.sides
+          (subst (λ (z : ℕ). IsRay M S z c.draw_ray.new.sides) (sym at) (ray_after M S p (has_column c.loop-row.seen.words) c.draw_ray.new.sides
           c.as_slice-row-items.ensures.increasing inside so.seen ray));
     }
 
