@@ -5,7 +5,7 @@ use Rattle.cmr_base.specs.declared.line.Line.{Line}
 use Rattle.cmr_base.specs.declared.line.Line.TheVariants.{Row, Column}
 use Rattle.cmr_base.specs.declared.line_mask.LineMask.{LineMask}
 use Rattle.cmr_base.specs.BitSets.{Bits}
-use Rattle.cmr_base.specs.ColumnSets.{has_column, HasCommon, IsWithin}
+use Rattle.cmr_base.specs.ColumnSets.{has_column, HasCommon}
 use Rattle.cmr_base.specs.LineMasks.{as_set}
 use Rattle.cmr_base.specs.Seeds.{IsLine}
 
@@ -34,13 +34,6 @@ pub empty_by_columns : (mask : LineMask) (t : Bool) → ((row : ℕ) → has_col
 empty_by_columns mask t rows columns = (
   (λ e. each_line (λ x. as_set mask x ≡ false) rows (columns.0 e)),
   (λ none. columns.1 (λ column. none (Column column))),
-)
-
-pub within_by_columns : (one two : LineMask) (t : Bool) → IsWithin one.rows.words two.rows.words → IsTrue t ↔ IsWithin one.columns.words two.columns.words
-    → IsTrue t ↔ ((x : Line) → as_set one x ≡ true → as_set two x ≡ true)
-within_by_columns one two t rows columns = (
-  (λ e. each_line (λ x. as_set one x ≡ true → as_set two x ≡ true) rows (columns.0 e)),
-  (λ all. columns.1 (λ column. all (Column column))),
 )
 
 pub meets_by_columns : (one two : LineMask) (t : Bool) → ¬ (HasCommon one.rows.words two.rows.words) → IsTrue t ↔ HasCommon one.columns.words two.columns.words

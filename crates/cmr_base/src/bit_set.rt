@@ -165,18 +165,6 @@ impl BitSet {
         add_set(&mut self.words, &other.words);
     }
 
-    /// Adds the numbers that are in both `one` and `two`.
-    pub fn add_common(&mut self, one: &BitSet, two: &BitSet)
-        requires one { one.now.size ≡ self.old.size }
-        requires two { two.now.size ≡ self.old.size }
-        ensures size { self.new.size ≡ self.old.size }
-        ensures columns { (x : ℕ) → has_column self.new.words x
-            ≡ (has_column self.old.words x
-            || (has_column one.now.words x && has_column two.now.words x)) }
-    {
-        add_common(&mut self.words, &one.words, &two.words);
-    }
-
     /// Adds the numbers that are in `one` and not in `other`.
     pub fn add_outside(&mut self, one: &BitSet, other: &BitSet)
         requires one { one.now.size ≡ self.old.size }

@@ -28,7 +28,7 @@ pub fn clear_set(set: &mut Vec<u64>)
 }
 
 /// Whether a column is in a set.
-pub fn has_column(set: &[u64], column: u32) -> bool
+pub(crate) fn has_column(set: &[u64], column: u32) -> bool
     requires { column / 64 < length set.now }
     ensures { result ≡ has_column set.now column }
 {
@@ -77,7 +77,7 @@ pub fn add_set(set: &mut Vec<u64>, other: &[u64])
 }
 
 /// Adds the columns that are in both `one` and `two`.
-pub fn add_common(set: &mut Vec<u64>, one: &[u64], two: &[u64])
+pub(crate) fn add_common(set: &mut Vec<u64>, one: &[u64], two: &[u64])
     requires one { length one.now ≡ length set.old.items }
     requires two { length two.now ≡ length set.old.items }
     ensures size { length set.new.items ≡ length set.old.items }
@@ -213,7 +213,7 @@ pub fn count_columns(set: &[u64]) -> u32
 }
 
 /// The number of columns below `columns` in a set.
-pub fn count_below(set: &[u64], columns: u32) -> u32
+pub(crate) fn count_below(set: &[u64], columns: u32) -> u32
     requires { length set.now ≡ words_for columns }
     ensures count { result ≡ count (has_column set.now) columns }
     ensures few { result ≤ columns }

@@ -1,10 +1,7 @@
 // A set of rows and columns as a type.
-ghost use Rattle.std.specs.Prelude.{◌≡◌, ◌<◌, ◌≤◌, ◌⊎◌, ◌↔◌, ◌||◌, not, filter, true, false, IfOk, IsTrue};
-ghost use Rattle.cmr_base.specs.ColumnSets.{has_column};
-ghost use Rattle.cmr_base.specs.Components.{IsLineOf};
+ghost use Rattle.std.specs.Prelude.{◌≡◌, ◌≤◌, ◌⊎◌, ◌↔◌, not, true, false, IfOk, IsTrue};
 ghost use Rattle.cmr_base.specs.LineMasks.{as_set, AreAlike, IsMask};
-ghost use Rattle.cmr_base.specs.LineSets.{AllBelow, first_lines};
-ghost use Rattle.cmr_base.specs.Matrix.{Matrix};
+ghost use Rattle.cmr_base.specs.LineSets.{AllBelow};
 ghost use Rattle.cmr_base.specs.Seeds.{IsLine, count_inside, count_outside};
 ghost use Rattle.cmr_base.specs.Separations.{listed};
 ghost use Rattle.cmr_base.specs.declared.line.Line.{Line};
@@ -99,26 +96,6 @@ impl LineMask {
         }
     }
 
-    /// Removes all lines.
-    pub fn clear(&mut self)
-        ensures size { AreAlike self.old self.new }
-        ensures none { (x : Line) → as_set self.new x ≡ false }
-    {
-        self.rows.clear();
-        self.columns.clear();
-    }
-
-    /// Adds the lines of another set.
-    pub fn add_all(&mut self, other: &LineMask)
-        requires { AreAlike self.old other.now }
-        ensures size { AreAlike self.old self.new }
-        ensures lines { (x : Line) → as_set self.new x
-            ≡ (as_set self.old x || as_set other.now x) }
-    {
-        self.rows.add_all(&other.rows);
-        self.columns.add_all(&other.columns);
-    }
-
     /// Whether the set is empty.
     pub fn is_empty(&self) -> bool
         ensures { IsTrue result ↔ ((x : Line) → as_set self.now x ≡ false) }
@@ -135,15 +112,6 @@ impl LineMask {
         self.rows.meets(&other.rows) || self.columns.meets(&other.columns)
     }
 
-    /// Whether each line of this set is in the other.
-    pub fn is_within(&self, other: &LineMask) -> bool
-        requires { AreAlike self.now other.now }
-        ensures { IsTrue result
-            ↔ ((x : Line) → as_set self.now x ≡ true → as_set other.now x ≡ true) }
-    {
-        self.rows.is_within(&other.rows) && self.columns.is_within(&other.columns)
-    }
-
     /// The number of lines in the set.
     pub fn count(&self) -> u32
         ensures count { result ≡ count_inside self.now.rows.size self.now.columns.size
@@ -158,18 +126,5 @@ impl LineMask {
             (as_set self.now) }
     {
         self.rows.count_others() + self.columns.count_others()
-    }
-
-    /// The lines of the set, as lists.
-    pub fn listed(&self, alloc: Global) -> Result<LineSet, Memory>
-        ensures rows { IfOk result (λ lines. lines.rows
-            ≡ filter (has_column self.now.rows.words) (first_lines self.now.rows.size)) }
-        ensures columns { IfOk result (λ lines. lines.columns
-            ≡ filter (has_column self.now.columns.words) (first_lines self.now.columns.size)) }
-    {
-        Ok(LineSet {
-            rows: self.rows.listed(alloc)?,
-            columns: self.columns.listed(alloc)?,
-        })
     }
 }

@@ -13,7 +13,7 @@ ghost use Rattle.graph_realise.specs.BitTables.{AreChunksOf};
 
 use crate::branches::{Branch, branches_at};
 use crate::table::Table;
-use cmr_base::columns::{add_common, add_outside, clear_set, empty_set, next_column};
+use cmr_base::columns::{add_outside, clear_set, empty_set, next_column};
 use cmr_base::{Indices, MAX_ROWS, Matrix, Memory, PartList, SideList, words_for};
 use std::alloc::Global;
 
