@@ -17,7 +17,7 @@ use Rattle.cmr_base.proofs.SumLaws.{sum_over-exchange}
 use Rattle.cmr_base.proofs.Booleans.{not_is}
 use Rattle.balance.specs.BalanceFaults.{row_nonzeros, column_nonzeros, IsBalanceFault}
 use Rattle.balance.specs.SearchedFaults.{HasNoFaultBelow}
-use Rattle.balance.specs.CandidateColumns.{IsCandidate, AreAlike, IsLeastAlike, AreKept}
+use Rattle.balance.specs.CandidateColumns.{IsCandidate, AreAlikeColumns, IsLeastAlike, AreKept}
 use Rattle.balance.proofs.NonzeroCounts.{mark, two_from_sum, two_is_even}
 use Rattle.balance.proofs.FilterSums.{sum_split, increases-part}
 use Rattle.balance.proofs.AddedLines.{only, added_false, not_added, sum_only}
@@ -104,7 +104,7 @@ module _ (m : Matrix) (small : (i j : ℕ) → IsEntry (entry m i j)) (R C : Lis
     | inr apart ↦ absurd (never_alike m small R C row_set column_set f before c d a.c_in b.c_in apart (λ i h. sym (a.same i h) ∙ b.same i h) (four_apart (sum_over R (λ i. entry m i w)) (sum_over R (λ i. entry m i c)) (sum_over R (λ i. entry m i d)) (even w is) a.four b.four))
   ]
 
-  are_alike : (w x c : ℕ) → IsCandidate m R c → Like w c → Like x c → AreAlike m R w x
+  are_alike : (w x c : ℕ) → IsCandidate m R c → Like w c → Like x c → AreAlikeColumns m R w x
   are_alike w x c is a b = record {
     same_rows = all_of_members (λ i. is_nonzero (entry m i w) ≡ is_nonzero (entry m i x)) R (λ i h. a.same i h ∙ sym (b.same i h));
     no_fault = λ two. two_mod_four_not_four (sum_over R (λ i. entry m i w) +ℤ sum_over R (λ i. entry m i x)) two
@@ -155,7 +155,7 @@ module _ (m : Matrix) (small : (i j : ℕ) → IsEntry (entry m i j)) (R C : Lis
         p.1,
       )
         where
-          through : (x : ℕ) → IsCandidate m R x → AreAlike m R x w → IsFour (sum_over R (λ i. entry m i x) +ℤ sum_over R (λ i. entry m i c))
+          through : (x : ℕ) → IsCandidate m R x → AreAlikeColumns m R x w → IsFour (sum_over R (λ i. entry m i x) +ℤ sum_over R (λ i. entry m i c))
           through x is a = elim (four_or_two (sum_over R (λ i. entry m i x) +ℤ sum_over R (λ i. entry m i w)) (even-add (sum_over R (λ i. entry m i x)) (sum_over R (λ i. entry m i w)) (even x is) (even w p.0))) [
             | inr two ↦ absurd (a.no_fault two)
             | inl four ↦ four_apart (sum_over R (λ i. entry m i w)) (sum_over R (λ i. entry m i x)) (sum_over R (λ i. entry m i c)) (even w p.0) (flip (sum_over R (λ i. entry m i x)) (sum_over R (λ i. entry m i w)) four) p.1.four

@@ -11,7 +11,7 @@ use Rattle.cmr_base.proofs.Integers.{sums}
 use Rattle.cmr_base.proofs.Members.{all_in, all_of_members, in-append, in_at, increasing-append}
 use Rattle.cmr_base.proofs.Parity.{IsFour, even-add, two_mod_four_not_four}
 use Rattle.ghouila.proofs.Cycles.{four_or_two}
-use Rattle.balance.specs.CandidateColumns.{AreAlike, AreKept, AreKeptBelow, IsCandidate, IsLeastAlike}
+use Rattle.balance.specs.CandidateColumns.{AreAlikeColumns, AreKept, AreKeptBelow, IsCandidate, IsLeastAlike}
 use Rattle.balance.proofs.NonzeroCounts.{two_is_even}
 
 -- a sum of entries is at most as large as their number
@@ -47,7 +47,7 @@ module _ (m : Matrix) (is : IsMatrix m) (rows : List ℕ) where
   even c two = two_is_even (λ row. entry m row c) (λ row. is.small row c) rows two
 
   -- two columns that are alike one column are alike each other
-  alike_through : (x y z : ℕ) → IsCandidate m rows x → IsCandidate m rows y → AreAlike m rows x y → AreAlike m rows y z → IsEven (column_sum z) → AreAlike m rows x z
+  alike_through : (x y z : ℕ) → IsCandidate m rows x → IsCandidate m rows y → AreAlikeColumns m rows x y → AreAlikeColumns m rows y z → IsEven (column_sum z) → AreAlikeColumns m rows x z
   alike_through x y z p q a b r = record {
     same_rows = all_of_members (λ row. is_nonzero (entry m row x) ≡ is_nonzero (entry m row z)) rows
         (λ i h. all_in (λ row. is_nonzero (entry m row x) ≡ is_nonzero (entry m row y)) rows a.same_rows i h ∙ all_in (λ row. is_nonzero (entry m row y) ≡ is_nonzero (entry m row z)) rows b.same_rows i h);
@@ -62,7 +62,7 @@ module _ (m : Matrix) (is : IsMatrix m) (rows : List ℕ) where
 
   module _ (column : ℕ) (inside : column < m.width) (before : List ℕ) (b : AreKeptBelow m rows column before) where
     -- if no kept column is alike, no candidate before the column is alike
-    no_earlier : (bound other : ℕ) → IsCandidate m rows column → ((other : ℕ) → IsIn other before → ¬ (AreAlike m rows other column)) → other < bound → other < column → IsCandidate m rows other → ¬ (AreAlike m rows other column)
+    no_earlier : (bound other : ℕ) → IsCandidate m rows column → ((other : ℕ) → IsIn other before → ¬ (AreAlikeColumns m rows other column)) → other < bound → other < column → IsCandidate m rows other → ¬ (AreAlikeColumns m rows other column)
     no_earlier zero other candidate none l less is_one alike = omega arith
     no_earlier (suc bound) other candidate none l less is_one alike = none other ((b.members other).1 (
       less,
@@ -73,14 +73,14 @@ module _ (m : Matrix) (is : IsMatrix m) (rows : List ℕ) where
       },
     )) alike
 
-    pub least_alike : IsCandidate m rows column → ((other : ℕ) × IsIn other before × AreAlike m rows other column → ⊥) → IsLeastAlike m rows column
+    pub least_alike : IsCandidate m rows column → ((other : ℕ) × IsIn other before × AreAlikeColumns m rows other column → ⊥) → IsLeastAlike m rows column
     least_alike candidate none = record {
       column_in = inside;
       candidate = candidate;
       least = λ other less. no_earlier (suc other) other candidate (λ x h a. none (x, h, a)) (omega arith) less;
     }
 
-    pub not_least : IsLeastAlike m rows column → (other : ℕ) × IsIn other before × AreAlike m rows other column → ⊥
+    pub not_least : IsLeastAlike m rows column → (other : ℕ) × IsIn other before × AreAlikeColumns m rows other column → ⊥
     not_least least (other, h, a) = let k = (b.members other).0 h in least.least other k.0 k.1.candidate a
 
 -- ---- one column after another
@@ -126,8 +126,8 @@ pub from_not : (b : Bool) → ¬ (IsTrue b) → IsTrue (not b)
 from_not true h = absurd (h refl)
 from_not false h = refl
 
-pub some_alike : (m : Matrix) (rows columns : List ℕ) (column k : ℕ) → k < length columns → AreAlike m rows (get_or columns k 0) column → (other : ℕ) × IsIn other columns × AreAlike m rows other column
+pub some_alike : (m : Matrix) (rows columns : List ℕ) (column k : ℕ) → k < length columns → AreAlikeColumns m rows (get_or columns k 0) column → (other : ℕ) × IsIn other columns × AreAlikeColumns m rows other column
 some_alike m rows columns column k l a = (get_or columns k 0, in_at columns k l, a)
 
-pub none_alike : (m : Matrix) (rows columns : List ℕ) (column : ℕ) → AllByRecursion (λ other. ¬ (AreAlike m rows other column)) columns → (other : ℕ) × IsIn other columns × AreAlike m rows other column → ⊥
-none_alike m rows columns column none (other, h, a) = all_in (λ other. ¬ (AreAlike m rows other column)) columns none other h a
+pub none_alike : (m : Matrix) (rows columns : List ℕ) (column : ℕ) → AllByRecursion (λ other. ¬ (AreAlikeColumns m rows other column)) columns → (other : ℕ) × IsIn other columns × AreAlikeColumns m rows other column → ⊥
+none_alike m rows columns column none (other, h, a) = all_in (λ other. ¬ (AreAlikeColumns m rows other column)) columns none other h a

@@ -13,7 +13,7 @@ abbrev pub IsCandidate : Matrix → List ℕ → ℕ → Type 0
 IsCandidate m rows column = column_nonzeros (entry m) rows column ≡ 2
 
 -- both columns join the same two rows, and they are no fault together
-pub record AreAlike (m : Matrix) (rows : List ℕ) (c d : ℕ) : Type 0 where
+pub record AreAlikeColumns (m : Matrix) (rows : List ℕ) (c d : ℕ) : Type 0 where
   pub same_rows : AllByRecursion (λ row. is_nonzero (entry m row c) ≡ is_nonzero (entry m row d)) rows
   pub no_fault : ¬ (IsTwoModFour (sum_over rows (λ row. entry m row c) +ℤ sum_over rows (λ row. entry m row d)))
 
@@ -21,7 +21,7 @@ pub record AreAlike (m : Matrix) (rows : List ℕ) (c d : ℕ) : Type 0 where
 pub record IsLeastAlike (m : Matrix) (rows : List ℕ) (column : ℕ) : Type 0 where
   pub column_in : column < m.width
   pub candidate : IsCandidate m rows column
-  pub least : (other : ℕ) → other < column → IsCandidate m rows other → ¬ (AreAlike m rows other column)
+  pub least : (other : ℕ) → other < column → IsCandidate m rows other → ¬ (AreAlikeColumns m rows other column)
 
 -- these columns are the least alike candidates
 pub record AreKept (m : Matrix) (rows columns : List ℕ) : Type 0 where

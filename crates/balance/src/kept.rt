@@ -4,7 +4,7 @@ ghost use Rattle.std.specs.List.{AllByRecursion};
 ghost use Rattle.cmr_base.specs.LineSets.{AllBelow, IsRowSet};
 ghost use Rattle.cmr_base.specs.Matrix.{entry, height, is_nonzero, IsMatrix};
 ghost use Rattle.cmr_base.specs.Members.{IsIn};
-ghost use Rattle.balance.specs.CandidateColumns.{AreAlike, AreKept, AreKeptBelow, IsCandidate, IsLeastAlike};
+ghost use Rattle.balance.specs.CandidateColumns.{AreAlikeColumns, AreKept, AreKeptBelow, IsCandidate, IsLeastAlike};
 
 use cmr_base::{Indices, MAX_ROWS, Matrix, Memory};
 use parity::is_two_mod_four;
@@ -59,7 +59,8 @@ fn has_alike(matrix: &Matrix, rows: &[u32], columns: &[u32], column: u32) -> boo
     requires columns { AllBelow matrix.now.width columns.now }
     requires column { column < matrix.now.width }
     ensures { IsTrue result
-        ↔ ((other : ℕ) × IsIn other columns.now × AreAlike matrix.now rows.now other column) }
+        ↔ ((other : ℕ) × IsIn other columns.now
+        × AreAlikeColumns matrix.now rows.now other column) }
 {
     for other in columns {
         if are_alike(matrix, rows, *other, column) {
@@ -76,7 +77,7 @@ fn are_alike(matrix: &Matrix, rows: &[u32], first: u32, second: u32) -> bool
     requires few { length rows.now ≤ MAX_ROWS }
     requires first { first < matrix.now.width }
     requires second { second < matrix.now.width }
-    ensures { IsTrue result ↔ AreAlike matrix.now rows.now first second }
+    ensures { IsTrue result ↔ AreAlikeColumns matrix.now rows.now first second }
 {
     if !join_same_rows(matrix, rows, first, second) {
         return false;

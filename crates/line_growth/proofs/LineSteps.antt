@@ -91,9 +91,6 @@ module _ (P : ℕ → Type 0) where
 
 -- ---- one line
 
-pub added_already : (line : ℕ) (lines : Growth) → is_inside lines line ≡ true → HasAdded line lines lines
-added_already line lines e = record { line_in = e; grown = grown_none (λ x. x ≡ line) lines }
-
 pub some_left : (line left : ℕ) (lines : Growth) → IsGrowth lines left → line < lines.inside.size → is_inside lines line ≡ false → 1 ≤ left
 some_left line left lines w l out = let a = w.left in let b = count_more line (λ x. not (is_inside lines x)) lines.inside.size l (ap not out) in omega arith
 

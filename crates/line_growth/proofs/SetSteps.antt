@@ -20,7 +20,7 @@ use Rattle.line_growth.specs.declared.growing_set.GrowingSet.{GrowingSet}
 use Rattle.line_growth.specs.declared.rule.GrowthRule.{GrowthRule}
 use Rattle.line_growth.specs.declared.rule.Sum.{Sum}
 use Rattle.line_growth.specs.GrowingLines.{Growth, is_inside, HasPulled, HasAdded, HasTaken}
-use Rattle.line_growth.specs.GrowingSets.{DecidesLeaving, HasNoLeaving, HasNone, HasSameSizes, IsClosedIn, IsGrowing, IsLeaving, IsLineFor, IsSizedFor, Leaves, set_of}
+use Rattle.line_growth.specs.GrowingSets.{DecidesLeaving, HasNoLeaving, HasNone, HasSameSizes, IsClosedIn, IsGrowing, IsLeaving, HasRoomFor, IsSizedFor, Leaves, set_of}
 use Rattle.line_growth.specs.Rules.{lower_of, sum_at, upper_of}
 
 -- ---- sizes
@@ -32,7 +32,7 @@ pub same_sizes : (before between after : GrowingSet) → HasSameSizes before bet
 same_sizes before between after first then = record { rows = then.rows ∙ first.rows; columns = then.columns ∙ first.columns }
 
 -- lines of the matrix are lines for which the set has room
-pub lines_for : (m : Matrix) (set : GrowingSet) (lines : List Line) → IsSizedFor m set → AllByRecursion (IsLine (height m) m.width) lines → AllByRecursion (IsLineFor set) lines
+pub lines_for : (m : Matrix) (set : GrowingSet) (lines : List Line) → IsSizedFor m set → AllByRecursion (IsLine (height m) m.width) lines → AllByRecursion (HasRoomFor set) lines
 lines_for m set lines sized all = rw (sized.rows, sized.columns) all
 
 -- the set has the lines of the matrix outside

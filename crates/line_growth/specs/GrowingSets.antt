@@ -29,8 +29,8 @@ pub record HasSameSizes (before after : GrowingSet) : Type 0 where
   pub columns : after.columns.inside.size ≡ before.columns.inside.size
 
 -- a line for which the set has room
-abbrev pub IsLineFor : GrowingSet → Line → Type 0
-IsLineFor set = IsLine set.rows.inside.size set.columns.inside.size
+abbrev pub HasRoomFor : GrowingSet → Line → Type 0
+HasRoomFor set = IsLine set.rows.inside.size set.columns.inside.size
 
 -- a bound on the remaining work
 abbrev pub work : GrowingSet → ℕ

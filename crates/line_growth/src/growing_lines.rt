@@ -122,7 +122,8 @@ impl GrowingLines {
         requires row { row < height matrix.now }
         requires sum { IsSumOf matrix.now sum }
         ensures size { self.new.inside.size ≡ self.old.inside.size }
-        ensures pulled { OnOk result (HasPulled (λ line. entry matrix.now row line ≡ sum_at matrix.now sum line) self.old self.new) }
+        ensures pulled { OnOk result (HasPulled
+            (λ line. entry matrix.now row line ≡ sum_at matrix.now sum line) self.old self.new) }
     {
         match sum.as_multiple() {
             Some(multiple) => self.pull_by_words(matrix, row, multiple),
@@ -137,7 +138,8 @@ impl GrowingLines {
         requires model { multiple.model < height matrix.now }
         requires factor { IsEntry multiple.factor }
         ensures size { self.new.inside.size ≡ self.old.inside.size }
-        ensures pulled { OnOk result (HasPulled (λ line. entry matrix.now row line
+        ensures pulled { OnOk result (HasPulled
+            (λ line. entry matrix.now row line
             ≡ multiple.factor *ℤ entry matrix.now multiple.model line) self.old self.new) }
     {
         for chunk in 0..words_for(matrix.columns()) {
@@ -173,7 +175,8 @@ impl GrowingLines {
     // Adds the lines of the bits of a word. Bit k is the line `first` + k.
     fn add_word(&mut self, first: u32, word: u64) -> Result<(), Memory>
         requires first { first ≤ MAX_ROWS }
-        requires lines { (k : ℕ) → k < 64 → has_bit word k ≡ true → first + k < self.old.inside.size }
+        requires lines { (k : ℕ) → k < 64 → has_bit word k ≡ true
+            → first + k < self.old.inside.size }
         ensures size { self.new.inside.size ≡ self.old.inside.size }
         ensures taken { OnOk result ((k : ℕ) → k < 64 → has_bit word k ≡ true
             → is_inside self.new (first + k) ≡ true) }
@@ -195,7 +198,8 @@ impl GrowingLines {
         requires row { row < height matrix.now }
         requires sum { IsSumOf matrix.now sum }
         ensures size { self.new.inside.size ≡ self.old.inside.size }
-        ensures pulled { OnOk result (HasPulled (λ line. entry matrix.now row line ≡ sum_at matrix.now sum line) self.old self.new) }
+        ensures pulled { OnOk result (HasPulled
+            (λ line. entry matrix.now row line ≡ sum_at matrix.now sum line) self.old self.new) }
     {
         self.pull_along(matrix, row, row, sum)?;
         self.pull_along(matrix, sum.first, row, sum)?;
@@ -211,7 +215,8 @@ impl GrowingLines {
         requires row { row < height matrix.now }
         requires sum { IsSumOf matrix.now sum }
         ensures size { self.new.inside.size ≡ self.old.inside.size }
-        ensures grown { OnOk result (HasGrown (λ line. ¬ (entry matrix.now row line ≡ sum_at matrix.now sum line))
+        ensures grown { OnOk result (HasGrown
+            (λ line. ¬ (entry matrix.now row line ≡ sum_at matrix.now sum line))
             self.old self.new) }
         ensures agree { OnOk result ((line : ℕ) → support matrix.now along line ≡ true
             → is_inside self.new line ≡ false

@@ -7,7 +7,7 @@ ghost use Rattle.cmr_base.specs.Seeds.{IsLine, line_number, count_outside};
 ghost use Rattle.cmr_base.specs.declared.line.Line.{Line};
 ghost use Rattle.cmr_base.specs.declared.line.Line.TheVariants.{Row, Column};
 ghost use Rattle.line_growth.specs.Rules.{IsRuleOf, lower_of, upper_of};
-ghost use Rattle.line_growth.specs.GrowingSets.{DecidesLeaving, HasNone, HasSameSizes, IsGrowing, IsLineFor, IsSizedFor, KeepsGrowing, Leaves, set_of, work};
+ghost use Rattle.line_growth.specs.GrowingSets.{DecidesLeaving, HasNone, HasSameSizes, IsGrowing, HasRoomFor, IsSizedFor, KeepsGrowing, Leaves, set_of, work};
 
 use crate::growing_lines::GrowingLines;
 use crate::rule::{Block, GrowthRule};
@@ -46,7 +46,7 @@ impl GrowingSet {
 
     /// Begins with these lines.
     pub fn start(&mut self, lines: &[Line]) -> Result<(), Memory>
-        requires { AllByRecursion (IsLineFor self.old) lines.now }
+        requires { AllByRecursion (HasRoomFor self.old) lines.now }
         ensures size { HasSameSizes self.old self.new }
         ensures growing { OnOk result ((m : Matrix) (upper lower : ℕ → ℕ → ℤ)
             → IsGrowing m upper lower lines.now self.new) }
@@ -62,7 +62,7 @@ impl GrowingSet {
 
     /// Adds a line.
     pub fn add(&mut self, line: Line) -> Result<(), Memory>
-        requires { IsLineFor self.old line }
+        requires { HasRoomFor self.old line }
         ensures size { HasSameSizes self.old self.new }
         ensures growing { OnOk result ((m : Matrix) (upper lower : ℕ → ℕ → ℤ) (start : List Line)
             → IsGrowing m upper lower start self.old
@@ -135,7 +135,7 @@ impl GrowingSet {
 
     /// Whether a line is in the set.
     pub fn has(&self, line: Line) -> bool
-        requires { IsLineFor self.now line }
+        requires { HasRoomFor self.now line }
         ensures { result ≡ set_of self.now line }
     {
         match line {
@@ -146,7 +146,7 @@ impl GrowingSet {
 
     // Whether the set has none of these lines.
     fn has_none(&self, lines: &[Line]) -> bool
-        requires { AllByRecursion (IsLineFor self.now) lines.now }
+        requires { AllByRecursion (HasRoomFor self.now) lines.now }
         ensures { IsTrue result ↔ HasNone (set_of self.now) lines.now }
     {
         for line in lines {

@@ -2,7 +2,7 @@ use Rattle.std.proofs.Common.{refl, subst}
 use Rattle.std.proofs.lemmas.List.{take_all}
 use Rattle.std.proofs.lemmas.Bool.{false≢true}
 use Rattle.std.specs.List.{AllByRecursion}
-use Rattle.balance.specs.CandidateColumns.{AreAlike}
+use Rattle.balance.specs.CandidateColumns.{AreAlikeColumns}
 use Rattle.balance.proofs.KeptSteps.{some_alike, none_alike}
 use Rattle.balance.proofs.kept.has_alike.Goals as goal
 
@@ -12,5 +12,5 @@ returns-then-are_alike c = ((λ yes. some_alike c.args.matrix.now c.args.rows.no
 pub returns : goal.returns
 returns c = (
   (λ no. absurd (false≢true no)),
-  (λ h. absurd (none_alike c.args.matrix.now c.args.rows.now c.args.columns.now c.args.column (subst (AllByRecursion (λ other. ¬ (AreAlike c.args.matrix.now c.args.rows.now other c.args.column))) (take_all c.loop-other.other-index c.args.columns.now c.loop-other-test.false) c.loop-other.invariant) h)),
+  (λ h. absurd (none_alike c.args.matrix.now c.args.rows.now c.args.columns.now c.args.column (subst (AllByRecursion (λ other. ¬ (AreAlikeColumns c.args.matrix.now c.args.rows.now other c.args.column))) (take_all c.loop-other.other-index c.args.columns.now c.loop-other-test.false) c.loop-other.invariant) h)),
 )

@@ -1,7 +1,7 @@
 use Rattle.std.proofs.Common.{take}
 use Rattle.std.specs.List.{AllByRecursion}
-use Rattle.balance.specs.CandidateColumns.{AreAlike}
+use Rattle.balance.specs.CandidateColumns.{AreAlikeColumns}
 use Rattle.balance.proofs.kept.has_alike.Given as goal
 
 abbrev pub invariant-loop-other : goal.invariant-loop-other
-invariant-loop-other l = AllByRecursion (λ other. ¬ (AreAlike l.matrix l.rows other l.column)) (take l.other-index l.columns)
+invariant-loop-other l = AllByRecursion (λ other. ¬ (AreAlikeColumns l.matrix l.rows other l.column)) (take l.other-index l.columns)
