@@ -1,5 +1,4 @@
-pub mod ListedWords
-pub mod MeetingSteps
+pub mod SubmatrixSteps
 pub mod SideLemmas
 pub mod ReachedSteps
 pub mod UniquePlaces

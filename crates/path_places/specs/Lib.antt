@@ -1,4 +1,6 @@
 pub mod Laws
 pub mod PathPlaces
 pub mod ReachedColumns
-pub mod SideWords
+pub mod SideMasks
+pub mod SubmatrixFields
+pub mod Submatrices

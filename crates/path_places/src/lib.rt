@@ -2,10 +2,9 @@
 #![tactic(auto)]
 
 pub mod laws;
-mod line_words;
-mod meeting;
 mod path_place;
 mod side;
+mod submatrix;
 
 pub use cmr_base::PlacedPivot;
 pub use path_place::cut_place;

@@ -12,7 +12,7 @@ use Rattle.cmr_base.specs.Seeds.{IsLine}
 use Rattle.cmr_base.proofs.ListsWithout.{contains_from_in, in-get_or}
 use Rattle.cmr_base.proofs.Parts.{entry-submatrix}
 use Rattle.path_places.specs.PathPlaces.{HasNoCutPlace, IsCutPlace, IsPathPlace}
-use Rattle.path_places.specs.SideWords.{side_of}
+use Rattle.path_places.specs.SideMasks.{side_of}
 use Rattle.path_places.proofs.UniquePlaces.{cut_place_is_one}
 use Rattle.pivots.specs.declared.drawn.DrawnPlace.{DrawnPlace}
 use Rattle.pivots.proofs.DrawnPlaces.{drawn_in}

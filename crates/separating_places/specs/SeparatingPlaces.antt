@@ -4,7 +4,7 @@ use Rattle.cmr_base.specs.declared.line_set.LineSet.{LineSet}
 use Rattle.cmr_base.specs.LineSets.{submatrix}
 use Rattle.cmr_base.specs.Matrix.{Matrix}
 use Rattle.path_places.specs.PathPlaces.{IsCutPlace}
-use Rattle.path_places.specs.SideWords.{side_of}
+use Rattle.path_places.specs.SideMasks.{side_of}
 use Rattle.cmr_base.specs.declared.placed_pivot.PlacedPivot.{PlacedPivot}
 use Rattle.pivots.specs.declared.drawn.DrawnPlace.{DrawnPlace}
 use Rattle.pivots.specs.DrawnPlaces.{drawn_place}

@@ -1,8 +1,6 @@
 // Positions of pivots on shortest paths inside the sides of cuts.
-ghost use Rattle.path_places.specs.SideWords.{IsSideSized};
-
 use crate::compared::is_text;
-use cmr_base::{Matrix, PlacedPivot};
+use cmr_base::PlacedPivot;
 use path_places::{Side, cut_place};
 use std::alloc::Global;
 use std::test::Fail;
@@ -17,18 +15,16 @@ fn place_text(alloc: Global, word: &str, found: Option<PlacedPivot>) -> Result<V
 }
 
 // Whether a side is fit, and its position.
-fn side_text(alloc: Global, matrix: &Matrix, side: &Side) -> Result<Vec<u8>, Fail>
-    requires { IsSideSized matrix.now side.now }
-{
-    let word = if side.is_fit(matrix) { "fit" } else { "unfit" };
-    place_text(alloc, word, side.path_place(alloc, matrix)?)
+fn side_text(alloc: Global, side: &Side<'_>) -> Result<Vec<u8>, Fail> {
+    let word = if side.is_fit() { "fit" } else { "unfit" };
+    place_text(alloc, word, side.path_place(alloc)?)
 }
 
 fn sides_text(alloc: Global, text: &str, lines: Lines<'_>) -> Result<Vec<u8>, Fail> {
     let given = matrix(alloc, text)?;
     let set = line_set(alloc, given.rows(), given.columns(), lines)?;
-    let mut found = side_text(alloc, &given, &Side::one(alloc, &given, &set)?)?;
-    let other = side_text(alloc, &given, &Side::two(alloc, &given, &set)?)?;
+    let mut found = side_text(alloc, &Side::one(alloc, &given, &set)?)?;
+    let other = side_text(alloc, &Side::two(alloc, &given, &set)?)?;
     found.extend_from_slice(&other)?;
     Ok(found)
 }

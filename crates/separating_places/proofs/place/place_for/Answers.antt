@@ -4,7 +4,7 @@ use Rattle.cmr_base.specs.declared.line_set.LineSet.{LineSet}
 use Rattle.cmr_base.specs.LineSets.{AllBelow}
 use Rattle.cmr_base.specs.Matrix.{Matrix, height}
 use Rattle.path_places.specs.PathPlaces.{HasNoCutPlace, IsCutPlace}
-use Rattle.path_places.specs.SideWords.{side_of}
+use Rattle.path_places.specs.SideMasks.{side_of}
 use Rattle.cmr_base.specs.declared.placed_pivot.PlacedPivot.{PlacedPivot}
 use Rattle.three_sep.specs.FirstCuts.{HasNoCut, IsFirstCutOn}
 use Rattle.separating_places.proofs.ChosenPlaces.{cut_answer, no_place_without_cut}

@@ -1,0 +1,7 @@
+use Rattle.std.proofs.Common.{ℕ, ◌<◌}
+use Rattle.path_places.specs.Submatrices.{IsZeroAmong}
+use Rattle.path_places.specs.SubmatrixFields.{view_of}
+use Rattle.path_places.proofs.submatrix.Submatrix.has_zero.Given as goal
+
+abbrev pub invariant-loop-row : goal.invariant-loop-row
+invariant-loop-row l = (i j : ℕ) → i < l.row → ¬ (IsZeroAmong (view_of l.self) i j)
