@@ -7,6 +7,7 @@ use Rattle.cmr_base.specs.declared.separation.Connector.{Connector}
 use Rattle.cmr_base.specs.declared.separation.Form.{Form}
 use Rattle.cmr_base.specs.declared.separation.Form.TheVariants.{Concentrated}
 use Rattle.cmr_base.specs.declared.separation.Three.{Three}
+use Rattle.cmr_base.specs.BitSets.{Bits}
 use Rattle.cmr_base.specs.ColumnSets.{has_column}
 use Rattle.cmr_base.specs.Matrix.{Matrix, height, entry}
 use Rattle.cmr_base.specs.LineSets as sets
@@ -29,7 +30,7 @@ use Rattle.three_sep.specs.declared.connectors.Connectors.{Connectors}
 use Rattle.three_sep.specs.NumberedSeeds.{IsGoodSeed, Seed}
 use Rattle.three_sep.specs.Connectors.{AreConnectorsOf, all_prefix, connectors_at}
 use Rattle.three_sep.specs.Searches.{HasNoGood, HasNoneBelow, IsFirstOf, corner_prefix, first_at, second_at}
-use Rattle.three_sep.specs.Concentrated.{AreCandidates, AreConcentratedCorners, HasNoneBetween, IsFirstPair, IsHeldBy, IsNoOtherColumn, IsOtherColumn, IsOtherRow, IsPulled}
+use Rattle.three_sep.specs.Concentrated.{AreCandidates, AreConcentratedCorners, AreForcedWith, HasNoneBetween, IsFirstPair, IsForcedWith, IsNoOtherColumn, IsOtherColumn, IsOtherRow, PullsOther}
 use Rattle.three_sep.proofs.SearchLemmas.{good_inside, level_found, no_second_corner, seed_at, seed_from_first, seed_from_second}
 use Rattle.three_sep.proofs.SpreadLemmas.{spread_parts, spread_same}
 
@@ -116,8 +117,8 @@ module _ (m : Matrix) (a b : Connector) (x : Line) (S : Lines) (good : IsGoodThr
         none (seed_at Concentrated d y) T (refl, (refl, (refl, (refl, (refl, (refl, (refl, tt))))))) other
 
     -- a column that a row of column j pulls is in side two
-    none_pulled : (rule : GrowthRule) (candidates : List ℕ) (row : ℕ) → lower_of m rule ≡ spread_at (entry m) d.first d.second → row < height m → entry m row d.second.column ≢ pos 0
-        → (pulled : IsPulled m rule candidates row) → S (Column pulled.column) ≡ true → ⊥
+    none_pulled : (rule : GrowthRule) (candidates : Bits) (row : ℕ) → lower_of m rule ≡ spread_at (entry m) d.first d.second → row < height m → entry m row d.second.column ≢ pos 0
+        → (pulled : PullsOther m rule candidates row) → S (Column pulled.column) ≡ true → ⊥
     none_pulled rule candidates row lower inside nonzero pulled column_one =
         pulled.unlike (lower_at m closed_elsewhere row pulled.column inside pulled.inside (rows_two row d.second.column inside pair.second_lines.1.0 column_two nonzero) column_one
         ∙ sym (ap (λ (u : ℕ → ℕ → ℤ). u row pulled.column) lower))
@@ -134,16 +135,16 @@ module _ (m : Matrix) where
       true_is (S (Column d.second.column)) (λ out. some_elsewhere m s.pair.first s.pair.second s.line S (concentrated_seed s S ef g) d pair row_one out none)
 
   -- a row of column j pulls a column that is in side one with row i
-  pub none_past : (d : Connectors) (rule : GrowthRule) (candidates : List ℕ) (row : ℕ) → IsConnectorPair (height m) m.width (entry m) Concentrated d.first d.second → lower_of m rule ≡ spread_at (entry m) d.first d.second
-      → AreCandidates m d.first.row candidates → row < height m → entry m row d.second.column ≢ pos 0 → IsPulled m rule candidates row → HasNoneBetween m d.first.row d.second.column
+  pub none_past : (d : Connectors) (rule : GrowthRule) (candidates : Bits) (row : ℕ) → IsConnectorPair (height m) m.width (entry m) Concentrated d.first d.second → lower_of m rule ≡ spread_at (entry m) d.first d.second
+      → AreCandidates m d.first.row candidates → row < height m → entry m row d.second.column ≢ pos 0 → PullsOther m rule candidates row → HasNoneBetween m d.first.row d.second.column
   none_past d rule candidates row pair lower are inside nonzero pulled s S ef g row_one =
       true_is (S (Column d.second.column)) (λ out.
       none_pulled m s.pair.first s.pair.second s.line S (concentrated_seed s S ef g) d pair row_one out rule candidates row lower inside nonzero pulled
       (are.others pulled.column pulled.inside pulled.passed s S ef g row_one))
 
   -- a column that is in side one with row i
-  pub none_at_held : (i j : ℕ) → IsHeldBy m i j → HasNoneBetween m i j
-  none_at_held i j held s S ef g0 row_one = let g = concentrated_seed s S ef g0 in held s.pair S g.1.grown.closed row_one
+  pub none_at_forced : (i j : ℕ) → IsForcedWith m i j → HasNoneBetween m i j
+  none_at_forced i j forced s S ef g0 row_one = let g = concentrated_seed s S ef g0 in forced s.pair S g.1.grown.closed row_one
 
   -- no good seed has such a row i and column j in its connectors
   none_of_seed : (i j : ℕ) → HasNoneBetween m i j → (s : Seed) (S : Lines) → s.form ≡ Concentrated → i ≡ s.pair.first.row → j ≡ s.pair.second.column → ¬ (IsGoodSeed m s S)
@@ -154,7 +155,7 @@ module _ (m : Matrix) where
   pub no_candidate : (i p k j : ℕ) → HasNoneBetween m i j → HasNoGood m (3 ∷ i ∷ p ∷ k ∷ j ∷ [])
   no_candidate i p k j none s S h g = none_of_seed i j none s S (sym (form_is Concentrated s.form h.0)) h.1.0 h.1.1.1.1.0 g
 
-  pub no_candidates : (i p : ℕ) (candidates : List ℕ) → AreCandidates m i candidates → ((j : ℕ) → has_column candidates j ≡ false) → HasNoGood m (3 ∷ i ∷ p ∷ [])
+  pub no_candidates : (i p : ℕ) (candidates : Bits) → AreCandidates m i candidates → ((j : ℕ) → has_column candidates.words j ≡ false) → HasNoGood m (3 ∷ i ∷ p ∷ [])
   no_candidates i p candidates are none s S h g =
       none_of_seed i s.pair.second.column (are.others s.pair.second.column (good_inside m s S g).column_two (none s.pair.second.column)) s S (sym (form_is Concentrated s.form h.0)) h.1.0 refl g
 
@@ -214,8 +215,8 @@ spread_connectors m rule d pair inside upper lower = record { pair = pair; insid
 
 -- ---- candidates
 
-pub one_less : (m : Matrix) (i j : ℕ) (before after : List ℕ) → AreCandidates m i before → HasNoneBetween m i j → length after ≡ length before
-    → ((x : ℕ) → has_column after x ≡ false → (x ≡ j) ⊎ (has_column before x ≡ false)) → AreCandidates m i after
+pub one_less : (m : Matrix) (i j : ℕ) (before after : Bits) → AreCandidates m i before → HasNoneBetween m i j → after.size ≡ before.size
+    → ((x : ℕ) → has_column after.words x ≡ false → (x ≡ j) ⊎ (has_column before.words x ≡ false)) → AreCandidates m i after
 one_less m i j before after are none size only = record {
   size = size ∙ are.size;
   others = λ x l e. elim (only x e) [
@@ -224,35 +225,28 @@ one_less m i j before after are none size only = record {
   ];
 }
 
--- the columns before j were tested, and column j is a candidate
-pub added_candidate : (m : Matrix) (i j : ℕ) (before after : ℕ → Bool) → ((x : ℕ) → before x ≡ true → after x ≡ true) → after j ≡ true → ((k : ℕ) → k < j → before k ≡ false → HasNoneBetween m i k)
-    → (k : ℕ) → k < j + 1 → after k ≡ false → HasNoneBetween m i k
-added_candidate m i j before after kept here looked k l e = elim (same_or_not k j) [
-  | inl is ↦ absurd (not_both (after j) here (sym (ap after is) ∙ e))
-  | inr n ↦ looked k (omega (arith, n)) (false_is (before k) (λ t. not_both (after k) (kept k t) e))
-]
-
--- the columns before j were tested, and column j is no candidate
-pub held_candidate : (m : Matrix) (i j : ℕ) (set : ℕ → Bool) → IsHeldBy m i j → ((k : ℕ) → k < j → set k ≡ false → HasNoneBetween m i k) → (k : ℕ) → k < j + 1 → set k ≡ false → HasNoneBetween m i k
-held_candidate m i j set held looked k l e = elim (same_or_not k j) [
-  | inl is ↦ subst (λ (z : ℕ). HasNoneBetween m i z) (sym is) (none_at_held m i j held)
-  | inr n ↦ looked k (omega (arith, n)) e
-]
+-- all columns except the forced columns
+pub other_candidates : (m : Matrix) (i : ℕ) (forced candidates : Bits) → AreForcedWith m i (has_column forced.words) → forced.size ≡ m.width → candidates.size ≡ forced.size
+    → ((x : ℕ) → x < forced.size → has_column forced.words x ≡ false → has_column candidates.words x ≡ true) → AreCandidates m i candidates
+other_candidates m i forced candidates are size same all = record {
+  size = same ∙ size;
+  others = λ j l e. none_at_forced m i j (are j (true_is (has_column forced.words j) (λ out. not_both (has_column candidates.words j) (all j (omega (arith, l, size)) out) e)));
+}
 
 -- the second columns are the candidates in which row k is not 0
-pub no_second : (m : Matrix) (i p k j : ℕ) (candidates : List ℕ) → AreCandidates m i candidates → (support m k j ≡ false) ⊎ (has_column candidates j ≡ false) → HasNoGood m (3 ∷ i ∷ p ∷ k ∷ j ∷ [])
+pub no_second : (m : Matrix) (i p k j : ℕ) (candidates : Bits) → AreCandidates m i candidates → (support m k j ≡ false) ⊎ (has_column candidates.words j ≡ false) → HasNoGood m (3 ∷ i ∷ p ∷ k ∷ j ∷ [])
 no_second m i p k j candidates are (inl e) = no_second_corner m 3 i p k j (zero_is (entry m k j) e)
 no_second m i p k j candidates are (inr e) = λ s S h g. none_of_seed m i j (are.others j (let l = (good_inside m s S g).column_two in let n = h.1.1.1.1.0 in omega arith) e) s S (sym (form_is Concentrated s.form h.0)) h.1.0 h.1.1.1.1.0 g
 
-pub none_between_seconds : (m : Matrix) (i p k from j : ℕ) (columns candidates : List ℕ) → AreCandidates m i candidates → ((x : ℕ) → has_column columns x ≡ false → (support m k x ≡ false) ⊎ (has_column candidates x ≡ false))
-    → HasNoneBelow m (3 ∷ i ∷ p ∷ k ∷ []) from → ((x : ℕ) → from ≤ x → x < j → has_column columns x ≡ false) → HasNoneBelow m (3 ∷ i ∷ p ∷ k ∷ []) j
+pub none_between_seconds : (m : Matrix) (i p k from j : ℕ) (columns candidates : Bits) → AreCandidates m i candidates → ((x : ℕ) → has_column columns.words x ≡ false → (support m k x ≡ false) ⊎ (has_column candidates.words x ≡ false))
+    → HasNoneBelow m (3 ∷ i ∷ p ∷ k ∷ []) from → ((x : ℕ) → from ≤ x → x < j → has_column columns.words x ≡ false) → HasNoneBelow m (3 ∷ i ∷ p ∷ k ∷ []) j
 none_between_seconds m i p k from j columns candidates are others before none b l = elim (cases_lt b from) [
   | inl low ↦ before b low
   | inr high ↦ no_second m i p k b candidates are (others b (none b high l))
 ]
 
 -- row k is 0 in each candidate
-pub no_common : (m : Matrix) (i p k : ℕ) (candidates : List ℕ) → AreCandidates m i candidates → ((x : ℕ) → (support m k x ≡ false) ⊎ (has_column candidates x ≡ false)) → HasNoGood m (3 ∷ i ∷ p ∷ k ∷ [])
+pub no_common : (m : Matrix) (i p k : ℕ) (candidates : Bits) → AreCandidates m i candidates → ((x : ℕ) → (support m k x ≡ false) ⊎ (has_column candidates.words x ≡ false)) → HasNoGood m (3 ∷ i ∷ p ∷ k ∷ [])
 no_common m i p k candidates are none s S h g = no_second m i p k s.pair.second.column candidates are (none s.pair.second.column) s S (h.0, (h.1.0, (h.1.1.0, (h.1.1.1.0, (refl, tt))))) g
 
 -- ---- the first connectors with two corners

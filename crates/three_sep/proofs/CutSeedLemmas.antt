@@ -22,7 +22,7 @@ use Rattle.cuts.specs.declared.groups.Groups.{Groups}
 use Rattle.cuts.specs.LineCuts.{HasNames, HoldTogether, IsCut, IsCutAt, name_of}
 use Rattle.line_growth.specs.declared.growing_set.GrowingSet.{GrowingSet}
 use Rattle.line_growth.specs.declared.rule.GrowthRule.{GrowthRule}
-use Rattle.line_growth.specs.GrowingSets.{HasNoLeaving, IsGrowing, IsLeaving, TellsClosed}
+use Rattle.line_growth.specs.GrowingSets.{HasNoLeaving, IsGrowing, IsLeaving, DecidesLeaving}
 use Rattle.line_growth.specs.Rules.{lower_of, upper_of}
 use Rattle.three_sep.specs.Connectors.{HasNoneParting, rule_of}
 use Rattle.three_sep.specs.CutSeeds.{HasBlockCorners, HasNoCutSeed, HasNoCutSeedBelow, IsFirstCutWith, IsFoundCut, IsNoCutColumn, IsNoCutRow, IsNoThird, IsOtherNumber, cut_prefix}
@@ -258,12 +258,12 @@ module _ (m : Matrix) (c : Corners) where
         has = has;
       }
 
--- what the side with the fourth line says, by the rule of the corners
-pub told_with : (m : Matrix) (c : Corners) (x y : Line) (rule : GrowthRule) → rule ≡ rule_of c → (side : GrowingSet) (told : Bool) (S : Lines) → IsGrowing m (upper_of m (rule_of c)) (lower_of m (rule_of c)) (x ∷ first_corner c) side
-    → ((first : List Line) → IsGrowing m (upper_of m rule) (lower_of m rule) first side → TellsClosed m rule (y ∷ first) (second_corner c) 4 told S) → TellsClosed m (rule_of c) (y ∷ x ∷ first_corner c) (second_corner c) 4 told S
-told_with m c x y rule same side told S growing tells =
-    subst (λ (r : GrowthRule). TellsClosed m r (y ∷ x ∷ first_corner c) (second_corner c) 4 told S) same
-    (tells (x ∷ first_corner c) (subst (λ (r : GrowthRule). IsGrowing m (upper_of m r) (lower_of m r) (x ∷ first_corner c) side) (sym same) growing))
+-- what the test of the side with the fourth line decides, by the rule of the corners
+pub decided_with : (m : Matrix) (c : Corners) (x y : Line) (rule : GrowthRule) → rule ≡ rule_of c → (side : GrowingSet) (answer : Bool) (S : Lines) → IsGrowing m (upper_of m (rule_of c)) (lower_of m (rule_of c)) (x ∷ first_corner c) side
+    → ((first : List Line) → IsGrowing m (upper_of m rule) (lower_of m rule) first side → DecidesLeaving m rule (y ∷ first) (second_corner c) 4 answer S) → DecidesLeaving m (rule_of c) (y ∷ x ∷ first_corner c) (second_corner c) 4 answer S
+decided_with m c x y rule same side answer S growing decided =
+    subst (λ (r : GrowthRule). DecidesLeaving m r (y ∷ x ∷ first_corner c) (second_corner c) 4 answer S) same
+    (decided (x ∷ first_corner c) (subst (λ (r : GrowthRule). IsGrowing m (upper_of m r) (lower_of m r) (x ∷ first_corner c) side) (sym same) growing))
 
 -- numbers of lines are below their count
 number_below : (m : Matrix) (x : Line) → IsLine (height m) m.width x → (b rows columns : ℕ) → rows ≡ height m → columns ≡ m.width → b ≡ line_number (height m) x → b < rows + columns

@@ -3,7 +3,9 @@ pub mod SpreadLemmas
 pub mod SearchLemmas
 pub mod SideLemmas
 pub mod SeedForms
-pub mod HeldLemmas
+pub mod ForcedLemmas
 pub mod ConcentratedLemmas
 pub mod CutSeedLemmas
 pub mod OneFirstCut
+pub mod RowSearchLemmas
+pub mod KeptSideLemmas

@@ -1,10 +1,10 @@
 -- The concentrated form: its connectors and its rules.
-use Rattle.std.specs.Prelude.{◌≡◌, ◌≢◌, ◌<◌, ◌≤◌, ◌⊎◌, ◌++◌, ℕ, ℤ, pos, Bool, true, false, List, [], ◌∷◌, length}
+use Rattle.std.specs.Prelude.{◌≡◌, ◌≢◌, ◌<◌, ◌≤◌, ◌⊎◌, ◌++◌, ℕ, ℤ, pos, Bool, true, false, List, [], ◌∷◌}
 use Rattle.cmr_base.specs.declared.line.Line.TheVariants.{Row, Column}
 use Rattle.cmr_base.specs.declared.separation.Form.TheVariants.{Concentrated}
+use Rattle.cmr_base.specs.BitSets.{Bits}
 use Rattle.cmr_base.specs.ColumnSets.{has_column}
 use Rattle.cmr_base.specs.Matrix.{Matrix, height, entry}
-use Rattle.cmr_base.specs.Planes.{words_for}
 use Rattle.cmr_base.specs.Signing.{IsSign}
 use Rattle.cmr_base.specs.Separations.{Lines, zeros, spread_at, core_determinant}
 use Rattle.cmr_base.specs.Seeds.{IsConnectorPair}
@@ -53,24 +53,24 @@ pub record IsFirstPair (m : Matrix) (c : Corners) (d : Connectors) : Type 0 wher
 -- ---- columns that may be in side two
 
 -- each set with row i that is closed under the rule of two connectors of the form has the column
-abbrev pub IsHeldBy : Matrix → ℕ → ℕ → Type 0
-IsHeldBy m i column = (d : Connectors) (S : Lines) → IsClosedIn m zeros (spread_at (entry m) d.first d.second) S → S (Row i) ≡ true → S (Column column) ≡ true
+abbrev pub IsForcedWith : Matrix → ℕ → ℕ → Type 0
+IsForcedWith m i column = (d : Connectors) (S : Lines) → IsClosedIn m zeros (spread_at (entry m) d.first d.second) S → S (Row i) ≡ true → S (Column column) ≡ true
 
-abbrev pub AreHeldBy : Matrix → ℕ → (ℕ → Bool) → Type 0
-AreHeldBy m i set = (column : ℕ) → set column ≡ true → IsHeldBy m i column
+abbrev pub AreForcedWith : Matrix → ℕ → (ℕ → Bool) → Type 0
+AreForcedWith m i set = (column : ℕ) → set column ≡ true → IsForcedWith m i column
 
 -- no good seed of the form has row i in side one and column j in side two
 abbrev pub HasNoneBetween : Matrix → ℕ → ℕ → Type 0
 HasNoneBetween m i j = (s : Seed) (S : Lines) → s.form ≡ Concentrated → IsGoodSeed m s S → S (Row i) ≡ true → S (Column j) ≡ true
 
 -- each column that is no candidate is in side one with row i
-pub record AreCandidates (m : Matrix) (i : ℕ) (candidates : List ℕ) : Type 0 where
-  pub size : length candidates ≡ words_for m.width
-  pub others : (j : ℕ) → j < m.width → has_column candidates j ≡ false → HasNoneBetween m i j
+pub record AreCandidates (m : Matrix) (i : ℕ) (candidates : Bits) : Type 0 where
+  pub size : candidates.size ≡ m.width
+  pub others : (j : ℕ) → j < m.width → has_column candidates.words j ≡ false → HasNoneBetween m i j
 
 -- the row pulls a column that is no candidate
-pub record IsPulled (m : Matrix) (rule : GrowthRule) (candidates : List ℕ) (row : ℕ) : Type 0 where
+pub record PullsOther (m : Matrix) (rule : GrowthRule) (candidates : Bits) (row : ℕ) : Type 0 where
   pub column : ℕ
   pub inside : column < m.width
-  pub passed : has_column candidates column ≡ false
+  pub passed : has_column candidates.words column ≡ false
   pub unlike : entry m row column ≢ lower_of m rule row column

@@ -15,7 +15,7 @@ use Rattle.three_sep.specs.Connectors.{rule_of}
 use Rattle.three_sep.specs.declared.search.Search.{Search}
 use Rattle.three_sep.specs.FirstCuts.{CutSeed, IsGoodCut, cut_key, first_corner}
 use Rattle.three_sep.specs.NumberedSeeds.{HasLines}
-use Rattle.three_sep.specs.Searches.{BeginsWith, IsSearchOf}
+use Rattle.three_sep.specs.Searches.{BeginsWith}
 
 -- no seed whose key begins so is good
 abbrev pub HasNoCutSeed : Matrix → List ℕ → Type 0
@@ -68,8 +68,8 @@ IsNoThird m groups c number =
 
 -- the side of the search is the closed one of the first corner and the line with this number
 pub record HoldsThird (m : Matrix) (c : Corners) (third : ℕ) (search : Search) : Type 0 where
-  pub kept : IsSearchOf m search
+  pub matrix : search.matrix.now ≡ m
   pub line : Line
   pub inside : IsLine (height m) m.width line
   pub number : line_number (height m) line ≡ third
-  pub growing : IsGrowing m (upper_of m (rule_of c)) (lower_of m (rule_of c)) (line ∷ first_corner c) search.side
+  pub growing : IsGrowing m (upper_of m (rule_of c)) (lower_of m (rule_of c)) (line ∷ first_corner c) search.sides.side

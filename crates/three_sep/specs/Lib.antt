@@ -3,6 +3,9 @@ pub mod ThreeSeparations
 pub mod Connectors
 pub mod Concentrated
 pub mod Independent
+pub mod RowSearches
 pub mod Searches
+pub mod HeldSides
+pub mod KeptSides
 pub mod FirstCuts
 pub mod CutSeeds

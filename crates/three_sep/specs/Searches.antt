@@ -9,11 +9,9 @@ use Rattle.cmr_base.specs.declared.separation.Three.{Three}
 use Rattle.cuts.specs.declared.corners.Corners.{Corners}
 use Rattle.cuts.specs.declared.groups.Groups.{Groups}
 use Rattle.three_sep.specs.declared.connectors.Connectors.{Connectors}
-use Rattle.three_sep.specs.declared.search.Search.{Search}
-use Rattle.cuts.specs.LineCuts.{AreInside, HasNames, HoldTogether, IsCut, name_of}
-use Rattle.cmr_base.specs.Separations.{IsTied, Lines, connector_lines, first_is_flat, product_at, second_is_flat}
-use Rattle.cmr_base.specs.Seeds.{IsLine, IsBefore, IsGrown, form_number}
-use Rattle.line_growth.specs.GrowingSets.{HasRoom, IsGrowing, set_of}
+use Rattle.cuts.specs.LineCuts.{AreInside, name_of}
+use Rattle.cmr_base.specs.Separations.{Lines, connector_lines, first_is_flat, second_is_flat}
+use Rattle.cmr_base.specs.Seeds.{IsBefore, form_number}
 use Rattle.three_sep.specs.NumberedSeeds.{Seed, IsGoodSeed, HasLines, seed_key, seed_of}
 
 -- the first list is a prefix of the second
@@ -66,13 +64,6 @@ abbrev pub line_count : Matrix → Bool → ℕ
 line_count m true = m.width
 line_count m false = height m
 
--- the invariant of a search: the sides have room for the lines of the matrix, and no cut parts a group
-pub record IsSearchOf (m : Matrix) (search : Search) : Type 0 where
-  pub side : HasRoom m search.side
-  pub grown : HasRoom m search.grown
-  pub names : HasNames m search.groups
-  pub together : HoldTogether (IsCut m) m search.groups
-
 -- a row and a column that cross in a nonzero
 pub record IsCorner (m : Matrix) (r c : ℕ) : Type 0 where
   pub row : r < height m
@@ -90,14 +81,6 @@ pub record HasCorners (m : Matrix) (c : Corners) : Type 0 where
 -- the lines of the first connector with the other line q
 abbrev pub held_lines : Form → Corners → ℕ → List Line
 held_lines form c q = connector_lines (first_is_flat form) (first_at c q)
-
--- the side of the search is the closure of the first connector with the other line q
-pub record HoldsFirst (m : Matrix) (form : Form) (c : Corners) (q : ℕ) (search : Search) : Type 0 where
-  pub kept : IsSearchOf m search
-  pub line : IsLine (height m) m.width (other_line (first_is_flat form) q)
-  pub tied : IsTied (entry m) (first_is_flat form) (first_at c q) c.k c.j
-  pub growing : IsGrowing m (product_at (entry m) c.i c.j) (product_at (entry m) c.k c.p) (held_lines form c q) search.side
-  pub least : IsGrown (height m) m.width (entry m) (product_at (entry m) c.i c.j) (product_at (entry m) c.k c.p) (held_lines form c q) (set_of search.side)
 
 -- each column that is 0 in one row and not in another is in the group of the other row
 abbrev pub HasNoColumn : Matrix → Groups → ℕ → ℕ → Type 0

@@ -1,10 +1,9 @@
 // The search for the first good seed of the concentrated form.
-ghost use Rattle.std.specs.Prelude.{◌≡◌, ◌≢◌, ◌<◌, ◌≤◌, ◌+◌, ◌++◌, ◌∷◌, [], ◌↔◌, ◌⊎◌, ℕ, length, pos, true, false, IsTrue, IfOk, OnOk, IfSome, MatchOption};
+ghost use Rattle.std.specs.Prelude.{◌≡◌, ◌≢◌, ◌<◌, ◌≤◌, ◌++◌, ◌∷◌, [], ◌↔◌, ◌⊎◌, ℕ, pos, true, false, IsTrue, IfOk, IfSome, MatchOption};
 ghost use Rattle.cmr_base.specs.declared.separation.Form.TheVariants.{Concentrated};
 ghost use Rattle.cmr_base.specs.ColumnSets.{has_column};
 ghost use Rattle.cmr_base.specs.Cores.{IsBounded};
 ghost use Rattle.cmr_base.specs.Matrix.{entry, height};
-ghost use Rattle.cmr_base.specs.Planes.{words_for};
 ghost use Rattle.cmr_base.specs.Signing.{IsSign};
 ghost use Rattle.cmr_base.specs.Separations.{core_determinant};
 ghost use Rattle.cmr_base.specs.Seeds.{IsConnectorPair, form_number};
@@ -12,19 +11,15 @@ ghost use Rattle.cmr_base.specs.Trees.{support};
 ghost use Rattle.cuts.specs.LineCuts.{AreInside};
 ghost use Rattle.three_sep.specs.Connectors.{all_prefix};
 ghost use Rattle.three_sep.specs.Searches.{HasNoGood, IsFirstOf, IsFoundSeparation, corner_prefix, first_at, second_at};
-ghost use Rattle.three_sep.specs.Concentrated.{AreConcentratedCorners, AreCandidates, HasNoneBetween, IsFirstPair, IsFirstRow, IsNoOtherColumn, IsOtherColumn};
+ghost use Rattle.three_sep.specs.Concentrated.{AreConcentratedCorners, HasNoneBetween, IsFirstPair, IsFirstRow, IsNoOtherColumn, IsOtherColumn};
+ghost use Rattle.three_sep.specs.RowSearches.{IsRowSearchOf};
 
 use crate::connectors::Connectors;
-use crate::held::held_columns;
 use crate::independent::columns_of;
-use crate::pulled::is_in_side_one;
-use crate::sides::{first_of_lines, leaves, may_part};
-use cmr_base::columns::{
-    add_column, add_common, empty_set, has_column, is_empty, meets, next_column, remove_column,
-};
-use cmr_base::{Connector, Core, Form, Line, MAX_COLUMNS, Memory, RowsAndColumns, Three};
+use crate::row_search::RowSearch;
+use crate::sides::Sides;
+use cmr_base::{BitSet, Connector, Core, Form, Line, MAX_COLUMNS, Memory, RowsAndColumns, Three};
 use cuts::Corners;
-use line_growth::GrowingSet;
 use std::alloc::Global;
 
 /// Gives the three-separation of the first good seed of the form, and `None` if and only if no seed of the form is good. The loop visits
@@ -45,14 +40,14 @@ pub fn first_concentrated(
 
 // The same with row i. The loop visits the columns p.
 fn first_of_row(alloc: Global, matrix: &RowsAndColumns<'_>, i: u32) -> Result<Option<Three>, Memory>
-    requires row { i < height matrix.now }
+    requires { i < height matrix.now }
     ensures { IfOk result (IsFoundSeparation matrix.now
         (form_number Concentrated ∷ i ∷ [])) }
 {
-    let mut candidates = candidates_for(alloc, matrix, i)?;
+    let mut search = RowSearch::new(alloc, matrix, i)?;
     for p in 0..matrix.columns() {
         if matrix.is_nonzero(i, p) {
-            if let Some(three) = first_of_corner(alloc, matrix, &mut candidates, i, p)? {
+            if let Some(three) = search.first_of_corner(alloc, p)? {
                 return Ok(Some(three));
             }
         }
@@ -60,145 +55,111 @@ fn first_of_row(alloc: Global, matrix: &RowsAndColumns<'_>, i: u32) -> Result<Op
     Ok(None)
 }
 
-// The columns that may be in side two of a good seed with row i: all columns except the columns held by row i.
-fn candidates_for(alloc: Global, matrix: &RowsAndColumns<'_>, i: u32) -> Result<Vec<u64>, Memory>
-    requires row { i < height matrix.now }
-    ensures { IfOk result (λ set. AreCandidates matrix.now i set.items) }
-{
-    let held = held_columns(alloc, matrix, i)?;
-    let mut candidates = empty_set(alloc, matrix.columns())?;
-    for j in 0..matrix.columns() {
-        if !has_column(&held, j) {
-            add_column(&mut candidates, j);
+impl RowSearch<'_> {
+    // The same with the corner (i, p). The loop visits the rows k.
+    fn first_of_corner(&mut self, alloc: Global, p: u32) -> Result<Option<Three>, Memory>
+        requires column { p < self.old.matrix.now.width }
+        requires nonzero { entry self.old.matrix.now self.old.row p ≢ pos 0 }
+        ensures row { IsRowSearchOf self.old.matrix.now self.old.row self.new }
+        ensures found { IfOk result (IsFoundSeparation self.old.matrix.now
+            (form_number Concentrated ∷ self.old.row ∷ p ∷ [])) }
+    {
+        if self.candidates.is_empty() {
+            return Ok(None);
         }
+        let matrix = self.matrix;
+        for k in 0..matrix.rows() {
+            if let Some(three) = self.first_of_second_row(alloc, p, k)? {
+                return Ok(Some(three));
+            }
+        }
+        Ok(None)
     }
-    Ok(candidates)
-}
 
-// The same with the corner (i, p). The loop visits the rows k.
-fn first_of_corner(
-    alloc: Global,
-    matrix: &RowsAndColumns<'_>,
-    candidates: &mut Vec<u64>,
-    i: u32,
-    p: u32,
-) -> Result<Option<Three>, Memory>
-    requires candidates { AreCandidates matrix.now i candidates.old.items }
-    requires corner { (i < height matrix.now) × (p < matrix.now.width) }
-    requires nonzero { entry matrix.now i p ≢ pos 0 }
-    ensures candidates { OnOk result (AreCandidates matrix.now i candidates.new.items) }
-    ensures found { IfOk result (IsFoundSeparation matrix.now
-        (form_number Concentrated ∷ i ∷ p ∷ [])) }
-{
-    if is_empty(candidates) {
-        return Ok(None);
+    // The same with row k in side two. The loop visits the candidates j in which row k is not 0.
+    fn first_of_second_row(
+        &mut self,
+        alloc: Global,
+        p: u32,
+        k: u32,
+    ) -> Result<Option<Three>, Memory>
+        requires column { p < self.old.matrix.now.width }
+        requires second_row { k < height self.old.matrix.now }
+        requires nonzero { entry self.old.matrix.now self.old.row p ≢ pos 0 }
+        ensures row { IsRowSearchOf self.old.matrix.now self.old.row self.new }
+        ensures found { IfOk result (IsFoundSeparation self.old.matrix.now
+            (form_number Concentrated ∷ self.old.row ∷ p ∷ k ∷ [])) }
+    {
+        if !self.candidates.meets_words(columns_of(self.matrix, k)) {
+            return Ok(None);
+        }
+        let i = self.row;
+        let columns = self.second_columns(alloc, k)?;
+        let mut from = 0;
+        while let Some(j) = columns.next(from) {
+            if let Some(three) = self.first_of_corners(alloc, &Corners { i, p, k, j })? {
+                return Ok(Some(three));
+            }
+            from = j + 1;
+        }
+        Ok(None)
     }
-    for k in 0..matrix.rows() {
-        if let Some(three) = first_of_second_row(alloc, matrix, candidates, i, p, k)? {
+
+    // The set of candidates in which row k is not 0.
+    fn second_columns(&self, alloc: Global, k: u32) -> Result<BitSet, Memory>
+        requires { k < height self.now.matrix.now }
+        ensures size { IfOk result (λ set. set.size ≡ self.now.matrix.now.width) }
+        ensures yes { IfOk result (λ set. (j : ℕ) → has_column set.words j ≡ true
+            → support self.now.matrix.now k j ≡ true) }
+        ensures no { IfOk result (λ set. (j : ℕ) → has_column set.words j ≡ false
+            → (support self.now.matrix.now k j ≡ false)
+            ⊎ (has_column self.now.candidates.words j ≡ false)) }
+    {
+        let mut columns = BitSet::new(alloc, self.matrix.columns())?;
+        columns.add_common_words(&self.candidates, columns_of(self.matrix, k));
+        Ok(columns)
+    }
+
+    // The same with two corners, by the first connectors with these corners. If no seed with these connectors is good, no good seed has row
+    // i in side one and column j in side two: its side would have the columns of row i and not the rows of column j, and would be closed
+    // under the rule of these connectors.
+    fn first_of_corners(
+        &mut self,
+        alloc: Global,
+        corners: &Corners,
+    ) -> Result<Option<Three>, Memory>
+        requires row { corners.now.i ≡ self.old.row }
+        requires inside { AreInside self.old.matrix.now corners.now }
+        requires corners { AreConcentratedCorners (entry self.old.matrix.now) corners.now }
+        ensures row { IsRowSearchOf self.old.matrix.now self.old.row self.new }
+        ensures found { IfOk result (IsFoundSeparation self.old.matrix.now
+            (corner_prefix Concentrated corners.now)) }
+    {
+        let Some(connectors) = first_connectors(self.matrix, corners) else {
+            return Ok(None);
+        };
+        if let Some(three) = self.first_of_pair(alloc, &connectors)? {
             return Ok(Some(three));
         }
+        self.candidates.remove(corners.j);
+        Ok(None)
     }
-    Ok(None)
-}
 
-// The same with row k in side two. The loop visits the candidates j in which row k is not 0.
-fn first_of_second_row(
-    alloc: Global,
-    matrix: &RowsAndColumns<'_>,
-    candidates: &mut Vec<u64>,
-    i: u32,
-    p: u32,
-    k: u32,
-) -> Result<Option<Three>, Memory>
-    requires candidates { AreCandidates matrix.now i candidates.old.items }
-    requires corner { (i < height matrix.now) × (p < matrix.now.width) × (k < height matrix.now) }
-    requires nonzero { entry matrix.now i p ≢ pos 0 }
-    ensures candidates { OnOk result (AreCandidates matrix.now i candidates.new.items) }
-    ensures found { IfOk result (IsFoundSeparation matrix.now
-        (form_number Concentrated ∷ i ∷ p ∷ k ∷ [])) }
-{
-    let _columns = matrix.columns();
-    if !meets(candidates, columns_of(matrix, k)) {
-        return Ok(None);
-    }
-    let columns = second_columns(alloc, matrix, candidates, k)?;
-    let mut from = 0;
-    while let Some(j) = next_column(&columns, from) {
-        let corners = Corners { i, p, k, j };
-        if let Some(three) = first_of_corners(alloc, matrix, candidates, &corners)? {
-            return Ok(Some(three));
+    // The same with two connectors. If `is_in_side_one` shows that column j is in side one with row i, no lines x are visited.
+    fn first_of_pair(&self, alloc: Global, connectors: &Connectors) -> Result<Option<Three>, Memory>
+        requires row { connectors.now.first.row ≡ self.now.row }
+        requires connectors { IsConnectorPair (height self.now.matrix.now)
+            self.now.matrix.now.width (entry self.now.matrix.now) Concentrated
+            connectors.now.first connectors.now.second }
+        ensures { IfOk result (λ answer. MatchOption answer
+            (HasNoneBetween self.now.matrix.now self.now.row connectors.now.second.column)
+            (IsFirstOf self.now.matrix.now (all_prefix Concentrated connectors.now))) }
+    {
+        if self.is_in_side_one(connectors) {
+            return Ok(None);
         }
-        from = j + 1;
+        first_of_connectors(alloc, self.matrix, connectors)
     }
-    Ok(None)
-}
-
-// The set of candidates in which row k is not 0.
-fn second_columns(
-    alloc: Global,
-    matrix: &RowsAndColumns<'_>,
-    candidates: &[u64],
-    k: u32,
-) -> Result<Vec<u64>, Memory>
-    requires candidates { length candidates.now ≡ words_for matrix.now.width }
-    requires row { k < height matrix.now }
-    ensures size { IfOk result (λ set. length set.items ≡ words_for matrix.now.width) }
-    ensures yes { IfOk result (λ set. (j : ℕ) → has_column set.items j ≡ true
-        → support matrix.now k j ≡ true) }
-    ensures no { IfOk result (λ set. (j : ℕ) → has_column set.items j ≡ false
-        → (support matrix.now k j ≡ false) ⊎ (has_column candidates.now j ≡ false)) }
-{
-    let mut columns = empty_set(alloc, matrix.columns())?;
-    add_common(&mut columns, candidates, columns_of(matrix, k));
-    Ok(columns)
-}
-
-// The same with two corners, by the first connectors with these corners. If no seed with these connectors is good, no good seed has row i
-// in side one and column j in side two: its side would have the columns of row i and not the rows of column j, and would be closed under
-// the rule of these connectors.
-fn first_of_corners(
-    alloc: Global,
-    matrix: &RowsAndColumns<'_>,
-    candidates: &mut Vec<u64>,
-    corners: &Corners,
-) -> Result<Option<Three>, Memory>
-    requires candidates { AreCandidates matrix.now corners.now.i candidates.old.items }
-    requires inside { AreInside matrix.now corners.now }
-    requires corners { AreConcentratedCorners (entry matrix.now) corners.now }
-    ensures candidates { OnOk result (AreCandidates matrix.now corners.now.i
-        candidates.new.items) }
-    ensures found { IfOk result (IsFoundSeparation matrix.now
-        (corner_prefix Concentrated corners.now)) }
-{
-    let _columns = matrix.columns();
-    let Some(connectors) = first_connectors(matrix, corners) else {
-        return Ok(None);
-    };
-    if let Some(three) = first_of_pair(alloc, matrix, candidates, &connectors)? {
-        return Ok(Some(three));
-    }
-    remove_column(candidates, corners.j);
-    Ok(None)
-}
-
-// The same with two connectors. If `is_in_side_one` shows that column j is in side one with row i, no lines x are visited.
-fn first_of_pair(
-    alloc: Global,
-    matrix: &RowsAndColumns<'_>,
-    candidates: &[u64],
-    connectors: &Connectors,
-) -> Result<Option<Three>, Memory>
-    requires candidates { AreCandidates matrix.now connectors.now.first.row candidates.now }
-    requires connectors { IsConnectorPair (height matrix.now) matrix.now.width (entry matrix.now)
-        Concentrated connectors.now.first connectors.now.second }
-    ensures { IfOk result (λ answer. MatchOption answer
-        (HasNoneBetween matrix.now connectors.now.first.row connectors.now.second.column)
-        (IsFirstOf matrix.now (all_prefix Concentrated connectors.now))) }
-{
-    if is_in_side_one(matrix, candidates, connectors) {
-        return Ok(None);
-    }
-    first_of_connectors(alloc, matrix, connectors)
 }
 
 // The first connectors with two corners: the first column q in which row i is not 0, with the first row o.
@@ -257,26 +218,17 @@ fn first_of_connectors(
     let first = [Line::Row(row), Line::Column(column), Line::Column(other)];
     let Connector { row, column, other } = connectors.second;
     let second = [Line::Row(row), Line::Column(column), Line::Row(other)];
-    let mut side = GrowingSet::new(alloc, matrix)?;
-    let mut other = GrowingSet::new(alloc, matrix)?;
-    if !leaves(matrix, &mut side, rule, &first, &second)? {
+    let mut sides = Sides::new(alloc, matrix)?;
+    if !sides.hold(rule, &first, &second)? {
         return Ok(None);
     }
-    if !leaves(matrix, &mut other, rule.exchanged(), &second, &first)? {
+    if !sides.leaves(rule.exchanged(), &second, &first)? {
         return Ok(None);
     }
-    if !may_part(matrix, &mut other, rule, &first, &second)? {
+    if !sides.may_part(rule, &first, &second)? {
         return Ok(None);
     }
-    first_of_lines(
-        alloc,
-        matrix,
-        &side,
-        &mut other,
-        Form::Concentrated,
-        rule,
-        connectors,
-    )
+    sides.first_of_lines(alloc, Form::Concentrated, rule, connectors)
 }
 
 // The first column in which a row is not 0, from a given column on.

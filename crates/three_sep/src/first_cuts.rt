@@ -1,19 +1,15 @@
 // The first cut.
-ghost use Rattle.std.specs.Prelude.{◌≡◌, ◌≢◌, ◌<◌, ◌+◌, ◌++◌, ◌∷◌, ◌⊎◌, [], pos, true, false, IfOk, OnOk, MatchOption};
+ghost use Rattle.std.specs.Prelude.{◌≡◌, ◌≢◌, ◌<◌, ◌+◌, ◌++◌, ◌∷◌, ◌⊎◌, [], pos, true, false, IfOk, MatchOption};
 ghost use Rattle.cmr_base.specs.Matrix.{height, entry};
 ghost use Rattle.cuts.specs.LineCuts.{HasNames};
-ghost use Rattle.line_growth.specs.GrowingSets.{HasRoom, set_of};
 ghost use Rattle.three_sep.specs.CutSeeds.{HasBlockCorners, HoldsThird, IsFoundCut, IsNoCutColumn, IsNoCutRow, IsNoThird, IsOtherNumber, cut_prefix};
 ghost use Rattle.three_sep.specs.FirstCuts.{HasNoCut, IsFirstCutOn};
-ghost use Rattle.three_sep.specs.NumberedSeeds.{HasLines};
-ghost use Rattle.three_sep.specs.Searches.{IsSearchOf};
 
 use crate::connectors::rule_at;
 use crate::search::Search;
-use crate::sides::{leaves, leaves_beside, may_part};
 use cmr_base::{Line, LineSet, Memory, RowsAndColumns};
 use cuts::{Corners, Groups};
-use line_growth::{GrowingSet, line_at};
+use line_growth::line_at;
 use std::alloc::Global;
 
 /// Side one of the first cut: the side of the first good seed, in the order of the corners and of two more lines. `None` if and only if
@@ -24,7 +20,7 @@ pub fn first_cut(alloc: Global, matrix: &RowsAndColumns<'_>) -> Result<Option<Li
 {
     let mut search = Search::new(alloc, matrix)?;
     for i in 0..matrix.rows() {
-        if let Some(lines) = first_of_row(alloc, matrix, &mut search, i)? {
+        if let Some(lines) = first_of_row(alloc, &mut search, i)? {
             return Ok(Some(lines));
         }
     }
@@ -32,22 +28,17 @@ pub fn first_cut(alloc: Global, matrix: &RowsAndColumns<'_>) -> Result<Option<Li
 }
 
 // The columns p.
-fn first_of_row(
-    alloc: Global,
-    matrix: &RowsAndColumns<'_>,
-    search: &mut Search,
-    i: u32,
-) -> Result<Option<LineSet>, Memory>
-    requires search { IsSearchOf matrix.now search.old }
-    requires row { i < height matrix.now }
-    ensures search { OnOk result (IsSearchOf matrix.now search.new) }
-    ensures found { IfOk result (IsFoundCut matrix.now (i ∷ [])) }
+fn first_of_row(alloc: Global, search: &mut Search<'_>, i: u32) -> Result<Option<LineSet>, Memory>
+    requires { i < height search.old.matrix.now }
+    ensures matrix { search.new.matrix.now ≡ search.old.matrix.now }
+    ensures found { IfOk result (IsFoundCut search.old.matrix.now (i ∷ [])) }
 {
     if search.groups.are_all_one() {
         return Ok(None);
     }
+    let matrix = search.matrix;
     for p in 0..matrix.columns() {
-        if let Some(lines) = first_of_corner(alloc, matrix, search, i, p)? {
+        if let Some(lines) = first_of_corner(alloc, search, i, p)? {
             return Ok(Some(lines));
         }
     }
@@ -57,20 +48,19 @@ fn first_of_row(
 // The rows k.
 fn first_of_corner(
     alloc: Global,
-    matrix: &RowsAndColumns<'_>,
-    search: &mut Search,
+    search: &mut Search<'_>,
     i: u32,
     p: u32,
 ) -> Result<Option<LineSet>, Memory>
-    requires search { IsSearchOf matrix.now search.old }
-    requires row { i < height matrix.now }
-    requires column { p < matrix.now.width }
-    ensures search { OnOk result (IsSearchOf matrix.now search.new) }
-    ensures found { IfOk result (IsFoundCut matrix.now (i ∷ p ∷ [])) }
+    requires row { i < height search.old.matrix.now }
+    requires column { p < search.old.matrix.now.width }
+    ensures matrix { search.new.matrix.now ≡ search.old.matrix.now }
+    ensures found { IfOk result (IsFoundCut search.old.matrix.now (i ∷ p ∷ [])) }
 {
+    let matrix = search.matrix;
     for k in 0..matrix.rows() {
         if is_cut_row(matrix, &search.groups, i, p, k) {
-            if let Some(lines) = first_of_second_row(alloc, matrix, search, i, p, k)? {
+            if let Some(lines) = first_of_second_row(alloc, search, i, p, k)? {
                 return Ok(Some(lines));
             }
         }
@@ -81,25 +71,24 @@ fn first_of_corner(
 // The columns j.
 fn first_of_second_row(
     alloc: Global,
-    matrix: &RowsAndColumns<'_>,
-    search: &mut Search,
+    search: &mut Search<'_>,
     i: u32,
     p: u32,
     k: u32,
 ) -> Result<Option<LineSet>, Memory>
-    requires search { IsSearchOf matrix.now search.old }
-    requires row { i < height matrix.now }
-    requires column { p < matrix.now.width }
-    requires second_row { k < height matrix.now }
-    requires lower { entry matrix.now k p ≢ pos 0 }
-    ensures search { OnOk result (IsSearchOf matrix.now search.new) }
-    ensures found { IfOk result (IsFoundCut matrix.now (i ∷ p ∷ k ∷ [])) }
+    requires row { i < height search.old.matrix.now }
+    requires column { p < search.old.matrix.now.width }
+    requires second_row { k < height search.old.matrix.now }
+    requires lower { entry search.old.matrix.now k p ≢ pos 0 }
+    ensures matrix { search.new.matrix.now ≡ search.old.matrix.now }
+    ensures found { IfOk result (IsFoundCut search.old.matrix.now (i ∷ p ∷ k ∷ [])) }
 {
-    search.ask(alloc, matrix)?;
+    let matrix = search.matrix;
+    search.ask(alloc)?;
     for j in 0..matrix.columns() {
         if is_cut_column(matrix, &search.groups, i, p, j) {
             let corners = Corners { i, p, k, j };
-            if let Some(lines) = first_of_corners(alloc, matrix, search, &corners)? {
+            if let Some(lines) = first_of_corners(alloc, search, &corners)? {
                 return Ok(Some(lines));
             }
         }
@@ -110,25 +99,24 @@ fn first_of_second_row(
 // The third lines.
 fn first_of_corners(
     alloc: Global,
-    matrix: &RowsAndColumns<'_>,
-    search: &mut Search,
+    search: &mut Search<'_>,
     corners: &Corners,
 ) -> Result<Option<LineSet>, Memory>
-    requires search { IsSearchOf matrix.now search.old }
-    requires corners { HasBlockCorners matrix.now corners.now }
-    ensures search { OnOk result (IsSearchOf matrix.now search.new) }
-    ensures found { IfOk result (IsFoundCut matrix.now (cut_prefix corners.now)) }
+    requires { HasBlockCorners search.old.matrix.now corners.now }
+    ensures matrix { search.new.matrix.now ≡ search.old.matrix.now }
+    ensures found { IfOk result (IsFoundCut search.old.matrix.now (cut_prefix corners.now)) }
 {
     let Corners { i, p, k, j } = *corners;
     let first = [Line::Row(i), Line::Column(p)];
     let second = [Line::Row(k), Line::Column(j)];
+    let matrix = search.matrix;
     search.tries = search.tries.saturating_add(1);
-    if !may_part(matrix, &mut search.side, rule_at(corners), &first, &second)? {
+    if !search.sides.may_part(rule_at(corners), &first, &second)? {
         return Ok(None);
     }
     for third in 0..matrix.rows() + matrix.columns() {
         if may_be_third(matrix, &search.groups, corners, third) {
-            if let Some(lines) = first_of_third(alloc, matrix, search, corners, third)? {
+            if let Some(lines) = first_of_third(alloc, search, corners, third)? {
                 return Ok(Some(lines));
             }
         }
@@ -139,66 +127,52 @@ fn first_of_corners(
 // The side with the third line.
 fn first_of_third(
     alloc: Global,
-    matrix: &RowsAndColumns<'_>,
-    search: &mut Search,
+    search: &mut Search<'_>,
     corners: &Corners,
     third: u32,
 ) -> Result<Option<LineSet>, Memory>
-    requires search { IsSearchOf matrix.now search.old }
-    requires corners { HasBlockCorners matrix.now corners.now }
-    requires line { third < height matrix.now + matrix.now.width }
-    requires third { IsOtherNumber matrix.now corners.now third }
-    ensures search { OnOk result (IsSearchOf matrix.now search.new) }
-    ensures found { IfOk result (IsFoundCut matrix.now (cut_prefix corners.now ++ third ∷ [])) }
+    requires corners { HasBlockCorners search.old.matrix.now corners.now }
+    requires line { third < height search.old.matrix.now + search.old.matrix.now.width }
+    requires third { IsOtherNumber search.old.matrix.now corners.now third }
+    ensures matrix { search.new.matrix.now ≡ search.old.matrix.now }
+    ensures found { IfOk result (IsFoundCut search.old.matrix.now
+        (cut_prefix corners.now ++ third ∷ [])) }
 {
     let Corners { i, p, k, j } = *corners;
-    let first = [line_at(matrix, third), Line::Row(i), Line::Column(p)];
+    let first = [line_at(search.matrix, third), Line::Row(i), Line::Column(p)];
     let second = [Line::Row(k), Line::Column(j)];
-    if !leaves(matrix, &mut search.side, rule_at(corners), &first, &second)? {
+    if !search.sides.hold(rule_at(corners), &first, &second)? {
         return Ok(None);
     }
-    first_of_held(alloc, matrix, search, corners, third)
+    first_of_held(alloc, search, corners, third)
 }
 
 // The fourth lines.
 fn first_of_held(
     alloc: Global,
-    matrix: &RowsAndColumns<'_>,
-    search: &mut Search,
+    search: &mut Search<'_>,
     corners: &Corners,
     third: u32,
 ) -> Result<Option<LineSet>, Memory>
-    requires held { HoldsThird matrix.now corners.now third search.old }
-    requires corners { HasBlockCorners matrix.now corners.now }
-    requires third { IsOtherNumber matrix.now corners.now third }
-    ensures search { OnOk result (IsSearchOf matrix.now search.new) }
-    ensures found { IfOk result (IsFoundCut matrix.now (cut_prefix corners.now ++ third ∷ [])) }
+    requires held { HoldsThird search.old.matrix.now corners.now third search.old }
+    requires corners { HasBlockCorners search.old.matrix.now corners.now }
+    requires third { IsOtherNumber search.old.matrix.now corners.now third }
+    ensures matrix { search.new.matrix.now ≡ search.old.matrix.now }
+    ensures found { IfOk result (IsFoundCut search.old.matrix.now
+        (cut_prefix corners.now ++ third ∷ [])) }
 {
     let second = [Line::Row(corners.k), Line::Column(corners.j)];
     let rule = rule_at(corners);
+    let matrix = search.matrix;
     for fourth in 0..matrix.rows() + matrix.columns() {
         let line = line_at(matrix, fourth);
         if is_fourth(matrix, corners, third, fourth)
-            && leaves_beside(matrix, &search.side, &mut search.grown, rule, &second, line)?
+            && search.sides.leaves_beside(rule, &second, line)?
         {
-            return Ok(Some(lines_of(alloc, matrix, &search.grown)?));
+            return Ok(Some(search.sides.lines(alloc)?));
         }
     }
     Ok(None)
-}
-
-// The lines of a side, as lists.
-fn lines_of(
-    alloc: Global,
-    matrix: &RowsAndColumns<'_>,
-    side: &GrowingSet,
-) -> Result<LineSet, Memory>
-    requires { HasRoom matrix.now side.now }
-    ensures { IfOk result (λ lines. HasLines (height matrix.now) matrix.now.width (set_of side.now)
-        lines.rows lines.columns) }
-{
-    let lines = side.line_set(alloc, matrix)?;
-    Ok(lines)
 }
 
 // Whether row k can be in the second corner, beside the first one (i, p).

@@ -4,11 +4,12 @@
 mod concentrated;
 mod connectors;
 mod first_cuts;
-mod held;
+mod forced;
 mod independent;
 pub mod laws;
 mod others;
 mod pulled;
+mod row_search;
 mod search;
 mod sides;
 

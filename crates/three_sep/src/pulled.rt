@@ -1,58 +1,53 @@
 // Columns that the rows of column j pull into side two, although they are in side one with row i.
-ghost use Rattle.std.specs.Prelude.{◌≡◌, ◌<◌, true, length};
+ghost use Rattle.std.specs.Prelude.{◌≡◌, ◌<◌, true};
 ghost use Rattle.cmr_base.specs.declared.separation.Form.TheVariants.{Concentrated};
 ghost use Rattle.cmr_base.specs.Matrix.{height, entry};
-ghost use Rattle.cmr_base.specs.Planes.{words_for};
 ghost use Rattle.cmr_base.specs.Seeds.{IsConnectorPair};
 ghost use Rattle.line_growth.specs.Rules.{IsRuleOf};
-ghost use Rattle.three_sep.specs.Concentrated.{AreCandidates, HasNoneBetween, IsPulled};
+ghost use Rattle.three_sep.specs.Concentrated.{HasNoneBetween, PullsOther};
 
 use crate::connectors::Connectors;
-use cmr_base::RowsAndColumns;
-use cmr_base::columns::has_column;
+use crate::row_search::RowSearch;
 use line_growth::GrowthRule;
 
-/// Searches for a proof that column j is in side one with row i, by two connectors with this row and column: a row that is not 0 in column j
-/// pulls a column that is no candidate into side two.
-pub fn is_in_side_one(
-    matrix: &RowsAndColumns<'_>,
-    candidates: &[u64],
-    connectors: &Connectors,
-) -> bool
-    requires candidates { AreCandidates matrix.now connectors.now.first.row candidates.now }
-    requires connectors { IsConnectorPair (height matrix.now) matrix.now.width (entry matrix.now)
-        Concentrated connectors.now.first connectors.now.second }
-    ensures { result ≡ true → HasNoneBetween matrix.now connectors.now.first.row
-        connectors.now.second.column }
-{
-    let rule = connectors.spread_rule(matrix);
-    let mut from = 0;
-    while let Some(row) = matrix
-        .by_columns()
-        .next_nonzero(connectors.second.column, from)
+impl RowSearch<'_> {
+    /// Searches for a proof that column j is in side one with row i, by two connectors with this row and column: a row that is not 0 in
+    /// column j pulls a column that is no candidate into side two.
+    pub fn is_in_side_one(&self, connectors: &Connectors) -> bool
+        requires row { connectors.now.first.row ≡ self.now.row }
+        requires connectors { IsConnectorPair (height self.now.matrix.now)
+            self.now.matrix.now.width (entry self.now.matrix.now) Concentrated
+            connectors.now.first connectors.now.second }
+        ensures { result ≡ true → HasNoneBetween self.now.matrix.now self.now.row
+            connectors.now.second.column }
     {
-        if pulls_other(matrix, rule, candidates, row) {
-            return true;
+        let rule = connectors.spread_rule(self.matrix);
+        let columns = self.matrix.by_columns();
+        let mut from = 0;
+        while let Some(row) = columns.next_nonzero(connectors.second.column, from) {
+            if self.pulls_other(rule, row) {
+                return true;
+            }
+            from = row + 1;
         }
-        from = row + 1;
+        false
     }
-    false
-}
 
-// Searches for a column that a row pulls, in which the row is not 0, and which is no candidate.
-fn pulls_other(matrix: &RowsAndColumns<'_>, rule: GrowthRule, candidates: &[u64], row: u32) -> bool
-    requires rule { IsRuleOf matrix.now rule }
-    requires candidates { length candidates.now ≡ words_for matrix.now.width }
-    requires row { row < height matrix.now }
-    ensures { result ≡ true → IsPulled matrix.now rule candidates.now row }
-{
-    let sum = rule.lower.row(matrix, row);
-    let mut from = 0;
-    while let Some(column) = matrix.by_rows().next_nonzero(row, from) {
-        if !has_column(candidates, column) && !sum.is_at(matrix.by_rows(), row, column) {
-            return true;
+    // Searches for a column that a row pulls, in which the row is not 0, and which is no candidate.
+    fn pulls_other(&self, rule: GrowthRule, row: u32) -> bool
+        requires rule { IsRuleOf self.now.matrix.now rule }
+        requires row { row < height self.now.matrix.now }
+        ensures { result ≡ true
+            → PullsOther self.now.matrix.now rule self.now.candidates row }
+    {
+        let sum = rule.lower.row(self.matrix, row);
+        let mut from = 0;
+        while let Some(column) = self.matrix.by_rows().next_nonzero(row, from) {
+            if !self.candidates.has(column) && !sum.is_at(self.matrix.by_rows(), row, column) {
+                return true;
+            }
+            from = column + 1;
         }
-        from = column + 1;
+        false
     }
-    false
 }

@@ -1,22 +1,19 @@
 // The search for the first good seed.
-ghost use Rattle.std.specs.Prelude.{◌≡◌, ◌≢◌, ◌<◌, ◌≤◌, ◌++◌, ◌∷◌, [], pos, true, false, IfOk, OnOk, MatchOption};
+ghost use Rattle.std.specs.Prelude.{◌≡◌, ◌≢◌, ◌<◌, ◌≤◌, pos, true, false, IfOk, MatchOption};
 ghost use Rattle.cmr_base.specs.Matrix.{height, entry};
-ghost use Rattle.cmr_base.specs.Separations.{HasNoThreeSeparation, IsTied, first_is_flat, second_is_flat};
-ghost use Rattle.cmr_base.specs.Seeds.{IsLine, form_number};
-ghost use Rattle.cuts.specs.LineCuts.{AreInside, HasNames};
-ghost use Rattle.three_sep.specs.NumberedSeeds.{IsCrossing};
+ghost use Rattle.cmr_base.specs.Separations.{HasNoThreeSeparation};
+ghost use Rattle.cuts.specs.LineCuts.{HasNames, HoldTogether, IsCut};
 ghost use Rattle.three_sep.specs.ThreeSeparations.{IsFirstThreeSeparation};
-ghost use Rattle.three_sep.specs.Searches.{HasCorners, HasNoGood, HoldsFirst, IsCorner, IsFoundSeparation, IsNoSecondColumn, IsNoSecondRow, IsSearchOf, corner_prefix, other_line, second_at};
+ghost use Rattle.three_sep.specs.Searches.{IsNoSecondColumn, IsNoSecondRow};
 
 use crate::concentrated::first_concentrated;
 use crate::connectors::{Connectors, rule_at};
 use crate::others::{
     count_of, is_first_other, is_second_other, line_of, may_have_columns, may_have_rows,
 };
-use crate::sides::{first_of_lines, leaves, may_part};
+use crate::sides::Sides;
 use cmr_base::{Connector, Form, Line, Matrix, Memory, RowsAndColumns, Three};
 use cuts::{Corners, Groups, groups_of};
-use line_growth::GrowingSet;
 use std::alloc::Global;
 use std::thread::Threads;
 
@@ -45,31 +42,43 @@ pub fn three_separation_of(
     ensures { IfOk result (λ found. MatchOption found (HasNoThreeSeparation matrix.now)
         (λ three. IsFirstThreeSeparation matrix.now three)) }
 {
-    Search::new(alloc, matrix)?.first(alloc, matrix)
+    Search::new(alloc, matrix)?.first(alloc)
 }
 
 /// The number of corners that the search refuses before it computes groups, so that an early find does not pay for groups.
 const EARLY: u32 = 100;
 
-/// The state of a search: the side of the first connector, that side with one more line, and groups of lines that no cut parts. The search
+/// The state of a search: the sides of the first connector and with one more line, and groups of lines that no cut parts. The search
 /// computes groups after `EARLY` corners; before that each line is a group.
 #[derive(Drop)]
-pub struct Search {
-    pub side: GrowingSet,
-    pub grown: GrowingSet,
+pub struct Search<'a> {
+    pub matrix: &'a RowsAndColumns<'a>,
+    pub sides: Sides<'a>,
     pub groups: Groups,
     pub tries: u32,
     asked: bool,
+    ghost sides_fit: { sides.matrix.now ≡ matrix.now },
+    ghost names: { HasNames matrix.now groups },
+    ghost together: { HoldTogether (IsCut matrix.now) matrix.now groups },
 }
 
-impl Search {
+impl<'a> Search<'a> {
+    ghost use Rattle.std.specs.Prelude.{◌≡◌, ◌<◌, ◌++◌, ◌∷◌, [], true, false, IfOk, OnOk};
+    ghost use Rattle.cmr_base.specs.Matrix.{height, entry};
+    ghost use Rattle.cmr_base.specs.Separations.{IsTied, first_is_flat, second_is_flat};
+    ghost use Rattle.cmr_base.specs.Seeds.{IsLine, form_number};
+    ghost use Rattle.cuts.specs.LineCuts.{AreInside};
+    ghost use Rattle.three_sep.specs.NumberedSeeds.{IsCrossing};
+    ghost use Rattle.three_sep.specs.HeldSides.{HoldsFirst};
+    ghost use Rattle.three_sep.specs.Searches.{HasCorners, HasNoGood, IsCorner, IsFoundSeparation, corner_prefix, other_line, second_at};
+
     /// A search with each line as a group.
-    pub fn new(alloc: Global, matrix: &RowsAndColumns<'_>) -> Result<Search, Memory>
-        ensures { IfOk result (IsSearchOf matrix.now) }
+    pub fn new(alloc: Global, matrix: &'a RowsAndColumns<'a>) -> Result<Search<'a>, Memory>
+        ensures { IfOk result (λ search. search.matrix.now ≡ matrix.entry.now) }
     {
         Ok(Search {
-            side: GrowingSet::new(alloc, matrix)?,
-            grown: GrowingSet::new(alloc, matrix)?,
+            matrix,
+            sides: Sides::new(alloc, matrix)?,
             groups: Groups::new(alloc, matrix)?,
             tries: 0,
             asked: false,
@@ -77,49 +86,43 @@ impl Search {
     }
 
     /// Computes groups, unless they are computed already or fewer than `EARLY` corners were tried.
-    pub fn ask(&mut self, alloc: Global, matrix: &RowsAndColumns<'_>) -> Result<(), Memory>
-        requires search { IsSearchOf matrix.now self.old }
-        ensures search { OnOk result (IsSearchOf matrix.now self.new) }
+    pub fn ask(&mut self, alloc: Global) -> Result<(), Memory>
+        ensures { self.new.matrix.now ≡ self.old.matrix.now }
     {
         if self.asked || self.tries < EARLY {
             return Ok(());
         }
-        self.groups = groups_of(alloc, matrix)?;
+        self.groups = groups_of(alloc, self.matrix)?;
         self.asked = true;
         Ok(())
     }
 
     // Gives the three-separation of the first good seed, and `None` if and only if no seed is good. The forms are visited in their order.
-    fn first(&mut self, alloc: Global, matrix: &RowsAndColumns<'_>) -> Result<Option<Three>, Memory>
-        requires search { IsSearchOf matrix.now self.old }
-        ensures { IfOk result (IsFoundSeparation matrix.now []) }
+    fn first(&mut self, alloc: Global) -> Result<Option<Three>, Memory>
+        ensures { IfOk result (IsFoundSeparation self.old.matrix.now []) }
     {
-        if let Some(three) = self.first_of_form(alloc, matrix, Form::Delta)? {
+        if let Some(three) = self.first_of_form(alloc, Form::Delta)? {
             return Ok(Some(three));
         }
-        if let Some(three) = self.first_of_form(alloc, matrix, Form::YForm)? {
+        if let Some(three) = self.first_of_form(alloc, Form::YForm)? {
             return Ok(Some(three));
         }
-        if let Some(three) = self.first_of_form(alloc, matrix, Form::Mixed)? {
+        if let Some(three) = self.first_of_form(alloc, Form::Mixed)? {
             return Ok(Some(three));
         }
-        first_concentrated(alloc, matrix)
+        first_concentrated(alloc, self.matrix)
     }
 
     // The same for one form. The loop visits the rows i.
-    fn first_of_form(
-        &mut self,
-        alloc: Global,
-        matrix: &RowsAndColumns<'_>,
-        form: Form,
-    ) -> Result<Option<Three>, Memory>
+    fn first_of_form(&mut self, alloc: Global, form: Form) -> Result<Option<Three>, Memory>
         requires crossing { IsCrossing form }
-        requires search { IsSearchOf matrix.now self.old }
-        ensures search { OnOk result (IsSearchOf matrix.now self.new) }
-        ensures found { IfOk result (IsFoundSeparation matrix.now (form_number form ∷ [])) }
+        ensures matrix { self.new.matrix.now ≡ self.old.matrix.now }
+        ensures found { IfOk result (IsFoundSeparation self.old.matrix.now
+            (form_number form ∷ [])) }
     {
+        let matrix = self.matrix;
         for i in 0..matrix.rows() {
-            if let Some(three) = self.first_of_row(alloc, matrix, form, i)? {
+            if let Some(three) = self.first_of_row(alloc, form, i)? {
                 return Ok(Some(three));
             }
         }
@@ -127,25 +130,20 @@ impl Search {
     }
 
     // The same with row i. The loop visits the columns p.
-    fn first_of_row(
-        &mut self,
-        alloc: Global,
-        matrix: &RowsAndColumns<'_>,
-        form: Form,
-        i: u32,
-    ) -> Result<Option<Three>, Memory>
+    fn first_of_row(&mut self, alloc: Global, form: Form, i: u32) -> Result<Option<Three>, Memory>
         requires crossing { IsCrossing form }
-        requires search { IsSearchOf matrix.now self.old }
-        requires row { i < height matrix.now }
-        ensures search { OnOk result (IsSearchOf matrix.now self.new) }
-        ensures found { IfOk result (IsFoundSeparation matrix.now (form_number form ∷ i ∷ [])) }
+        requires row { i < height self.old.matrix.now }
+        ensures matrix { self.new.matrix.now ≡ self.old.matrix.now }
+        ensures found { IfOk result (IsFoundSeparation self.old.matrix.now
+            (form_number form ∷ i ∷ [])) }
     {
         if self.groups.are_all_one() {
             return Ok(None);
         }
+        let matrix = self.matrix;
         for p in 0..matrix.columns() {
             if matrix.is_nonzero(i, p) {
-                if let Some(three) = self.first_of_corner(alloc, matrix, form, i, p)? {
+                if let Some(three) = self.first_of_corner(alloc, form, i, p)? {
                     return Ok(Some(three));
                 }
             }
@@ -157,21 +155,20 @@ impl Search {
     fn first_of_corner(
         &mut self,
         alloc: Global,
-        matrix: &RowsAndColumns<'_>,
         form: Form,
         i: u32,
         p: u32,
     ) -> Result<Option<Three>, Memory>
         requires crossing { IsCrossing form }
-        requires search { IsSearchOf matrix.now self.old }
-        requires corner { IsCorner matrix.now i p }
-        ensures search { OnOk result (IsSearchOf matrix.now self.new) }
-        ensures found { IfOk result (IsFoundSeparation matrix.now
+        requires corner { IsCorner self.old.matrix.now i p }
+        ensures matrix { self.new.matrix.now ≡ self.old.matrix.now }
+        ensures found { IfOk result (IsFoundSeparation self.old.matrix.now
             (form_number form ∷ i ∷ p ∷ [])) }
     {
+        let matrix = self.matrix;
         for k in 0..matrix.rows() {
             if is_second_row(matrix, &self.groups, form, i, p, k) {
-                if let Some(three) = self.first_of_second_row(alloc, matrix, form, i, p, k)? {
+                if let Some(three) = self.first_of_second_row(alloc, form, i, p, k)? {
                     return Ok(Some(three));
                 }
             }
@@ -183,29 +180,24 @@ impl Search {
     fn first_of_second_row(
         &mut self,
         alloc: Global,
-        matrix: &RowsAndColumns<'_>,
         form: Form,
         i: u32,
         p: u32,
         k: u32,
     ) -> Result<Option<Three>, Memory>
         requires crossing { IsCrossing form }
-        requires search { IsSearchOf matrix.now self.old }
-        requires corner { IsCorner matrix.now i p }
-        requires below { IsCorner matrix.now k p }
-        ensures search { OnOk result (IsSearchOf matrix.now self.new) }
-        ensures found { IfOk result (IsFoundSeparation matrix.now
+        requires corner { IsCorner self.old.matrix.now i p }
+        requires below { IsCorner self.old.matrix.now k p }
+        ensures matrix { self.new.matrix.now ≡ self.old.matrix.now }
+        ensures found { IfOk result (IsFoundSeparation self.old.matrix.now
             (form_number form ∷ i ∷ p ∷ k ∷ [])) }
     {
-        self.ask(alloc, matrix)?;
+        let matrix = self.matrix;
+        self.ask(alloc)?;
         for j in 0..matrix.columns() {
             if is_second_column(matrix, &self.groups, form, i, p, k, j) {
-                if let Some(three) = self.first_of_corners(
-                    alloc,
-                    matrix,
-                    form,
-                    &Corners { i, p, k, j },
-                )? {
+                let corners = Corners { i, p, k, j };
+                if let Some(three) = self.first_of_corners(alloc, form, &corners)? {
                     return Ok(Some(three));
                 }
             }
@@ -217,27 +209,26 @@ impl Search {
     fn first_of_corners(
         &mut self,
         alloc: Global,
-        matrix: &RowsAndColumns<'_>,
         form: Form,
         corners: &Corners,
     ) -> Result<Option<Three>, Memory>
         requires crossing { IsCrossing form }
-        requires search { IsSearchOf matrix.now self.old }
-        requires corners { HasCorners matrix.now corners.now }
-        ensures search { OnOk result (IsSearchOf matrix.now self.new) }
-        ensures found { IfOk result (IsFoundSeparation matrix.now
+        requires corners { HasCorners self.old.matrix.now corners.now }
+        ensures matrix { self.new.matrix.now ≡ self.old.matrix.now }
+        ensures found { IfOk result (IsFoundSeparation self.old.matrix.now
             (corner_prefix form corners.now)) }
     {
+        let matrix = self.matrix;
         let Corners { i, p, k, j } = *corners;
         let first = [Line::Row(i), Line::Column(p)];
         let second = [Line::Row(k), Line::Column(j)];
-        if !may_part(matrix, &mut self.side, rule_at(corners), &first, &second)? {
+        if !self.sides.may_part(rule_at(corners), &first, &second)? {
             self.tries = self.tries.saturating_add(1);
             return Ok(None);
         }
         for q in 0..count_of(matrix, form.first_is_flat()) {
-            if self.hold_first(matrix, form, corners, q)? {
-                if let Some(three) = self.first_of_connector(alloc, matrix, form, corners, q)? {
+            if self.hold_first(form, corners, q)? {
+                if let Some(three) = self.first_of_connector(alloc, form, corners, q)? {
                     return Ok(Some(three));
                 }
             }
@@ -247,25 +238,18 @@ impl Search {
 
     // Decides whether q can be the other line of the first connector, and the closure of the first connector leaves the second corner. If so,
     // the side of the search is this closure.
-    fn hold_first(
-        &mut self,
-        matrix: &RowsAndColumns<'_>,
-        form: Form,
-        corners: &Corners,
-        q: u32,
-    ) -> Result<bool, Memory>
+    fn hold_first(&mut self, form: Form, corners: &Corners, q: u32) -> Result<bool, Memory>
         requires crossing { IsCrossing form }
-        requires search { IsSearchOf matrix.now self.old }
-        requires inside { AreInside matrix.now corners.now }
-        requires line { IsLine (height matrix.now) matrix.now.width
+        requires inside { AreInside self.old.matrix.now corners.now }
+        requires line { IsLine (height self.old.matrix.now) self.old.matrix.now.width
             (other_line (first_is_flat form) q) }
-        ensures search { OnOk result (IsSearchOf matrix.now self.new) }
+        ensures matrix { self.new.matrix.now ≡ self.old.matrix.now }
         ensures held { IfOk result (λ held. held ≡ true
-            → HoldsFirst matrix.now form corners.now q self.new) }
+            → HoldsFirst self.old.matrix.now form corners.now q self.new) }
         ensures no { IfOk result (λ held. held ≡ false
-            → HasNoGood matrix.now (corner_prefix form corners.now ++ q ∷ [])) }
+            → HasNoGood self.old.matrix.now (corner_prefix form corners.now ++ q ∷ [])) }
     {
-        if !is_first_other(matrix, form, corners, q) {
+        if !is_first_other(self.matrix, form, corners, q) {
             return Ok(false);
         }
         let Corners { i, p, k, j } = *corners;
@@ -276,7 +260,7 @@ impl Search {
         };
         let first = connector.lines(form.first_is_flat());
         let second = [Line::Row(k), Line::Column(j)];
-        let held = leaves(matrix, &mut self.side, rule_at(corners), &first, &second)?;
+        let held = self.sides.hold(rule_at(corners), &first, &second)?;
         Ok(held)
     }
 
@@ -284,20 +268,20 @@ impl Search {
     fn first_of_connector(
         &mut self,
         alloc: Global,
-        matrix: &RowsAndColumns<'_>,
         form: Form,
         corners: &Corners,
         q: u32,
     ) -> Result<Option<Three>, Memory>
         requires crossing { IsCrossing form }
-        requires corners { HasCorners matrix.now corners.now }
-        requires held { HoldsFirst matrix.now form corners.now q self.old }
-        ensures search { OnOk result (IsSearchOf matrix.now self.new) }
-        ensures found { IfOk result (IsFoundSeparation matrix.now
+        requires corners { HasCorners self.old.matrix.now corners.now }
+        requires held { HoldsFirst self.old.matrix.now form corners.now q self.old }
+        ensures matrix { self.new.matrix.now ≡ self.old.matrix.now }
+        ensures found { IfOk result (IsFoundSeparation self.old.matrix.now
             (corner_prefix form corners.now ++ q ∷ [])) }
     {
+        let matrix = self.matrix;
         for o in 0..count_of(matrix, form.second_is_flat()) {
-            if let Some(three) = self.first_of_other(alloc, matrix, form, corners, q, o)? {
+            if let Some(three) = self.first_of_other(alloc, form, corners, q, o)? {
                 return Ok(Some(three));
             }
         }
@@ -308,62 +292,52 @@ impl Search {
     fn first_of_other(
         &mut self,
         alloc: Global,
-        matrix: &RowsAndColumns<'_>,
         form: Form,
         corners: &Corners,
         q: u32,
         o: u32,
     ) -> Result<Option<Three>, Memory>
         requires crossing { IsCrossing form }
-        requires corners { HasCorners matrix.now corners.now }
-        requires held { HoldsFirst matrix.now form corners.now q self.old }
-        requires line { IsLine (height matrix.now) matrix.now.width
+        requires corners { HasCorners self.old.matrix.now corners.now }
+        requires held { HoldsFirst self.old.matrix.now form corners.now q self.old }
+        requires line { IsLine (height self.old.matrix.now) self.old.matrix.now.width
             (other_line (second_is_flat form) o) }
-        ensures held { OnOk result (HoldsFirst matrix.now form corners.now q self.new) }
-        ensures found { IfOk result (IsFoundSeparation matrix.now
+        ensures held { HoldsFirst self.old.matrix.now form corners.now q self.new }
+        ensures found { IfOk result (IsFoundSeparation self.old.matrix.now
             (corner_prefix form corners.now ++ q ∷ o ∷ [])) }
     {
-        if !is_second_other(matrix, form, corners, o) {
+        if !is_second_other(self.matrix, form, corners, o) {
             return Ok(None);
         }
-        if self.side.has(matrix, line_of(form.second_is_flat(), o)) {
+        if self.sides.side.has(line_of(form.second_is_flat(), o)) {
             return Ok(None);
         }
-        self.first_of_connectors(alloc, matrix, form, corners, q, o)
+        self.first_of_connectors(alloc, form, corners, q, o)
     }
 
     // The same with two connectors. `first_of_lines` visits the lines x.
     fn first_of_connectors(
         &mut self,
         alloc: Global,
-        matrix: &RowsAndColumns<'_>,
         form: Form,
         corners: &Corners,
         q: u32,
         o: u32,
     ) -> Result<Option<Three>, Memory>
         requires crossing { IsCrossing form }
-        requires corners { HasCorners matrix.now corners.now }
-        requires held { HoldsFirst matrix.now form corners.now q self.old }
-        requires tied { IsTied (entry matrix.now) (second_is_flat form) (second_at corners.now o)
-            corners.now.i corners.now.p }
-        requires line { IsLine (height matrix.now) matrix.now.width
+        requires corners { HasCorners self.old.matrix.now corners.now }
+        requires held { HoldsFirst self.old.matrix.now form corners.now q self.old }
+        requires tied { IsTied (entry self.old.matrix.now) (second_is_flat form)
+            (second_at corners.now o) corners.now.i corners.now.p }
+        requires line { IsLine (height self.old.matrix.now) self.old.matrix.now.width
             (other_line (second_is_flat form) o) }
-        ensures held { OnOk result (HoldsFirst matrix.now form corners.now q self.new) }
-        ensures found { IfOk result (IsFoundSeparation matrix.now
+        ensures held { HoldsFirst self.old.matrix.now form corners.now q self.new }
+        ensures found { IfOk result (IsFoundSeparation self.old.matrix.now
             (corner_prefix form corners.now ++ q ∷ o ∷ [])) }
     {
         let connectors = Connectors::at(corners, q, o);
         let rule = rule_at(corners);
-        first_of_lines(
-            alloc,
-            matrix,
-            &self.side,
-            &mut self.grown,
-            form,
-            rule,
-            &connectors,
-        )
+        self.sides.first_of_lines(alloc, form, rule, &connectors)
     }
 }
 

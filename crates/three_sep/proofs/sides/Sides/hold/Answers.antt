@@ -1,0 +1,7 @@
+use Rattle.three_sep.proofs.sides.Sides.hold.Goals as goal
+
+pub returns-clause-growing : goal.returns-clause-growing
+returns-clause-growing c = c.in_ok-yes.ensures.growing c.args.first.now (c.in_ok-start.ensures.growing _ _ _)
+
+pub returns-clause-decided : goal.returns-clause-decided
+returns-clause-decided c = c.in_ok-yes.ensures.closed c.args.first.now (c.in_ok-start.ensures.growing _ _ _)

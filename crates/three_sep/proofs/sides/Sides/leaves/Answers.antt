@@ -1,0 +1,4 @@
+use Rattle.three_sep.proofs.sides.Sides.leaves.Goals as goal
+
+pub returns-clause-decided : goal.returns-clause-decided
+returns-clause-decided c = c.in_ok-yes.ensures.closed c.args.first.now (c.in_ok-start.ensures.growing _ _ _)
