@@ -9,3 +9,4 @@ pub mod CutSeedLemmas
 pub mod OneFirstCut
 pub mod RowSearchLemmas
 pub mod KeptSideLemmas
+pub mod OtherLemmas

@@ -5,6 +5,7 @@ pub mod Concentrated
 pub mod Independent
 pub mod RowSearches
 pub mod Searches
+pub mod GroupedLines
 pub mod HeldSides
 pub mod KeptSides
 pub mod FirstCuts

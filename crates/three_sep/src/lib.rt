@@ -5,6 +5,7 @@ mod concentrated;
 mod connectors;
 mod first_cuts;
 mod forced;
+mod grouped_lines;
 mod independent;
 pub mod laws;
 mod others;

@@ -1,14 +1,14 @@
 // The other lines of connectors.
 ghost use Rattle.std.specs.Prelude.{◌≡◌, ◌≢◌, ◌<◌, ◌↔◌, pos, true, false, IsTrue};
 ghost use Rattle.cmr_base.specs.Matrix.{height, entry, IsMatrix};
-ghost use Rattle.cmr_base.specs.declared.line.Line.TheVariants.{Row, Column};
 ghost use Rattle.cmr_base.specs.Separations.{IsTied, first_is_flat, second_is_flat};
 ghost use Rattle.cmr_base.specs.Seeds.{IsLine};
 ghost use Rattle.three_sep.specs.NumberedSeeds.{IsBeside};
-ghost use Rattle.cuts.specs.LineCuts.{AreInside, HasNames, name_of};
-ghost use Rattle.three_sep.specs.Searches.{HasNoColumn, HasNoRow, LacksColumn, LacksRow, first_at, line_count, other_line, second_at};
+ghost use Rattle.cuts.specs.LineCuts.{AreInside, HasNames};
+ghost use Rattle.three_sep.specs.Searches.{LacksColumn, LacksRow, first_at, line_count, other_line, second_at};
 
 use crate::connectors::Connectors;
+use crate::grouped_lines::{GroupedLines, is_flat_other};
 use cmr_base::{Connector, Form, Line, RowsAndColumns};
 use cuts::{Corners, Groups};
 
@@ -73,22 +73,6 @@ pub fn is_second_other(matrix: &RowsAndColumns<'_>, form: Form, corners: &Corner
     }
 }
 
-// Decides whether a column is 0 in one row and not in another.
-fn is_flat_other(matrix: &RowsAndColumns<'_>, own: u32, across: u32, other: u32) -> bool
-    requires own { own < height matrix.now }
-    requires across { across < height matrix.now }
-    requires other { other < matrix.now.width }
-    ensures yes { result ≡ true
-        → (entry matrix.now own other ≡ pos 0) × (entry matrix.now across other ≢ pos 0) }
-    ensures no { result ≡ false
-        → ¬ ((entry matrix.now own other ≡ pos 0) × (entry matrix.now across other ≢ pos 0)) }
-{
-    if matrix.is_nonzero(own, other) {
-        return false;
-    }
-    matrix.is_nonzero(across, other)
-}
-
 // Decides whether a row is 0 in one column and not in another.
 fn is_tall_other(matrix: &RowsAndColumns<'_>, own: u32, across: u32, other: u32) -> bool
     requires own { own < matrix.now.width }
@@ -99,10 +83,9 @@ fn is_tall_other(matrix: &RowsAndColumns<'_>, own: u32, across: u32, other: u32)
     ensures no { result ≡ false
         → ¬ ((entry matrix.now other own ≡ pos 0) × (entry matrix.now other across ≢ pos 0)) }
 {
-    if matrix.is_nonzero(other, own) {
-        return false;
-    }
-    matrix.is_nonzero(other, across)
+    let _rows = matrix.rows();
+    let columns = matrix.transposed();
+    is_flat_other(&columns, own, across, other)
 }
 
 /// Decides whether the flat connectors of the form may have other lines, if the corners are in rows i and k.
@@ -118,15 +101,13 @@ pub fn may_have_columns(
     requires second_row { k < height matrix.now }
     ensures { result ≡ false → LacksColumn matrix.now groups.now form i k }
 {
-    if form.first_is_flat() {
-        if !has_column(matrix, groups, i, k) {
-            return false;
-        }
-    }
-    if form.second_is_flat() {
-        return has_column(matrix, groups, k, i);
-    }
-    true
+    let lines = GroupedLines {
+        matrix,
+        groups,
+        rows_from: 0,
+        columns_from: matrix.rows(),
+    };
+    lines.may_have(form.first_is_flat(), form.second_is_flat(), i, k)
 }
 
 /// Decides whether the tall connectors of the form may have other lines, if the corners are in columns p and j.
@@ -142,90 +123,16 @@ pub fn may_have_rows(
     requires second_column { j < matrix.now.width }
     ensures { result ≡ false → LacksRow matrix.now groups.now form p j }
 {
-    if !form.first_is_flat() {
-        if !has_row(matrix, groups, p, j) {
-            return false;
-        }
-    }
-    if !form.second_is_flat() {
-        return has_row(matrix, groups, j, p);
-    }
-    true
-}
-
-// Decides whether some column is 0 in one row, not 0 in another, and not in the group of the other row.
-fn has_column(matrix: &RowsAndColumns<'_>, groups: &Groups, own: u32, across: u32) -> bool
-    requires names { HasNames matrix.now groups.now }
-    requires own { own < height matrix.now }
-    requires across { across < height matrix.now }
-    ensures { result ≡ false → HasNoColumn matrix.now groups.now own across }
-{
-    for column in 0..matrix.columns() {
-        if is_column_apart(matrix, groups, own, across, column) {
-            return true;
-        }
-    }
-    false
-}
-
-// Decides the same of a given column.
-fn is_column_apart(
-    matrix: &RowsAndColumns<'_>,
-    groups: &Groups,
-    own: u32,
-    across: u32,
-    column: u32,
-) -> bool
-    requires names { HasNames matrix.now groups.now }
-    requires own { own < height matrix.now }
-    requires across { across < height matrix.now }
-    requires column { column < matrix.now.width }
-    ensures { result ≡ false → entry matrix.now own column ≡ pos 0
-        → entry matrix.now across column ≢ pos 0
-        → name_of matrix.now groups.now (Column column)
-        ≡ name_of matrix.now groups.now (Row across) }
-{
-    if !is_flat_other(matrix, own, across, column) {
-        return false;
-    }
-    !groups.are_one(matrix.rows() + column, across)
-}
-
-// Decides whether some row is 0 in one column, not 0 in another, and not in the group of the other column.
-fn has_row(matrix: &RowsAndColumns<'_>, groups: &Groups, own: u32, across: u32) -> bool
-    requires names { HasNames matrix.now groups.now }
-    requires own { own < matrix.now.width }
-    requires across { across < matrix.now.width }
-    ensures { result ≡ false → HasNoRow matrix.now groups.now own across }
-{
-    for row in 0..matrix.rows() {
-        if is_row_apart(matrix, groups, own, across, row) {
-            return true;
-        }
-    }
-    false
-}
-
-// Decides the same of a given row.
-fn is_row_apart(
-    matrix: &RowsAndColumns<'_>,
-    groups: &Groups,
-    own: u32,
-    across: u32,
-    row: u32,
-) -> bool
-    requires names { HasNames matrix.now groups.now }
-    requires own { own < matrix.now.width }
-    requires across { across < matrix.now.width }
-    requires row { row < height matrix.now }
-    ensures { result ≡ false → entry matrix.now row own ≡ pos 0
-        → entry matrix.now row across ≢ pos 0
-        → name_of matrix.now groups.now (Row row) ≡ name_of matrix.now groups.now (Column across) }
-{
-    if !is_tall_other(matrix, own, across, row) {
-        return false;
-    }
-    !groups.are_one(row, matrix.rows() + across)
+    let rows_from = matrix.rows();
+    let columns = matrix.transposed();
+    let _columns = columns.rows();
+    let lines = GroupedLines {
+        matrix: &columns,
+        groups,
+        rows_from,
+        columns_from: 0,
+    };
+    lines.may_have(!form.first_is_flat(), !form.second_is_flat(), p, j)
 }
 
 /// Decides whether a line is in neither connector.
