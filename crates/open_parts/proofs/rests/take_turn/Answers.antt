@@ -20,7 +20,7 @@ part-requires-clause-columns g c =
     subst (λ (rest : LineSet). AllBelow m.width rest.columns) (sym c.in_ok-rest.ensures) (rest_lines m c.args.kept c.args.line c.requires).columns.in_range
 
 pub named_set-requires : goal.named_set-requires
-named_set-requires c =
+named_set-requires g c =
     let search = c.args.search.now in
     let says : No c.in-No.fault.now ≡ verdict_of (tree_of c.in_ok-tree.tree.root) = sym (ap verdict_shown c.in-No.is) ∙ c.verdict.ensures in
     let placed = turn_placed search.limit search.matrix.now c.args.kept c.in_ok-rest.rest c.args.line c.in_ok-rest.ensures c.in_ok-part.part c.in_ok-part.ensures (tree_of c.in_ok-tree.tree.root) c.in_ok-tree.ensures.shape search.shape c.requires c.in-No.fault.now says in
