@@ -26,7 +26,7 @@ use Rattle.tree_type.proofs.PlacedLines.{lines_within}
 use Rattle.cmr_base.specs.declared.placed_pivot.PlacedPivot.{PlacedPivot}
 use Rattle.cmr_base.specs.PlacedPivots.{pivoted_part}
 use Rattle.tree_laws.proofs.PivotedMatrices.{lines_pivoted}
-use Rattle.cert_check.specs.Answers.{Answers, AnswersOn, AnswersFrom, AnswersBelow, Stands, nodes_below, place_of, IsAfter, has_pivot, IsRuleAt, IsOwnRule, due_from, due_child_of, unless, KeepsOwn}
+use Rattle.cert_check.specs.Answers.{Answers, AnswersOn, AnswersFrom, AnswersBelow, IsValidNode, nodes_below, place_of, IsAfter, has_pivot, IsRuleAt, IsOwnRule, due_from, due_child_of, unless, KeepsOwn}
 
 pub opened : (path : List ℕ) (pivots : List MadePivot) (due : Due) (tree : Tree) → places_from path pivots due tree ≡ place_of path pivots due tree ∷ nodes_below path pivots tree
 opened path pivots due (Branch lines finding trees) = refl
@@ -74,15 +74,15 @@ pub answers_below : (m : Matrix) (path : List ℕ) (pivots : List MadePivot) (du
 answers_below m path pivots due tree answer here h =
     subst (λ nodes. AnswersOn m nodes answer) (sym (opened path pivots due tree)) (answers_after m (place_of path pivots due tree ∷ []) (nodes_below path pivots tree) answer (here, tt) h)
 
--- the children of a node satisfy `Stands` if the node does
-pub children_stand : (m : Matrix) (lines : LineSet) (finding : Finding) (trees : Trees) → Stands m (Branch lines finding trees) → (levels : ℕ) × AreLines m lines × AreTreesWithin lines levels trees
-children_stand m lines finding trees (parent, levels, are, within) = (levels - 1, lines_within m lines parent within.1 are, within.4)
+-- the children of a node satisfy `IsValidNode` if the node does
+pub children_valid : (m : Matrix) (lines : LineSet) (finding : Finding) (trees : Trees) → IsValidNode m (Branch lines finding trees) → (levels : ℕ) × AreLines m lines × AreTreesWithin lines levels trees
+children_valid m lines finding trees (parent, levels, are, within) = (levels - 1, lines_within m lines parent within.1 are, within.4)
 
-pub first_stands : (m : Matrix) (lines : LineSet) (finding : Finding) (tree : Tree) (trees : Trees) → Stands m (Branch lines finding (MoreTrees tree trees)) → Stands m tree
-first_stands m lines finding tree trees h = let w = children_stand m lines finding (MoreTrees tree trees) h in (lines, w.0, w.1, w.2.0)
+pub first_valid : (m : Matrix) (lines : LineSet) (finding : Finding) (tree : Tree) (trees : Trees) → IsValidNode m (Branch lines finding (MoreTrees tree trees)) → IsValidNode m tree
+first_valid m lines finding tree trees h = let w = children_valid m lines finding (MoreTrees tree trees) h in (lines, w.0, w.1, w.2.0)
 
-pub stands_pivoted : (m : Matrix) (lines : LineSet) (place : PlacedPivot) (tree : Tree) → Stands m tree → Stands (pivoted_part m lines place) tree
-stands_pivoted m lines place tree (parent, levels, are, within) = (parent, levels, lines_pivoted m lines place parent are, within)
+pub valid_pivoted : (m : Matrix) (lines : LineSet) (place : PlacedPivot) (tree : Tree) → IsValidNode m tree → IsValidNode (pivoted_part m lines place) tree
+valid_pivoted m lines place tree (parent, levels, are, within) = (parent, levels, lines_pivoted m lines place parent are, within)
 
 last_rule : (r : Rule) → rule_number r ≤ 16
 last_rule rule.Size = omega arith
@@ -195,16 +195,16 @@ module _ (here : Matrix) (below_pivot : Bool) (due : Due) (tree : Tree) (sizes :
     own_rule_at may None own = own_kept own may
     own_rule_at may (Some broken) own = own_refused broken own
 
-    pub standing_refused : IsOwnRule here tree None → ((pivots : List MadePivot) → has_pivot pivots ≡ below_pivot → ¬ (MayStand pivots (finding_of tree))) → IsRuleAt here below_pivot due tree (Some rule.BelowPivot)
-    standing_refused own may_not = λ m pivots path after. record {
+    pub below_pivot_refused : IsOwnRule here tree None → ((pivots : List MadePivot) → has_pivot pivots ≡ below_pivot → ¬ (MayStand pivots (finding_of tree))) → IsRuleAt here below_pivot due tree (Some rule.BelowPivot)
+    below_pivot_refused own may_not = λ m pivots path after. record {
       breaks = may_not pivots after.pivoted;
       keeps = λ earlier l. keeps_own m path pivots due tree (sizes m pivots after) has earlier (λ e. absurd (omega (arith, e, l))) (after_demands m pivots after earlier (own_demands here tree own earlier));
     }
 
     -- the test of findings below pivots decides
-    pub standing_decides : (may : Bool) → ((pivots : List MadePivot) → has_pivot pivots ≡ below_pivot → IsTrue may ↔ MayStand pivots (finding_of tree)) → IsOwnRule here tree None → IsRuleAt here below_pivot due tree (unless may rule.BelowPivot)
-    standing_decides true is own = own_kept own (λ pivots e. (is pivots e).0 refl)
-    standing_decides false is own = standing_refused own (λ pivots e stands. true≢false (sym ((is pivots e).1 stands)))
+    pub below_pivot_decides : (may : Bool) → ((pivots : List MadePivot) → has_pivot pivots ≡ below_pivot → IsTrue may ↔ MayStand pivots (finding_of tree)) → IsOwnRule here tree None → IsRuleAt here below_pivot due tree (unless may rule.BelowPivot)
+    below_pivot_decides true is own = own_kept own (λ pivots e. (is pivots e).0 refl)
+    below_pivot_decides false is own = below_pivot_refused own (λ pivots e valid. true≢false (sym ((is pivots e).1 valid)))
 
 pub own_is_kept : (m : Matrix) (tree : Tree) (answer : Option Rule) → IsOwnRule m tree answer → KeepsOwn m tree answer
 own_is_kept m tree None own = own
@@ -228,7 +228,7 @@ if_ok P Q f (Err e) h = tt
 -- ---- the root
 
 -- the root is a node with lines of the matrix
-pub root_stands : (m : Matrix) (rows columns : ℕ) (tree : Tree) → IsTreeFor rows columns tree → rows ≡ height m → columns ≡ m.width → Stands m tree
+pub root_stands : (m : Matrix) (rows columns : ℕ) (tree : Tree) → IsTreeFor rows columns tree → rows ≡ height m → columns ≡ m.width → IsValidNode m tree
 root_stands m rows columns (Branch lines finding trees) within e f = (
   lines,
   2001,

@@ -21,10 +21,10 @@ use Rattle.tree_type.proofs.NodeChildren.{trees_back}
 use Rattle.tree_type.proofs.NodeTrees.{said_one_sum}
 use Rattle.tree_type.proofs.OtherKinds.{KindCase, by_kind, finding_in}
 use Rattle.tree_type.proofs.PlacedLines.{lines_within}
-use Rattle.cert_check.specs.Answers.{AnswersOn, AnswersFrom, AnswersBelow, IsAfter, Stands, nodes_below, due_child_of}
+use Rattle.cert_check.specs.Answers.{AnswersOn, AnswersFrom, AnswersBelow, IsAfter, IsValidNode, nodes_below, due_child_of}
 use Rattle.cert_check.proofs.Answering.{answers_after, broken_before, kind_is}
 
--- the children from a number on satisfy `Stands`, and an answer on them and the nodes below them is an answer on all
+-- the children from a number on satisfy `IsValidNode`, and an answer on them and the nodes below them is an answer on all
 pub record AreLeft (here : Matrix) (below_pivot : Bool) (path : List ℕ) (tree : Tree) (number : ℕ) (rest : List Tree) : Type 0 where
   pub lines_are : AreLines here (lines_at_root tree)
   pub levels : ℕ
@@ -42,7 +42,7 @@ no_pivot node other = by_kind node (λ finding. (pivots : List MadePivot) → pi
     each (open'.Pivoted place child) rolls pivots = absurd (other place child (sym rolls ∙ kind.rolls-Pivoted place child))
     each case rolls pivots = refl
 
-pub all_left : (m : Matrix) (below_pivot : Bool) (path : List ℕ) (tree : Tree) → IsNoPivot tree → Stands m tree → AreLeft m below_pivot path tree 0 (children_of tree)
+pub all_left : (m : Matrix) (below_pivot : Bool) (path : List ℕ) (tree : Tree) → IsNoPivot tree → IsValidNode m tree → AreLeft m below_pivot path tree 0 (children_of tree)
 all_left m below_pivot path (Branch lines finding trees) same (parent, levels, are, within) = record {
   lines_are = lines_within m lines parent within.1 are;
   levels = levels - 1;
@@ -56,7 +56,7 @@ few : (lines : LineSet) (finding : Finding) (trees : Trees) → FitsLines lines 
 few lines OneSum trees fits has = omega (arith, fits)
 few lines finding trees fits has = omega (arith, has)
 
-pub few_children : (m : Matrix) (tree : Tree) → Stands m tree → length (children_of tree) ≤ 2 + (height m + m.width)
+pub few_children : (m : Matrix) (tree : Tree) → IsValidNode m tree → length (children_of tree) ≤ 2 + (height m + m.width)
 few_children m (Branch lines finding trees) (parent, levels, are, within) =
     let own = lines_within m lines parent within.1 are in
     let count : count_trees trees ≡ length (list_of trees) = ap count_trees (sym (trees_back trees)) ∙ count_list (list_of trees) in
@@ -67,8 +67,8 @@ module _ (here : Matrix) (below_pivot : Bool) (path : List ℕ) (tree : Tree) (n
     opened_left : AreLeft here below_pivot path tree number (child ∷ rest)
     opened_left = subst (AreLeft here below_pivot path tree number) order left
 
-    pub left_stands : Stands here child
-    left_stands = (lines_at_root tree, opened_left.levels, opened_left.lines_are, opened_left.within.0)
+    pub left_valid : IsValidNode here child
+    left_valid = (lines_at_root tree, opened_left.levels, opened_left.lines_are, opened_left.within.0)
 
     pub left_refused : (refusal : Refusal) → AnswersFrom here below_pivot (path ++ number ∷ []) (due_child_of tree number) child (Some refusal) → AnswersBelow here below_pivot path tree (Some refusal)
     left_refused refusal h = λ m pivots after.

@@ -25,59 +25,59 @@ use Rattle.tree_type.proofs.NodeTrees.{said, tree_is, said_cycle, said_two_sum, 
 use Rattle.tree_type.proofs.PlacedLines.{lines_within}
 use Rattle.cmr_base.specs.declared.placed_pivot.PlacedPivot.{PlacedPivot}
 use Rattle.cmr_base.specs.PlacedPivots.{IsPlaceIn, IsTernaryPivot}
-use Rattle.cert_check.specs.Answers.{Stands, IsFirstBrokenRule, Says, IsOwnRule, unless}
-use Rattle.cert_check.proofs.Answering.{kind_is, pivoted_is, children_stand}
+use Rattle.cert_check.specs.Answers.{IsValidNode, IsFirstBrokenRule, Says, IsOwnRule, unless}
+use Rattle.cert_check.proofs.Answering.{kind_is, pivoted_is, children_valid}
 use Rattle.cert_check.proofs.SumRules.{false_not}
 
 -- the finding of a node decides
 pub own_of : (m : Matrix) (node : Node) (k : Kind) (f : Finding) (trees : Trees) (answer : Option Rule) → node.kind ≡ k → said k ≡ (f, trees) → IsFirstBrokenRule m node.lines f (lines_of_each trees) answer → IsOwnRule m (tree_of node) answer
 own_of m node k f trees answer e h first = subst (λ tree. IsOwnRule m tree answer) (sym (kind_is node k f trees e h)) first
 
-branch_stands : (m : Matrix) (node : Node) (k : Kind) (f : Finding) (trees : Trees) → node.kind ≡ k → said k ≡ (f, trees) → Stands m (tree_of node) → Stands m (Branch node.lines f trees)
-branch_stands m node k f trees e h stands = subst (Stands m) (kind_is node k f trees e h) stands
+branch_valid : (m : Matrix) (node : Node) (k : Kind) (f : Finding) (trees : Trees) → node.kind ≡ k → said k ≡ (f, trees) → IsValidNode m (tree_of node) → IsValidNode m (Branch node.lines f trees)
+branch_valid m node k f trees e h valid = subst (IsValidNode m) (kind_is node k f trees e h) valid
 
-pub own_lines : (m : Matrix) (node : Node) → Stands m (tree_of node) → AreLines m node.lines
-own_lines m node stands = (children_stand m node.lines (said node.kind).0 (said node.kind).1 (subst (Stands m) (tree_is node) stands)).1
+pub own_lines : (m : Matrix) (node : Node) → IsValidNode m (tree_of node) → AreLines m node.lines
+own_lines m node valid = (children_valid m node.lines (said node.kind).0 (said node.kind).1 (subst (IsValidNode m) (tree_is node) valid)).1
 
-pub cycle_lines : (m : Matrix) (node : Node) (fault : LineSet) → node.kind ≡ kind.Cycle fault → Stands m (tree_of node) → AreLines m fault
-cycle_lines m node fault e stands = go (branch_stands m node (kind.Cycle fault) (Cycle fault) NoTrees e (said_cycle fault) stands)
+pub cycle_lines : (m : Matrix) (node : Node) (fault : LineSet) → node.kind ≡ kind.Cycle fault → IsValidNode m (tree_of node) → AreLines m fault
+cycle_lines m node fault e valid = go (branch_valid m node (kind.Cycle fault) (Cycle fault) NoTrees e (said_cycle fault) valid)
   where
-    go : Stands m (Branch node.lines (Cycle fault) NoTrees) → AreLines m fault
+    go : IsValidNode m (Branch node.lines (Cycle fault) NoTrees) → AreLines m fault
     go (parent, levels, are, within) = lines_within m fault node.lines within.2 (lines_within m node.lines parent within.1 are)
 
-pub violator_lines : (m : Matrix) (node : Node) (fault : LineSet) → node.kind ≡ kind.Violator fault → Stands m (tree_of node) → AreLines m fault
-violator_lines m node fault e stands = go (branch_stands m node (kind.Violator fault) (Violator fault) NoTrees e (said_violator fault) stands)
+pub violator_lines : (m : Matrix) (node : Node) (fault : LineSet) → node.kind ≡ kind.Violator fault → IsValidNode m (tree_of node) → AreLines m fault
+violator_lines m node fault e valid = go (branch_valid m node (kind.Violator fault) (Violator fault) NoTrees e (said_violator fault) valid)
   where
-    go : Stands m (Branch node.lines (Violator fault) NoTrees) → AreLines m fault
+    go : IsValidNode m (Branch node.lines (Violator fault) NoTrees) → AreLines m fault
     go (parent, levels, are, within) = lines_within m fault node.lines within.2 (lines_within m node.lines parent within.1 are)
 
-pub two_lines : (m : Matrix) (node : Node) (two : Two) (one_child two_child : Box Node Global) → node.kind ≡ kind.TwoSum two one_child two_child → Stands m (tree_of node) → Contains node.lines.rows two.row × Contains node.lines.columns two.column
-two_lines m node two one_child two_child e stands = go (branch_stands m node (kind.TwoSum two one_child two_child) (TwoSum two) (two_trees (tree_of one_child.value) (tree_of two_child.value)) e (said_two_sum two one_child two_child) stands)
+pub two_lines : (m : Matrix) (node : Node) (two : Two) (one_child two_child : Box Node Global) → node.kind ≡ kind.TwoSum two one_child two_child → IsValidNode m (tree_of node) → Contains node.lines.rows two.row × Contains node.lines.columns two.column
+two_lines m node two one_child two_child e valid = go (branch_valid m node (kind.TwoSum two one_child two_child) (TwoSum two) (two_trees (tree_of one_child.value) (tree_of two_child.value)) e (said_two_sum two one_child two_child) valid)
   where
-    go : Stands m (Branch node.lines (TwoSum two) (two_trees (tree_of one_child.value) (tree_of two_child.value))) → Contains node.lines.rows two.row × Contains node.lines.columns two.column
+    go : IsValidNode m (Branch node.lines (TwoSum two) (two_trees (tree_of one_child.value) (tree_of two_child.value))) → Contains node.lines.rows two.row × Contains node.lines.columns two.column
     go (parent, levels, are, within) = (within.2.1, within.2.2)
 
-pub three_lines : (m : Matrix) (node : Node) (t : Three) (one_child two_child : Box Node Global) → node.kind ≡ kind.ThreeSum t one_child two_child → Stands m (tree_of node)
+pub three_lines : (m : Matrix) (node : Node) (t : Three) (one_child two_child : Box Node Global) → node.kind ≡ kind.ThreeSum t one_child two_child → IsValidNode m (tree_of node)
     → HasConnector (first_is_flat t.form) node.lines.rows node.lines.columns t.first × HasConnector (second_is_flat t.form) node.lines.rows node.lines.columns t.second
-three_lines m node t one_child two_child e stands = go (branch_stands m node (kind.ThreeSum t one_child two_child) (ThreeSum t) (two_trees (tree_of one_child.value) (tree_of two_child.value)) e (said_three_sum t one_child two_child) stands)
+three_lines m node t one_child two_child e valid = go (branch_valid m node (kind.ThreeSum t one_child two_child) (ThreeSum t) (two_trees (tree_of one_child.value) (tree_of two_child.value)) e (said_three_sum t one_child two_child) valid)
   where
-    go : Stands m (Branch node.lines (ThreeSum t) (two_trees (tree_of one_child.value) (tree_of two_child.value))) → HasConnector (first_is_flat t.form) node.lines.rows node.lines.columns t.first × HasConnector (second_is_flat t.form) node.lines.rows node.lines.columns t.second
+    go : IsValidNode m (Branch node.lines (ThreeSum t) (two_trees (tree_of one_child.value) (tree_of two_child.value))) → HasConnector (first_is_flat t.form) node.lines.rows node.lines.columns t.first × HasConnector (second_is_flat t.form) node.lines.rows node.lines.columns t.second
     go (parent, levels, are, within) = (within.2.1, within.2.2)
 
-pub pivot_lines : (m : Matrix) (node : Node) (place : PlacedPivot) (child : Box Node Global) → node.kind ≡ kind.Pivoted place child → Stands m (tree_of node) → Contains node.lines.rows place.row × Contains node.lines.columns place.column
-pivot_lines m node place child e stands = go (subst (Stands m) (pivoted_is node place child e) stands)
+pub pivot_lines : (m : Matrix) (node : Node) (place : PlacedPivot) (child : Box Node Global) → node.kind ≡ kind.Pivoted place child → IsValidNode m (tree_of node) → Contains node.lines.rows place.row × Contains node.lines.columns place.column
+pivot_lines m node place child e valid = go (subst (IsValidNode m) (pivoted_is node place child e) valid)
   where
-    go : Stands m (Branch node.lines (Pivoted place) (one_tree (tree_of child.value))) → Contains node.lines.rows place.row × Contains node.lines.columns place.column
+    go : IsValidNode m (Branch node.lines (Pivoted place) (one_tree (tree_of child.value))) → Contains node.lines.rows place.row × Contains node.lines.columns place.column
     go (parent, levels, are, within) = (within.2.0, within.2.1)
 
 -- a pivoted node that keeps its rule
-pub own_pivot : (m : Matrix) (node : Node) (place : PlacedPivot) (child : Box Node Global) → node.kind ≡ kind.Pivoted place child → Stands m (tree_of node) → IsOwnRule m (tree_of node) None
+pub own_pivot : (m : Matrix) (node : Node) (place : PlacedPivot) (child : Box Node Global) → node.kind ≡ kind.Pivoted place child → IsValidNode m (tree_of node) → IsOwnRule m (tree_of node) None
     → IsPlaceIn m node.lines place × IsTernaryPivot m node.lines place
-own_pivot m node place child e stands own = go (subst (λ tree. IsOwnRule m tree None) (pivoted_is node place child e) own)
+own_pivot m node place child e valid own = go (subst (λ tree. IsOwnRule m tree None) (pivoted_is node place child e) own)
   where
     go : IsOwnRule m (Branch node.lines (Pivoted place) (one_tree (tree_of child.value))) None → IsPlaceIn m node.lines place × IsTernaryPivot m node.lines place
     go keeps =
-        let lines = pivot_lines m node place child e stands in
+        let lines = pivot_lines m node place child e valid in
         let own = keeps rule.NotPivot in (record { row = lines.0; column = lines.1; nonzero = own.0 }, own.1)
 
 -- ---- one rule

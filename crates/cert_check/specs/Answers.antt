@@ -39,8 +39,8 @@ unless true rule = None
 unless false rule = Some rule
 
 -- a node whose lines are lines of the matrix, with a valid tree below it
-abbrev pub Stands : Matrix → Tree → Type 0
-Stands m tree = (parent : LineSet) × (levels : ℕ) × AreLines m parent × IsTreeWithin parent levels tree
+abbrev pub IsValidNode : Matrix → Tree → Type 0
+IsValidNode m tree = (parent : LineSet) × (levels : ℕ) × AreLines m parent × IsTreeWithin parent levels tree
 
 -- the nodes below a node that has these pivots above it
 abbrev pub nodes_below : List ℕ → List MadePivot → Tree → List Place

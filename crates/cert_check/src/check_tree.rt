@@ -5,12 +5,12 @@ ghost use Rattle.tree_type.specs.DecompositionTrees.{tree_of};
 ghost use Rattle.tree_type.specs.Invariant.{AreLines};
 ghost use Rattle.tree_type.specs.Places.{AllLines};
 ghost use Rattle.tree_type.specs.Soundness.{HasItsLines};
-ghost use Rattle.cert_check.specs.Answers.{Answers, AnswersBelow, AnswersFrom, IsOwnRule, IsRuleAt, KeepsOwn, Stands, due_from, due_child_of};
+ghost use Rattle.cert_check.specs.Answers.{Answers, AnswersBelow, AnswersFrom, IsOwnRule, IsRuleAt, KeepsOwn, IsValidNode, due_from, due_child_of};
 
 use crate::due_lines::due_lines;
 use crate::leaf_rules::unless;
 use crate::own_rule::{own_rule, same_lines};
-use crate::pivot_rule::may_stand;
+use crate::pivot_rule::is_allowed;
 use cmr_base::{LineSet, Matrix, Memory, PathList, PlacedPivot};
 use pivots::{PivotedPart, pivot_part};
 use std::alloc::Global;
@@ -58,7 +58,7 @@ fn check_below(
     path: &PathList,
     node: &Node,
 ) -> Result<Option<Refusal>, Memory>
-    requires stands { Stands matrix.now (tree_of node.now) }
+    requires valid { IsValidNode matrix.now (tree_of node.now) }
     requires own { IsOwnRule matrix.now (tree_of node.now) None }
     ensures { IfOk result (AnswersBelow matrix.now pivoted path.now (tree_of node.now)) }
 {
@@ -89,7 +89,7 @@ fn check_child(
     parent: &Node,
     number: u32,
 ) -> Result<Option<Refusal>, Memory>
-    requires { Stands matrix.now (tree_of child.now) }
+    requires { IsValidNode matrix.now (tree_of child.now) }
     ensures { IfOk result (AnswersFrom matrix.now pivoted (path.now ++ number ∷ [])
         (due_child_of (tree_of parent.now) number) (tree_of child.now)) }
 {
@@ -114,7 +114,7 @@ fn check_pivoted(
     requires lines { AreLines matrix.now parent.now.lines }
     requires place { IsPlaceIn matrix.now parent.now.lines place }
     requires ternary { IsTernaryPivot matrix.now parent.now.lines place }
-    requires stands { Stands matrix.now (tree_of child.now) }
+    requires valid { IsValidNode matrix.now (tree_of child.now) }
     ensures { IfOk result (AnswersFrom (pivoted_part matrix.now parent.now.lines place) true
         (path.now ++ 0 ∷ []) (due_child_of (tree_of parent.now) 0) (tree_of child.now)) }
 {
@@ -134,7 +134,7 @@ fn rule_of(
     parent: &Node,
     number: u32,
 ) -> Result<Option<Rule>, Memory>
-    requires { Stands matrix.now (tree_of child.now) }
+    requires { IsValidNode matrix.now (tree_of child.now) }
     ensures rule { IfOk result (IsRuleAt matrix.now pivoted
         (due_child_of (tree_of parent.now) number) (tree_of child.now)) }
     ensures own { IfOk result (KeepsOwn matrix.now (tree_of child.now)) }
@@ -151,7 +151,7 @@ fn rule_at(
     due: &Option<LineSet>,
     child: &Node,
 ) -> Result<Option<Rule>, Memory>
-    requires { Stands matrix.now (tree_of child.now) }
+    requires { IsValidNode matrix.now (tree_of child.now) }
     ensures rule { IfOk result (IsRuleAt matrix.now pivoted (due_from due.now)
         (tree_of child.now)) }
     ensures own { IfOk result (KeepsOwn matrix.now (tree_of child.now)) }
@@ -162,7 +162,7 @@ fn rule_at(
     if let Some(rule) = own_rule(alloc, matrix, child)? {
         return Ok(Some(rule));
     }
-    Ok(unless(may_stand(pivoted, child), Rule::BelowPivot))
+    Ok(unless(is_allowed(pivoted, child), Rule::BelowPivot))
 }
 
 /// Whether a child has the lines that its parent names for it.

@@ -1,7 +1,7 @@
 // The rules on the finding of a node.
 ghost use Rattle.std.specs.Prelude.{◌≡◌, ◌↔◌, IfOk, IsTrue};
 ghost use Rattle.tree_type.specs.DecompositionTrees.{tree_of};
-ghost use Rattle.cert_check.specs.Answers.{IsOwnRule, Stands};
+ghost use Rattle.cert_check.specs.Answers.{IsOwnRule, IsValidNode};
 
 use crate::apart_rule::apart_rule;
 use crate::leaf_rules::{
@@ -16,7 +16,7 @@ use tree_type::{Kind, Node, Rule};
 
 /// The first rule on the finding of a node that the node breaks, if there is one.
 pub(crate) fn own_rule(alloc: Global, matrix: &Matrix, node: &Node) -> Result<Option<Rule>, Memory>
-    requires { Stands matrix.now (tree_of node.now) }
+    requires { IsValidNode matrix.now (tree_of node.now) }
     ensures { IfOk result (IsOwnRule matrix.now (tree_of node.now)) }
 {
     let lines = &node.lines;

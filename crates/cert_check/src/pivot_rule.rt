@@ -53,7 +53,7 @@ fn is_ternary_pivot(
 }
 
 /// Whether the finding of a node is allowed: below a pivot it names no fault and leaves no lines open.
-pub fn may_stand(below_pivot: bool, node: &Node) -> bool
+pub fn is_allowed(below_pivot: bool, node: &Node) -> bool
     ensures { (pivots : List MadePivot) → has_pivot pivots ≡ below_pivot → IsTrue result
         ↔ MayStand pivots (finding_of (tree_of node.now)) }
 {
@@ -65,6 +65,15 @@ fn is_settled(node: &Node) -> bool
 {
     match &node.kind {
         Kind::Cycle { .. } | Kind::Violator { .. } | Kind::Undecided => false,
-        _ => true,
+        Kind::Empty
+        | Kind::Reduced { .. }
+        | Kind::OneSum { .. }
+        | Kind::Network { .. }
+        | Kind::Conetwork { .. }
+        | Kind::R10
+        | Kind::TwoSum { .. }
+        | Kind::ThreeSum { .. }
+        | Kind::Enumerated
+        | Kind::Pivoted { .. } => true,
     }
 }

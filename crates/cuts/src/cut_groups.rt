@@ -16,7 +16,7 @@ use cmr_base::{Line, LineMask, Memory, RowsAndColumns};
 use std::alloc::Global;
 
 /// The search examines at most this number of states for each line of the matrix, in total.
-const STATES_OF_A_LINE: u32 = 100;
+const STATES_OF_A_LINE: u32 = 10;
 
 /// A group with fewer lines is small. The search ends after `SMALL_GROUPS` small groups.
 const SMALL: u32 = 8;

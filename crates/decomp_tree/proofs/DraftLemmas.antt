@@ -30,7 +30,7 @@ module _ (limit : ℕ) (m : Matrix) where
   drafted_more (c ∷ children) [] child sketch d e one = absurd d
   drafted_more (c ∷ children) (s ∷ sketches) child sketch d e one = (d.0, d.1, drafted_more children sketches child sketch d.2 e one)
 
-  -- the next child is drawn behind the others
+  -- the next child is drawn after the others
   pub drafted_next : (children : List LineSet) (i : ℕ) (d : LineSet) (before after : List Sketch) → i < length children → AreDrafted limit m (take i children) (sketches_from before) → HasOneMoreDraft limit m (get_or children i d) before after
       → AreDrafted limit m (take (i + 1) children) (sketches_from after)
   drafted_next children i d before after l so_far one =
@@ -59,7 +59,7 @@ module _ (limit : ℕ) (m : Matrix) where
         let both = and_is (keeps_free (finding_shown opening.finding)) (list_all is_free_in drafts) e in
         none_by_children limit few m is lines are (finding_shown opening.finding) opening.children is_opening.said both.0 (free_each opening.children drafts drafted both.1)
 
-    -- the node is drawn behind others
+    -- the node is drawn after others
     pub one_more_draft : (before after : List Sketch) → after ≡ before ++ Sketched opening (keeps_free (finding_shown opening.finding) && list_all is_free_in drafts) (sketches_from (map sketch_of drafts)) ∷ []
         → HasOneMoreDraft limit m lines before after
     one_more_draft before after e = record {

@@ -12,7 +12,7 @@ use Rattle.tree_laws.proofs.PivotedMatrices.{lines_pivoted}
 use Rattle.decomp_tree.specs.Refined.{Refines}
 use Rattle.decomp_tree.specs.Shapes.{IsShapeOn}
 use Rattle.separating_places.specs.SeparatingPlaces.{HasNoChosenPlace, IsNextPlace, IsChosenPlace}
-use Rattle.decomp_tree.specs.PivotedShapes.{HasFaultAmong, IsDrawnWith, IsFound, IsFoundAt, IsToldBeforePivot, undecided}
+use Rattle.decomp_tree.specs.PivotedShapes.{HasFaultAmong, IsDrawnWith, IsFound, IsFoundAt, IsMappedBack, undecided}
 use Rattle.decomp_tree.proofs.FaultLines.{fault_among, lines_themselves}
 use Rattle.decomp_tree.proofs.FoundTrees.{drawn_with_lines, drawn_with_within}
 
@@ -36,10 +36,10 @@ module _ (limit pivots state : ℕ) (m : Matrix) (lines : LineSet) where
     pub found_two : (tree : Tree) (fault : LineSet) → pivots ≢ 0 → ShowsFirstTwoIn m lines chosen.place fault.rows fault.columns → tree ≡ Branch lines (Violator fault) NoTrees → IsFound limit pivots state m lines tree
     found_two tree fault some shows e = found_there tree some (inl (fault, shows, e))
 
-    pub found_after : (tree found : Tree) (after : Matrix) → pivots ≢ 0 → IsMadePart m lines chosen.place after → IsDrawnWith limit (pivots - 1) chosen.state after lines found → IsToldBeforePivot m lines chosen.place found (verdict_of found) tree → IsFound limit pivots state m lines tree
-    found_after tree found after some made d told =
+    pub found_after : (tree found : Tree) (after : Matrix) → pivots ≢ 0 → IsMadePart m lines chosen.place after → IsDrawnWith limit (pivots - 1) chosen.state after lines found → IsMappedBack m lines chosen.place found (verdict_of found) tree → IsFound limit pivots state m lines tree
+    found_after tree found after some made d mapped =
         let there = subst (λ n. IsDrawnWith limit (pivots - 1) chosen.state n lines found) made.is d in
-        found_there tree some (inr (made.ternary, found, (there.shape, there.drawn, there.refines), told))
+        found_there tree some (inr (made.ternary, found, (there.shape, there.drawn, there.refines), mapped))
 
 -- the lines are lines of the matrix after the pivot
 pub lines_made : (m : Matrix) (lines : LineSet) (place : PlacedPivot) (after : Matrix) → IsMadePart m lines place after → AreLines m lines → AreLines after lines

@@ -17,7 +17,7 @@ use Rattle.tree_laws.proofs.PivotedMatrices.{lines_pivoted, pivoted_is_matrix}
 use Rattle.tree_laws.proofs.SoundTrees.{fault_tree}
 use Rattle.decomp_tree.specs.Shapes.{IsShapeOn}
 use Rattle.decomp_tree.specs.Refined.{Refines}
-use Rattle.decomp_tree.specs.PivotedShapes.{AreBefore, IsToldBeforePivot, IsFoundAt, IsFound, IsDrawnWith}
+use Rattle.decomp_tree.specs.PivotedShapes.{AreBefore, IsMappedBack, IsFoundAt, IsFound, IsDrawnWith}
 use Rattle.decomp_tree.proofs.FaultLines.{among_lines, fault_in, fault_of_verdict, lines_themselves}
 use Rattle.decomp_tree.proofs.FoundTrees.{found_lines, drawn_with_lines, drawn_with_within, choice_in}
 use Rattle.decomp_tree.proofs.YesTrees.{MayBelow, says_yes}
@@ -36,7 +36,7 @@ module _ (limit : ℕ) (few : limit ≤ 24) where
       → AreLines (matrix_after m made) lines → MayBelow made tree → IsSoundBelow m made tree
   drawn_sound pivots found m made state lines tree is d are may path due sizes has =
       refined_sound limit few m made is (IsFound limit pivots state (matrix_after m made)) (found_lines limit pivots state (matrix_after m made))
-      (λ some one stands some_are one_may. found m made state some one is stands some_are one_may)
+      (λ some one replaces some_are one_may. found m made state some one is replaces some_are one_may)
       path due lines (suc (size_of (lines_at_root d.shape))) d.shape tree d.refines are (shape_within limit (matrix_after m made) is [] (These lines) lines (suc (size_of (lines_at_root d.shape))) d.shape d.drawn are among (omega arith)) sizes
       (shape_moved limit (matrix_after m made) path due lines d.shape (subst (HasItsLines due) (drawn_with_lines limit pivots state (matrix_after m made) lines tree d) has) d.drawn) may
     where
@@ -67,20 +67,20 @@ module _ (limit : ℕ) (few : limit ≤ 24) where
           let v = fault_tree (pivoted_part n lines place) [] [] (These lines) lines (suc (size_of lines + pivots)) after fault are_after within keeps first in
           (part_pivots_take_violators_back n lines place fault.rows fault.columns before.rows before.columns is.small are.rows are.columns at fault_are.rows fault_are.columns (among_lines fault lines in_lines) b.row_set b.column_set b.lines).1 v.1
 
-      told_sound : (v : Verdict) → verdict_of after ≡ v → (tree : Tree) → IsToldBeforePivot n lines place after v tree → MayBelow made tree → IsSoundBelow m made tree
-      told_sound Yes e tree told may =
+      mapped_sound : (v : Verdict) → verdict_of after ≡ v → (tree : Tree) → IsMappedBack n lines place after v tree → MayBelow made tree → IsSoundBelow m made tree
+      mapped_sound Yes e tree mapped may =
           let same = drawn_with_lines limit pivots next (pivoted_part n lines place) lines after d in
-          subst (IsSoundBelow m made) (sym told)
-          (pivot_sound m made lines place after at.nonzero ternary same (drawn_sound pivots below m (record { lines = lines; place = place } ∷ made) next lines after is_after d are_after (inr (says_yes after e))) (subst (MayBelow made) told may))
-      told_sound (No fault) e tree (before, b, told) may = subst (IsSoundBelow m made) (sym told) (violator_sound m made lines before (fault_before fault before e b) (subst (MayBelow made) told may))
-      told_sound (Open left) e tree told may = subst (IsSoundBelow m made) (sym told) (undecided_sound m made lines (subst (MayBelow made) told may))
+          subst (IsSoundBelow m made) (sym mapped)
+          (pivot_sound m made lines place after at.nonzero ternary same (drawn_sound pivots below m (record { lines = lines; place = place } ∷ made) next lines after is_after d are_after (inr (says_yes after e))) (subst (MayBelow made) mapped may))
+      mapped_sound (No fault) e tree (before, b, mapped) may = subst (IsSoundBelow m made) (sym mapped) (violator_sound m made lines before (fault_before fault before e b) (subst (MayBelow made) mapped may))
+      mapped_sound (Open left) e tree mapped may = subst (IsSoundBelow m made) (sym mapped) (undecided_sound m made lines (subst (MayBelow made) mapped may))
 
     found_at_sound : (chosen : Option DrawnPlace) → ((some : DrawnPlace) → chosen ≡ Some some → IsPlaceIn n lines some.place) → (tree : Tree)
         → IsFoundAt (λ next after found. (shape : Tree) × IsShapeOn limit after lines shape × Refines (IsFound limit pivots next after) shape found) n lines chosen tree → MayBelow made tree → IsSoundBelow m made tree
     found_at_sound None at tree e may = subst (IsSoundBelow m made) (sym e) (undecided_sound m made lines (subst (MayBelow made) e may))
     found_at_sound (Some chosen) at tree (inl (fault, shows, e)) may = subst (IsSoundBelow m made) (sym e) (violator_sound m made lines fault shows.violator (subst (MayBelow made) e may))
-    found_at_sound (Some chosen) at tree (inr (ternary, after, (shape, is_drawn, refines), told)) may =
-        told_sound chosen.place (at chosen refl) ternary chosen.state after (record { shape = shape; drawn = is_drawn; refines = refines }) (verdict_of after) refl tree told may
+    found_at_sound (Some chosen) at tree (inr (ternary, after, (shape, is_drawn, refines), mapped)) may =
+        mapped_sound chosen.place (at chosen refl) ternary chosen.state after (record { shape = shape; drawn = is_drawn; refines = refines }) (verdict_of after) refl tree mapped may
 
   found_sound : (pivots : ℕ) → FoundIsSound pivots
   found_sound zero m made state lines tree is e are may = subst (IsSoundBelow m made) (sym e) (undecided_sound m made lines (subst (MayBelow made) e may))

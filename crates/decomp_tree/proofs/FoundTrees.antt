@@ -19,7 +19,7 @@ use Rattle.decomp_tree.specs.Shapes.{IsShapeOn}
 use Rattle.separating_places.specs.SeparatingPlaces.{IsNextPlace}
 use Rattle.separating_places.proofs.ChosenPlaces.{chosen_place_in}
 use Rattle.decomp_tree.specs.Refined.{Refines, AllRefine}
-use Rattle.decomp_tree.specs.PivotedShapes.{IsToldBeforePivot, IsFoundAt, IsFound, IsDrawnWith, HasFaultAmong, undecided}
+use Rattle.decomp_tree.specs.PivotedShapes.{IsMappedBack, IsFoundAt, IsFound, IsDrawnWith, HasFaultAmong, undecided}
 use Rattle.decomp_tree.proofs.FaultLines.{fault_among, lines_of_lines_of}
 use Rattle.decomp_tree.proofs.RefinedTrees.{RefinedNode, replaced, kept, refined_node, count_refined, refined_lines}
 use Rattle.decomp_tree.proofs.ShapeTrees.{shape_lines}
@@ -27,15 +27,15 @@ use Rattle.decomp_tree.proofs.ShapedNodes.{IsFalling, AreFalling, shape_falls, s
 
 -- ---- lines
 
-told_lines : (m : Matrix) (lines : LineSet) (place : PlacedPivot) (after : Tree) (v : Verdict) (tree : Tree) → IsToldBeforePivot m lines place after v tree → lines_at_root tree ≡ lines
-told_lines m lines place after Yes tree e = ap lines_at_root e
-told_lines m lines place after (No fault) tree told = ap lines_at_root told.2
-told_lines m lines place after (Open left) tree e = ap lines_at_root e
+mapped_lines : (m : Matrix) (lines : LineSet) (place : PlacedPivot) (after : Tree) (v : Verdict) (tree : Tree) → IsMappedBack m lines place after v tree → lines_at_root tree ≡ lines
+mapped_lines m lines place after Yes tree e = ap lines_at_root e
+mapped_lines m lines place after (No fault) tree mapped = ap lines_at_root mapped.2
+mapped_lines m lines place after (Open left) tree e = ap lines_at_root e
 
 found_at_lines : (IsTree : ℕ → Matrix → Tree → Type 0) (m : Matrix) (lines : LineSet) (chosen : Option DrawnPlace) (tree : Tree) → IsFoundAt IsTree m lines chosen tree → lines_at_root tree ≡ lines
 found_at_lines IsTree m lines None tree e = ap lines_at_root e
 found_at_lines IsTree m lines (Some chosen) tree (inl shown) = ap lines_at_root shown.2
-found_at_lines IsTree m lines (Some chosen) tree (inr made) = told_lines m lines chosen.place made.1 (verdict_of made.1) tree made.3
+found_at_lines IsTree m lines (Some chosen) tree (inr made) = mapped_lines m lines chosen.place made.1 (verdict_of made.1) tree made.3
 
 -- what replaces a node is on the lines of the node
 pub found_lines : (limit pivots state : ℕ) (m : Matrix) (lines : LineSet) (tree : Tree) → IsFound limit pivots state m lines tree → lines_at_root tree ≡ lines
@@ -53,7 +53,7 @@ choice_in m lines state chosen choice some e = chosen_place_in m lines state som
 -- ---- levels
 
 -- as many children fit
-fits_as_many : (lines : LineSet) (finding : Finding) (trees others : Trees) → count_trees others ≡ count_trees trees → FitsLines lines finding trees → FitsLines lines finding others
+pub fits_as_many : (lines : LineSet) (finding : Finding) (trees others : Trees) → count_trees others ≡ count_trees trees → FitsLines lines finding trees → FitsLines lines finding others
 fits_as_many lines OneSum trees others e fits = subst (λ n. n ≤ size_of lines) (sym e) fits
 fits_as_many lines Empty trees others e fits = fits
 fits_as_many lines (Cycle fault) trees others e fits = fits
@@ -68,24 +68,24 @@ fits_as_many lines (Violator fault) trees others e fits = fits
 fits_as_many lines Undecided trees others e fits = fits
 fits_as_many lines (Pivoted place) trees others e fits = fits
 
-module _ (m : Matrix) (Stands : LineSet → Tree → Type 0) (more : ℕ)
-    (stand_within : (lines : LineSet) (tree : Tree) (parent : LineSet) (levels : ℕ) → Stands lines tree → AreLines m parent → AreLinesOf lines parent → size_of lines + more < levels → IsTreeWithin parent levels tree) where
+module _ (m : Matrix) (Replaces : LineSet → Tree → Type 0) (more : ℕ)
+    (within_replaced : (lines : LineSet) (tree : Tree) (parent : LineSet) (levels : ℕ) → Replaces lines tree → AreLines m parent → AreLinesOf lines parent → size_of lines + more < levels → IsTreeWithin parent levels tree) where
   mutual
-    within_refined : (shape tree : Tree) (parent : LineSet) (some levels : ℕ) → Refines Stands shape tree → IsFalling shape → AreLines m parent → IsTreeWithin parent some shape → size_of (lines_at_root shape) + more < levels → IsTreeWithin parent levels tree
+    within_refined : (shape tree : Tree) (parent : LineSet) (some levels : ℕ) → Refines Replaces shape tree → IsFalling shape → AreLines m parent → IsTreeWithin parent some shape → size_of (lines_at_root shape) + more < levels → IsTreeWithin parent levels tree
     within_refined (Branch lines finding trees) tree parent some levels r falls are within l =
-        go (refined_node Stands lines finding trees tree r) (λ below all few. within_each lines trees below (some - 1) (levels - 1) all falls (lines_within m lines parent within.1 are) within.4 few)
+        go (refined_node Replaces lines finding trees tree r) (λ below all few. within_each lines trees below (some - 1) (levels - 1) all falls (lines_within m lines parent within.1 are) within.4 few)
       where
-        go : RefinedNode Stands lines finding trees tree → ((below : Trees) → AllRefine Stands trees below → size_of lines + more ≤ levels - 1 → AreTreesWithin lines (levels - 1) below) → IsTreeWithin parent levels tree
-        go (replaced e stands) each = stand_within lines tree parent levels stands are within.1 l
+        go : RefinedNode Replaces lines finding trees tree → ((below : Trees) → AllRefine Replaces trees below → size_of lines + more ≤ levels - 1 → AreTreesWithin lines (levels - 1) below) → IsTreeWithin parent levels tree
+        go (replaced e replaces) each = within_replaced lines tree parent levels replaces are within.1 l
         go (kept e below is all) each = subst (IsTreeWithin parent levels) (sym is) (
           omega (arith, l),
           within.1,
-          fits_as_many lines finding trees below (count_refined Stands trees below all) within.2,
-          subst (HasChildren finding) (sym (count_refined Stands trees below all)) within.3,
+          fits_as_many lines finding trees below (count_refined Replaces trees below all) within.2,
+          subst (HasChildren finding) (sym (count_refined Replaces trees below all)) within.3,
           each below all (omega (arith, l)),
         )
 
-    within_each : (lines : LineSet) (trees below : Trees) (some levels : ℕ) → AllRefine Stands trees below → AreFalling lines trees → AreLines m lines → AreTreesWithin lines some trees → size_of lines + more ≤ levels → AreTreesWithin lines levels below
+    within_each : (lines : LineSet) (trees below : Trees) (some levels : ℕ) → AllRefine Replaces trees below → AreFalling lines trees → AreLines m lines → AreTreesWithin lines some trees → size_of lines + more ≤ levels → AreTreesWithin lines levels below
     within_each lines NoTrees below some levels e falls are within l = subst (AreTreesWithin lines levels) (sym e) tt
     within_each lines (MoreTrees tree trees) below some levels (first, rest, e, r, all) falls are within l =
         subst (AreTreesWithin lines levels) (sym e) (
@@ -123,8 +123,8 @@ module _ (limit : ℕ) where
       (subst (λ some. size_of some + pivots < levels) (sym root) l)
 
   module _ (pivots : ℕ) (below : IsWithin pivots) (m : Matrix) (lines parent : LineSet) (levels : ℕ) (is : IsMatrix m) (parent_are : AreLines m parent) (are : AreLinesOf lines parent) (l : size_of lines + suc pivots < levels) where
-    told_within : (next : ℕ) (place : PlacedPivot) (at : IsPlaceIn m lines place) (ternary : IsTernaryPivot m lines place) (after : Tree) → IsDrawnWith limit pivots next (pivoted_part m lines place) lines after → (tree : Tree) → IsToldBeforePivot m lines place after (verdict_of after) tree → IsTreeWithin parent levels tree
-    told_within next place at ternary after d tree told = go (verdict_of after) among told
+    mapped_within : (next : ℕ) (place : PlacedPivot) (at : IsPlaceIn m lines place) (ternary : IsTernaryPivot m lines place) (after : Tree) → IsDrawnWith limit pivots next (pivoted_part m lines place) lines after → (tree : Tree) → IsMappedBack m lines place after (verdict_of after) tree → IsTreeWithin parent levels tree
+    mapped_within next place at ternary after d tree mapped = go (verdict_of after) among mapped
       where
         after_within : IsTreeWithin lines (levels - 1) after
         after_within = drawn_within pivots below next (pivoted_part m lines place) lines after lines (levels - 1) (pivoted_is_matrix m lines place is ternary) d
@@ -133,7 +133,7 @@ module _ (limit : ℕ) where
         among : HasFaultAmong lines (verdict_of after)
         among = subst (λ some. HasFaultAmong some (verdict_of after)) (drawn_with_lines limit pivots next (pivoted_part m lines place) lines after d) (fault_among lines (levels - 1) after after_within)
 
-        go : (v : Verdict) → HasFaultAmong lines v → IsToldBeforePivot m lines place after v tree → IsTreeWithin parent levels tree
+        go : (v : Verdict) → HasFaultAmong lines v → IsMappedBack m lines place after v tree → IsTreeWithin parent levels tree
         go Yes h e = subst (IsTreeWithin parent levels) (sym e) (omega (arith, l), are, (at.row, at.column), refl, (after_within, tt))
         go (No fault) h (before, is, e) = subst (IsTreeWithin parent levels) (sym e)
             (violator_within lines before parent levels are (lines_among m lines before is.row_set is.column_set (lines_before_among m lines place fault.rows fault.columns before.rows before.columns at h is.lines)) (omega (arith, l)))
@@ -144,8 +144,8 @@ module _ (limit : ℕ) where
     found_at_within None at tree e = subst (IsTreeWithin parent levels) (sym e) (undecided_within lines parent levels are (omega (arith, l)))
     found_at_within (Some chosen) at tree (inl (fault, shows, e)) = subst (IsTreeWithin parent levels) (sym e)
         (violator_within lines fault parent levels are (lines_among m lines fault shows.row_set shows.column_set shows.among) (omega (arith, l)))
-    found_at_within (Some chosen) at tree (inr (ternary, after, (shape, is, refines), told)) =
-        told_within chosen.state chosen.place (at chosen refl) ternary after (record { shape = shape; drawn = is; refines = refines }) tree told
+    found_at_within (Some chosen) at tree (inr (ternary, after, (shape, is, refines), mapped)) =
+        mapped_within chosen.state chosen.place (at chosen refl) ternary after (record { shape = shape; drawn = is; refines = refines }) tree mapped
 
   pub found_within : (pivots : ℕ) → IsWithin pivots
   found_within zero state m lines tree parent levels is e parent_are are l = subst (IsTreeWithin parent levels) (sym e) (undecided_within lines parent levels are (omega (arith, l)))

@@ -16,9 +16,9 @@ use Rattle.decomp_tree.specs.PlainTrees.{plain_finding, plain_tree, plain_trees}
 use Rattle.decomp_tree.specs.Shapes.{IsShapeOn}
 use Rattle.decomp_tree.specs.Refined.{is_undecided, Refines, AllRefine}
 use Rattle.decomp_tree.specs.PivotedLaws.{KeepsAnswer, MorePivotsKeepAnswers}
-use Rattle.decomp_tree.specs.PivotedShapes.{IsToldBeforePivot, IsFoundAt, IsFound, IsDrawnWith, IsShapeWith, all_lines, is_shallow, undecided}
+use Rattle.decomp_tree.specs.PivotedShapes.{IsMappedBack, IsFoundAt, IsFound, IsDrawnWith, IsShapeWith, all_lines, is_shallow, undecided}
 use Rattle.separating_places.proofs.ChosenPlaces.{one_choice}
-use Rattle.decomp_tree.proofs.OnePivoted.{shape_same, told_same, undecided_same}
+use Rattle.decomp_tree.proofs.OnePivoted.{shape_same, mapped_same, undecided_same}
 use Rattle.decomp_tree.proofs.PlainVerdicts.{fault_plain, verdict_plain}
 use Rattle.decomp_tree.proofs.RefinedTrees.{RefinedNode, replaced, kept, refined_node}
 
@@ -78,11 +78,11 @@ no_trees_keep = record { yes = λ e u. refl; no = λ fault e. none_is_some fault
 
 -- ---- trees that others replace
 
-module _ (Stands More : LineSet → Tree → Type 0) (keeps : (lines : LineSet) (tree other : Tree) → Stands lines tree → More lines other → Keeps tree other) where
+module _ (Replaces More : LineSet → Tree → Type 0) (keeps : (lines : LineSet) (tree other : Tree) → Replaces lines tree → More lines other → Keeps tree other) where
   mutual
-    refined_keeps : (shape shape' tree tree' : Tree) → plain_tree shape ≡ plain_tree shape' → Refines Stands shape tree → Refines More shape' tree' → Keeps tree tree'
+    refined_keeps : (shape shape' tree tree' : Tree) → plain_tree shape ≡ plain_tree shape' → Refines Replaces shape tree → Refines More shape' tree' → Keeps tree tree'
     refined_keeps (Branch lines finding trees) (Branch lines' finding' trees') tree tree' e r r' =
-        go (refined_node Stands lines finding trees tree r) (refined_node More lines' finding' trees' tree' r')
+        go (refined_node Replaces lines finding trees tree r) (refined_node More lines' finding' trees' tree' r')
         (λ below below' all all'. let ts : plain_trees trees ≡ plain_trees trees' = cc in all_keep trees trees' below below' ts all all')
       where
         one_lines : lines ≡ lines'
@@ -91,14 +91,14 @@ module _ (Stands More : LineSet → Tree → Type 0) (keeps : (lines : LineSet) 
         one_finding : plain_finding finding ≡ plain_finding finding'
         one_finding = cc
 
-        go : RefinedNode Stands lines finding trees tree → RefinedNode More lines' finding' trees' tree' → ((below below' : Trees) → AllRefine Stands trees below → AllRefine More trees' below' → KeepEach below below') → Keeps tree tree'
-        go (replaced is stands) (replaced is' stands') each = keeps lines tree tree' stands (subst (λ l. More l tree') (sym one_lines) stands')
-        go (replaced is stands) (kept is' below' at all') each = true_is_false (sym (ap is_undecided is) ∙ undecided_same finding finding' one_finding ∙ is')
-        go (kept is below at all) (replaced is' stands') each = true_is_false (sym (ap is_undecided is') ∙ sym (undecided_same finding finding' one_finding) ∙ is)
+        go : RefinedNode Replaces lines finding trees tree → RefinedNode More lines' finding' trees' tree' → ((below below' : Trees) → AllRefine Replaces trees below → AllRefine More trees' below' → KeepEach below below') → Keeps tree tree'
+        go (replaced is replaces) (replaced is' replaces') each = keeps lines tree tree' replaces (subst (λ l. More l tree') (sym one_lines) replaces')
+        go (replaced is replaces) (kept is' below' at all') each = true_is_false (sym (ap is_undecided is) ∙ undecided_same finding finding' one_finding ∙ is')
+        go (kept is below at all) (replaced is' replaces') each = true_is_false (sym (ap is_undecided is') ∙ sym (undecided_same finding finding' one_finding) ∙ is)
         go (kept is below at all) (kept is' below' at' all') each =
             keeps_same tree tree' (Branch lines finding below) (Branch lines' finding' below') at at' (node_keeps lines lines' finding finding' below below' one_lines one_finding (each below below' all all'))
 
-    all_keep : (trees trees' below below' : Trees) → plain_trees trees ≡ plain_trees trees' → AllRefine Stands trees below → AllRefine More trees' below' → KeepEach below below'
+    all_keep : (trees trees' below below' : Trees) → plain_trees trees ≡ plain_trees trees' → AllRefine Replaces trees below → AllRefine More trees' below' → KeepEach below below'
     all_keep NoTrees NoTrees below below' e all all' = subst (λ ts. KeepEach ts below') (sym all) (subst (KeepEach NoTrees) (sym all') no_trees_keep)
     all_keep NoTrees (MoreTrees tree' trees') below below' e all all' = absurd (cc)
     all_keep (MoreTrees tree trees) NoTrees below below' e all all' = absurd (cc)
@@ -108,7 +108,7 @@ module _ (Stands More : LineSet → Tree → Type 0) (keeps : (lines : LineSet) 
         subst (λ ts. KeepEach ts below') (sym at) (subst (KeepEach (MoreTrees first rest)) (sym at')
         (each_keep first first' rest rest' (refined_keeps tree tree' first first' head r r') (all_keep trees trees' rest rest' tail all all')))
 
--- ---- what is told of a node
+-- ---- a verdict mapped back through a pivot
 
 undecided_keeps : (lines : LineSet) (tree other : Tree) → tree ≡ undecided lines → Keeps tree other
 undecided_keeps lines tree other e = record {
@@ -129,16 +129,16 @@ or_none : {A : Type 0} (a : Option A) → option_or a None ≡ a
 or_none None = refl
 or_none (Some x) = refl
 
-told_keeps : (m : Matrix) (lines : LineSet) (place : PlacedPivot) (after after' : Tree) → Keeps after after' → (fault left fault' left' : Option LineSet) → first_in fault_at after ≡ fault → first_in open_at after ≡ left → first_in fault_at after' ≡ fault' → first_in open_at after' ≡ left'
-    → (tree tree' : Tree) → IsToldBeforePivot m lines place after (verdict_from fault left) tree → IsToldBeforePivot m lines place after' (verdict_from fault' left') tree' → Keeps tree tree'
-told_keeps m lines place after after' k None None fault' left' e u e' u' tree tree' told told' =
-    same_keeps tree tree' (told_same m lines place after after' (k.yes e u) Yes tree tree' told (subst (λ v. IsToldBeforePivot m lines place after' v tree') yes told')) (ap (first_in fault_at) told ∙ or_none (first_in fault_at after) ∙ e)
+mapped_keeps : (m : Matrix) (lines : LineSet) (place : PlacedPivot) (after after' : Tree) → Keeps after after' → (fault left fault' left' : Option LineSet) → first_in fault_at after ≡ fault → first_in open_at after ≡ left → first_in fault_at after' ≡ fault' → first_in open_at after' ≡ left'
+    → (tree tree' : Tree) → IsMappedBack m lines place after (verdict_from fault left) tree → IsMappedBack m lines place after' (verdict_from fault' left') tree' → Keeps tree tree'
+mapped_keeps m lines place after after' k None None fault' left' e u e' u' tree tree' mapped mapped' =
+    same_keeps tree tree' (mapped_same m lines place after after' (k.yes e u) Yes tree tree' mapped (subst (λ v. IsMappedBack m lines place after' v tree') yes mapped')) (ap (first_in fault_at) mapped ∙ or_none (first_in fault_at after) ∙ e)
   where
     yes : verdict_from fault' left' ≡ Yes
     yes = sym (ap₂ verdict_from e' u') ∙ verdict_plain after' ∙ ap verdict_of (sym (k.yes e u)) ∙ sym (verdict_plain after) ∙ ap₂ verdict_from e u
-told_keeps m lines place after after' k None (Some left) fault' left' e u e' u' tree tree' told told' = undecided_keeps lines tree tree' told
-told_keeps m lines place after after' k (Some fault) left None left' e u e' u' tree tree' told told' = none_is_some (k.no fault e).0 (sym e' ∙ (k.no fault e).1)
-told_keeps m lines place after after' k (Some fault) left (Some named) left' e u e' u' tree tree' (before, b, is) (before', b', is') = violators_keep lines before before' tree tree' is is'
+mapped_keeps m lines place after after' k None (Some left) fault' left' e u e' u' tree tree' mapped mapped' = undecided_keeps lines tree tree' mapped
+mapped_keeps m lines place after after' k (Some fault) left None left' e u e' u' tree tree' mapped mapped' = none_is_some (k.no fault e).0 (sym e' ∙ (k.no fault e).1)
+mapped_keeps m lines place after after' k (Some fault) left (Some named) left' e u e' u' tree tree' (before, b, is) (before', b', is') = violators_keep lines before before' tree tree' is is'
 
 -- ---- what pivots find
 
@@ -156,12 +156,12 @@ module _ (limit : ℕ) where
       → IsFoundAt (λ next after found. (shape : Tree) × IsShapeOn limit after lines shape × Refines (IsFound limit more next after) shape found) m lines chosen tree' → Keeps tree tree'
   found_at_keeps pivots more keep m lines None tree tree' e e' = undecided_keeps lines tree tree' e
   found_at_keeps pivots more keep m lines (Some chosen) tree tree' (inl (fault, shows, e)) (inl (fault', shows', e')) = violators_keep lines fault fault' tree tree' e e'
-  found_at_keeps pivots more keep m lines (Some chosen) tree tree' (inl (fault, shows, e)) (inr (ternary, after', is', told')) = absurd (shows.two (ternary shows.other_row shows.other_column shows.row_in shows.column_in))
-  found_at_keeps pivots more keep m lines (Some chosen) tree tree' (inr (ternary, after, is, told)) (inl (fault', shows', e')) = absurd (shows'.two (ternary shows'.other_row shows'.other_column shows'.row_in shows'.column_in))
-  found_at_keeps pivots more keep m lines (Some chosen) tree tree' (inr (ternary, after, (shape, is, refines), told)) (inr (ternary', after', (shape', is', refines'), told')) =
-      told_keeps m lines chosen.place after after'
+  found_at_keeps pivots more keep m lines (Some chosen) tree tree' (inl (fault, shows, e)) (inr (ternary, after', is', mapped')) = absurd (shows.two (ternary shows.other_row shows.other_column shows.row_in shows.column_in))
+  found_at_keeps pivots more keep m lines (Some chosen) tree tree' (inr (ternary, after, is, mapped)) (inl (fault', shows', e')) = absurd (shows'.two (ternary shows'.other_row shows'.other_column shows'.row_in shows'.column_in))
+  found_at_keeps pivots more keep m lines (Some chosen) tree tree' (inr (ternary, after, (shape, is, refines), mapped)) (inr (ternary', after', (shape', is', refines'), mapped')) =
+      mapped_keeps m lines chosen.place after after'
       (drawn_keeps pivots more keep chosen.state (pivoted_part m lines chosen.place) lines after after' (record { shape = shape; drawn = is; refines = refines }) (record { shape = shape'; drawn = is'; refines = refines' }))
-      (first_in fault_at after) (first_in open_at after) (first_in fault_at after') (first_in open_at after') refl refl refl refl tree tree' told told'
+      (first_in fault_at after) (first_in open_at after) (first_in fault_at after') (first_in open_at after') refl refl refl refl tree tree' mapped mapped'
 
   found_keeps : (pivots more : ℕ) → pivots ≤ more → Keep pivots more
   found_keeps zero more few state m lines tree tree' e f' = undecided_keeps lines tree tree' e

@@ -1,4 +1,4 @@
--- Lines among which no violator stands, and cycle faults.
+-- Lines without a violator among them, and cycle faults.
 use Rattle.std.proofs.Common.{◌<◌, length, map, Contains, subst}
 use Rattle.std.specs.List.{AllByRecursion}
 use Rattle.cmr_base.specs.declared.line_set.LineSet.{LineSet}
@@ -24,7 +24,7 @@ pub free_from_none : (m : Matrix) (lines : LineSet) → HasNoneAmong m lines →
 free_from_none m lines none v = none v.R v.C v.rows v.columns v.violator
 
 module _ (m : Matrix) (is : IsMatrix m) (lines : LineSet) (are : AreLines m lines) where
-  -- there is no cycle fault where no violator stands
+  -- lines without a violator among them have no cycle fault
   pub no_fault_among : HasNoneAmong m lines → HasNoCycleFault (entry (part m lines))
   no_fault_among none = no_violator_no_fault (part m lines) inner.rectangular inner.small (λ R C rows columns v.
       let low_rows = subst (λ k. AllByRecursion (λ r. r < k) R) (height_in m lines) (increasing_below 0 (height (part m lines)) R (row_set_increases (part m lines) R rows)) in

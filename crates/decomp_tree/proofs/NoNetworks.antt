@@ -78,7 +78,7 @@ within_all set [] all x h = absurd h
 within_all set (y ∷ ys) all x (inl e) = among_in set x (ap (is_among set) e ∙ all.0)
 within_all set (y ∷ ys) all x (inr h) = within_all set ys all.1 x h
 
--- some lines of a set, by where they stand in it
+-- some lines of a set, by their positions in it
 pub some_are_lines : (m : Matrix) (lines some : LineSet) → AreLines m lines → IsSomeOf lines.rows some.rows → IsSomeOf lines.columns some.columns → AreLines m some
 some_are_lines m lines some are r c = lines_within m some lines (record {
   rows_increase = r.increasing;

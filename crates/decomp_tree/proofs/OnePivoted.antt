@@ -17,7 +17,7 @@ use Rattle.decomp_tree.specs.PlainTrees.{plain_finding, plain_tree, plain_trees}
 use Rattle.decomp_tree.specs.Shapes.{IsShapeOn}
 use Rattle.decomp_tree.specs.Refined.{is_undecided, Refines, AllRefine}
 use Rattle.decomp_tree.specs.PivotedLaws.{OnePivotedShape}
-use Rattle.decomp_tree.specs.PivotedShapes.{AreBefore, IsToldBeforePivot, IsFoundAt, IsFound, IsDrawnWith, IsShapeWith, all_lines, is_shallow}
+use Rattle.decomp_tree.specs.PivotedShapes.{AreBefore, IsMappedBack, IsFoundAt, IsFound, IsDrawnWith, IsShapeWith, all_lines, is_shallow}
 use Rattle.separating_places.proofs.ChosenPlaces.{one_choice}
 use Rattle.decomp_tree.proofs.OneTree.{one_tree}
 use Rattle.decomp_tree.proofs.PlainVerdicts.{verdict_plain}
@@ -44,11 +44,11 @@ undecided_plain (Pivoted place) = refl
 pub undecided_same : (f g : Finding) → plain_finding f ≡ plain_finding g → is_undecided f ≡ is_undecided g
 undecided_same f g e = sym (undecided_plain f) ∙ ap is_undecided e ∙ undecided_plain g
 
-module _ (Stands : LineSet → Tree → Type 0) (same : (lines : LineSet) (tree other : Tree) → Stands lines tree → Stands lines other → plain_tree tree ≡ plain_tree other) where
+module _ (Replaces : LineSet → Tree → Type 0) (same : (lines : LineSet) (tree other : Tree) → Replaces lines tree → Replaces lines other → plain_tree tree ≡ plain_tree other) where
   mutual
-    refined_same : (shape shape' tree tree' : Tree) → plain_tree shape ≡ plain_tree shape' → Refines Stands shape tree → Refines Stands shape' tree' → plain_tree tree ≡ plain_tree tree'
+    pub refined_same : (shape shape' tree tree' : Tree) → plain_tree shape ≡ plain_tree shape' → Refines Replaces shape tree → Refines Replaces shape' tree' → plain_tree tree ≡ plain_tree tree'
     refined_same (Branch lines finding trees) (Branch lines' finding' trees') tree tree' e r r' =
-        go (refined_node Stands lines finding trees tree r) (refined_node Stands lines' finding' trees' tree' r')
+        go (refined_node Replaces lines finding trees tree r) (refined_node Replaces lines' finding' trees' tree' r')
         (λ below below' all all'. let ts : plain_trees trees ≡ plain_trees trees' = cc in each_same trees trees' below below' ts all all')
       where
         one_lines : lines ≡ lines'
@@ -57,14 +57,14 @@ module _ (Stands : LineSet → Tree → Type 0) (same : (lines : LineSet) (tree 
         one_finding : plain_finding finding ≡ plain_finding finding'
         one_finding = cc
 
-        go : RefinedNode Stands lines finding trees tree → RefinedNode Stands lines' finding' trees' tree' → ((below below' : Trees) → AllRefine Stands trees below → AllRefine Stands trees' below' → plain_trees below ≡ plain_trees below') → plain_tree tree ≡ plain_tree tree'
-        go (replaced is stands) (replaced is' stands') each = same lines tree tree' stands (subst (λ l. Stands l tree') (sym one_lines) stands')
-        go (replaced is stands) (kept is' below' at all') each = true_is_false (sym (ap is_undecided is) ∙ undecided_same finding finding' one_finding ∙ is')
-        go (kept is below at all) (replaced is' stands') each = true_is_false (sym (ap is_undecided is') ∙ sym (undecided_same finding finding' one_finding) ∙ is)
+        go : RefinedNode Replaces lines finding trees tree → RefinedNode Replaces lines' finding' trees' tree' → ((below below' : Trees) → AllRefine Replaces trees below → AllRefine Replaces trees' below' → plain_trees below ≡ plain_trees below') → plain_tree tree ≡ plain_tree tree'
+        go (replaced is replaces) (replaced is' replaces') each = same lines tree tree' replaces (subst (λ l. Replaces l tree') (sym one_lines) replaces')
+        go (replaced is replaces) (kept is' below' at all') each = true_is_false (sym (ap is_undecided is) ∙ undecided_same finding finding' one_finding ∙ is')
+        go (kept is below at all) (replaced is' replaces') each = true_is_false (sym (ap is_undecided is') ∙ sym (undecided_same finding finding' one_finding) ∙ is)
         go (kept is below at all) (kept is' below' at' all') each =
             ap plain_tree at ∙ ap (λ (l : LineSet). Branch l (plain_finding finding) (plain_trees below)) one_lines ∙ ap₂ (λ (f : Finding) (ts : Trees). Branch lines' f ts) one_finding (each below below' all all') ∙ sym (ap plain_tree at')
 
-    each_same : (trees trees' below below' : Trees) → plain_trees trees ≡ plain_trees trees' → AllRefine Stands trees below → AllRefine Stands trees' below' → plain_trees below ≡ plain_trees below'
+    each_same : (trees trees' below below' : Trees) → plain_trees trees ≡ plain_trees trees' → AllRefine Replaces trees below → AllRefine Replaces trees' below' → plain_trees below ≡ plain_trees below'
     each_same NoTrees NoTrees below below' e all all' = ap plain_trees (all ∙ sym all')
     each_same NoTrees (MoreTrees tree' trees') below below' e all all' = cc
     each_same (MoreTrees tree trees) NoTrees below below' e all all' = cc
@@ -114,12 +114,12 @@ before_same m place fault before other a b =
       | inr n ↦ (b.lines.other_columns x n).1 ((a.lines.other_columns x n).0 h)
     ]
 
-pub told_same : (m : Matrix) (lines : LineSet) (place : PlacedPivot) (after after' : Tree) → plain_tree after ≡ plain_tree after' → (v : Verdict) (tree tree' : Tree) → IsToldBeforePivot m lines place after v tree → IsToldBeforePivot m lines place after' v tree'
+pub mapped_same : (m : Matrix) (lines : LineSet) (place : PlacedPivot) (after after' : Tree) → plain_tree after ≡ plain_tree after' → (v : Verdict) (tree tree' : Tree) → IsMappedBack m lines place after v tree → IsMappedBack m lines place after' v tree'
     → plain_tree tree ≡ plain_tree tree'
-told_same m lines place after after' same Yes tree tree' e e' = ap plain_tree e ∙ ap (λ (t : Tree). Branch lines (Pivoted place) (MoreTrees t NoTrees)) same ∙ sym (ap plain_tree e')
-told_same m lines place after after' same (No fault) tree tree' (before, b, e) (before', b', e') =
+mapped_same m lines place after after' same Yes tree tree' e e' = ap plain_tree e ∙ ap (λ (t : Tree). Branch lines (Pivoted place) (MoreTrees t NoTrees)) same ∙ sym (ap plain_tree e')
+mapped_same m lines place after after' same (No fault) tree tree' (before, b, e) (before', b', e') =
     ap plain_tree e ∙ ap (λ (f : LineSet). Branch lines (Violator f) NoTrees) (before_same m place fault before before' b b') ∙ sym (ap plain_tree e')
-told_same m lines place after after' same (Open left) tree tree' e e' = ap plain_tree (e ∙ sym e')
+mapped_same m lines place after after' same (Open left) tree tree' e e' = ap plain_tree (e ∙ sym e')
 
 -- ---- what pivots find
 
@@ -140,12 +140,12 @@ module _ (limit : ℕ) where
   found_at_same pivots one m lines None tree tree' e e' = ap plain_tree (e ∙ sym e')
   found_at_same pivots one m lines (Some chosen) tree tree' (inl (fault, shows, e)) (inl (fault', shows', e')) =
       ap plain_tree e ∙ ap (λ (f : LineSet). Branch lines (Violator f) NoTrees) (one_two m lines chosen.place fault fault' shows shows') ∙ sym (ap plain_tree e')
-  found_at_same pivots one m lines (Some chosen) tree tree' (inl (fault, shows, e)) (inr (ternary, after', is', told')) = absurd (shows.two (ternary shows.other_row shows.other_column shows.row_in shows.column_in))
-  found_at_same pivots one m lines (Some chosen) tree tree' (inr (ternary, after, is, told)) (inl (fault', shows', e')) = absurd (shows'.two (ternary shows'.other_row shows'.other_column shows'.row_in shows'.column_in))
-  found_at_same pivots one m lines (Some chosen) tree tree' (inr (ternary, after, (shape, is, refines), told)) (inr (ternary', after', (shape', is', refines'), told')) =
+  found_at_same pivots one m lines (Some chosen) tree tree' (inl (fault, shows, e)) (inr (ternary, after', is', mapped')) = absurd (shows.two (ternary shows.other_row shows.other_column shows.row_in shows.column_in))
+  found_at_same pivots one m lines (Some chosen) tree tree' (inr (ternary, after, is, mapped)) (inl (fault', shows', e')) = absurd (shows'.two (ternary shows'.other_row shows'.other_column shows'.row_in shows'.column_in))
+  found_at_same pivots one m lines (Some chosen) tree tree' (inr (ternary, after, (shape, is, refines), mapped)) (inr (ternary', after', (shape', is', refines'), mapped')) =
       let same = drawn_same pivots one chosen.state (pivoted_part m lines chosen.place) lines after after' (record { shape = shape; drawn = is; refines = refines }) (record { shape = shape'; drawn = is'; refines = refines' }) in
-      told_same m lines chosen.place after after' same (verdict_of after) tree tree' told
-      (subst (λ v. IsToldBeforePivot m lines chosen.place after' v tree') (verdict_plain after' ∙ ap verdict_of (sym same) ∙ sym (verdict_plain after)) told')
+      mapped_same m lines chosen.place after after' same (verdict_of after) tree tree' mapped
+      (subst (λ v. IsMappedBack m lines chosen.place after' v tree') (verdict_plain after' ∙ ap verdict_of (sym same) ∙ sym (verdict_plain after)) mapped')
 
   found_same : (pivots : ℕ) → IsOne pivots
   found_same zero state m lines tree tree' e e' = ap plain_tree (e ∙ sym e')

@@ -16,7 +16,7 @@ use Rattle.tree_type.specs.Verdicts.{Verdict, Yes, No, Open, first_in, first_amo
 use Rattle.tree_type.proofs.PlacedLines.{lines_within}
 use Rattle.decomp_tree.specs.Refined.{is_undecided, Refines, AllRefine}
 use Rattle.decomp_tree.specs.Shapes.{Case, HasNoLines, HasFault, IsReducible, IsApart, IsNetwork, IsConetwork, IsR10Matrix, IsTwoSum, IsThreeSum, IsShort, IsLeft, IsFirstCase, NodeSays, finding_in, IsShapedAt, IsShapeOn}
-use Rattle.decomp_tree.specs.PivotedShapes.{IsToldBeforePivot, IsFoundAt, IsFound, all_lines, undecided}
+use Rattle.decomp_tree.specs.PivotedShapes.{IsMappedBack, IsFoundAt, IsFound, all_lines, undecided}
 use Rattle.decomp_tree.specs.PivotedLaws.{OpenLinesAreLeft}
 use Rattle.decomp_tree.proofs.FaultLines.{lines_themselves}
 use Rattle.decomp_tree.proofs.PivotedRoots.{all_are_lines}
@@ -74,16 +74,16 @@ or_none (Some x) = refl
 undecided_open : (lines found : LineSet) → first_in open_at (undecided lines) ≡ Some found → found ≡ lines
 undecided_open lines found e = sym (some_same lines found e)
 
-told_open : (m : Matrix) (lines : LineSet) (place : PlacedPivot) (after : Tree) (v : Verdict) → verdict_of after ≡ v → (tree : Tree) (found : LineSet) → IsToldBeforePivot m lines place after v tree → first_in open_at tree ≡ Some found → found ≡ lines
-told_open m lines place after Yes is tree found e first =
+mapped_open : (m : Matrix) (lines : LineSet) (place : PlacedPivot) (after : Tree) (v : Verdict) → verdict_of after ≡ v → (tree : Tree) (found : LineSet) → IsMappedBack m lines place after v tree → first_in open_at tree ≡ Some found → found ≡ lines
+mapped_open m lines place after Yes is tree found e first =
     none_is_some found (sym (says_yes after is).1 ∙ sym (or_none (first_in open_at after)) ∙ sym (ap (first_in open_at) e) ∙ first)
-told_open m lines place after (No fault) is tree found (before, b, e) first = none_is_some found (sym (ap (first_in open_at) e) ∙ first)
-told_open m lines place after (Open left) is tree found e first = undecided_open lines found (sym (ap (first_in open_at) e) ∙ first)
+mapped_open m lines place after (No fault) is tree found (before, b, e) first = none_is_some found (sym (ap (first_in open_at) e) ∙ first)
+mapped_open m lines place after (Open left) is tree found e first = undecided_open lines found (sym (ap (first_in open_at) e) ∙ first)
 
 found_at_open : (IsTree : ℕ → Matrix → Tree → Type 0) (m : Matrix) (lines : LineSet) (chosen : Option DrawnPlace) (tree : Tree) (found : LineSet) → IsFoundAt IsTree m lines chosen tree → first_in open_at tree ≡ Some found → found ≡ lines
 found_at_open IsTree m lines None tree found e first = undecided_open lines found (sym (ap (first_in open_at) e) ∙ first)
 found_at_open IsTree m lines (Some chosen) tree found (inl (fault, shows, e)) first = none_is_some found (sym (ap (first_in open_at) e) ∙ first)
-found_at_open IsTree m lines (Some chosen) tree found (inr (ternary, after, is, told)) first = told_open m lines chosen.place after (verdict_of after) refl tree found told first
+found_at_open IsTree m lines (Some chosen) tree found (inr (ternary, after, is, mapped)) first = mapped_open m lines chosen.place after (verdict_of after) refl tree found mapped first
 
 found_open : (limit pivots state : ℕ) (m : Matrix) (lines : LineSet) (tree : Tree) (found : LineSet) → IsFound limit pivots state m lines tree → first_in open_at tree ≡ Some found → found ≡ lines
 found_open limit zero state m lines tree found e first = undecided_open lines found (sym (ap (first_in open_at) e) ∙ first)
@@ -92,7 +92,7 @@ found_open limit (suc pivots) state m lines tree found (chosen, choice, is) firs
 
 -- ---- the nodes of a decomposition
 
-open_kept : (lines : LineSet) (finding : Finding) → is_undecided finding ≡ false → open_at lines finding ≡ None
+pub open_kept : (lines : LineSet) (finding : Finding) → is_undecided finding ≡ false → open_at lines finding ≡ None
 open_kept lines Undecided e = absurd (cc)
 open_kept lines Empty e = refl
 open_kept lines (Cycle fault) e = refl
@@ -107,15 +107,15 @@ open_kept lines Enumerated e = refl
 open_kept lines (Violator fault) e = refl
 open_kept lines (Pivoted place) e = refl
 
-module _ (limit : ℕ) (m : Matrix) (Stands : LineSet → Tree → Type 0) (stands_open : (lines : LineSet) (tree : Tree) (found : LineSet) → Stands lines tree → first_in open_at tree ≡ Some found → found ≡ lines) where
+module _ (limit : ℕ) (m : Matrix) (Replaces : LineSet → Tree → Type 0) (open_replaced : (lines : LineSet) (tree : Tree) (found : LineSet) → Replaces lines tree → first_in open_at tree ≡ Some found → found ≡ lines) where
   abbrev IsOpen : LineSet → Type 0
   IsOpen found = AreLines m found × IsFirstCase limit (part m found) IsLeft
 
   mutual
     open_refined : (path : List ℕ) (due : Due) (parent : LineSet) (levels : ℕ) (shape tree : Tree) (found : LineSet) → AreLines m parent → IsTreeWithin parent levels shape → AllByRecursion (IsShapedAt limit m) (places_from path [] due shape)
-        → Refines Stands shape tree → first_in open_at tree ≡ Some found → IsOpen found
+        → Refines Replaces shape tree → first_in open_at tree ≡ Some found → IsOpen found
     open_refined path due parent levels (Branch lines finding trees) tree found are within shaped r first =
-        go (refined_node Stands lines finding trees tree r) (λ below all e. open_each path lines finding (levels - 1) 0 trees below found here within.4 below_shaped all e)
+        go (refined_node Replaces lines finding trees tree r) (λ below all e. open_each path lines finding (levels - 1) 0 trees below found here within.4 below_shaped all e)
       where
         here : AreLines m lines
         here = lines_within m lines parent within.1 are
@@ -126,12 +126,12 @@ module _ (limit : ℕ) (m : Matrix) (Stands : LineSet → Tree → Type 0) (stan
         below_shaped : AllByRecursion (IsShapedAt limit m) (places_below path [] lines finding 0 trees)
         below_shaped = subst (λ ps. AllByRecursion (IsShapedAt limit m) (places_below path ps lines finding 0 trees)) (no_pivot [] limit (part m lines) shaped.0.case shaped.0.found shaped.0.parts lines finding shaped.0.says shaped.0.finding) shaped.1
 
-        go : RefinedNode Stands lines finding trees tree → ((below : Trees) → AllRefine Stands trees below → first_among open_at below ≡ Some found → IsOpen found) → IsOpen found
-        go (replaced e stands) each = subst IsOpen (sym (stands_open lines tree found stands first)) (here, left_here limit m place e shaped.0)
+        go : RefinedNode Replaces lines finding trees tree → ((below : Trees) → AllRefine Replaces trees below → first_among open_at below ≡ Some found → IsOpen found) → IsOpen found
+        go (replaced e replaces) each = subst IsOpen (sym (open_replaced lines tree found replaces first)) (here, left_here limit m place e shaped.0)
         go (kept e below is all) each = each below all (ap (λ (o : Option LineSet). option_or o (first_among open_at below)) (sym (open_kept lines finding e)) ∙ sym (ap (first_in open_at) is) ∙ first)
 
     open_each : (path : List ℕ) (lines : LineSet) (finding : Finding) (levels k : ℕ) (trees below : Trees) (found : LineSet) → AreLines m lines → AreTreesWithin lines levels trees → AllByRecursion (IsShapedAt limit m) (places_below path [] lines finding k trees)
-        → AllRefine Stands trees below → first_among open_at below ≡ Some found → IsOpen found
+        → AllRefine Replaces trees below → first_among open_at below ≡ Some found → IsOpen found
     open_each path lines finding levels k NoTrees below found are within shaped e first = none_is_some found (sym (ap (first_among open_at) e) ∙ first)
     open_each path lines finding levels k (MoreTrees tree trees) below found are within shaped (one, rest, e, r, all) first =
         let now = places_from (path ++ k ∷ []) [] (due_child lines finding k) tree in
@@ -149,6 +149,6 @@ open_case limit pivots m tree lines is d first =
     let made = d.made in
     let shape = d.drawn.shape in
     let shaped = d.drawn.drawn in
-    open_refined limit m (IsFound limit made 1 m) (λ some t found stands e. found_open limit made 1 m some t found stands e)
+    open_refined limit m (IsFound limit made 1 m) (λ some t found replaces e. found_open limit made 1 m some t found replaces e)
     [] (These all) all (suc (size_of (lines_at_root shape))) shape tree lines are
     (shape_within limit m is [] (These all) all (suc (size_of (lines_at_root shape))) shape shaped are (subst (λ some. AreLinesOf some all) (sym (shape_lines limit m all shape shaped)) (lines_themselves m all are)) (omega arith)) shaped d.drawn.refines first

@@ -36,12 +36,12 @@ open_plain lines (Violator f) = refl
 open_plain lines Undecided = refl
 open_plain lines (Pivoted place) = refl
 
-module _ (told : LineSet → Finding → Option LineSet) (same : (lines : LineSet) (f : Finding) → told lines f ≡ told lines (plain_finding f)) where
+module _ (mapped : LineSet → Finding → Option LineSet) (same : (lines : LineSet) (f : Finding) → mapped lines f ≡ mapped lines (plain_finding f)) where
   mutual
-    first_plain : (tree : Tree) → first_in told tree ≡ first_in told (plain_tree tree)
+    first_plain : (tree : Tree) → first_in mapped tree ≡ first_in mapped (plain_tree tree)
     first_plain (Branch lines finding trees) = ap₂ option_or (same lines finding) (first_of_plain trees)
 
-    first_of_plain : (trees : Trees) → first_among told trees ≡ first_among told (plain_trees trees)
+    first_of_plain : (trees : Trees) → first_among mapped trees ≡ first_among mapped (plain_trees trees)
     first_of_plain NoTrees = refl
     first_of_plain (MoreTrees tree trees) = ap₂ option_or (first_plain tree) (first_of_plain trees)
 

@@ -63,15 +63,15 @@ module _ (limit : ℕ) (m : Matrix) where
   one_more [] draft = refl
   one_more (other ∷ drafts) draft = ap (λ xs. lines_of_sketch (sketch_of other) ∷ xs) (one_more drafts draft)
 
-  -- the next child is settled behind the others
+  -- the next child is settled after the others
   pub settled_next : (pivots state : ℕ) (drafts : List Draft) (draft : Draft) (before after : List Tree) → AreSettled limit pivots state m (map (λ draft. lines_of_sketch (sketch_of draft)) drafts) before
       → HasOneMoreTree (IsDrawnWith limit pivots state m (lines_of_sketch (sketch_of draft))) before after → AreSettled limit pivots state m (map (λ draft. lines_of_sketch (sketch_of draft)) (drafts ++ draft ∷ [])) after
   settled_next pivots state drafts draft before after (shapes, drawn, refined) one =
       subst (AreSettled limit pivots state m (map (λ draft. lines_of_sketch (sketch_of draft)) (drafts ++ draft ∷ []))) (sym one.order)
       (subst (λ some. AreSettled limit pivots state m some (before ++ one.tree ∷ [])) (sym (one_more drafts draft)) (
-        shapes ++ one.stands.shape ∷ [],
-        drawn_more limit m (map (λ draft. lines_of_sketch (sketch_of draft)) drafts) shapes (lines_of_sketch (sketch_of draft)) one.stands.shape drawn one.stands.drawn,
-        refined_more (IsFound limit pivots state m) shapes before one.stands.shape one.tree refined one.stands.refines,
+        shapes ++ one.is_tree.shape ∷ [],
+        drawn_more limit m (map (λ draft. lines_of_sketch (sketch_of draft)) drafts) shapes (lines_of_sketch (sketch_of draft)) one.is_tree.shape drawn one.is_tree.drawn,
+        refined_more (IsFound limit pivots state m) shapes before one.is_tree.shape one.tree refined one.is_tree.refines,
       ))
 
   -- all children are settled
@@ -136,7 +136,7 @@ module _ (limit : ℕ) (m : Matrix) where
             record {
               tree = tree;
               order = e;
-              stands = settles tree (record {
+              is_tree = settles tree (record {
                 shape = Branch opening.lines (finding_shown opening.finding) (trees_from settled.0);
                 drawn = node_drawn opening (parts_of limit m draft drafted).0 late settled.0 all_settled;
                 refines = refined_kept (IsFound limit pivots state m) opening.lines (finding_shown opening.finding) (trees_from settled.0) (trees_from (map tree_of nodes)) decided settled.2;
@@ -151,7 +151,7 @@ module _ (limit : ℕ) (m : Matrix) where
           record {
             tree = tree;
             order = e;
-            stands = settles tree (record {
+            is_tree = settles tree (record {
               shape = tree;
               drawn = fault_drawn lines fault is are found;
               refines = refined_kept (IsFound limit pivots state m) lines (Cycle fault) NoTrees NoTrees refl refl;
@@ -168,7 +168,7 @@ module _ (limit : ℕ) (m : Matrix) where
           record {
             tree = found;
             order = e;
-            stands = settles found (record {
+            is_tree = settles found (record {
               shape = Branch opening.lines Undecided NoTrees;
               drawn = drawn_node limit m opening.lines Undecided opening.children [] said (said.searched refl) (none_drawn opening.children said.count);
               refines = is;

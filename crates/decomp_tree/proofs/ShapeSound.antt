@@ -51,7 +51,7 @@ sizes_child m lines Undecided k = tt
 sizes_child m lines (Pivoted place) k = tt
 
 module _ (limit : ℕ) (few : limit ≤ 24) (m : Matrix) (is : IsMatrix m) where
-  -- what the rules demand of a node of a decomposition, as of one that stands below no pivot
+  -- what the rules demand of a node of a decomposition, that is, of a node below no pivot
   pub demanded : (place : Place) → AreLines m place.lines → IsShapedAt limit m place → (broken : Rule) → Demands broken m place.lines place.finding place.children
   demanded place are shaped broken = subst (λ f. Demands broken m place.lines f place.children) (sym shaped.finding)
       (keeps limit few m is place.lines are shaped.case shaped.found shaped.parts place.children shaped.first shaped.says

@@ -1,4 +1,4 @@
--- Trees that say yes, which alone may stand below pivots.
+-- Trees that say yes, the only trees that are allowed below pivots.
 use Rattle.std.proofs.Common.{◌≡◌, ◌⊎◌, inl, inr, List, [], ◌∷◌, Option, Some, None, refl, sym, subst}
 use Rattle.cmr_base.specs.declared.line_set.LineSet.{LineSet}
 use Rattle.tree_type.specs.DecompositionTrees.{Finding, Empty, Cycle, Reduced, OneSum, Network, Conetwork, R10, TwoSum, ThreeSum, Enumerated, Violator, Undecided, Pivoted, Tree, Trees, Branch, MoreTrees}
@@ -22,7 +22,7 @@ says_yes_from (Some fault) left e = cc
 pub says_yes : (tree : Tree) → verdict_of tree ≡ Yes → SaysYes tree
 says_yes tree e = says_yes_from (first_in fault_at tree) (first_in open_at tree) e
 
--- below these pivots a tree that says no more than yes may stand
+-- a tree that says yes is allowed below these pivots
 abbrev pub MayBelow : List MadePivot → Tree → Type 0
 MayBelow pivots tree = (pivots ≡ []) ⊎ SaysYes tree
 

@@ -34,11 +34,11 @@ pub record AreBefore (m : Matrix) (place : PlacedPivot) (fault before : LineSet)
 
 -- What the tree of the submatrix after a pivot says of the submatrix: for a yes a pivoted node above that tree, for a no its fault mapped
 -- back to the lines before the pivot, and otherwise an undecided node.
-abbrev pub IsToldBeforePivot : Matrix → LineSet → PlacedPivot → Tree → Verdict → Tree → Type 0
-IsToldBeforePivot m lines place after Yes tree = tree ≡ Branch lines (Pivoted place) (one_tree after)
-IsToldBeforePivot m lines place after (No fault) tree =
+abbrev pub IsMappedBack : Matrix → LineSet → PlacedPivot → Tree → Verdict → Tree → Type 0
+IsMappedBack m lines place after Yes tree = tree ≡ Branch lines (Pivoted place) (one_tree after)
+IsMappedBack m lines place after (No fault) tree =
     (before : LineSet) × AreBefore m place fault before × (tree ≡ Branch lines (Violator before) NoTrees)
-IsToldBeforePivot m lines place after (Open left) tree = tree ≡ undecided lines
+IsMappedBack m lines place after (Open left) tree = tree ≡ undecided lines
 
 -- What is said of the lines before a pivot if the tree after it has this verdict: nothing if the verdict is a yes.
 abbrev pub SaysBeforePivot : Matrix → PlacedPivot → Verdict → Option Held → Type 0
@@ -54,7 +54,7 @@ IsFoundAt IsTree m lines (Some chosen) tree =
     ShowsTwoAfterPivot m lines chosen.place tree
     ⊎ (IsTernaryPivot m lines chosen.place
     × (after : Tree) × IsTree chosen.state (pivoted_part m lines chosen.place) after
-    × IsToldBeforePivot m lines chosen.place after (verdict_of after) tree)
+    × IsMappedBack m lines chosen.place after (verdict_of after) tree)
 
 -- What replaces an undecided node on these lines if at most this number of pivots may still be made. The first pivot is made at the
 -- position that the submatrix and this state have. The submatrix after it has a decomposition of its own, in which one pivot fewer may be
@@ -95,10 +95,10 @@ pub record IsShapeWith (limit pivots : ℕ) (m : Matrix) (tree : Tree) : Type 0 
   pub most : AreTooDeep limit made pivots m
 
 -- one more tree, after some others
-pub record HasOneMoreTree (Stands : Tree → Type 0) (before after : List Tree) : Type 0 where
+pub record HasOneMoreTree (IsTree : Tree → Type 0) (before after : List Tree) : Type 0 where
   pub tree : Tree
   pub order : after ≡ before ++ tree ∷ []
-  pub stands : Stands tree
+  pub is_tree : IsTree tree
 
 -- a fault that a verdict names has lines among these
 abbrev pub HasFaultAmong : LineSet → Verdict → Type 0

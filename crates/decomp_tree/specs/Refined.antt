@@ -10,12 +10,12 @@ is_undecided finding = false
 abbrev mutual
   -- The second tree is the first one, except that each undecided node is replaced by one of these trees for the lines of the node.
   pub Refines : (LineSet → Tree → Type 0) → Tree → Tree → Type 0
-  Refines Stands (Branch lines Undecided trees) tree = Stands lines tree
-  Refines Stands (Branch lines finding trees) tree =
-      (below : Trees) × (tree ≡ Branch lines finding below) × AllRefine Stands trees below
+  Refines Replaces (Branch lines Undecided trees) tree = Replaces lines tree
+  Refines Replaces (Branch lines finding trees) tree =
+      (below : Trees) × (tree ≡ Branch lines finding below) × AllRefine Replaces trees below
 
   pub AllRefine : (LineSet → Tree → Type 0) → Trees → Trees → Type 0
-  AllRefine Stands NoTrees below = below ≡ NoTrees
-  AllRefine Stands (MoreTrees tree trees) below =
+  AllRefine Replaces NoTrees below = below ≡ NoTrees
+  AllRefine Replaces (MoreTrees tree trees) below =
       (first : Tree) × (rest : Trees) × (below ≡ MoreTrees first rest)
-      × Refines Stands tree first × AllRefine Stands trees rest
+      × Refines Replaces tree first × AllRefine Replaces trees rest

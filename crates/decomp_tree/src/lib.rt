@@ -16,3 +16,4 @@ mod seen;
 mod settling;
 
 pub use decomposing::decompose;
+pub use naming::named_set;

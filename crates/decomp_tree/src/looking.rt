@@ -149,7 +149,7 @@ fn look_connected<R: Threads + Sync>(
     requires known { IsKnown node.now.matrix.now obstruction.now }
     ensures { IfOk result (IsSeenAt node.now) }
 {
-    if obstruction.stands_in(node.matrix, node.lines) {
+    if obstruction.is_within(node.matrix, node.lines) {
         return look_no_network(rt, alloc, node);
     }
     look_tested(rt, alloc, node)

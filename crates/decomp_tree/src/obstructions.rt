@@ -41,7 +41,7 @@ impl Obstruction {
 
     /// Whether these lines contain all lines of the obstruction, so that neither the submatrix on them nor its transpose is a
     /// network matrix.
-    pub fn stands_in(&self, _matrix: &Matrix, lines: &LineSet) -> bool
+    pub fn is_within(&self, _matrix: &Matrix, lines: &LineSet) -> bool
         requires shape { IsMatrix _matrix.now }
         requires known { IsKnown _matrix.now self.now }
         requires lines { AreLines _matrix.now lines.now }
@@ -69,7 +69,7 @@ impl Obstruction {
         ensures known { IfOk result (IsKnown matrix.now) }
         ensures sought { IfOk result (λ obstruction. obstruction.sought ≤ MORE_LINES) }
     {
-        if self.stands_in(matrix, child) {
+        if self.is_within(matrix, child) {
             return self.copied(alloc, matrix);
         }
         let size = size_of(matrix, child);

@@ -5,7 +5,7 @@ ghost use Rattle.tree_type.specs.DecompositionTrees.{Branch, NoTrees, Pivoted, o
 ghost use Rattle.tree_type.specs.Invariant.{AreLines, HasChildren};
 ghost use Rattle.tree_type.specs.Findings.{finding_shown};
 ghost use Rattle.tree_type.specs.Verdicts.{verdict_of};
-ghost use Rattle.decomp_tree.specs.PivotedShapes.{HasFaultAmong, IsToldBeforePivot, SaysBeforePivot};
+ghost use Rattle.decomp_tree.specs.PivotedShapes.{HasFaultAmong, IsMappedBack, SaysBeforePivot};
 
 use cmr_base::{LineSet, Matrix, Memory, PlacedPivot};
 use pivots::violator_before_part;
@@ -24,7 +24,7 @@ pub fn pulled_back(
     requires lines { AreLines matrix.now lines.now }
     requires place { IsPlaceIn matrix.now lines.now place }
     requires fault { HasFaultAmong lines.now (verdict_of (tree_of after)) }
-    ensures { IfOk result (λ node. IsToldBeforePivot matrix.now lines.now place (tree_of after)
+    ensures { IfOk result (λ node. IsMappedBack matrix.now lines.now place (tree_of after)
         (verdict_of (tree_of after)) (tree_of node)) }
 {
     match finding_before(alloc, matrix, lines, place, &after)? {

@@ -18,7 +18,7 @@ use Rattle.tree_type.specs.Verdicts.{Verdict, Yes, No, Open, verdict_of}
 use Rattle.tree_type.proofs.PlacedLines.{lines_within}
 use Rattle.tree_laws.proofs.PivotedMatrices.{lines_pivoted, pivoted_is_matrix}
 use Rattle.decomp_tree.specs.Refined.{is_undecided, Refines, AllRefine}
-use Rattle.decomp_tree.specs.PivotedShapes.{AreTooDeep, HasFaultAmong, IsDrawnWith, IsFound, IsFoundAt, IsShapeWith, IsToldBeforePivot, all_lines, is_shallow, undecided}
+use Rattle.decomp_tree.specs.PivotedShapes.{AreTooDeep, HasFaultAmong, IsDrawnWith, IsFound, IsFoundAt, IsShapeWith, IsMappedBack, all_lines, is_shallow, undecided}
 use Rattle.decomp_tree.specs.Shapes.{IsShapeOn}
 use Rattle.decomp_tree.proofs.FaultLines.{fault_among, lines_themselves}
 use Rattle.decomp_tree.proofs.FoundTrees.{drawn_with_lines, drawn_with_within}
@@ -76,7 +76,7 @@ module _ (limit : ℕ) where
       λ x h. contained_below m.width lines.columns x are.columns.in_range (all_contained (Contains lines.columns) fault.columns x among.columns (contains_from_in fault.columns x h)),
     )
 
-    told : (place : PlacedPivot) → IsPlaceIn m lines place → (after : Tree) (verdict : Verdict) → HasFaultAmong lines verdict → NotExcluded ((tree : Tree) × IsToldBeforePivot m lines place after verdict tree)
+    told : (place : PlacedPivot) → IsPlaceIn m lines place → (after : Tree) (verdict : Verdict) → HasFaultAmong lines verdict → NotExcluded ((tree : Tree) × IsMappedBack m lines place after verdict tree)
     told place at after Yes among none = none (Branch lines (Pivoted place) (one_tree after), refl)
     told place at after (No fault) among none =
         let low = fault_low fault among in

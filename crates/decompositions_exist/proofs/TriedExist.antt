@@ -17,7 +17,7 @@ use Rattle.tree_type.specs.Verdicts.{No, Open, Verdict, Yes, verdict_of}
 use Rattle.tree_type.proofs.PlacedLines.{part_is}
 use Rattle.decomp_tree.specs.Shapes.{set_in}
 use Rattle.decomp_tree.proofs.PivotedRoots.{pivoted_shapes_are_trees}
-use Rattle.open_parts.specs.Rests.{GoesOnAfter, LeavesOut, rest_without, turns_of}
+use Rattle.open_parts.specs.Rests.{GoesOnAfter, RemovesInTurn, rest_without, turns_of}
 use Rattle.open_parts.specs.TriedShapes.{IsTriedIf, IsTriedIfOpen, IsTriedLeaf, IsTriedWith, leaf_with}
 use Rattle.decompositions_exist.proofs.NotExcluded.{NotExcluded}
 use Rattle.decompositions_exist.proofs.PivotedExist.{refined_exists, shape_with_exists}
@@ -35,9 +35,9 @@ module _ (limit : ℕ) (m : Matrix) (is : IsMatrix m) where
 
   -- the search ends from these lines
   abbrev EndsFrom : List Line → LineSet → Type 0
-  EndsFrom turns kept = NotExcluded ((found : Option LineSet) × LeavesOut limit m turns kept found)
+  EndsFrom turns kept = NotExcluded ((found : Option LineSet) × RemovesInTurn limit m turns kept found)
 
-  goes_on : (turns : List Line) (kept rest : LineSet) → EndsFrom turns kept → EndsFrom turns rest → (verdict : Verdict) → NotExcluded ((found : Option LineSet) × GoesOnAfter (LeavesOut limit m turns) kept rest verdict found)
+  goes_on : (turns : List Line) (kept rest : LineSet) → EndsFrom turns kept → EndsFrom turns rest → (verdict : Verdict) → NotExcluded ((found : Option LineSet) × GoesOnAfter (RemovesInTurn limit m turns) kept rest verdict found)
   goes_on turns kept rest with_line without_line Yes none = with_line none
   goes_on turns kept rest with_line without_line (No fault) none = none (Some (set_in rest fault), refl)
   goes_on turns kept rest with_line without_line (Open left) none = without_line none

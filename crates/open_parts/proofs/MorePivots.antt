@@ -22,7 +22,7 @@ use Rattle.tree_laws.proofs.SoundTrees.{free_tree, none_or, tells}
 use Rattle.decomp_tree.specs.PlainTrees.{plain_finding, plain_tree, plain_trees}
 use Rattle.decomp_tree.specs.Shapes.{IsShapedAt, IsShapeOn}
 use Rattle.decomp_tree.specs.Refined.{is_undecided, Refines, AllRefine}
-use Rattle.decomp_tree.specs.PivotedShapes.{IsDrawnWith, IsFound, IsFoundAt, IsToldBeforePivot, all_lines, undecided}
+use Rattle.decomp_tree.specs.PivotedShapes.{IsDrawnWith, IsFound, IsFoundAt, IsMappedBack, all_lines, undecided}
 use Rattle.decomp_tree.specs.PivotedLaws.{KeepsAnswer}
 use Rattle.decomp_tree.proofs.FaultLines.{among_lines, lines_themselves}
 use Rattle.decomp_tree.proofs.FoundSound.{drawn_with_sound}
@@ -54,17 +54,17 @@ or_none : {A : Type 0} (a : Option A) → option_or a None ≡ a
 or_none None = refl
 or_none (Some x) = refl
 
-told_form : (m : Matrix) (lines : LineSet) (place : PlacedPivot) (after : Tree) (v : Verdict) → verdict_of after ≡ v → (tree : Tree) → IsToldBeforePivot m lines place after v tree → FoundForm lines tree
-told_form m lines place after Yes is tree e =
+mapped_form : (m : Matrix) (lines : LineSet) (place : PlacedPivot) (after : Tree) (v : Verdict) → verdict_of after ≡ v → (tree : Tree) → IsMappedBack m lines place after v tree → FoundForm lines tree
+mapped_form m lines place after Yes is tree e =
     let says = says_yes after is in
     is_yes (ap (first_in fault_at) e ∙ or_none (first_in fault_at after) ∙ says.0, ap (first_in open_at) e ∙ or_none (first_in open_at after) ∙ says.1)
-told_form m lines place after (No fault) is tree (before, b, e) = is_fault before e
-told_form m lines place after (Open left) is tree e = is_left e
+mapped_form m lines place after (No fault) is tree (before, b, e) = is_fault before e
+mapped_form m lines place after (Open left) is tree e = is_left e
 
 found_at_form : (IsTree : ℕ → Matrix → Tree → Type 0) (m : Matrix) (lines : LineSet) (chosen : Option DrawnPlace) (tree : Tree) → IsFoundAt IsTree m lines chosen tree → FoundForm lines tree
 found_at_form IsTree m lines None tree e = is_left e
 found_at_form IsTree m lines (Some chosen) tree (inl (fault, shows, e)) = is_fault fault e
-found_at_form IsTree m lines (Some chosen) tree (inr (ternary, after, is, told)) = told_form m lines chosen.place after (verdict_of after) refl tree told
+found_at_form IsTree m lines (Some chosen) tree (inr (ternary, after, is, mapped)) = mapped_form m lines chosen.place after (verdict_of after) refl tree mapped
 
 found_form : (limit pivots state : ℕ) (m : Matrix) (lines : LineSet) (tree : Tree) → IsFound limit pivots state m lines tree → FoundForm lines tree
 found_form limit zero state m lines tree e = is_left e
@@ -74,12 +74,12 @@ found_form limit (suc pivots) state m lines tree (chosen, choice, found) =
 -- ---- the undecided nodes of a decomposition without pivots
 
 -- what replaces a node, and that only its lines would be left undecided
-pub record StandsOpen (limit : ℕ) (m : Matrix) (Stands : LineSet → Tree → Type 0) (lines : LineSet) (tree : Tree) : Type 0 where
-  pub stands : Stands lines tree
+pub record ReplacesOpen (limit : ℕ) (m : Matrix) (Replaces : LineSet → Tree → Type 0) (lines : LineSet) (tree : Tree) : Type 0 where
+  pub replaces : Replaces lines tree
   pub are : AreLines m lines
   pub leaf : IsShapeOn limit m lines (undecided lines)
 
-module _ (limit : ℕ) (m : Matrix) (Stands : LineSet → Tree → Type 0) where
+module _ (limit : ℕ) (m : Matrix) (Replaces : LineSet → Tree → Type 0) where
   leaf_shape : (lines : LineSet) (finding : Finding) (place : Place) → place.lines ≡ lines → place.finding ≡ Undecided → IsShapedAt limit m place → IsShapeOn limit m lines (undecided lines)
   leaf_shape lines finding place same e shaped = subst (λ l. IsShapeOn limit m l (undecided l)) same (
     record {
@@ -99,9 +99,9 @@ module _ (limit : ℕ) (m : Matrix) (Stands : LineSet → Tree → Type 0) where
 
   mutual
     open_refined : (path : List ℕ) (due : Due) (parent : LineSet) (levels : ℕ) (shape tree : Tree) → AreLines m parent → IsTreeWithin parent levels shape → AllByRecursion (IsShapedAt limit m) (places_from path [] due shape)
-        → Refines Stands shape tree → Refines (StandsOpen limit m Stands) shape tree
+        → Refines Replaces shape tree → Refines (ReplacesOpen limit m Replaces) shape tree
     open_refined path due parent levels (Branch lines finding trees) tree are within shaped r =
-        go (refined_node Stands lines finding trees tree r) (λ below all. open_each path lines finding (levels - 1) 0 trees below here within.4 below_shaped all)
+        go (refined_node Replaces lines finding trees tree r) (λ below all. open_each path lines finding (levels - 1) 0 trees below here within.4 below_shaped all)
       where
         here : AreLines m lines
         here = lines_within m lines parent within.1 are
@@ -112,13 +112,13 @@ module _ (limit : ℕ) (m : Matrix) (Stands : LineSet → Tree → Type 0) where
         below_shaped : AllByRecursion (IsShapedAt limit m) (places_below path [] lines finding 0 trees)
         below_shaped = subst (λ ps. AllByRecursion (IsShapedAt limit m) (places_below path ps lines finding 0 trees)) (no_pivot [] limit (part m lines) shaped.0.case shaped.0.found shaped.0.parts lines finding shaped.0.says shaped.0.finding) shaped.1
 
-        go : RefinedNode Stands lines finding trees tree → ((below : Trees) → AllRefine Stands trees below → AllRefine (StandsOpen limit m Stands) trees below) → Refines (StandsOpen limit m Stands) (Branch lines finding trees) tree
-        go (replaced e stands) each =
-            subst (λ f. Refines (StandsOpen limit m Stands) (Branch lines f trees) tree) (sym e) (record { stands = stands; are = here; leaf = leaf_shape lines finding place refl e shaped.0 })
-        go (kept e below is all) each = subst (Refines (StandsOpen limit m Stands) (Branch lines finding trees)) (sym is) (refined_kept (StandsOpen limit m Stands) lines finding trees below e (each below all))
+        go : RefinedNode Replaces lines finding trees tree → ((below : Trees) → AllRefine Replaces trees below → AllRefine (ReplacesOpen limit m Replaces) trees below) → Refines (ReplacesOpen limit m Replaces) (Branch lines finding trees) tree
+        go (replaced e replaces) each =
+            subst (λ f. Refines (ReplacesOpen limit m Replaces) (Branch lines f trees) tree) (sym e) (record { replaces = replaces; are = here; leaf = leaf_shape lines finding place refl e shaped.0 })
+        go (kept e below is all) each = subst (Refines (ReplacesOpen limit m Replaces) (Branch lines finding trees)) (sym is) (refined_kept (ReplacesOpen limit m Replaces) lines finding trees below e (each below all))
 
     open_each : (path : List ℕ) (lines : LineSet) (finding : Finding) (levels k : ℕ) (trees below : Trees) → AreLines m lines → AreTreesWithin lines levels trees → AllByRecursion (IsShapedAt limit m) (places_below path [] lines finding k trees)
-        → AllRefine Stands trees below → AllRefine (StandsOpen limit m Stands) trees below
+        → AllRefine Replaces trees below → AllRefine (ReplacesOpen limit m Replaces) trees below
     open_each path lines finding levels k NoTrees below are within shaped e = e
     open_each path lines finding levels k (MoreTrees tree trees) below are within shaped (first, rest, e, r, all) =
         let now = places_from (path ++ k ∷ []) [] (due_child lines finding k) tree in
@@ -132,9 +132,9 @@ module _ (limit : ℕ) (m : Matrix) (Stands : LineSet → Tree → Type 0) where
 
 -- ---- a tree that says yes has no violator
 
-module _ (limit : ℕ) (few : limit ≤ 24) (m : Matrix) (is : IsMatrix m) (made : ℕ) (lines : LineSet) (tree : Tree) (open' : StandsOpen limit m (IsFound limit made 1 m) lines tree) where
+module _ (limit : ℕ) (few : limit ≤ 24) (m : Matrix) (is : IsMatrix m) (made : ℕ) (lines : LineSet) (tree : Tree) (open' : ReplacesOpen limit m (IsFound limit made 1 m) lines tree) where
   drawn_there : IsDrawnWith limit made 1 m lines tree
-  drawn_there = record { shape = undecided lines; drawn = open'.leaf; refines = open'.stands }
+  drawn_there = record { shape = undecided lines; drawn = open'.leaf; refines = open'.replaces }
 
   free_there : SaysYes tree → IsFreeOn m lines
   free_there says =
@@ -163,22 +163,22 @@ or_first (Some y) b x e = (y, refl)
 
 module _ (limit : ℕ) (few : limit ≤ 24) (m : Matrix) (is : IsMatrix m) (made made' : ℕ) where
   abbrev Drawn : LineSet → Tree → Type 0
-  Drawn = StandsOpen limit m (IsFound limit made 1 m)
+  Drawn = ReplacesOpen limit m (IsFound limit made 1 m)
 
   abbrev Drawn' : LineSet → Tree → Type 0
-  Drawn' = StandsOpen limit m (IsFound limit made' 1 m)
+  Drawn' = ReplacesOpen limit m (IsFound limit made' 1 m)
 
   abbrev Tried : LineSet → Tree → Type 0
   Tried = IsTriedLeaf limit m
 
   -- a node at which a fault is found does not say yes with more pivots
   left_is_no_yes : (lines : LineSet) (other one : Tree) (found : Option LineSet) → Drawn' lines other → SaysYes other → IsFoundInRests limit m lines found → one ≡ leaf_with lines found → (fault : LineSet) → first_in fault_at one ≡ Some fault → ⊥
-  left_is_no_yes lines other one None stands says search e fault is_named = none_is_some fault (sym (ap (first_in fault_at) e) ∙ is_named)
-  left_is_no_yes lines other one (Some found) stands says search e fault is_named =
-      let v = found_violates limit m is (turns_of lines) lines found stands.are search in
-      no_violator limit few m is made' lines other stands says found v.among (v.violator few)
+  left_is_no_yes lines other one None replaces says search e fault is_named = none_is_some fault (sym (ap (first_in fault_at) e) ∙ is_named)
+  left_is_no_yes lines other one (Some found) replaces says search e fault is_named =
+      let v = found_violates limit m is (turns_of lines) lines found replaces.are search in
+      no_violator limit few m is made' lines other replaces says found v.among (v.violator few)
 
-  module _ (lines : LineSet) (drawn drawn' tree other : Tree) (stands : Drawn lines drawn) (stands' : Drawn' lines drawn') (none : first_in fault_at drawn ≡ None) (r : Refines Tried drawn tree) (r' : Refines Tried drawn' other) (fault : LineSet) (names : first_in fault_at tree ≡ Some fault) where
+  module _ (lines : LineSet) (drawn drawn' tree other : Tree) (replaces : Drawn lines drawn) (replaces' : Drawn' lines drawn') (none : first_in fault_at drawn ≡ None) (r : Refines Tried drawn tree) (r' : Refines Tried drawn' other) (fault : LineSet) (names : first_in fault_at tree ≡ Some fault) where
     both_forms : FoundForm lines drawn → FoundForm lines drawn' → HasFault other
     both_forms (is_fault found e) form = none_is_some found (sym none ∙ ap (first_in fault_at) e)
     both_forms (is_yes says) form = none_is_some fault (sym says.0 ∙ sym (ap (first_in fault_at) (closed_same limit m drawn tree says.1 r)) ∙ names)
@@ -190,10 +190,10 @@ module _ (limit : ℕ) (few : limit ≤ 24) (m : Matrix) (is : IsMatrix m) (made
         (fault, ap (first_in fault_at) (sym same) ∙ names)
     both_forms (is_left e) (is_yes says) =
         let t = subst (λ t. Refines Tried t tree) e r in
-        absurd (left_is_no_yes lines drawn' tree t.0 stands' says t.1 t.2 fault names)
+        absurd (left_is_no_yes lines drawn' tree t.0 replaces' says t.1 t.2 fault names)
 
     node_keeps : HasFault other
-    node_keeps = both_forms (found_form limit made 1 m lines drawn stands.stands) (found_form limit made' 1 m lines drawn' stands'.stands)
+    node_keeps = both_forms (found_form limit made 1 m lines drawn replaces.replaces) (found_form limit made' 1 m lines drawn' replaces'.replaces)
 
   -- the children of a node that stays are tried
   kept_below : (lines : LineSet) (finding : Finding) (below : Trees) (tree : Tree) → is_undecided finding ≡ false → Refines Tried (Branch lines finding below) tree → (trees : Trees) × (tree ≡ Branch lines finding trees) × AllRefine Tried below trees
@@ -231,9 +231,9 @@ module _ (limit : ℕ) (few : limit ≤ 24) (m : Matrix) (is : IsMatrix m) (made
 
         go : RefinedNode Drawn lines finding trees drawn → RefinedNode Drawn' lines' finding' trees' drawn'
             → ((below below' : Trees) → AllRefine Drawn trees below → AllRefine Drawn' trees' below' → (ts ts' : Trees) → AllRefine Tried below ts → AllRefine Tried below' ts' → first_among fault_at below ≡ None → first_among fault_at ts ≡ Some fault → (named : LineSet) × (first_among fault_at ts' ≡ Some named)) → HasFault other
-        go (replaced is stands) (replaced is' stands') each = node_keeps lines drawn drawn' tree other stands (subst (λ l. Drawn' l drawn') (sym one_lines) stands') none r r' fault names
-        go (replaced is stands) (kept is' below' at' all') each = true_is_false (sym (ap is_undecided is) ∙ undecided_same finding finding' one_finding ∙ is')
-        go (kept is below at all) (replaced is' stands') each = true_is_false (sym (ap is_undecided is') ∙ sym (undecided_same finding finding' one_finding) ∙ is)
+        go (replaced is replaces) (replaced is' replaces') each = node_keeps lines drawn drawn' tree other replaces (subst (λ l. Drawn' l drawn') (sym one_lines) replaces') none r r' fault names
+        go (replaced is replaces) (kept is' below' at' all') each = true_is_false (sym (ap is_undecided is) ∙ undecided_same finding finding' one_finding ∙ is')
+        go (kept is below at all) (replaced is' replaces') each = true_is_false (sym (ap is_undecided is') ∙ sym (undecided_same finding finding' one_finding) ∙ is)
         go (kept is below at all) (kept is' below' at' all') each =
             fault_below lines lines' finding finding' below below' drawn drawn' tree other is is' at at' none r r' fault names (λ ts ts' a a' free there. each below below' all all' ts ts' a a' free there)
 
@@ -262,7 +262,7 @@ module _ (limit : ℕ) (few : limit ≤ 24) (m : Matrix) (is : IsMatrix m) (made
 -- ---- whole matrices
 
 -- the undecided nodes of the decomposition without pivots, with what replaces them
-root_open : (limit made : ℕ) (m : Matrix) (is : IsMatrix m) (tree : Tree) (d : IsDrawnWith limit made 1 m (all_lines m) tree) → Refines (StandsOpen limit m (IsFound limit made 1 m)) d.shape tree
+root_open : (limit made : ℕ) (m : Matrix) (is : IsMatrix m) (tree : Tree) (d : IsDrawnWith limit made 1 m (all_lines m) tree) → Refines (ReplacesOpen limit m (IsFound limit made 1 m)) d.shape tree
 root_open limit made m is tree d =
     let all = all_lines m in
     let are = all_are_lines m is in

@@ -39,33 +39,33 @@ child_lines m (Branch lines finding trees) child i rest e has =
 
 -- ---- children that are tried
 
-module _ (Stands : LineSet → Tree → Type 0) where
+module _ (Replaces : LineSet → Tree → Type 0) where
   -- the node with its children refined
-  pub node_refined : (tree made : Tree) (below : Trees) → is_undecided (finding_of tree) ≡ false → made ≡ Branch (lines_at_root tree) (finding_of tree) below → AllRefine Stands (trees_below tree) below → Refines Stands tree made
-  node_refined (Branch lines finding trees) made below e same all = subst (Refines Stands (Branch lines finding trees)) (sym same) (refined_kept Stands lines finding trees below e all)
+  pub node_refined : (tree made : Tree) (below : Trees) → is_undecided (finding_of tree) ≡ false → made ≡ Branch (lines_at_root tree) (finding_of tree) below → AllRefine Replaces (trees_below tree) below → Refines Replaces tree made
+  node_refined (Branch lines finding trees) made below e same all = subst (Refines Replaces (Branch lines finding trees)) (sym same) (refined_kept Replaces lines finding trees below e all)
 
   -- an undecided node
-  pub leaf_refined : (node : Node) (made : Tree) → is_undecided (finding_of (tree_of node)) ≡ true → Stands node.lines made → Refines Stands (tree_of node) made
-  leaf_refined node made e stands = go (tree_of node) e (root_lines_is node)
+  pub leaf_refined : (node : Node) (made : Tree) → is_undecided (finding_of (tree_of node)) ≡ true → Replaces node.lines made → Refines Replaces (tree_of node) made
+  leaf_refined node made e replaces = go (tree_of node) e (root_lines_is node)
     where
-      go : (tree : Tree) → is_undecided (finding_of tree) ≡ true → lines_at_root tree ≡ node.lines → Refines Stands tree made
-      go (Branch lines finding trees) is same = subst (λ f. Refines Stands (Branch lines f trees) made) (sym (only_undecided_is finding is)) (subst (λ l. Stands l made) (sym same) stands)
+      go : (tree : Tree) → is_undecided (finding_of tree) ≡ true → lines_at_root tree ≡ node.lines → Refines Replaces tree made
+      go (Branch lines finding trees) is same = subst (λ f. Refines Replaces (Branch lines f trees) made) (sym (only_undecided_is finding is)) (subst (λ l. Replaces l made) (sym same) replaces)
 
   -- one more child
   pub more_refined : (trees : List Tree) (i : ℕ) (child : Tree) → slice_get trees i ≡ Some child → (before after : List Node) (made : Node) → after ≡ before ++ made ∷ []
-      → AllRefine Stands (trees_from (take i trees)) (trees_from (map tree_of before)) → Refines Stands child (tree_of made) → AllRefine Stands (trees_from (take (i + 1) trees)) (trees_from (map tree_of after))
+      → AllRefine Replaces (trees_from (take i trees)) (trees_from (map tree_of before)) → Refines Replaces child (tree_of made) → AllRefine Replaces (trees_from (take (i + 1) trees)) (trees_from (map tree_of after))
   more_refined trees i child found before after made e all r =
       let taken = take_more trees i child (slice_get_within trees i child found) ∙ ap (λ (t : Tree). take i trees ++ t ∷ []) (get_or_from_slice_get trees i child child found) in
-      subst (λ (ts : List Tree). AllRefine Stands (trees_from ts) (trees_from (map tree_of after))) (sym taken)
-      (subst (λ (ns : List Node). AllRefine Stands (trees_from (take i trees ++ child ∷ [])) (trees_from (map tree_of ns))) (sym e)
-      (subst (λ (ts : List Tree). AllRefine Stands (trees_from (take i trees ++ child ∷ [])) (trees_from ts)) (sym (map-append tree_of before (made ∷ [])))
-      (refined_more Stands (take i trees) (map tree_of before) child (tree_of made) all r)))
+      subst (λ (ts : List Tree). AllRefine Replaces (trees_from ts) (trees_from (map tree_of after))) (sym taken)
+      (subst (λ (ns : List Node). AllRefine Replaces (trees_from (take i trees ++ child ∷ [])) (trees_from (map tree_of ns))) (sym e)
+      (subst (λ (ts : List Tree). AllRefine Replaces (trees_from (take i trees ++ child ∷ [])) (trees_from ts)) (sym (map-append tree_of before (made ∷ [])))
+      (refined_more Replaces (take i trees) (map tree_of before) child (tree_of made) all r)))
 
   -- all children
-  pub children_refined : (tree : Tree) (i : ℕ) → length (children_of tree) ≤ i → (made : Trees) → AllRefine Stands (trees_from (take i (children_of tree))) made → AllRefine Stands (trees_below tree) made
+  pub children_refined : (tree : Tree) (i : ℕ) → length (children_of tree) ≤ i → (made : Trees) → AllRefine Replaces (trees_from (take i (children_of tree))) made → AllRefine Replaces (trees_below tree) made
   children_refined (Branch lines finding trees) i l made all =
-      subst (λ ts. AllRefine Stands ts made) (trees_back trees) (subst (λ (ts : List Tree). AllRefine Stands (trees_from ts) made) (take_all i (list_of trees) l) all)
+      subst (λ ts. AllRefine Replaces ts made) (trees_back trees) (subst (λ (ts : List Tree). AllRefine Replaces (trees_from ts) made) (take_all i (list_of trees) l) all)
 
 -- as many children as the finding needs
-pub node_children : (m : Matrix) (Stands : LineSet → Tree → Type 0) (tree : Tree) (made : List Node) → HasLinesOf m tree → AllRefine Stands (trees_below tree) (trees_from (map tree_of made)) → HasChildren (finding_of tree) (length made)
-node_children m Stands (Branch lines finding trees) made has all = subst (HasChildren finding) (sym (sym (count_of made) ∙ count_refined Stands trees (trees_from (map tree_of made)) all)) has.within.3
+pub node_children : (m : Matrix) (Replaces : LineSet → Tree → Type 0) (tree : Tree) (made : List Node) → HasLinesOf m tree → AllRefine Replaces (trees_below tree) (trees_from (map tree_of made)) → HasChildren (finding_of tree) (length made)
+node_children m Replaces (Branch lines finding trees) made has all = subst (HasChildren finding) (sym (sym (count_of made) ∙ count_refined Replaces trees (trees_from (map tree_of made)) all)) has.within.3

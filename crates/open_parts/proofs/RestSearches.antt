@@ -13,7 +13,7 @@ use Rattle.decomp_tree.specs.Shapes.{IsShape, set_in}
 use Rattle.decomp_tree.proofs.FaultLines.{lines_of_lines}
 use Rattle.decomp_tree.proofs.OneTree.{one_shape}
 use Rattle.decomp_tree.proofs.PlainVerdicts.{verdict_plain}
-use Rattle.open_parts.specs.Rests.{GoesOnAfter, LeavesOut, rest_without}
+use Rattle.open_parts.specs.Rests.{GoesOnAfter, RemovesInTurn, rest_without}
 use Rattle.open_parts.proofs.RestFaults.{fault_among, fault_violates}
 use Rattle.open_parts.proofs.RestLines.{rest_among, rest_lines}
 
@@ -22,19 +22,19 @@ one_rest_verdict : (limit : ℕ) (n : Matrix) (tree other : Tree) → IsShape li
 one_rest_verdict limit n tree other shape shape' = verdict_plain tree ∙ ap verdict_of (one_shape limit n tree other shape shape') ∙ sym (verdict_plain other)
 
 module _ (limit : ℕ) (m : Matrix) where
-  one_result : (turns : List Line) (kept rest : LineSet) (v : Verdict) (one other : Option LineSet) → ((next : LineSet) → LeavesOut limit m turns next one → LeavesOut limit m turns next other → one ≡ other)
-      → GoesOnAfter (LeavesOut limit m turns) kept rest v one → GoesOnAfter (LeavesOut limit m turns) kept rest v other → one ≡ other
+  one_result : (turns : List Line) (kept rest : LineSet) (v : Verdict) (one other : Option LineSet) → ((next : LineSet) → RemovesInTurn limit m turns next one → RemovesInTurn limit m turns next other → one ≡ other)
+      → GoesOnAfter (RemovesInTurn limit m turns) kept rest v one → GoesOnAfter (RemovesInTurn limit m turns) kept rest v other → one ≡ other
   one_result turns kept rest Yes one other later f g = later kept f g
   one_result turns kept rest (No fault) one other later f g = f ∙ sym g
   one_result turns kept rest (Open left) one other later f g = later rest f g
 
-  pub one_found : (turns : List Line) (kept : LineSet) (one other : Option LineSet) → LeavesOut limit m turns kept one → LeavesOut limit m turns kept other → one ≡ other
+  pub one_found : (turns : List Line) (kept : LineSet) (one other : Option LineSet) → RemovesInTurn limit m turns kept one → RemovesInTurn limit m turns kept other → one ≡ other
   one_found [] kept one other f g = f ∙ sym g
   one_found (line ∷ turns) kept one other (tree, shape, goes) (tree', shape', goes') =
       let rest = rest_without kept line in
       let same = one_rest_verdict limit (part m rest) tree' tree shape' shape in
       one_result turns kept rest (verdict_of tree) one other (λ next f g. one_found turns next one other f g) goes
-      (subst (λ v. GoesOnAfter (LeavesOut limit m turns) kept rest v other) same goes')
+      (subst (λ v. GoesOnAfter (RemovesInTurn limit m turns) kept rest v other) same goes')
 
   -- a fault is a violator on some of these lines
   pub record Violates (lines fault : LineSet) : Type 0 where
@@ -43,8 +43,8 @@ module _ (limit : ℕ) (m : Matrix) where
 
   module _ (is : IsMatrix m) where
     violates_after : (turns : List Line) (kept : LineSet) (line : Line) (are : AreLines m kept) (tree : Tree) (shape : IsShape limit (part m (rest_without kept line)) tree) (fault : LineSet) (v : Verdict) → verdict_of tree ≡ v
-        → ((next : LineSet) → AreLines m next → LeavesOut limit m turns next (Some fault) → Violates next fault)
-        → GoesOnAfter (LeavesOut limit m turns) kept (rest_without kept line) v (Some fault) → Violates kept fault
+        → ((next : LineSet) → AreLines m next → RemovesInTurn limit m turns next (Some fault) → Violates next fault)
+        → GoesOnAfter (RemovesInTurn limit m turns) kept (rest_without kept line) v (Some fault) → Violates kept fault
     violates_after turns kept line are tree shape fault Yes e later goes = later kept are goes
     violates_after turns kept line are tree shape fault (No found) e later goes =
         let rest = rest_without kept line in
@@ -58,7 +58,7 @@ module _ (limit : ℕ) (m : Matrix) where
         let found = later rest (rest_lines m kept line are) goes in
         record { among = lines_of_lines fault rest kept found.among (rest_among m kept line are); violator = found.violator }
 
-    pub found_violates : (turns : List Line) (kept fault : LineSet) → AreLines m kept → LeavesOut limit m turns kept (Some fault) → Violates kept fault
+    pub found_violates : (turns : List Line) (kept fault : LineSet) → AreLines m kept → RemovesInTurn limit m turns kept (Some fault) → Violates kept fault
     found_violates [] kept fault are e = absurd (cc)
     found_violates (line ∷ turns) kept fault are (tree, shape, goes) =
         violates_after turns kept line are tree shape fault (verdict_of tree) refl (λ next next_are f. found_violates turns next fault next_are f) goes

@@ -12,26 +12,11 @@ use Rattle.tree_type.specs.Soundness.{HasItsSizes, HasItsLines, MayStand, KeepsA
 use Rattle.tree_type.proofs.PlacedLines.{lines_within}
 use Rattle.decomp_tree.specs.Refined.{Refines, AllRefine}
 use Rattle.decomp_tree.proofs.PivotNodes.{undecided_sound, violator_sound}
+use Rattle.decomp_tree.proofs.FoundTrees.{fits_as_many}
 use Rattle.decomp_tree.proofs.RefinedTrees.{RefinedNode, replaced, kept, refined_node, count_refined, refined_lines_each}
 use Rattle.open_parts.specs.Rests.{IsFoundInRests, turns_of}
 use Rattle.open_parts.specs.TriedShapes.{IsTriedLeaf, leaf_with}
 use Rattle.open_parts.proofs.RestSearches.{found_violates}
-
--- as many children fit
-fits_as_many : (lines : LineSet) (finding : Finding) (trees others : Trees) → count_trees others ≡ count_trees trees → FitsLines lines finding trees → FitsLines lines finding others
-fits_as_many lines OneSum trees others e fits = subst (λ n. n ≤ size_of lines) (sym e) fits
-fits_as_many lines Empty trees others e fits = fits
-fits_as_many lines (Cycle fault) trees others e fits = fits
-fits_as_many lines (Reduced steps) trees others e fits = fits
-fits_as_many lines (Network net) trees others e fits = fits
-fits_as_many lines (Conetwork net) trees others e fits = fits
-fits_as_many lines R10 trees others e fits = fits
-fits_as_many lines (TwoSum two) trees others e fits = fits
-fits_as_many lines (ThreeSum three) trees others e fits = fits
-fits_as_many lines Enumerated trees others e fits = fits
-fits_as_many lines (Violator fault) trees others e fits = fits
-fits_as_many lines Undecided trees others e fits = fits
-fits_as_many lines (Pivoted place) trees others e fits = fits
 
 -- an undecided node has no pivot above it
 no_pivots : (pivots : List MadePivot) → MayStand pivots Undecided → pivots ≡ []

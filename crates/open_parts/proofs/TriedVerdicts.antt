@@ -11,7 +11,8 @@ use Rattle.tree_type.specs.Verdicts.{first_in, first_among, fault_at, open_at}
 use Rattle.tree_laws.proofs.SoundTrees.{none_or}
 use Rattle.decomp_tree.specs.PlainTrees.{plain_finding, plain_tree, plain_trees}
 use Rattle.decomp_tree.specs.Refined.{is_undecided, Refines, AllRefine}
-use Rattle.decomp_tree.proofs.OnePivoted.{undecided_same}
+use Rattle.decomp_tree.proofs.OnePivoted.{refined_same}
+use Rattle.decomp_tree.proofs.OpenNodes.{open_kept}
 use Rattle.decomp_tree.proofs.RefinedTrees.{RefinedNode, replaced, kept, refined_node}
 use Rattle.open_parts.specs.Rests.{IsFoundInRests, turns_of}
 use Rattle.open_parts.specs.TriedShapes.{IsTriedLeaf, leaf_with}
@@ -24,22 +25,6 @@ no_children : (trees : Trees) → count_trees trees ≡ 0 → trees ≡ NoTrees
 no_children NoTrees e = refl
 no_children (MoreTrees tree trees) e = cc
 
--- a node that stays leaves nothing open itself
-open_kept : (lines : LineSet) (finding : Finding) → is_undecided finding ≡ false → open_at lines finding ≡ None
-open_kept lines Undecided e = absurd (cc)
-open_kept lines Empty e = refl
-open_kept lines (Cycle fault) e = refl
-open_kept lines (Reduced steps) e = refl
-open_kept lines OneSum e = refl
-open_kept lines (Network net) e = refl
-open_kept lines (Conetwork net) e = refl
-open_kept lines R10 e = refl
-open_kept lines (TwoSum two) e = refl
-open_kept lines (ThreeSum three) e = refl
-open_kept lines Enumerated e = refl
-open_kept lines (Violator fault) e = refl
-open_kept lines (Pivoted place) e = refl
-
 module _ (limit : ℕ) (m : Matrix) where
   -- what replaces a node is unique
   pub one_leaf : (lines : LineSet) (tree other : Tree) → IsTriedLeaf limit m lines tree → IsTriedLeaf limit m lines other → tree ≡ other
@@ -47,34 +32,8 @@ module _ (limit : ℕ) (m : Matrix) where
 
   -- ---- two trees
 
-  mutual
-    pub tried_same : (drawn drawn' tree tree' : Tree) → plain_tree drawn ≡ plain_tree drawn' → Refines (IsTriedLeaf limit m) drawn tree → Refines (IsTriedLeaf limit m) drawn' tree' → plain_tree tree ≡ plain_tree tree'
-    tried_same (Branch lines finding trees) (Branch lines' finding' trees') tree tree' e r r' =
-        go (refined_node (IsTriedLeaf limit m) lines finding trees tree r) (refined_node (IsTriedLeaf limit m) lines' finding' trees' tree' r')
-        (λ below below' all all'. let ts : plain_trees trees ≡ plain_trees trees' = cc in each_same trees trees' below below' ts all all')
-      where
-        one_lines : lines ≡ lines'
-        one_lines = cc
-
-        one_finding : plain_finding finding ≡ plain_finding finding'
-        one_finding = cc
-
-        go : RefinedNode (IsTriedLeaf limit m) lines finding trees tree → RefinedNode (IsTriedLeaf limit m) lines' finding' trees' tree'
-            → ((below below' : Trees) → AllRefine (IsTriedLeaf limit m) trees below → AllRefine (IsTriedLeaf limit m) trees' below' → plain_trees below ≡ plain_trees below') → plain_tree tree ≡ plain_tree tree'
-        go (replaced is leaf) (replaced is' leaf') each = ap plain_tree (one_leaf lines tree tree' leaf (subst (λ l. IsTriedLeaf limit m l tree') (sym one_lines) leaf'))
-        go (replaced is leaf) (kept is' below' at' all') each = true_is_false (sym (ap is_undecided is) ∙ undecided_same finding finding' one_finding ∙ is')
-        go (kept is below at all) (replaced is' leaf') each = true_is_false (sym (ap is_undecided is') ∙ sym (undecided_same finding finding' one_finding) ∙ is)
-        go (kept is below at all) (kept is' below' at' all') each =
-            ap plain_tree at ∙ ap (λ (l : LineSet). Branch l (plain_finding finding) (plain_trees below)) one_lines ∙ ap₂ (λ (f : Finding) (ts : Trees). Branch lines' f ts) one_finding (each below below' all all') ∙ sym (ap plain_tree at')
-
-    each_same : (trees trees' below below' : Trees) → plain_trees trees ≡ plain_trees trees' → AllRefine (IsTriedLeaf limit m) trees below → AllRefine (IsTriedLeaf limit m) trees' below' → plain_trees below ≡ plain_trees below'
-    each_same NoTrees NoTrees below below' e all all' = ap plain_trees (all ∙ sym all')
-    each_same NoTrees (MoreTrees tree' trees') below below' e all all' = cc
-    each_same (MoreTrees tree trees) NoTrees below below' e all all' = cc
-    each_same (MoreTrees tree trees) (MoreTrees tree' trees') below below' e (first, rest, at, r, all) (first', rest', at', r', all') =
-        let head : plain_tree tree ≡ plain_tree tree' = cc in
-        let tail : plain_trees trees ≡ plain_trees trees' = cc in
-        ap plain_trees at ∙ ap₂ (λ (t : Tree) (ts : Trees). MoreTrees t ts) (tried_same tree tree' first first' head r r') (each_same trees trees' rest rest' tail all all') ∙ sym (ap plain_trees at')
+  pub tried_same : (drawn drawn' tree tree' : Tree) → plain_tree drawn ≡ plain_tree drawn' → Refines (IsTriedLeaf limit m) drawn tree → Refines (IsTriedLeaf limit m) drawn' tree' → plain_tree tree ≡ plain_tree tree'
+  tried_same = refined_same (IsTriedLeaf limit m) (λ lines tree other leaf leaf'. ap plain_tree (one_leaf lines tree other leaf leaf'))
 
   -- ---- trees that stay
 

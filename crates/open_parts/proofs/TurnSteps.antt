@@ -13,7 +13,7 @@ use Rattle.decomp_tree.specs.Shapes.{IsShape, set_in}
 use Rattle.decomp_tree.proofs.PivotedRoots.{no_pivots_change_nothing}
 use Rattle.open_parts.specs.declared.rests.Turn.{Turn}
 use Rattle.open_parts.specs.declared.rests.Turn.TheVariants.{Kept, Found}
-use Rattle.open_parts.specs.Rests.{GoesOnAfter, LeavesOut, rest_without}
+use Rattle.open_parts.specs.Rests.{GoesOnAfter, RemovesInTurn, rest_without}
 use Rattle.open_parts.specs.LineTurns.{IsTurnOfLine, turn_of}
 use Rattle.open_parts.proofs.RestFaults.{fault_placed}
 use Rattle.open_parts.proofs.RestLines.{rest_lines}
@@ -38,14 +38,14 @@ module _ (limit : ℕ) (m : Matrix) (kept : LineSet) (line : Line) (turns : List
   rest = rest_without kept line
 
   abbrev Later : LineSet → Option LineSet → Type 0
-  Later = LeavesOut limit m turns
+  Later = RemovesInTurn limit m turns
 
   ends : (fault : LineSet) (v : Verdict) → Found fault ≡ turn_of kept rest v → GoesOnAfter Later kept rest v (Some fault)
   ends fault Yes e = absurd (cc)
   ends fault (No found) e = let same : fault ≡ set_in rest found = cc in ap Some same
   ends fault (Open left) e = absurd (cc)
 
-  pub turn_ends : (fault : LineSet) → IsTurnOfLine limit m kept line (Found fault) → LeavesOut limit m (line ∷ turns) kept (Some fault)
+  pub turn_ends : (fault : LineSet) → IsTurnOfLine limit m kept line (Found fault) → RemovesInTurn limit m (line ∷ turns) kept (Some fault)
   turn_ends fault (tree, shape, e) = (tree, shape, ends fault (verdict_of tree) e)
 
   goes : (next : LineSet) (found : Option LineSet) (v : Verdict) → Kept next ≡ turn_of kept rest v → Later next found → GoesOnAfter Later kept rest v found
@@ -53,7 +53,7 @@ module _ (limit : ℕ) (m : Matrix) (kept : LineSet) (line : Line) (turns : List
   goes next found (No fault) e later = absurd (cc)
   goes next found (Open left) e later = let same : next ≡ rest = cc in subst (λ some. Later some found) same later
 
-  pub turn_goes : (next : LineSet) (found : Option LineSet) → IsTurnOfLine limit m kept line (Kept next) → Later next found → LeavesOut limit m (line ∷ turns) kept found
+  pub turn_goes : (next : LineSet) (found : Option LineSet) → IsTurnOfLine limit m kept line (Kept next) → Later next found → RemovesInTurn limit m (line ∷ turns) kept found
   turn_goes next found (tree, shape, e) later = (tree, shape, goes next found (verdict_of tree) e later)
 
   next_lines : (next : LineSet) (v : Verdict) → Kept next ≡ turn_of kept rest v → AreLines m kept → AreLines m next

@@ -22,11 +22,11 @@ GoesOnAfter Later kept rest (Open left) found = Later rest found
 
 -- Each of these lines is removed in its turn, and the rest is decomposed without pivots. `found` is the fault of the first rest whose
 -- verdict is a no, or `None` if there is none.
-abbrev pub LeavesOut : (limit : ℕ) → Matrix → List Line → LineSet → Option LineSet → Type 0
-LeavesOut limit m [] kept found = found ≡ None
-LeavesOut limit m (line ∷ turns) kept found =
+abbrev pub RemovesInTurn : (limit : ℕ) → Matrix → List Line → LineSet → Option LineSet → Type 0
+RemovesInTurn limit m [] kept found = found ≡ None
+RemovesInTurn limit m (line ∷ turns) kept found =
     (tree : Tree) × IsShape limit (part m (rest_without kept line)) tree
-    × GoesOnAfter (LeavesOut limit m turns) kept (rest_without kept line) (verdict_of tree) found
+    × GoesOnAfter (RemovesInTurn limit m turns) kept (rest_without kept line) (verdict_of tree) found
 
 -- the turns: the rows, and then the columns
 abbrev pub turns_of : LineSet → List Line
@@ -34,4 +34,4 @@ turns_of lines = lines_of lines.rows lines.columns
 
 -- what is found if the lines of a submatrix are removed in turn, each once
 abbrev pub IsFoundInRests : (limit : ℕ) → Matrix → LineSet → Option LineSet → Type 0
-IsFoundInRests limit m lines found = LeavesOut limit m (turns_of lines) lines found
+IsFoundInRests limit m lines found = RemovesInTurn limit m (turns_of lines) lines found

@@ -1,14 +1,13 @@
 // The rests of an open part: its lines are removed in turn.
-ghost use Rattle.std.specs.Prelude.{◌≡◌, ◌++◌, map, length, IfOk, OnOk};
+ghost use Rattle.std.specs.Prelude.{◌≡◌, ◌++◌, map, IfOk, OnOk};
 ghost use Rattle.cmr_base.specs.declared.line.Line.TheVariants.{Row, Column};
-ghost use Rattle.cmr_base.specs.LineSets.{AllBelow};
 ghost use Rattle.tree_type.specs.Invariant.{AreLines};
-ghost use Rattle.decomp_tree.specs.Shapes.{numbered, set_in};
 ghost use Rattle.open_parts.specs.Rests.{IsFoundInRests, rest_without, turns_of};
 ghost use Rattle.open_parts.specs.LineTurns.{IsTurnOfLine};
 
 use crate::rest_search::RestSearch;
 use cmr_base::{Indices, Line, LineList, LineSet, Memory};
+use decomp_tree::{decompose, named_set};
 use std::alloc::Global;
 use std::thread::Threads;
 use tree_type::{VerdictOf, copy_of, verdict};
@@ -83,7 +82,7 @@ fn take_turn<R: Threads + Sync>(
 {
     let rest = rest_without(alloc, &kept, line)?;
     let part = search.matrix.part(alloc, &rest)?;
-    let tree = decomp_tree::decompose(rt, alloc, &part, search.limit, 0, search.workers)?;
+    let tree = decompose(rt, alloc, &part, search.limit, 0, search.workers)?;
     match verdict(&tree) {
         VerdictOf::Yes => Ok(Turn::Kept(kept)),
         VerdictOf::No(fault) => {
@@ -102,29 +101,4 @@ fn rest_without(alloc: Global, kept: &LineSet, line: Line) -> Result<LineSet, Me
         Line::Row(row) => kept.without_row(alloc, row),
         Line::Column(column) => kept.without_column(alloc, column),
     }
-}
-
-// A set of lines of a rest, by their numbers in the whole matrix.
-fn named_set(alloc: Global, lines: &LineSet, set: &LineSet) -> Result<LineSet, Memory>
-    requires rows { AllBelow (length lines.now.rows) set.now.rows }
-    requires columns { AllBelow (length lines.now.columns) set.now.columns }
-    ensures { IfOk result (λ named. named ≡ set_in lines.now set.now) }
-{
-    Ok(LineSet {
-        rows: named(alloc, &lines.rows, &set.rows)?,
-        columns: named(alloc, &lines.columns, &set.columns)?,
-    })
-}
-
-// The numbers at some positions of a list.
-fn named(alloc: Global, lines: &Indices, places: &Indices) -> Result<Indices, Memory>
-    requires { AllBelow (length lines.now) places.now }
-    ensures { IfOk result (λ named. named ≡ map (numbered lines.now) places.now) }
-{
-    let numbers = lines.as_slice();
-    let mut named = Indices::new(alloc);
-    for place in places.as_slice() {
-        named.push(numbers[*place as usize])?;
-    }
-    Ok(named)
 }

@@ -3,12 +3,12 @@ use Rattle.tree_type.specs.DecompositionTrees.{tree_of, children_of, Pivoted, No
 use Rattle.tree_type.specs.Places.{places_from}
 use Rattle.tree_type.specs.Soundness.{IsFirstBroken}
 use Rattle.tree_type.specs.NodeCounts.{node_count}
-use Rattle.cert_check.specs.Answers.{AnswersOn, AnswersFrom, AnswersBelow, IsRuleAt, KeepsOwn, Stands, nodes_below, due_child_of}
+use Rattle.cert_check.specs.Answers.{AnswersOn, AnswersFrom, AnswersBelow, IsRuleAt, KeepsOwn, IsValidNode, nodes_below, due_child_of}
 use Rattle.cmr_base.specs.PlacedPivots.{pivoted_part}
 use Rattle.pivots.specs.PivotedParts.{IsPivotedPart}
-use Rattle.cert_check.proofs.Answering.{answers_below, broken_here, if_ok, pivoted_is, goes_pivoted, only_child, first_stands, stands_pivoted}
+use Rattle.cert_check.proofs.Answering.{answers_below, broken_here, if_ok, pivoted_is, goes_pivoted, only_child, first_valid, valid_pivoted}
 use Rattle.cert_check.proofs.OwnRules.{own_lines, own_pivot}
-use Rattle.cert_check.proofs.Children.{all_left, few_children, left_next, left_none, left_refused, left_stands, no_pivot}
+use Rattle.cert_check.proofs.Children.{all_left, few_children, left_next, left_none, left_refused, left_valid, no_pivot}
 use Rattle.std.proofs.lemmas.List.{drop_all}
 use Rattle.cert_check.proofs.check_tree.+check.Goals as goal
 
@@ -37,12 +37,12 @@ check_child-check_below-requires t c =
 
 pub check_below-prove-unreachable-requires : goal.check_below-prove-unreachable-requires
 check_below-prove-unreachable-requires t c =
-    omega (arith, few_children c.args.matrix.now (tree_of c.args.node.now) c.requires.stands, c.child_count-count.ensures, c.rows.ensures.rows, c.columns.ensures.columns, c.rows.ensures.shape.height_in, c.rows.ensures.shape.width_in)
+    omega (arith, few_children c.args.matrix.now (tree_of c.args.node.now) c.requires.valid, c.child_count-count.ensures, c.rows.ensures.rows, c.columns.ensures.columns, c.rows.ensures.shape.height_in, c.rows.ensures.shape.width_in)
 
 pub check_below-loop-number-init : goal.check_below-loop-number-init
 check_below-loop-number-init t c =
     let node = c.args.node.now in
-    all_left c.args.matrix.now c.args.pivoted c.args.path.now (tree_of node) (no_pivot node c.in_default.not-Pivoted) c.requires.stands
+    all_left c.args.matrix.now c.args.pivoted c.args.path.now (tree_of node) (no_pivot node c.in_default.not-Pivoted) c.requires.valid
 
 pub check_below-check_child-requires : goal.check_below-check_child-requires
 check_below-check_child-requires t c =
@@ -50,7 +50,7 @@ check_below-check_child-requires t c =
     let tree = tree_of c.args.node.now in
     let trees = children_of tree in (
       omega (arith, c.decreases, c.child-child.ensures.fewer),
-      left_stands c.args.matrix.now c.args.pivoted c.args.path.now tree number (tree_of c.child-child.result.now) (drop number trees) (drop (number + 1) trees) c.child-child.ensures.rest c.loop-number.invariant,
+      left_valid c.args.matrix.now c.args.pivoted c.args.path.now tree number (tree_of c.child-child.result.now) (drop number trees) (drop (number + 1) trees) c.child-child.ensures.rest c.loop-number.invariant,
     )
 
 pub check_below-returns-in-Some : goal.check_below-returns-in-Some
@@ -89,16 +89,16 @@ check_below-check_pivoted-requires t c =
     let node = c.args.node.now in
     let place = c.in-Pivoted.place in
     let child = c.in-Pivoted.child in
-    let own = own_pivot here node place child c.in-Pivoted.is c.requires.stands c.requires.own in (
+    let own = own_pivot here node place child c.in-Pivoted.is c.requires.valid c.requires.own in (
       omega (arith, c.decreases, ap node_count (pivoted_is node place child c.in-Pivoted.is), ap (λ n. node_count (tree_of n)) c.deref.ensures),
       (
-        own_lines here node c.requires.stands,
+        own_lines here node c.requires.valid,
         (
           own.0,
           (
             own.1,
-            subst (λ node'. Stands here (tree_of node')) (sym c.deref.ensures)
-                (first_stands here node.lines (Pivoted place) (tree_of child.value) NoTrees (subst (Stands here) (pivoted_is node place child c.in-Pivoted.is) c.requires.stands)),
+            subst (λ node'. IsValidNode here (tree_of node')) (sym c.deref.ensures)
+                (first_valid here node.lines (Pivoted place) (tree_of child.value) NoTrees (subst (IsValidNode here) (pivoted_is node place child c.in-Pivoted.is) c.requires.valid)),
           ),
         ),
       ),
@@ -110,7 +110,7 @@ check_pivoted-check_child-requires t c =
     let lines = c.args.parent.now.lines in
     let child = tree_of c.args.child.now in
     let made = subst (IsPivotedPart here lines c.args.place) c.in-Ternary.is c.in_ok-after.ensures in
-    (omega (arith, c.decreases), subst (λ after. Stands after child) (sym made.is) (stands_pivoted here lines c.args.place child c.requires.stands))
+    (omega (arith, c.decreases), subst (λ after. IsValidNode after child) (sym made.is) (valid_pivoted here lines c.args.place child c.requires.valid))
 
 pub check_below-returns-in-Pivoted : goal.check_below-returns-in-Pivoted
 check_below-returns-in-Pivoted t c =

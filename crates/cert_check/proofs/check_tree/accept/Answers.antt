@@ -3,7 +3,7 @@ use Rattle.tree_type.specs.declared.refusal.Rule.TheVariants as rule
 use Rattle.tree_type.specs.DecompositionTrees.{tree_of}
 use Rattle.tree_type.specs.Places.{AllLines, places}
 use Rattle.tree_type.specs.Soundness.{IsFirstBroken}
-use Rattle.cert_check.specs.Answers.{Answers, AnswersOn, AnswersBelow, IsRuleAt, KeepsOwn, Stands, nodes_below}
+use Rattle.cert_check.specs.Answers.{Answers, AnswersOn, AnswersBelow, IsRuleAt, KeepsOwn, IsValidNode, nodes_below}
 use Rattle.cert_check.proofs.Answering.{broken_here, answers_below, if_ok, itself, root_stands, whole_answer}
 use Rattle.cert_check.proofs.check_tree.accept.Goals as goal
 
@@ -27,12 +27,12 @@ returns-in-None c =
     (subst (λ node. AnswersOn m (nodes_below c.new-path.result [] (tree_of node)) answer) c.root.ensures.root (h m [] (itself m))))))
     c.check_below.result c.check_below.ensures
 
-pub check_below-requires-clause-stands : goal.check_below-requires-clause-stands
-check_below-requires-clause-stands c =
+pub check_below-requires-clause-valid : goal.check_below-requires-clause-valid
+check_below-requires-clause-valid c =
     let m = c.args.matrix.now in
     let tree = tree_of c.args.tree.now.root in
     let kept = (subst (IsRuleAt m false (AllLines c.args.tree.now.rows c.args.tree.now.columns) tree) c.in-None.is c.in_ok-rule.ensures.rule) m [] [] (itself m) rule.Size in
-    subst (λ node. Stands m (tree_of node)) (sym c.root.ensures.root) (root_stands m c.args.tree.now.rows c.args.tree.now.columns tree c.root.ensures.tree kept.0 kept.1)
+    subst (λ node. IsValidNode m (tree_of node)) (sym c.root.ensures.root) (root_stands m c.args.tree.now.rows c.args.tree.now.columns tree c.root.ensures.tree kept.0 kept.1)
 
 pub check_below-requires-clause-own : goal.check_below-requires-clause-own
 check_below-requires-clause-own c =

@@ -4,7 +4,7 @@ use Rattle.cmr_base.specs.LineSets.{first_lines}
 use Rattle.tree_type.specs.DecompositionTrees.{tree_of, finding_of}
 use Rattle.tree_type.specs.Places.{AllLines}
 use Rattle.tree_type.specs.Soundness.{HasItsLines}
-use Rattle.cert_check.specs.Answers.{IsOwnRule, IsRuleAt, KeepsOwn, Stands}
+use Rattle.cert_check.specs.Answers.{IsOwnRule, IsRuleAt, KeepsOwn, IsValidNode}
 use Rattle.cert_check.proofs.Answering.{if_ok, root_stands, root_sizes, root_may, other_sizes, own_rule_at, own_is_kept, lines_at, lines_is}
 use Rattle.cert_check.proofs.check_tree.root_rule.Goals as goal
 
@@ -51,4 +51,4 @@ pub own_rule-requires : goal.own_rule-requires
 own_rule-requires c =
     let e = sym c.rows.ensures ∙ c.if-rows.false ∙ c.rows-2.ensures.rows in
     let f = sym c.columns.ensures ∙ c.if-columns.false ∙ c.columns-2.ensures.columns in
-    subst (λ node. Stands c.args.matrix.now (tree_of node)) (sym c.root-root.ensures.root) (root_stands c.args.matrix.now c.args.tree.now.rows c.args.tree.now.columns (tree_of c.args.tree.now.root) c.root-root.ensures.tree e f)
+    subst (λ node. IsValidNode c.args.matrix.now (tree_of node)) (sym c.root-root.ensures.root) (root_stands c.args.matrix.now c.args.tree.now.rows c.args.tree.now.columns (tree_of c.args.tree.now.root) c.root-root.ensures.tree e f)

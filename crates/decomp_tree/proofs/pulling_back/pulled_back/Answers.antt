@@ -10,7 +10,7 @@ use Rattle.tree_type.specs.DecompositionTrees.{Tree, Branch, NoTrees, Pivoted, o
 use Rattle.tree_type.specs.Findings.{finding_shown}
 use Rattle.tree_type.specs.Invariant.{HasChildren}
 use Rattle.tree_type.specs.Verdicts.{Verdict, No, Open, Yes, verdict_of}
-use Rattle.decomp_tree.specs.PivotedShapes.{IsToldBeforePivot, SaysBeforePivot}
+use Rattle.decomp_tree.specs.PivotedShapes.{IsMappedBack, SaysBeforePivot}
 use Rattle.decomp_tree.proofs.pulling_back.pulled_back.Goals as goal
 
 none_said : {finding : Held} → None ≡ Some finding → ⊥
@@ -20,14 +20,14 @@ some_said : {finding : Held} → Some finding ≡ None → ⊥
 some_said e = cc
 
 -- a node above the tree, where nothing else is said
-told_above : (m : Matrix) (lines : LineSet) (place : PlacedPivot) (after tree : Tree) (verdict : Verdict) → SaysBeforePivot m place verdict None → tree ≡ Branch lines (Pivoted place) (one_tree after) → IsToldBeforePivot m lines place after verdict tree
-told_above m lines place after tree Yes says e = e
-told_above m lines place after tree (No fault) says e = absurd (none_said says.2)
-told_above m lines place after tree (Open left) says e = absurd (none_said says)
+mapped_above : (m : Matrix) (lines : LineSet) (place : PlacedPivot) (after tree : Tree) (verdict : Verdict) → SaysBeforePivot m place verdict None → tree ≡ Branch lines (Pivoted place) (one_tree after) → IsMappedBack m lines place after verdict tree
+mapped_above m lines place after tree Yes says e = e
+mapped_above m lines place after tree (No fault) says e = absurd (none_said says.2)
+mapped_above m lines place after tree (Open left) says e = absurd (none_said says)
 
 -- a leaf that says what is said
 told_by_leaf : (m : Matrix) (lines : LineSet) (place : PlacedPivot) (after tree : Tree) (verdict : Verdict) (finding : Held) → SaysBeforePivot m place verdict (Some finding) → tree ≡ Branch lines (finding_shown finding) NoTrees
-    → IsToldBeforePivot m lines place after verdict tree
+    → IsMappedBack m lines place after verdict tree
 told_by_leaf m lines place after tree Yes finding says e = absurd (some_said says)
 told_by_leaf m lines place after tree (No fault) finding says e =
     (says.0, says.1, e ∙ ap (λ (f : Held). Branch lines (finding_shown f) NoTrees) (some_same finding (held.Violator says.0) says.2))
@@ -58,4 +58,4 @@ returns-in-None c =
     let lines = c.args.lines.now in
     let after = tree_of c.args.after in
     let said = subst (SaysBeforePivot m c.args.place (verdict_of after)) c.in-None.is c.in_ok-finding.ensures in
-    IfOk-weaker c.above.result (λ node. tree_of node ≡ Branch lines (Pivoted c.args.place) (one_tree after)) _ (λ node e. told_above m lines c.args.place after (tree_of node) (verdict_of after) said e) c.above.ensures
+    IfOk-weaker c.above.result (λ node. tree_of node ≡ Branch lines (Pivoted c.args.place) (one_tree after)) _ (λ node e. mapped_above m lines c.args.place after (tree_of node) (verdict_of after) said e) c.above.ensures

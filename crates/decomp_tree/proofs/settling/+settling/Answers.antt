@@ -17,7 +17,7 @@ use Rattle.tree_type.specs.declared.tree.Node.{Node}
 use Rattle.decomp_tree.specs.declared.drafts.Draft.{Draft}
 use Rattle.decomp_tree.specs.declared.drafts.Draft.TheViews.{out-roll-Draft}
 use Rattle.decomp_tree.specs.declared.drafts.Opening.{Opening}
-use Rattle.decomp_tree.specs.PivotedShapes.{HasOneMoreTree, IsDrawnWith, IsFound, IsToldBeforePivot, undecided}
+use Rattle.decomp_tree.specs.PivotedShapes.{HasOneMoreTree, IsDrawnWith, IsFound, IsMappedBack, undecided}
 use Rattle.decomp_tree.specs.Refined.{is_undecided}
 use Rattle.decomp_tree.specs.Seen.{HasNoneAmong, IsNamedFault, is_unsearched}
 use Rattle.decomp_tree.specs.Sketches.{sketch_of, lines_of_sketch, opening_in, drafts_in, HasNoLateFault}
@@ -35,12 +35,12 @@ only_root [] root tree e = cc
 only_root (x ∷ []) root tree e = absurd (cc)
 only_root (x ∷ y ∷ others) root tree e = absurd (cc)
 
--- a tree that stands behind none is that of the last node
-only_one_more : (Stands : Tree → Type 0) (others : List Node) (root : Node) → HasOneMoreTree Stands [] (map tree_of (others ++ root ∷ [])) → Stands (tree_of root)
-only_one_more Stands others root b = subst Stands (sym (only_root others root b.tree b.order)) b.stands
+-- if there were no trees before, the tree is that of the last node
+only_one_more : (IsTree : Tree → Type 0) (others : List Node) (root : Node) → HasOneMoreTree IsTree [] (map tree_of (others ++ root ∷ [])) → IsTree (tree_of root)
+only_one_more IsTree others root b = subst IsTree (sym (only_root others root b.tree b.order)) b.is_tree
 
-some_one_more : (Stands : Tree → Type 0) (nodes : List Node) → HasOneMoreTree Stands [] (map tree_of nodes) → length nodes ≡ 0 → ⊥
-some_one_more Stands nodes b none = let one = sym (length-map nodes tree_of) ∙ ap length b.order in omega (arith, one, none)
+some_one_more : (IsTree : Tree → Type 0) (nodes : List Node) → HasOneMoreTree IsTree [] (map tree_of nodes) → length nodes ≡ 0 → ⊥
+some_one_more IsTree nodes b none = let one = sym (length-map nodes tree_of) ∙ ap length b.order in omega (arith, one, none)
 
 pub draw_root-settle-requires : goal.draw_root-settle-requires
 draw_root-settle-requires g t c =
@@ -70,15 +70,15 @@ draw_root-settle-requires g t c =
 
 pub draw_root-unreachable-requires : goal.draw_root-unreachable-requires
 draw_root-unreachable-requires g t c =
-    let Stands = IsDrawnWith c.args.limits.lines c.args.pivots c.args.state c.of-both.result (lines_of_sketch (sketch_of c.in_ok-drawn.drawn)) in
-    let behind = subst (λ (nodes : List Node). HasOneMoreTree Stands (map tree_of nodes) (map tree_of c.settle.new.nodes.items)) c.new-roots.ensures.items c.in_ok-settle.ensures in
-    some_one_more Stands c.settle.new.nodes.items behind (let z = c.in_default.ensures.cases.0 in let k = c.settle.new.nodes.ok in omega (arith, k, z))
+    let IsTree = IsDrawnWith c.args.limits.lines c.args.pivots c.args.state c.of-both.result (lines_of_sketch (sketch_of c.in_ok-drawn.drawn)) in
+    let more = subst (λ (nodes : List Node). HasOneMoreTree IsTree (map tree_of nodes) (map tree_of c.settle.new.nodes.items)) c.new-roots.ensures.items c.in_ok-settle.ensures in
+    some_one_more IsTree c.settle.new.nodes.items more (let z = c.in_default.ensures.cases.0 in let k = c.settle.new.nodes.ok in omega (arith, k, z))
 
 pub draw_root-returns : goal.draw_root-returns
 draw_root-returns g t c =
-    let Stands = IsDrawnWith c.args.limits.lines c.args.pivots c.args.state c.of-both.result (lines_of_sketch (sketch_of c.in_ok-drawn.drawn)) in
-    let behind = subst (λ (nodes : List Node). HasOneMoreTree Stands (map tree_of nodes) (map tree_of c.settle.new.nodes.items)) c.new-roots.ensures.items c.in_ok-settle.ensures in
-    let only = only_one_more Stands c.pop.new.self.items c.in-Some.root (subst (λ (nodes : List Node). HasOneMoreTree Stands [] (map tree_of nodes)) c.in-Some.ensures.items behind) in
+    let IsTree = IsDrawnWith c.args.limits.lines c.args.pivots c.args.state c.of-both.result (lines_of_sketch (sketch_of c.in_ok-drawn.drawn)) in
+    let more = subst (λ (nodes : List Node). HasOneMoreTree IsTree (map tree_of nodes) (map tree_of c.settle.new.nodes.items)) c.new-roots.ensures.items c.in_ok-settle.ensures in
+    let only = only_one_more IsTree c.pop.new.self.items c.in-Some.root (subst (λ (nodes : List Node). HasOneMoreTree IsTree [] (map tree_of nodes)) c.in-Some.ensures.items more) in
     subst (λ (m : Matrix). IsDrawnWith c.args.limits.lines c.args.pivots c.args.state m c.args.lines.now (tree_of c.in-Some.root)) c.of-both.ensures
     (subst (λ (lines : LineSet). IsDrawnWith c.args.limits.lines c.args.pivots c.args.state c.of-both.result lines (tree_of c.in-Some.root)) c.in_ok-drawn.ensures.lines only)
 
@@ -147,13 +147,13 @@ find-returns-in_ok-tree-in-Ternary g t c =
     let made = subst (IsPivotedPart m lines c.in-Some.chosen.place) c.in-Ternary.is c.in_ok-fault.ensures in
     let at = choice_is m lines c.args.state c.in_ok-chosen.field-0 (Some c.in-Some.chosen) c.in-Some.is c.in_ok-chosen.ensures.place in
     let found = tree_of c.in_ok-tree-in-Ternary.tree in
-    IfOk-weaker c.pulled_back.result (λ node. IsToldBeforePivot m lines c.in-Some.chosen.place found (verdict_of found) (tree_of node)) _
-    (λ node told. found_after c.args.limits.lines c.args.pivots c.args.state m lines c.in-Some.chosen at (tree_of node) found c.in-Ternary.after c.if-pivots-eq0.false made c.in_ok-tree-in-Ternary.ensures told)
+    IfOk-weaker c.pulled_back.result (λ node. IsMappedBack m lines c.in-Some.chosen.place found (verdict_of found) (tree_of node)) _
+    (λ node mapped. found_after c.args.limits.lines c.args.pivots c.args.state m lines c.in-Some.chosen at (tree_of node) found c.in-Ternary.after c.if-pivots-eq0.false made c.in_ok-tree-in-Ternary.ensures mapped)
     c.pulled_back.ensures
 
 -- ---- a draft that is settled
 
--- this child stands among the children
+-- this child is among the children
 next_child : (yielded : List Draft) (child : Draft) (left rest all items : List Draft) → left ≡ child ∷ rest → yielded ++ left ≡ all → all ≡ items → yielded ++ child ∷ rest ≡ items
 next_child yielded child left rest all items e f g = ap (λ (some : List Draft). yielded ++ some) (sym e) ∙ f ∙ g
 
@@ -161,9 +161,9 @@ next_child yielded child left rest all items e f g = ap (λ (some : List Draft).
 all_yielded : (yielded left all items : List Draft) → length left ≡ 0 → yielded ++ left ≡ all → all ≡ items → yielded ≡ items
 all_yielded yielded left all items e f g = sym (append-nil yielded) ∙ ap (λ (some : List Draft). yielded ++ some) (sym (no_items left e)) ∙ f ∙ g
 
--- a node behind others, by their trees
-tree_behind : (before after : List Node) (node : Node) → after ≡ before ++ node ∷ [] → map tree_of after ≡ map tree_of before ++ tree_of node ∷ []
-tree_behind before after node e = ap (map tree_of) e ∙ map-append tree_of before (node ∷ [])
+-- one more node, by the trees of the nodes
+one_more_node : (before after : List Node) (node : Node) → after ≡ before ++ node ∷ [] → map tree_of after ≡ map tree_of before ++ tree_of node ∷ []
+one_more_node before after node e = ap (map tree_of) e ∙ map-append tree_of before (node ∷ [])
 
 pub settle-returns-in-Some : goal.settle-returns-in-Some
 settle-returns-in-Some g t c =
@@ -180,7 +180,7 @@ settle-returns-then-is_undecided g t c =
     (subst (λ (opening : Opening). is_undecided (finding_shown opening.finding) ≡ true) c.deref-3.ensures (sym c.is_undecided.ensures ∙ c.if-is_undecided.true)) (tree_of c.in_ok-found.found)
     (subst (λ (opening : Opening). IsFound c.args.limits.lines c.args.pivots c.args.state m opening.lines (tree_of c.in_ok-found.found)) c.deref-then-is_undecided.ensures
     (subst (λ (whole : Matrix). IsFound c.args.limits.lines c.args.pivots c.args.state whole c.deref-then-is_undecided.result.now.lines (tree_of c.in_ok-found.found)) c.by_rows-whole.ensures.matrix c.in_ok-found.ensures))
-    (map tree_of c.args.nodes.now.items) (map tree_of c.push.new.self.items) (tree_behind c.args.nodes.now.items c.push.new.self.items c.in_ok-found.found c.in_ok-push.ensures.items)
+    (map tree_of c.args.nodes.now.items) (map tree_of c.push.new.self.items) (one_more_node c.args.nodes.now.items c.push.new.self.items c.in_ok-found.found c.in_ok-push.ensures.items)
 
 pub settle-late_fault-requires-clause-lines : goal.settle-late_fault-requires-clause-lines
 settle-late_fault-requires-clause-lines g t c =

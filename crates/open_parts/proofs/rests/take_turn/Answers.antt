@@ -19,17 +19,12 @@ part-requires-clause-columns g c =
     let m = c.args.search.now.matrix.now in
     subst (λ (rest : LineSet). AllBelow m.width rest.columns) (sym c.in_ok-rest.ensures) (rest_lines m c.args.kept c.args.line c.requires).columns.in_range
 
-pub named_set-requires-clause-rows : goal.named_set-requires-clause-rows
-named_set-requires-clause-rows g c =
+pub named_set-requires : goal.named_set-requires
+named_set-requires g c =
     let search = c.args.search.now in
     let says : No c.in-No.fault.now ≡ verdict_of (tree_of c.in_ok-tree.tree.root) = sym (ap verdict_shown c.in-No.is) ∙ c.verdict.ensures in
-    (turn_placed search.limit search.matrix.now c.args.kept c.in_ok-rest.rest c.args.line c.in_ok-rest.ensures c.in_ok-part.part c.in_ok-part.ensures (tree_of c.in_ok-tree.tree.root) c.in_ok-tree.ensures.shape search.shape c.requires c.in-No.fault.now says).rows
-
-pub named_set-requires-clause-columns : goal.named_set-requires-clause-columns
-named_set-requires-clause-columns g c =
-    let search = c.args.search.now in
-    let says : No c.in-No.fault.now ≡ verdict_of (tree_of c.in_ok-tree.tree.root) = sym (ap verdict_shown c.in-No.is) ∙ c.verdict.ensures in
-    (turn_placed search.limit search.matrix.now c.args.kept c.in_ok-rest.rest c.args.line c.in_ok-rest.ensures c.in_ok-part.part c.in_ok-part.ensures (tree_of c.in_ok-tree.tree.root) c.in_ok-tree.ensures.shape search.shape c.requires c.in-No.fault.now says).columns
+    let placed = turn_placed search.limit search.matrix.now c.args.kept c.in_ok-rest.rest c.args.line c.in_ok-rest.ensures c.in_ok-part.part c.in_ok-part.ensures (tree_of c.in_ok-tree.tree.root) c.in_ok-tree.ensures.shape search.shape c.requires c.in-No.fault.now says in
+    record { rows = placed.rows; columns = placed.columns }
 
 pub returns-in-Yes : goal.returns-in-Yes
 returns-in-Yes g c =

@@ -2,7 +2,7 @@ use Rattle.std.proofs.Common.{Option, IfSome, subst}
 use Rattle.cmr_base.specs.declared.line_set.LineSet.{LineSet}
 use Rattle.decomp_tree.specs.Obstructions.{IsObstruction}
 use Rattle.decomp_tree.proofs.NoNetworks.{no_network_with, within_all}
-use Rattle.decomp_tree.proofs.obstructions.Obstruction.stands_in.Goals as goal
+use Rattle.decomp_tree.proofs.obstructions.Obstruction.is_within.Goals as goal
 
 pub returns-in-Some : goal.returns-in-Some
 returns-in-Some c all =
