@@ -7,12 +7,13 @@ use Rattle.std.proofs.lemmas.Nat.Bits.{bit_at-lt}
 use Rattle.std.proofs.Common.{get_or-set_same, get_or-set_other}
 use Rattle.std.proofs.lemmas.List.{length-replicate}
 use Rattle.cmr_base.proofs.Lists.{get_or-replicated}
-use Rattle.cmr_base.specs.Matrix.{Matrix, height, entry, row_of, is_nonzero, IsMatrix}
+use Rattle.cmr_base.specs.Matrix.{Matrix, height, entry, row_of, is_nonzero, transposed, IsMatrix}
 use Rattle.cmr_base.specs.Planes.{has_bit, words_for, words_of}
 use Rattle.cmr_base.specs.ColumnSets.{has_column}
 use Rattle.cmr_base.proofs.Booleans.{and_is, and_not, nonzero_is, not_both, not_is, true_is, true_is_false, zero_is}
-use Rattle.cmr_base.proofs.ColumnWords.{column_at, words_columns}
+use Rattle.cmr_base.proofs.ColumnWords.{column_at, words_columns, words_long}
 use Rattle.cmr_base.proofs.NextNonzeros.{column_in}
+use Rattle.cmr_base.proofs.Parts.{entry-transposed, height-transposed, is_matrix-transposed}
 use Rattle.cmr_base.proofs.FirstBits.{first_by_bits, none_by_bits}
 use Rattle.camion_sign.specs.Walks.{AreInStep, is_fresh, place_in}
 
@@ -66,6 +67,28 @@ module _ (m : Matrix) (row : ℕ) (words places reached : List ℕ) (is : words 
   pub not_fresh : (x : ℕ) → is_fresh words reached x ≡ false → entry m row x ≢ pos 0 → place_in places x < 4294967295
   not_fresh x h n =
       step.has x (and_not (has_column words x) (has_column reached x) h (words_columns m row words is shape tall x ∙ true_is (is_nonzero (entry m row x)) (λ f. n (zero_is (entry m row x) f))))
+
+-- ---- the words of a column
+
+module _ (b m : Matrix) (column : ℕ) (words used : List ℕ) (e : b ≡ transposed m) (is : words ≡ words_of (words_for b.width) is_nonzero (row_of b column)) where
+  -- the words of a column are the words of a row of the transposed matrix
+  words_are : words ≡ words_of (words_for (transposed m).width) is_nonzero (row_of (transposed m) column)
+  words_are = subst (λ (x : Matrix). words ≡ words_of (words_for x.width) is_nonzero (row_of x column)) e is
+
+  pub column_long : length words ≡ words_for (height m)
+  column_long = words_long (transposed m) column words words_are
+
+  module _ (shape : IsMatrix m) (wide : column < m.width) where
+    rows_are : (r : ℕ) → has_column words r ≡ is_nonzero (entry m r column)
+    rows_are r =
+        words_columns (transposed m) column words words_are (is_matrix-transposed m shape) (subst (λ (n : ℕ). column < n) (sym (height-transposed m)) wide) r ∙ ap is_nonzero (entry-transposed m r column shape)
+
+    -- an unused row of the column meets it
+    pub unused_meets : (r : ℕ) → is_fresh words used r ≡ true → entry m r column ≢ pos 0
+    unused_meets r h = nonzero_is (entry m r column) (sym (rows_are r) ∙ (and_is (has_column words r) (not (has_column used r)) h).0)
+
+    pub used_if_meets : (r : ℕ) → is_fresh words used r ≡ false → entry m r column ≢ pos 0 → has_column used r ≡ true
+    used_if_meets r h n = and_not (has_column words r) (has_column used r) h (rows_are r ∙ true_is (is_nonzero (entry m r column)) (λ f. n (zero_is (entry m r column) f)))
 
 -- ---- the set of reached columns
 

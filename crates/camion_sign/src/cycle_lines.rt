@@ -7,7 +7,8 @@ ghost use Rattle.cmr_base.specs.Violator.{IsViolator};
 ghost use Rattle.camion_sign.specs.FaultLines.{IsBuilt, IsLeastFrom, within};
 ghost use Rattle.network_orient.specs.FirstRows.{HasNoFaultBefore};
 
-use crate::fault::{first_fault, passed_rows};
+use crate::fault::first_fault;
+use crate::network_rows::passed_rows;
 use cmr_base::{Indices, LineSet, Matrix, Memory, RowsAndColumns};
 use std::alloc::Global;
 

@@ -36,3 +36,6 @@ loop-last-preserved c =
           let zero : entry m t last ≡ pos 0 = sym c.entry.ensures.value ∙ zero_byte c.entry.result c.entry.ensures.small w.if-entry-ne0.false in
           subst State (sym w.links-is) (before.0, note_zero m links t x last before.0 before.1 zero, before.2)
     ]
+
+pub returns-clause-tells : goal.returns-clause-tells
+returns-clause-tells c d order wide one = c.loop-last.invariant.1 d order (omega (arith, wide, c.loop-last-test.false, c.columns-last-end.ensures.columns)) one
