@@ -19,8 +19,8 @@ use Rattle.camion_sign.specs.Walks.{AreInStep, is_fresh, place_in}
 
 module _ (one two reached : List ℕ) (from column word : ℕ) (same : two ≡ reached) (fits : word < 2 ^ 64)
     (bits : (k : ℕ) → k < 64 → has_bit word k ≡ (has_bit (get_or one (column / 64) 0) k && not (has_bit (get_or two (column / 64) 0) k))) where
-  tells : (i : ℕ) → i < 64 → bit_at word i ≡ cond (is_fresh one reached (64 * (column / 64) + i)) 1 0
-  tells i small =
+  bits_are : (i : ℕ) → i < 64 → bit_at word i ≡ cond (is_fresh one reached (64 * (column / 64) + i)) 1 0
+  bits_are i small =
       bit_of (bit_at word i) (bit_at-lt word i) ∙ ap (λ t. cond t 1 0) (bits i small ∙ ap₂ (λ a b. a && not b) (sym (column_at one (column / 64) i small)) (sym (column_at two (column / 64) i small)
       ∙ ap (λ set. has_column set (64 * (column / 64) + i)) same))
     where
@@ -34,7 +34,7 @@ module _ (one two reached : List ℕ) (from column word : ℕ) (same : two ≡ r
       × ((x : ℕ) → from ≤ x → x < column + trailing_zeros w64 (word / 2 ^ (column % 64)) → is_fresh one reached x ≡ false)
   fresh_found low none some =
       let less = div-le_self word (2 ^ (column % 64)) in
-      let first = first_by_bits (is_fresh one reached) column word fits tells some (omega (arith, fits, less)) in (
+      let first = first_by_bits (is_fresh one reached) column word fits bits_are some (omega (arith, fits, less)) in (
         omega arith,
         first.0,
         λ x l h. elim (cases_lt x column) [ inl before ↦ none x l before | inr after ↦ first.1 x after h ],
@@ -43,7 +43,7 @@ module _ (one two reached : List ℕ) (from column word : ℕ) (same : two ≡ r
   pub fresh_skips : ((x : ℕ) → from ≤ x → x < column → is_fresh one reached x ≡ false) → word / 2 ^ (column % 64) ≡ 0 → (x : ℕ) → from ≤ x → x < column - column % 64 + 64 → is_fresh one reached x ≡ false
   fresh_skips none empty x l h = elim (cases_lt x column) [
     | inl before ↦ none x l before
-    | inr after ↦ none_by_bits (is_fresh one reached) column word fits tells empty x after h
+    | inr after ↦ none_by_bits (is_fresh one reached) column word fits bits_are empty x after h
   ]
 
 -- ---- the words of a row

@@ -1,6 +1,6 @@
 -- Faults of the first rows, and of the matrix of these rows.
 use Rattle.std.specs.Prelude.{IfOk}
-use Rattle.std.proofs.Common.{Option, Some, None, MatchOption, Result, Ok, Err, ◌≡◌, ◌≢◌, ◌<◌, ◌≤◌, ◌∙◌, ℕ, ℤ, pos, List, [], ◌∷◌, length, map, get_or, inl, inr, sym, ap, ap₂, subst, arith}
+use Rattle.std.proofs.Common.{Option, Some, None, MatchOption, Result, Ok, Err, ◌≡◌, ◌<◌, ◌≤◌, ◌∙◌, ℕ, ℤ, pos, List, [], ◌∷◌, length, map, get_or, inl, inr, sym, ap, ap₂, subst, arith}
 use Rattle.std.specs.List.{AllByRecursion}
 use Rattle.std.proofs.lemmas.Bool.{cases_lt}
 use Rattle.std.proofs.lemmas.List.{get_or-map, get_or_past, length-map}

@@ -332,13 +332,6 @@ untouched m t x rows nonzeros (inr h) r early n = later (nonzeros.all r n)
     later (zero, l, e) = omega arith
     later (suc k, l, e) = let d = nonzeros.increasing 0 (suc k) (omega arith) l in omega arith
 
-pub one_more_settled : (m : Matrix) (t c from x : ℕ) (places : List ℕ) → ((d : ℕ) → from ≤ d → d < x → entry m t d ≢ pos 0 → (place_in places d ≢ 4294967295) ⊎ IsUntouched m t d)
-    → (entry m t x ≢ pos 0 → (place_in places x ≢ 4294967295) ⊎ IsUntouched m t x) → (d : ℕ) → from ≤ d → d < x + 1 → entry m t d ≢ pos 0 → (place_in places d ≢ 4294967295) ⊎ IsUntouched m t d
-one_more_settled m t c from x places before here d a b n = elim (cases_lt d x) [
-  | inl lt ↦ before d a lt n
-  | inr ge ↦ let q : x ≡ d = omega arith in subst (λ (y : ℕ). entry m t y ≢ pos 0 → (place_in places y ≢ 4294967295) ⊎ IsUntouched m t y) q here n
-]
-
 -- ---- the whole walk
 
 pub begin_walk : (m : Matrix) (t c : ℕ) (walk walk2 : Walk) → HasPlacesAndMarks m walk → c < m.width → walk2.steps.items ≡ record { column = c; row = 0; before = 0; is_two = false } ∷ []

@@ -14,8 +14,8 @@ use std::alloc::Global;
 
 /// The cycle of the first cycle place whose sum is 2 modulo 4, and `None` if and only if there is no such place. Places are
 /// ordered by their row, first column and last column. The cycle is a violator in the sense of Camion: each of its lines has
-/// two nonzeros in it. The time is at most one walk through the earlier rows for each nonzero, and in rows with many nonzeros
-/// one comparison with each earlier row.
+/// two nonzeros in it. The time is at most one walk through the earlier rows for each nonzero, in rows with many nonzeros one
+/// comparison with each earlier row, and some searches for a tree of first rows.
 pub fn cycle_fault(alloc: Global, matrix: &Matrix) -> Result<Option<LineSet>, Memory>
     ensures fault { IfOk result (λ found. MatchOption found (HasNoCycleFault (entry matrix.now))
         (λ lines. IsCycleFault matrix.now lines.rows lines.columns)) }

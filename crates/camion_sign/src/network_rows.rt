@@ -25,11 +25,7 @@ pub fn passed_rows(alloc: Global, matrix: &RowsAndColumns<'_>) -> Result<u32, Me
 
 /// The same if the whole matrix has no tree, from a number of first rows on that have no fault. A prefix of the rows is halved
 /// until it has a tree.
-pub fn passed_prefix(
-    alloc: Global,
-    matrix: &RowsAndColumns<'_>,
-    first: u32,
-) -> Result<u32, Memory>
+pub fn passed_prefix(alloc: Global, matrix: &RowsAndColumns<'_>, first: u32) -> Result<u32, Memory>
     requires { HasNoFaultBefore matrix.now first }
     ensures { IfOk result (HasNoFaultBefore matrix.now) }
 {

@@ -122,13 +122,12 @@ fn first_waiting(matrix: &ListedMatrix<'_>, walk: &Walk, start: Start, from: u32
     ensures waits { (d : ℕ) → from ≤ d → d < result → entry matrix.now start.row d ≢ pos 0
         → (place_in walk.now.places.items d ≢ UNREACHED) ⊎ IsUntouched matrix.now start.row d }
 {
-    for column in from..matrix.columns() {
-        if matrix.entry(start.row, column) != 0
-            && !walk.has_reached(column)
-            && is_touched(matrix, start.row, column)
-        {
+    let mut low = from;
+    while let Some(column) = matrix.by_rows().next_nonzero(start.row, low) {
+        if !walk.has_reached(column) && is_touched(matrix, start.row, column) {
             return column;
         }
+        low = column + 1;
     }
     matrix.columns()
 }

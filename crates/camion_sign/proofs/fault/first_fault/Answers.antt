@@ -1,4 +1,4 @@
-use Rattle.std.proofs.Common.{◌≡◌, ◌<◌, sym, subst, arith}
+use Rattle.std.proofs.Common.{sym, subst, arith}
 use Rattle.cmr_base.specs.Matrix.{Matrix}
 use Rattle.ghouila.proofs.SignsUnique.{row_in}
 use Rattle.network_orient.specs.FirstRows.{HasNoFaultBefore}

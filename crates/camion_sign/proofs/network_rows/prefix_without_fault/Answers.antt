@@ -1,5 +1,5 @@
-use Rattle.std.proofs.Common.{◌≡◌, ◌≤◌, ◌∙◌, ℕ, List, ap, ap₂, sym, subst, arith}
-use Rattle.cmr_base.specs.Matrix.{Matrix, height, IsMatrix}
+use Rattle.std.proofs.Common.{◌≡◌, ◌≤◌, ◌∙◌, ap, ap₂, subst, arith}
+use Rattle.cmr_base.specs.Matrix.{Matrix, height}
 use Rattle.cmr_base.specs.LineSets.{first_lines, submatrix}
 use Rattle.network_orient.specs.FirstRows.{HasNoFaultBefore}
 use Rattle.camion_sign.proofs.PrefixFaults.{first_below, passed_in}
@@ -25,7 +25,7 @@ returns-clause-passed c =
     let m = c.args.matrix.now in
     let columns : c.in_ok-lines.lines.columns ≡ first_lines m.width = c.in_ok-lines.ensures.columns ∙ ap first_lines c.columns.ensures.columns in
     let prefix : c.of.result ≡ submatrix m (first_lines c.args.rows) (first_lines m.width) =
-        c.of.ensures ∙ c.in_ok-prefix.ensures ∙ ap (λ (x : Matrix). submatrix x c.in_ok-lines.lines.rows c.in_ok-lines.lines.columns) c.by_rows.ensures.matrix ∙ ap₂ (submatrix m) c.in_ok-lines.ensures.rows columns in
+    c.of.ensures ∙ c.in_ok-prefix.ensures ∙ ap (λ (x : Matrix). submatrix x c.in_ok-lines.lines.rows c.in_ok-lines.lines.columns) c.by_rows.ensures.matrix ∙ ap₂ (submatrix m) c.in_ok-lines.ensures.rows columns in
     let less : c.min.result ≤ c.in_ok-passed.passed = omega (arith, c.min.ensures) in
     let within : c.min.result ≤ c.args.rows = omega (arith, c.min.ensures) in
     passed_in m c.columns.ensures.shape c.args.rows c.requires c.in_ok-passed.passed c.min.result (subst (λ (x : Matrix). HasNoFaultBefore x c.in_ok-passed.passed) prefix c.in_ok-passed.ensures) less within

@@ -1,8 +1,6 @@
-use Rattle.std.proofs.Common.{◌≡◌, ◌≢◌, ◌<◌, ◌≤◌, ◌-◌, ◌∙◌, ℕ, ◌+◌, true, false, pos, ap, sym, subst, inl, inr, arith}
-use Rattle.cmr_base.specs.ColumnSets.{has_column}
-use Rattle.cmr_base.specs.Matrix.{Matrix, entry, height, transposed}
+use Rattle.std.proofs.Common.{◌≢◌, ◌<◌, ◌-◌, ◌∙◌, ℕ, ◌+◌, pos, ap, sym, subst, inl, inr, arith}
+use Rattle.cmr_base.specs.Matrix.{entry, height}
 use Rattle.cmr_base.proofs.Parts.{height-transposed}
-use Rattle.camion_sign.specs.Walks.{IsSpreading, step_at}
 use Rattle.camion_sign.proofs.FreshColumns.{column_long, unused_meets, used_if_meets}
 use Rattle.camion_sign.proofs.Steps.{start_rows, walks_from, take_row, end_rows, settle_rows, step_is}
 use Rattle.camion_sign.proofs.reach.reach_rows.Goals as goal

@@ -1,4 +1,4 @@
-use Rattle.std.proofs.Common.{◌≡◌, ◌∙◌, ap}
+use Rattle.std.proofs.Common.{◌∙◌, ap}
 use Rattle.cmr_base.specs.Matrix.{transposed}
 use Rattle.camion_sign.proofs.listed_matrix.ListedMatrix.by_columns.Goals as goal
 

@@ -11,9 +11,9 @@ returns-clause-cycle c =
 
 pub path_to-requires-clause-reached : goal.path_to-requires-clause-reached
 path_to-requires-clause-reached c =
-    let w = c.in_ok-stand_at.ensures.walked in
+    let w = c.in_ok-walk_if_needed.ensures.walked in
     let place = c.requires.place.1 in
-    elim (cases_lt (place_in c.stand_at.new.self.walk.places.items c.args.last) 4294967295) [
+    elim (cases_lt (place_in c.walk_if_needed.new.self.walk.places.items c.args.last) 4294967295) [
       | inl met ↦ met
       | inr over ↦ absurd (w.none c.args.last c.requires.place.0 place.order place.last (let top = w.queue.topped c.args.last in omega arith) place.is_path)
     ]
