@@ -19,3 +19,4 @@ pub mod SignedSteps
 pub mod RegularSignings
 pub mod SignWords
 pub mod NearFaults
+pub mod PrefixFaults

@@ -4,13 +4,14 @@ use Rattle.std.proofs.lemmas.Bool.{cases_lt, cases_eq}
 use Rattle.std.proofs.lemmas.List.{get_or_append_left, get_or_past, length-replicate}
 use Rattle.std.proofs.Math.Seq.{get_or-append_seam}
 use Rattle.cmr_base.specs.Matrix.{Matrix, height, entry, IsMatrix, row_of}
+use Rattle.cmr_base.specs.ColumnSets.{has_column}
 use Rattle.cmr_base.specs.CyclePlaces.{IsPath}
 use Rattle.cmr_base.proofs.Lists.{get_or-replicated, length-more}
 use Rattle.camion_sign.specs.declared.walk.ReachedColumn.{ReachedColumn}
 use Rattle.camion_sign.specs.declared.walk.Walk.{Walk}
 use Rattle.camion_sign.specs.Nonzeros.{AreNonzeros}
 use Rattle.camion_sign.specs.Trails.{IsUpTo}
-use Rattle.camion_sign.specs.Walks.{Progress, IsQueue, Goes, IsMet, IsPrefix, IsSettled, TwoIf, flip, step_at, place_in, progress, AreInStep, HasPlacesAndMarks, IsWalking, IsReaching, IsOpen, GrowsFrom, IsUntouched, NoneWaits, IsSpreading, HasSettled, IsGoing, HasWalked}
+use Rattle.camion_sign.specs.Walks.{Progress, IsQueue, Goes, IsMet, IsPrefix, IsSettled, TwoIf, flip, step_at, place_in, progress, AreInStep, HasOneMore, HasPlacesAndMarks, IsWalking, IsReaching, IsOpen, GrowsFrom, IsUntouched, NoneWaits, IsSpreading, HasSettled, IsGoing, HasWalked}
 use Rattle.camion_sign.proofs.Trails.{path_trail}
 use Rattle.camion_sign.proofs.Walks.{IsOneMore, few, fewer, met_before, next, settles, least, all_met, all_settled, begin, with_key, kept_here, reached, visit}
 
@@ -21,7 +22,7 @@ within m row x is l h = elim (cases_lt x m.width) [
 ]
 
 -- the lists after the walk has reached another column
-one_more : (steps : List ReachedColumn) (places : List ℕ) (used : List Bool) (x r h : ℕ) (two : Bool) → x < length places
+one_more : (steps : List ReachedColumn) (places used : List ℕ) (x r h : ℕ) (two : Bool) → x < length places
     → IsOneMore (progress steps places used) (progress (steps ++ record { column = x; row = r; before = h; is_two = two } ∷ []) (set places x (length steps)) used) x r h two
 one_more steps places used x r h two l = record {
   count = length-more steps (record { column = x; row = r; before = h; is_two = two });
@@ -49,11 +50,6 @@ any_default [] i d e l = absurd (omega arith)
 any_default (x ∷ xs) zero d e l = refl
 any_default (x ∷ xs) (suc i) d e l = any_default xs i d e (omega arith)
 
-any_bool : (xs : List Bool) (i : ℕ) (d e : Bool) → i < length xs → get_or xs i d ≡ get_or xs i e
-any_bool [] i d e l = absurd (omega arith)
-any_bool (x ∷ xs) zero d e l = refl
-any_bool (x ∷ xs) (suc i) d e l = any_bool xs i d e (omega arith)
-
 pub any_step : (xs : List ReachedColumn) (i : ℕ) (d e : ReachedColumn) → i < length xs → get_or xs i d ≡ get_or xs i e
 any_step [] i d e l = absurd (omega arith)
 any_step (x ∷ xs) zero d e l = refl
@@ -62,10 +58,10 @@ any_step (x ∷ xs) (suc i) d e l = any_step xs i d e (omega arith)
 pub step_is : (steps : List ReachedColumn) (j : ℕ) (step : ReachedColumn) → j < length steps → step ≡ get_or steps j step → step_at steps j ≡ step
 step_is steps j step l e = any_step steps j (record { column = 0; row = 0; before = 0; is_two = false }) step l ∙ sym e
 
-same_progress : (walk : Walk) (steps : List ReachedColumn) (places : List ℕ) (used : List Bool) → walk.steps.items ≡ steps → walk.places.items ≡ places → walk.used.items ≡ used
+same_progress : (walk : Walk) (steps : List ReachedColumn) (places used : List ℕ) → walk.steps.items ≡ steps → walk.places.items ≡ places → walk.used.items ≡ used
     → progress walk.steps.items walk.places.items walk.used.items ≡ progress steps places used
 same_progress walk steps places used e f g =
-    ap (λ (v : List ReachedColumn). progress v walk.places.items walk.used.items) e ∙ ap (λ (v : List ℕ). progress steps v walk.used.items) f ∙ ap (λ (v : List Bool). progress steps places v) g
+    ap (λ (v : List ReachedColumn). progress v walk.places.items walk.used.items) e ∙ ap (λ (v : List ℕ). progress steps v walk.used.items) f ∙ ap (λ (v : List ℕ). progress steps places v) g
 
 grows_same : (walk : Walk) → GrowsFrom walk walk
 grows_same walk = record { longer = omega arith; steps = λ j l. refl; places = λ x l. l }
@@ -203,17 +199,17 @@ module _ (m : Matrix) (t c h r x : ℕ) (from : ReachedColumn) (old walk : Walk)
 
 -- the walk has reached all columns of the row: the row is taken
 pub end_row : (m : Matrix) (t c h r low : ℕ) (from : ReachedColumn) (old walk walk2 : Walk) → IsReaching m t c h r low from old walk → ((x : ℕ) → low ≤ x → entry m r x ≢ pos 0 → place_in walk.places.items x < 4294967295)
-    → walk2.steps.items ≡ walk.steps.items → walk2.places.items ≡ walk.places.items → walk2.used.items ≡ set walk.used.items r true → walk2.reached.items ≡ walk.reached.items → IsWalking m t c h (r + 1) walk2
+    → walk2.steps.items ≡ walk.steps.items → walk2.places.items ≡ walk.places.items → HasOneMore walk.used.items r walk2.used.items → walk2.reached.items ≡ walk.reached.items → IsWalking m t c h (r + 1) walk2
 end_row m t c h r low from old walk walk2 w rest steps2 places2 used2 reached2 = record {
   fits = record {
     matrix = w.fits.matrix;
     places = ap length places2 ∙ w.fits.places;
-    used = ap length used2 ∙ length-set walk.used.items r true ∙ w.fits.used;
+    used = used2.size ∙ w.fits.used;
     reached = ap length reached2 ∙ w.fits.reached;
     in_step = subst (λ (v : List ℕ). AreInStep v walk2.reached.items) (sym places2) (subst (AreInStep walk.places.items) (sym reached2) w.fits.in_step);
   };
   key = w.key;
-  prefix = subst (λ (v : Progress). IsPrefix (entry m) t c m.width v w.key h (λ s x. r + 1 ≤ s)) (sym (same_progress walk2 walk.steps.items walk.places.items (set walk.used.items r true) steps2 places2 used2)) (record {
+  prefix = subst (λ (v : Progress). IsPrefix (entry m) t c m.width v w.key h (λ s x. r + 1 ≤ s)) (sym (same_progress walk2 walk.steps.items walk.places.items walk2.used.items steps2 places2 refl)) (record {
     queue = record {
       some = w.prefix.queue.some;
       first = w.prefix.queue.first;
@@ -231,11 +227,11 @@ end_row m t c h r low from old walk walk2 w rest steps2 places2 used2 reached2 =
     };
     fits = w.prefix.fits;
     done = w.prefix.done;
-    gone = λ s x u n. elim (cases_eq s r) [
+    gone = λ s x u n. elim (used2.only s u) [
       | inl q ↦
           let met' = met_all m t c h r low from old walk w rest x (subst (λ (y : ℕ). entry m y x ≢ pos 0) q n) in
           (met'.0, λ k. subst (λ (y : ℕ). IsUpTo (w.key (place_in walk.places.items x)) (w.key h ++ y ∷ x ∷ [])) (sym q) met'.1)
-      | inr q ↦ w.prefix.gone s x (sym (get_or-set_other walk.used.items r s true false q) ∙ u) n
+      | inr old_is ↦ w.prefix.gone s x old_is n
     ];
     prefix = λ j s x a b q. w.prefix.prefix j s x a b (inl (omega arith));
   });
@@ -246,109 +242,83 @@ same_goes m t c h r low from old walk w o = elim o.goes [ inl z ↦ inl z | inr 
 
 -- ---- the rows of a column
 
-pub start_rows : (m : Matrix) (t c h pending : ℕ) (rows : List ℕ) (walk : Walk) → IsWalking m t c h 0 walk → IsOpen m t h walk → pending ≤ m.width → NoneWaits m t c pending walk.places.items → IsSpreading m t c h rows 0 pending walk walk
-start_rows m t c h pending rows walk w o l waits = record {
-  low = 0;
+pub start_rows : (m : Matrix) (t c h pending : ℕ) (walk : Walk) → IsWalking m t c h 0 walk → IsOpen m t h walk → pending ≤ m.width → NoneWaits m t c pending walk.places.items → IsSpreading m t c h 0 pending walk walk
+start_rows m t c h pending walk w o l waits = record {
   walking = w;
   low_in = omega arith;
-  ahead = λ i a b. omega arith;
-  gone = λ i a. absurd (omega arith);
+  gone = λ r a. absurd (omega arith);
   open_is = o;
   column_is = refl;
   pending_in = l;
   waits = waits;
 }
 
-module _ (m : Matrix) (t c h : ℕ) (rows : List ℕ) (k column : ℕ) (old walk : Walk) {pending : ℕ} (w : IsSpreading m t c h rows k pending old walk) (nonzeros : AreNonzeros (λ r. entry m r column) rows) where
-  -- the walk has taken the next row before
-  pub pass_row : (walk2 : Walk) (pending2 : ℕ) (b : Bool) → k < length rows → get_or rows k 0 < t → t < height m → b ≡ get_or walk.used.items (get_or rows k 0) b → b ≡ true → walk2 ≡ walk → pending2 ≡ pending → IsSpreading m t c h rows (k + 1) pending2 old walk2
-  pass_row walk2 pending2 b inside early tall b_is t_is e f =
-      subst (λ (v : Walk). IsSpreading m t c h rows (k + 1) pending2 old v) (sym e) (subst (λ (v : ℕ). IsSpreading m t c h rows (k + 1) v old walk) (sym f) (record {
-        low = w.low;
-        walking = w.walking;
-        low_in = w.low_in;
-        ahead = λ i a b. w.ahead i (omega arith) b;
-        gone = λ i a. elim (cases_lt i k) [
-          | inl lt ↦ w.gone i lt
-          | inr ge ↦ let q : k ≡ i = omega arith in
-              subst (λ (j : ℕ). get_or walk.used.items (get_or rows j 0) false ≡ true) q (any_bool walk.used.items (get_or rows k 0) false b (let s = w.walking.fits.used in omega arith) ∙ sym b_is ∙ t_is)
-        ];
-        open_is = w.open_is;
-        column_is = w.column_is;
-        pending_in = w.pending_in;
-        waits = w.waits;
-      }))
+module _ (m : Matrix) (t c h low : ℕ) (old walk : Walk) {pending : ℕ} (w : IsSpreading m t c h low pending old walk) where
+  -- the walk has taken each row below `high` that meets the column
+  taken_below : (high : ℕ) → ((r : ℕ) → low ≤ r → r < high → entry m r (step_at old.steps.items h).column ≢ pos 0 → has_column walk.used.items r ≡ true)
+      → (r : ℕ) → r < high → entry m r (step_at old.steps.items h).column ≢ pos 0 → has_column walk.used.items r ≡ true
+  taken_below high between r below leads = elim (cases_lt r low) [
+    | inl before ↦ w.gone r before leads
+    | inr after ↦ between r after below leads
+  ]
 
-  -- the walk takes the next row now
-  pub take_row : (walk1 walk2 : Walk) (pending1 pending2 : ℕ) → k < length rows → get_or rows k 0 < t → t < height m → IsWalking m t c h (get_or rows k 0 + 1) walk1 → GrowsFrom walk walk1 → walk1.used.items ≡ set walk.used.items (get_or rows k 0) true
-      → pending ≤ pending1 → pending1 ≤ m.width → ((d : ℕ) → pending ≤ d → d < pending1 → entry m t d ≢ pos 0 → (place_in walk1.places.items d ≢ 4294967295) ⊎ IsUntouched m t d)
-      → walk2 ≡ walk1 → pending2 ≡ pending1 → IsSpreading m t c h rows (k + 1) pending2 old walk2
-  take_row walk1 walk2 pending1 pending2 inside early tall walking grows used le wide waits e f =
-      subst (λ (v : Walk). IsSpreading m t c h rows (k + 1) pending2 old v) (sym e) (subst (λ (v : ℕ). IsSpreading m t c h rows (k + 1) v old walk1) (sym f) (record {
-        low = get_or rows k 0 + 1;
-        walking = walking;
-        low_in = omega arith;
-        ahead = λ i a b. let l = nonzeros.increasing k i (omega arith) b in omega arith;
-        gone = λ i a. ap (λ (v : List Bool). get_or v (get_or rows i 0) false) used ∙ (elim (cases_lt i k) [
-          | inl lt ↦ let l = nonzeros.increasing i k lt inside in get_or-set_other walk.used.items (get_or rows k 0) (get_or rows i 0) true false (λ q. omega arith) ∙ w.gone i lt
-          | inr ge ↦ let q : k ≡ i = omega arith in
-              subst (λ (j : ℕ). get_or (set walk.used.items (get_or rows k 0) true) (get_or rows j 0) false ≡ true) q (get_or-set_same walk.used.items (get_or rows k 0) true false (let s = w.walking.fits.used in omega arith))
-        ]);
-        open_is = record {
-          within = let a = w.open_is.within in let b = grows.longer in omega arith;
-          goes = elim w.open_is.goes [ inl z ↦ inl z | inr z ↦ inr (ap (λ (v : ReachedColumn). entry m t v.column) (grows.steps h w.open_is.within) ∙ z) ];
-        };
-        column_is = ap (λ (v : ReachedColumn). v.column) (grows.steps h w.open_is.within) ∙ w.column_is;
-        pending_in = wide;
-        waits = λ d a b n. elim (cases_lt d pending) [
-          | inl lt ↦ elim (w.waits d a lt n) [
-            | inl l ↦ inl (λ e. let g = grows.places d (let b = w.walking.prefix.queue.topped d in omega arith) in omega arith)
-            | inr u ↦ inr u
-          ]
-          | inr ge ↦ waits d ge b n
-        ];
-      }))
-
-  -- each row before t that meets the column is taken, or follows later
-  gone_or_later : column ≡ (step_at walk.steps.items h).column → (r : ℕ) → r < t → entry m r (step_at walk.steps.items h).column ≢ pos 0 → (get_or walk.used.items r false ≡ true) ⊎ ((i : ℕ) × (k ≤ i) × (i < length rows) × (get_or rows i 0 ≡ r))
-  gone_or_later e r early leads =
-      let v = nonzeros.all r (subst (λ (y : ℕ). entry m r y ≢ pos 0) (sym e) leads) in
-      elim (cases_lt v.0 k) [
-        | inl lt ↦ inl (subst (λ (y : ℕ). get_or walk.used.items y false ≡ true) v.2 (w.gone v.0 lt))
-        | inr ge ↦ inr (v.0, ge, v.1, v.2)
-      ]
-
-  -- the rows before t are done: there is no further row, or the next row is not before t
-  pub end_rows : column ≡ (step_at old.steps.items h).column → (length rows ≤ k) ⊎ ((k < length rows) × (t ≤ get_or rows k 0)) → IsWalking m t c (h + 1) 0 walk
-  end_rows column_is end = subst (λ (n : ℕ). IsWalking m t c n 0 walk) (sym (add-one h)) (record {
+  -- the walk passes to a later row
+  pub walks_from : (row : ℕ) → low ≤ row → IsWalking m t c h row walk
+  walks_from row up = record {
     fits = w.walking.fits;
     key = w.walking.key;
-    prefix = next (entry m) t c m.width (progress walk.steps.items walk.places.items walk.used.items) w.walking.key h t 0 (λ s x. w.low ≤ s) (λ s x. 0 ≤ s) w.walking.prefix w.open_is.within w.low_in
-        (λ r goes early leads. elim (gone_or_later (column_is ∙ sym w.column_is) r early leads) [
-          | inl u ↦ u
-          | inr v ↦ absurd (late v.0 v.1 v.2 (let e = v.3 in omega arith))
-        ]);
+    prefix = fewer (entry m) t c m.width (progress walk.steps.items walk.places.items walk.used.items) w.walking.key h (λ s x. low ≤ s) (λ s x. row ≤ s) w.walking.prefix (λ s x l. omega arith);
+  }
+
+  -- the walk takes the next row now
+  pub take_row : (row : ℕ) (walk1 : Walk) (pending1 : ℕ) → row < t → ((r : ℕ) → low ≤ r → r < row → entry m r (step_at old.steps.items h).column ≢ pos 0 → has_column walk.used.items r ≡ true)
+      → IsWalking m t c h (row + 1) walk1 → GrowsFrom walk walk1 → HasOneMore walk.used.items row walk1.used.items
+      → pending ≤ pending1 → pending1 ≤ m.width → ((d : ℕ) → pending ≤ d → d < pending1 → entry m t d ≢ pos 0 → (place_in walk1.places.items d ≢ 4294967295) ⊎ IsUntouched m t d)
+      → IsSpreading m t c h (row + 1) pending1 old walk1
+  take_row row walk1 pending1 early between walking grows used le wide waits = record {
+    walking = walking;
+    low_in = omega arith;
+    gone = λ r a leads. elim (cases_lt r row) [
+      | inl lt ↦ used.kept r (taken_below row between r lt leads)
+      | inr ge ↦ let q : row ≡ r = omega arith in subst (λ (y : ℕ). has_column walk1.used.items y ≡ true) q used.here
+    ];
+    open_is = record {
+      within = let a = w.open_is.within in let b = grows.longer in omega arith;
+      goes = elim w.open_is.goes [ inl z ↦ inl z | inr z ↦ inr (ap (λ (v : ReachedColumn). entry m t v.column) (grows.steps h w.open_is.within) ∙ z) ];
+    };
+    column_is = ap (λ (v : ReachedColumn). v.column) (grows.steps h w.open_is.within) ∙ w.column_is;
+    pending_in = wide;
+    waits = λ d a b n. elim (cases_lt d pending) [
+      | inl lt ↦ elim (w.waits d a lt n) [
+        | inl l ↦ inl (λ e. let g = grows.places d (let b = w.walking.prefix.queue.topped d in omega arith) in omega arith)
+        | inr u ↦ inr u
+      ]
+      | inr ge ↦ waits d ge b n
+    ];
+  }
+
+  -- the rows before t are done: the walk has taken each row from `low` on that meets the column, or the rest is not before t
+  pub end_rows : ((r : ℕ) → low ≤ r → r < t → entry m r (step_at old.steps.items h).column ≢ pos 0 → has_column walk.used.items r ≡ true) → IsWalking m t c (h + 1) 0 walk
+  end_rows rest = subst (λ (n : ℕ). IsWalking m t c n 0 walk) (sym (add-one h)) (record {
+    fits = w.walking.fits;
+    key = w.walking.key;
+    prefix = next (entry m) t c m.width (progress walk.steps.items walk.places.items walk.used.items) w.walking.key h t 0 (λ s x. low ≤ s) (λ s x. 0 ≤ s) w.walking.prefix w.open_is.within w.low_in
+        (λ r goes early leads. taken_below t rest r early (leads_old r leads));
   })
     where
-      late : (i : ℕ) → k ≤ i → i < length rows → get_or rows i 0 < t → ⊥
-      late i a b early = elim end [
-        | inl l ↦ omega arith
-        | inr l ↦ elim (cases_lt k i) [
-          | inl lt ↦ let u = nonzeros.increasing k i lt b in let v = l.1 in omega arith
-          | inr ge ↦ let q : i ≡ k = omega arith in let u = ap (λ (j : ℕ). get_or rows j 0) q in let v = l.1 in omega arith
-        ]
-      ]
+      leads_old : (r : ℕ) → entry m r (step_at walk.steps.items h).column ≢ pos 0 → entry m r (step_at old.steps.items h).column ≢ pos 0
+      leads_old r = subst (λ (y : ℕ). entry m r y ≢ pos 0) w.column_is
 
   -- no column waits: the walk may end here
-  pub settle_rows : column ≡ (step_at old.steps.items h).column → HasSettled m t c walk
-  settle_rows column_is = record {
+  pub settle_rows : HasSettled m t c walk
+  settle_rows = record {
     fits = w.walking.fits;
     key = w.walking.key;
     queue = w.walking.prefix.queue;
-    settled = settles (entry m) t c m.width (progress walk.steps.items walk.places.items walk.used.items) w.walking.key h t 0 (λ s x. w.low ≤ s) w.walking.prefix w.open_is.within w.low_in
-        (λ r x early leads. elim (gone_or_later (column_is ∙ sym w.column_is) r early leads) [
-          | inl u ↦ inl u
-          | inr v ↦ inr (let a = w.ahead v.0 v.1 v.2 in let e = v.3 in omega arith)
+    settled = settles (entry m) t c m.width (progress walk.steps.items walk.places.items walk.used.items) w.walking.key h t 0 (λ s x. low ≤ s) w.walking.prefix w.open_is.within w.low_in
+        (λ r x early leads. elim (cases_lt r low) [
+          | inl before ↦ inl (w.gone r before (subst (λ (y : ℕ). entry m r y ≢ pos 0) w.column_is leads))
+          | inr after ↦ inr after
         ]);
   }
 
@@ -362,33 +332,26 @@ untouched m t x rows nonzeros (inr h) r early n = later (nonzeros.all r n)
     later (zero, l, e) = omega arith
     later (suc k, l, e) = let d = nonzeros.increasing 0 (suc k) (omega arith) l in omega arith
 
-pub one_more_settled : (m : Matrix) (t c from x : ℕ) (places : List ℕ) → ((d : ℕ) → from ≤ d → d < x → entry m t d ≢ pos 0 → (place_in places d ≢ 4294967295) ⊎ IsUntouched m t d)
-    → (entry m t x ≢ pos 0 → (place_in places x ≢ 4294967295) ⊎ IsUntouched m t x) → (d : ℕ) → from ≤ d → d < x + 1 → entry m t d ≢ pos 0 → (place_in places d ≢ 4294967295) ⊎ IsUntouched m t d
-one_more_settled m t c from x places before here d a b n = elim (cases_lt d x) [
-  | inl lt ↦ before d a lt n
-  | inr ge ↦ let q : x ≡ d = omega arith in subst (λ (y : ℕ). entry m t y ≢ pos 0 → (place_in places y ≢ 4294967295) ⊎ IsUntouched m t y) q here n
-]
-
 -- ---- the whole walk
 
 pub begin_walk : (m : Matrix) (t c : ℕ) (walk walk2 : Walk) → HasPlacesAndMarks m walk → c < m.width → walk2.steps.items ≡ record { column = c; row = 0; before = 0; is_two = false } ∷ []
-    → walk2.places.items ≡ set (replicate (length walk.places.items) 4294967295) c 0 → walk2.used.items ≡ replicate (length walk.used.items) false
+    → walk2.places.items ≡ set (replicate (length walk.places.items) 4294967295) c 0 → length walk2.used.items ≡ length walk.used.items → ((r : ℕ) → has_column walk2.used.items r ≡ false)
     → length walk2.reached.items ≡ length walk.reached.items → AreInStep walk2.places.items walk2.reached.items → IsGoing m t c 0 (c + 1) walk2
-begin_walk m t c walk walk2 f l steps2 places2 used2 long2 in_step2 = record {
+begin_walk m t c walk walk2 f l steps2 places2 used2 unused long2 in_step2 = record {
   state = inl (record {
     fits = record {
       matrix = f.matrix;
       places = ap length places2 ∙ length-set (replicate (length walk.places.items) 4294967295) c 0 ∙ length-replicate (length walk.places.items) 4294967295 ∙ f.places;
-      used = ap length used2 ∙ length-replicate (length walk.used.items) false ∙ f.used;
+      used = used2 ∙ f.used;
       reached = long2 ∙ f.reached;
       in_step = in_step2;
     };
     key = λ j. [];
-    prefix = subst (λ (v : Progress). IsPrefix (entry m) t c m.width v (λ j. []) 0 (λ r x. 0 ≤ r)) (sym (same_progress walk2 first (set (replicate (length walk.places.items) 4294967295) c 0) (replicate (length walk.used.items) false) steps2 places2 used2))
-        (begin (entry m) t c m.width (progress first (set (replicate (length walk.places.items) 4294967295) c 0) (replicate (length walk.used.items) false)) (λ r x. 0 ≤ r) l refl refl refl
+    prefix = subst (λ (v : Progress). IsPrefix (entry m) t c m.width v (λ j. []) 0 (λ r x. 0 ≤ r)) (sym (same_progress walk2 first (set (replicate (length walk.places.items) 4294967295) c 0) walk2.used.items steps2 places2 refl))
+        (begin (entry m) t c m.width (progress first (set (replicate (length walk.places.items) 4294967295) c 0) walk2.used.items) (λ r x. 0 ≤ r) l refl refl refl
         (get_or-set_same (replicate (length walk.places.items) 4294967295) c 0 4294967295 (let e = length-replicate {A = ℕ} (length walk.places.items) 4294967295 in let g = f.places in omega arith))
         (λ z q. get_or-set_other (replicate (length walk.places.items) 4294967295) c z 0 4294967295 q ∙ get_or-replicated (length walk.places.items) z 4294967295)
-        (λ r. get_or-replicated (length walk.used.items) r false));
+        unused);
   });
   pending_in = omega arith;
   waits = λ d a b. absurd (omega arith);

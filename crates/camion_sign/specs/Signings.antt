@@ -10,7 +10,7 @@ use Rattle.chains.specs.SignSteps.{AreSigns, IsUnsignedOne, unsigned, LeadTo}
 use Rattle.camion_sign.specs.SignOrder.{IsForcedBy, IsPlaceOf, IsRowsTurn, IsNextSign}
 
 -- z is not 0 if and only if two columns make a cycle place with row t
-pub record TellsPlace (m : Matrix) (t c d : ℕ) (z : ℤ) : Type 0 where
+pub record ShowsPlace (m : Matrix) (t c d : ℕ) (z : ℤ) : Type 0 where
   pub place : z ≢ pos 0 → (path : List ℕ) × IsCyclePlace (entry m) t c d path
   pub none : z ≡ pos 0 → (path : List ℕ) → ¬ (IsCyclePlace (entry m) t c d path)
 
@@ -21,8 +21,8 @@ pub record AreSquare (m links : Matrix) : Type 0 where
   pub links_width : links.width ≡ m.width
 
 -- the same for a first column, and all last columns before a bound
-abbrev pub TellsFrom : Matrix → ℕ → ℕ → ℕ → Matrix → Type 0
-TellsFrom m t c bound links = (d : ℕ) → c < d → d < bound → entry m t d ≢ pos 0 → TellsPlace m t c d (entry links c d)
+abbrev pub ShowsPlacesFrom : Matrix → ℕ → ℕ → ℕ → Matrix → Type 0
+ShowsPlacesFrom m t c bound links = (d : ℕ) → c < d → d < bound → entry m t d ≢ pos 0 → ShowsPlace m t c d (entry links c d)
 
 -- room for the places of any row
 pub record HasRoomForPlaces (m : Matrix) (places : RowPlaces) : Type 0 where
@@ -33,7 +33,7 @@ pub record HasRoomForPlaces (m : Matrix) (places : RowPlaces) : Type 0 where
 -- the known places of row t, and the last walk
 pub record KnowsPlaces (m : Matrix) (t : ℕ) (places : RowPlaces) : Type 0 where
   pub room : HasRoomForPlaces m places
-  pub tells : (c : ℕ) → slice_index_or places.known.items c false ≡ true → TellsFrom m t c m.width places.links
+  pub shows : (c : ℕ) → slice_index_or places.known.items c false ≡ true → ShowsPlacesFrom m t c m.width places.links
   pub walked : (c : ℕ) → places.walked ≡ Some c → HasWalked m t c places.walk
 
 -- the signed columns of a row, and for each column the number of first signed columns with which it makes no cycle place

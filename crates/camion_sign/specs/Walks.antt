@@ -1,5 +1,5 @@
 -- Breadth-first walks from a column over the rows before t. The walk reaches columns in the order of their least trails.
-use Rattle.std.specs.Prelude.{ℕ, List, [], ◌∷◌, ◌++◌, Bool, true, false, not, ◌&&◌, ℤ, pos, ◌+ℤ◌, ◌≡◌, ◌≢◌, ◌<◌, ◌≤◌, ◌⊎◌, length, slice_index, slice_index_or}
+use Rattle.std.specs.Prelude.{ℕ, List, [], ◌∷◌, ◌++◌, Bool, true, false, not, ◌&&◌, ℤ, pos, ◌+ℤ◌, ◌≡◌, ◌≢◌, ◌<◌, ◌≤◌, ◌⊎◌, length, slice_index_or}
 use Rattle.cmr_base.specs.Matrix.{Matrix, height, entry, IsMatrix}
 use Rattle.cmr_base.specs.ColumnSets.{has_column}
 use Rattle.cmr_base.specs.CyclePlaces.{IsPath}
@@ -38,7 +38,7 @@ step_at steps place = slice_index_or steps place (record { column = 0; row = 0; 
 abbrev pub place_in : List ℕ → ℕ → ℕ
 place_in places column = slice_index_or places column UNREACHED
 
-abbrev pub progress : List ReachedColumn → List ℕ → List Bool → Progress
+abbrev pub progress : List ReachedColumn → List ℕ → List ℕ → Progress
 progress steps places used = record {
   count = length steps;
   column = λ j. (step_at steps j).column;
@@ -46,7 +46,7 @@ progress steps places used = record {
   before = λ j. (step_at steps j).before;
   is_two = λ j. (step_at steps j).is_two;
   place = place_in places;
-  used = λ r. slice_index_or used r false;
+  used = has_column used;
 }
 
 module _ (M : ℕ → ℕ → ℤ) (t c n : ℕ) (s : Progress) (key : ℕ → List ℕ) where
@@ -88,20 +88,31 @@ module _ (M : ℕ → ℕ → ℤ) (t c n : ℕ) (s : Progress) (key : ℕ → L
   IsSettled = (i r x : ℕ) (lines : List ℕ) → i < s.count → Goes i → r < t → M r (s.column i) ≢ pos 0 → M r x ≢ pos 0 → IsUpTo (key i) lines
       → IsMet x (lines ++ r ∷ x ∷ []) ⊎ ((j : ℕ) → j < s.count → IsShortlexBefore (key j) (lines ++ r ∷ x ∷ []))
 
--- in the first set and not in the set of reached columns
+-- in the first set and not in the other set
 abbrev pub is_fresh : List ℕ → List ℕ → ℕ → Bool
-is_fresh columns reached x = has_column columns x && not (has_column reached x)
+is_fresh set other x = has_column set x && not (has_column other x)
+
+-- the first line from `from` on that is in a set and not in another set
+abbrev pub IsFirstFresh : List ℕ → List ℕ → ℕ → ℕ → Type 0
+IsFirstFresh set other from next = (from ≤ next) × (is_fresh set other next ≡ true) × ((x : ℕ) → from ≤ x → x < next → is_fresh set other x ≡ false)
+
+-- a set with one line added
+pub record HasOneMore (old : List ℕ) (line : ℕ) (new : List ℕ) : Type 0 where
+  pub size : length new ≡ length old
+  pub only : (x : ℕ) → has_column new x ≡ true → (x ≡ line) ⊎ (has_column old x ≡ true)
+  pub here : has_column new line ≡ true
+  pub kept : (x : ℕ) → has_column old x ≡ true → has_column new x ≡ true
 
 -- the set of reached columns has the columns with a position, and no others
 pub record AreInStep (positions reached : List ℕ) : Type 0 where
   pub has : (x : ℕ) → has_column reached x ≡ true → place_in positions x < UNREACHED
   pub lacks : (x : ℕ) → has_column reached x ≡ false → place_in positions x ≡ UNREACHED
 
--- as many positions as columns, as many marks as rows, and the set of the columns with a position
+-- as many positions as columns, a set of rows, and the set of the columns with a position
 pub record HasPlacesAndMarks (m : Matrix) (walk : Walk) : Type 0 where
   pub matrix : IsMatrix m
   pub places : length walk.places.items ≡ m.width
-  pub used : length walk.used.items ≡ height m
+  pub used : length walk.used.items ≡ words_for (height m)
   pub reached : length walk.reached.items ≡ words_for m.width
   pub in_step : AreInStep walk.places.items walk.reached.items
 
@@ -141,13 +152,11 @@ IsUntouched m t x = (r : ℕ) → r < t → entry m r x ≢ pos 0 → ⊥
 abbrev pub NoneWaits : Matrix → ℕ → ℕ → ℕ → List ℕ → Type 0
 NoneWaits m t c pending places = (d : ℕ) → c < d → d < pending → entry m t d ≢ pos 0 → (place_in places d ≢ UNREACHED) ⊎ IsUntouched m t d
 
--- among the rows that the column at position h meets: the first k are taken
-pub record IsSpreading (m : Matrix) (t c h : ℕ) (rows : List ℕ) (k pending : ℕ) (old walk : Walk) : Type 0 where
-  pub low : ℕ
+-- among the rows that the column at position h meets: those below `low` are taken
+pub record IsSpreading (m : Matrix) (t c h low pending : ℕ) (old walk : Walk) : Type 0 where
   pub walking : IsWalking m t c h low walk
   pub low_in : low ≤ t
-  pub ahead : (i : ℕ) → k ≤ i → i < length rows → low ≤ slice_index rows i
-  pub gone : (i : ℕ) → i < k → slice_index_or walk.used.items (slice_index rows i) false ≡ true
+  pub gone : (r : ℕ) → r < low → entry m r (step_at old.steps.items h).column ≢ pos 0 → has_column walk.used.items r ≡ true
   pub open_is : IsOpen m t h walk
   pub column_is : (step_at walk.steps.items h).column ≡ (step_at old.steps.items h).column
   pub pending_in : pending ≤ m.width

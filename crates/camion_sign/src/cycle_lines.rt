@@ -7,14 +7,15 @@ ghost use Rattle.cmr_base.specs.Violator.{IsViolator};
 ghost use Rattle.camion_sign.specs.FaultLines.{IsBuilt, IsLeastFrom, within};
 ghost use Rattle.network_orient.specs.FirstRows.{HasNoFaultBefore};
 
-use crate::fault::{first_fault, passed_rows};
+use crate::fault::first_fault;
+use crate::network_rows::passed_rows;
 use cmr_base::{Indices, LineSet, Matrix, Memory, RowsAndColumns};
 use std::alloc::Global;
 
 /// The cycle of the first cycle place whose sum is 2 modulo 4, and `None` if and only if there is no such place. Places are
 /// ordered by their row, first column and last column. The cycle is a violator in the sense of Camion: each of its lines has
-/// two nonzeros in it. The time is at most one walk through the earlier rows for each nonzero, and in rows with many nonzeros
-/// one comparison with each earlier row.
+/// two nonzeros in it. The time is at most one walk through the earlier rows for each nonzero, in rows with many nonzeros one
+/// comparison with each earlier row, and some searches for a tree of first rows.
 pub fn cycle_fault(alloc: Global, matrix: &Matrix) -> Result<Option<LineSet>, Memory>
     ensures fault { IfOk result (λ found. MatchOption found (HasNoCycleFault (entry matrix.now))
         (λ lines. IsCycleFault matrix.now lines.rows lines.columns)) }

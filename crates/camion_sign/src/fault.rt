@@ -1,5 +1,5 @@
 // The first cycle place whose sum is 2 modulo 4.
-ghost use Rattle.std.specs.Prelude.{◌≡◌, ◌≢◌, ◌<◌, ◌+◌, ◌↔◌, ℕ, List, pos, IsTrue, IfOk, MatchOption};
+ghost use Rattle.std.specs.Prelude.{◌≡◌, ◌≢◌, ◌<◌, ◌≤◌, ◌+◌, ◌↔◌, ℕ, List, pos, IsTrue, IfOk, MatchOption};
 ghost use Rattle.cmr_base.specs.Matrix.{height, entry};
 ghost use Rattle.cmr_base.specs.CyclePlaces.{HasNoCycleFault, IsCyclePlace, IsFaultAt};
 ghost use Rattle.camion_sign.specs.Walks.{HasPlacesAndMarks, HasWalked, place_in};
@@ -9,11 +9,14 @@ ghost use Rattle.network_orient.specs.FirstRows.{HasNoFaultBefore};
 
 use crate::listed_matrix::ListedMatrix;
 use crate::near_columns::NearColumns;
+use crate::network_rows::passed_prefix;
 use crate::reach::{Start, flipped, walk_from};
 use crate::walk::{UNREACHED, Walk};
 use cmr_base::{Memory, RowsAndColumns};
-use network_orient::rows_without_fault;
 use std::alloc::Global;
+
+// A search for a tree begins after this number of rows, so that an early fault is found without it.
+const EARLY: u32 = 64;
 
 /// A place whose cycle has the sum 2 modulo 4: its row and its two columns, and its path.
 #[derive(Drop)]
@@ -24,7 +27,8 @@ pub struct Fault {
     pub lines: Vec<u32>,
 }
 
-/// The first fault in the order of places. The rows before a given row have none.
+/// The first fault in the order of places. The rows before a given row have none. After some rows, the search skips those that
+/// a tree shows to have none.
 pub fn first_fault(
     alloc: Global,
     matrix: &RowsAndColumns<'_>,
@@ -41,38 +45,42 @@ pub fn first_fault(
     let listed = ListedMatrix::new(alloc, matrix)?;
     let mut walk = Walk::new(alloc, listed.rows(), listed.columns())?;
     let mut near = NearColumns::new(alloc, &listed)?;
-    fault_from_row(alloc, &listed, &mut walk, &mut near, first)
-}
-
-// Walks without a search for a tree find the first fault sooner if columns have at most this number of nonzeros on average.
-const FEW: u32 = 8;
-
-/// The number of first rows that the search skips, since they have no fault.
-pub fn passed_rows(alloc: Global, matrix: &RowsAndColumns<'_>) -> Result<u32, Memory>
-    ensures { IfOk result (HasNoFaultBefore matrix.now) }
-{
-    if matrix.by_rows().nonzeros() / FEW <= matrix.columns() {
-        return Ok(0);
+    let early = early_end(first, listed.rows());
+    if let Some(fault) = fault_in_rows(alloc, &listed, &mut walk, &mut near, first, early)? {
+        return Ok(Some(fault));
     }
-    rows_without_fault(alloc, matrix)
+    let later = passed_prefix(alloc, matrix, early)?;
+    fault_in_rows(alloc, &listed, &mut walk, &mut near, later, listed.rows())
 }
 
-// The first fault. The rows before a given row have none.
-fn fault_from_row(
+// The end of the first rows that are searched without a search for a tree.
+fn early_end(first: u32, rows: u32) -> u32
+    requires { first < rows }
+    ensures { result ≤ rows }
+{
+    first + EARLY.min(rows - first)
+}
+
+// The first fault, if it is in the rows before `end`. The rows before a given row have none.
+fn fault_in_rows(
     alloc: Global,
     matrix: &ListedMatrix<'_>,
     walk: &mut Walk,
     near: &mut NearColumns,
     first: u32,
+    end: u32,
 ) -> Result<Option<Fault>, Memory>
     requires fits { HasPlacesAndMarks matrix.now walk.old }
     requires room { HasNearRoom matrix.now near.old }
     requires passed { HasNoFaultBefore matrix.now first }
-    ensures { IfOk result (λ found. MatchOption found
-        (HasNoCycleFault (entry matrix.now))
+    requires end { end ≤ height matrix.now }
+    ensures found { IfOk result (λ found. MatchOption found
+        (HasNoFaultBefore matrix.now end)
         (λ f. IsFirstFault matrix.now f.row f.first f.last f.lines.items)) }
+    ensures fits { IfOk result (λ found. HasPlacesAndMarks matrix.now walk.new) }
+    ensures room { IfOk result (λ found. HasNearRoom matrix.now near.new) }
 {
-    for row in first..matrix.rows() {
+    for row in first..end {
         if let Some(fault) = fault_of_row(alloc, matrix, walk, near, row)? {
             return Ok(Some(fault));
         }

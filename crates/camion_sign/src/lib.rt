@@ -6,6 +6,7 @@ mod fault;
 pub mod laws;
 mod listed_matrix;
 mod near_columns;
+mod network_rows;
 mod nonzeros;
 mod reach;
 mod row_places;

@@ -1,6 +1,6 @@
 // A matrix with lists of its nonzeros.
 ghost use Rattle.std.specs.Prelude.{◌≡◌, ◌<◌, IfOk};
-ghost use Rattle.cmr_base.specs.Matrix.{Matrix, height, entry, IsMatrix, IsEntry};
+ghost use Rattle.cmr_base.specs.Matrix.{Matrix, height, entry, transposed, IsMatrix, IsEntry};
 ghost use Rattle.camion_sign.specs.Nonzeros.{AreNonzeros};
 
 use crate::nonzeros::Nonzeros;
@@ -12,6 +12,7 @@ use std::marker::Model;
 #[derive(Drop)]
 pub struct ListedMatrix<'a> {
     matrix: &'a Matrix,
+    transposed: &'a Matrix,
     rows: Nonzeros,
     columns: Nonzeros,
 }
@@ -34,10 +35,12 @@ impl<'a> ListedMatrix<'a> {
         ensures { IfOk result (λ listed. listed ≡ matrix.entry.now) }
     {
         let rows = matrix.by_rows();
+        let columns = matrix.by_columns();
         Ok(ListedMatrix {
             matrix: rows,
+            transposed: columns,
             rows: Nonzeros::of_rows(alloc, rows)?,
-            columns: Nonzeros::of_rows(alloc, matrix.by_columns())?,
+            columns: Nonzeros::of_rows(alloc, columns)?,
         })
     }
 
@@ -73,6 +76,15 @@ impl<'a> ListedMatrix<'a> {
         ensures shape { IsMatrix self.now }
     {
         self.matrix
+    }
+
+    /// The transposed matrix, whose rows are the columns.
+    pub fn by_columns(&self) -> &Matrix
+        ensures value { result.now ≡ transposed self.now }
+        ensures shape { IsMatrix self.now }
+    {
+        let _rows = self.matrix.rows();
+        self.transposed
     }
 
     /// The columns in which a row is not 0.

@@ -1,11 +1,12 @@
 // Walks from the first column of the places of a row.
-ghost use Rattle.std.specs.Prelude.{◌≡◌, ◌≢◌, ◌<◌, ◌≤◌, ◌+◌, ◌⊎◌, ℕ, pos, true, false, IfOk, OnOk, slice_set};
+ghost use Rattle.std.specs.Prelude.{◌≡◌, ◌≢◌, ◌<◌, ◌≤◌, ◌+◌, ◌⊎◌, ℕ, pos, false, IfOk, OnOk};
 ghost use Rattle.cmr_base.specs.Matrix.{height, entry};
-ghost use Rattle.camion_sign.specs.Walks.{HasPlacesAndMarks, IsWalking, IsOpen, GrowsFrom, HasSettled, HasWalked, IsUntouched, NoneWaits, step_at, place_in, flip};
+ghost use Rattle.camion_sign.specs.Walks.{HasPlacesAndMarks, IsWalking, IsOpen, GrowsFrom, HasSettled, HasWalked, IsUntouched, HasOneMore, NoneWaits, step_at, place_in, flip};
 
 use crate::listed_matrix::ListedMatrix;
 use crate::walk::{ReachedColumn, UNREACHED, Walk};
 use cmr_base::Memory;
+use cmr_base::columns::add_column;
 use std::alloc::Global;
 
 /// The row and the first column of a set of places.
@@ -57,18 +58,19 @@ fn reach_rows(
     ensures waits { IfOk result (λ pending.
         NoneWaits matrix.now start.row start.column pending walk.new.places.items) }
 {
+    let rows = matrix.by_columns().support_words(walk.steps[head].column);
     let mut pending = pending;
-    for row in matrix.column(walk.steps[head].column) {
-        if *row >= start.row {
+    let mut low = 0;
+    while let Some(row) = walk.next_unused(rows, low) {
+        if row >= start.row {
             return Ok(pending);
         }
-        if !walk.used[*row as usize] {
-            reach_row(matrix, walk, start, head, *row)?;
-            pending = first_waiting(matrix, walk, start, pending);
-            if pending == matrix.columns() {
-                return Ok(pending);
-            }
+        reach_row(matrix, walk, start, head, row)?;
+        pending = first_waiting(matrix, walk, start, pending);
+        if pending == matrix.columns() {
+            return Ok(pending);
         }
+        low = row + 1;
     }
     Ok(pending)
 }
@@ -89,7 +91,7 @@ fn reach_row(
     ensures walking { OnOk result (IsWalking matrix.now start.row start.column head (row + 1)
         walk.new) }
     ensures grows { OnOk result (GrowsFrom walk.old walk.new) }
-    ensures used { OnOk result (walk.new.used.items ≡ slice_set walk.old.used.items row true) }
+    ensures used { OnOk result (HasOneMore walk.old.used.items row walk.new.used.items) }
 {
     let from = walk.steps[head];
     let sign = matrix.entry(row, from.column);
@@ -105,7 +107,7 @@ fn reach_row(
         })?;
         low = column + 1;
     }
-    walk.used[row as usize] = true;
+    add_column(&mut walk.used, row);
     Ok(())
 }
 
@@ -120,13 +122,12 @@ fn first_waiting(matrix: &ListedMatrix<'_>, walk: &Walk, start: Start, from: u32
     ensures waits { (d : ℕ) → from ≤ d → d < result → entry matrix.now start.row d ≢ pos 0
         → (place_in walk.now.places.items d ≢ UNREACHED) ⊎ IsUntouched matrix.now start.row d }
 {
-    for column in from..matrix.columns() {
-        if matrix.entry(start.row, column) != 0
-            && !walk.has_reached(column)
-            && is_touched(matrix, start.row, column)
-        {
+    let mut low = from;
+    while let Some(column) = matrix.by_rows().next_nonzero(start.row, low) {
+        if !walk.has_reached(column) && is_touched(matrix, start.row, column) {
             return column;
         }
+        low = column + 1;
     }
     matrix.columns()
 }

@@ -3,7 +3,7 @@ ghost use Rattle.std.specs.Prelude.{◌≡◌, ◌≢◌, ◌<◌, ℕ, List, So
 ghost use Rattle.cmr_base.specs.Matrix.{height, entry, IsEntry};
 ghost use Rattle.cmr_base.specs.CyclePlaces.{IsCyclePlace};
 ghost use Rattle.camion_sign.specs.SignOrder.{IsCycleLines, IsPlaceOf};
-ghost use Rattle.camion_sign.specs.Signings.{AreSquare, HasRoomForPlaces, KnowsPlaces, TellsFrom};
+ghost use Rattle.camion_sign.specs.Signings.{AreSquare, HasRoomForPlaces, KnowsPlaces, ShowsPlacesFrom};
 ghost use Rattle.camion_sign.specs.Walks.{HasWalked, place_in};
 
 use crate::cycle_lines::{columns_of_cycle, rows_of_cycle};
@@ -112,8 +112,8 @@ impl RowPlaces {
         requires column { start.column < matrix.now.width }
         requires first { entry matrix.now start.row start.column ≢ pos 0 }
         ensures places { OnOk result (KnowsPlaces matrix.now start.row self.new) }
-        ensures known { OnOk result (TellsFrom matrix.now start.row start.column matrix.now.width
-            self.new.links) }
+        ensures known { OnOk result (ShowsPlacesFrom matrix.now start.row start.column
+            matrix.now.width self.new.links) }
     {
         if self.known[start.column as usize] {
             return Ok(());
@@ -127,8 +127,8 @@ impl RowPlaces {
         requires column { start.column < matrix.now.width }
         requires first { entry matrix.now start.row start.column ≢ pos 0 }
         ensures places { OnOk result (KnowsPlaces matrix.now start.row self.new) }
-        ensures known { OnOk result (TellsFrom matrix.now start.row start.column matrix.now.width
-            self.new.links) }
+        ensures known { OnOk result (ShowsPlacesFrom matrix.now start.row start.column
+            matrix.now.width self.new.links) }
         ensures walked { OnOk result (HasWalked matrix.now start.row start.column self.new.walk) }
     {
         walk_from(matrix, &mut self.walk, start)?;
@@ -139,7 +139,7 @@ impl RowPlaces {
     }
 
     // Walks from a column, unless the last walk began there.
-    fn stand_at(&mut self, matrix: &ListedMatrix<'_>, start: Start) -> Result<(), Memory>
+    fn walk_if_needed(&mut self, matrix: &ListedMatrix<'_>, start: Start) -> Result<(), Memory>
         requires row { start.row < height matrix.now }
         requires places { KnowsPlaces matrix.now start.row self.old }
         requires column { start.column < matrix.now.width }
@@ -196,7 +196,7 @@ impl RowPlaces {
             IsCycleLines matrix.now start.row start.column last cycle) }
         ensures places { IfOk result (λ cycle. KnowsPlaces matrix.now start.row self.new) }
     {
-        self.stand_at(matrix, start)?;
+        self.walk_if_needed(matrix, start)?;
         let lines = path_to(alloc, matrix, &self.walk, start, last)?;
         Ok(LineSet {
             rows: rows_of_cycle(alloc, start.row, &lines, matrix.rows())?,
@@ -212,14 +212,14 @@ fn note_places(matrix: &ListedMatrix<'_>, walk: &Walk, start: Start, links: &mut
     requires first { entry matrix.now start.row start.column ≢ pos 0 }
     requires walked { HasWalked matrix.now start.row start.column walk.now }
     requires square { AreSquare matrix.now links.old }
-    ensures tells { TellsFrom matrix.now start.row start.column matrix.now.width links.new }
+    ensures shows { ShowsPlacesFrom matrix.now start.row start.column matrix.now.width links.new }
     ensures others { (c d : ℕ) → c ≢ start.column → entry links.new c d ≡ entry links.old c d }
     ensures square { AreSquare matrix.now links.new }
 {
-    for last in start.column + 1..matrix.columns() {
-        if matrix.entry(start.row, last) != 0 {
-            links.set(start.column, last, place_mark(walk, last));
-        }
+    let mut from = start.column + 1;
+    while let Some(last) = matrix.by_rows().next_nonzero(start.row, from) {
+        links.set(start.column, last, place_mark(walk, last));
+        from = last + 1;
     }
 }
 

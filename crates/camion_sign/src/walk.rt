@@ -1,7 +1,8 @@
 // The state of a breadth-first walk.
-ghost use Rattle.std.specs.Prelude.{◌≡◌, ◌<◌, ◌≤◌, ◌/◌, ◌++◌, [], ◌∷◌, ℕ, IfOk, OnOk, IsTrue, MatchOption, length, replicate, slice_set, true, false};
+ghost use Rattle.std.specs.Prelude.{◌≡◌, ◌<◌, ◌≤◌, ◌/◌, ◌++◌, [], ◌∷◌, ℕ, IfOk, OnOk, IsTrue, MatchOption, length, replicate, slice_set, false};
+ghost use Rattle.cmr_base.specs.ColumnSets.{has_column};
 ghost use Rattle.cmr_base.specs.Planes.{words_for};
-ghost use Rattle.camion_sign.specs.Walks.{AreInStep, is_fresh, place_in};
+ghost use Rattle.camion_sign.specs.Walks.{AreInStep, IsFirstFresh, is_fresh, place_in};
 
 use cmr_base::columns::{add_column, clear_set, empty_set, outside};
 use cmr_base::{MAX_COLUMNS, Memory};
@@ -22,29 +23,30 @@ pub struct ReachedColumn {
     pub is_two: bool,
 }
 
-/// The reached columns in order, the position of each column, the rows that the walk has taken, and the set of the reached
-/// columns. All walks share one allocation.
+/// The reached columns in order, the position of each column, the set of the rows that the walk has taken, and the set of the
+/// reached columns. All walks share one allocation.
 #[derive(Drop)]
 pub struct Walk {
     pub steps: Vec<ReachedColumn>,
     pub places: Vec<u32>,
-    pub used: Vec<bool>,
+    pub used: Vec<u64>,
     pub reached: Vec<u64>,
 }
 
 impl Walk {
     /// Room for walks in a matrix of `rows` rows and `columns` columns.
     pub fn new(alloc: Global, rows: u32, columns: u32) -> Result<Walk, Memory>
-        requires { columns ≤ MAX_COLUMNS }
+        requires rows { rows ≤ MAX_COLUMNS }
+        requires columns { columns ≤ MAX_COLUMNS }
         ensures places { IfOk result (λ walk. length walk.places.items ≡ columns) }
-        ensures used { IfOk result (λ walk. length walk.used.items ≡ rows) }
+        ensures used { IfOk result (λ walk. length walk.used.items ≡ words_for rows) }
         ensures reached { IfOk result (λ walk. length walk.reached.items ≡ words_for columns) }
         ensures in_step { IfOk result (λ walk. AreInStep walk.places.items walk.reached.items) }
     {
         Ok(Walk {
             steps: Vec::with_capacity(alloc, columns as usize)?,
             places: vec![in alloc; UNREACHED; columns as usize]?,
-            used: vec![in alloc; false; rows as usize]?,
+            used: empty_set(alloc, rows)?,
             reached: empty_set(alloc, columns)?,
         })
     }
@@ -57,15 +59,15 @@ impl Walk {
             ≡ record { column = column; row = 0; before = 0; is_two = false } ∷ []) }
         ensures places { OnOk result (self.new.places.items
             ≡ slice_set (replicate (length self.old.places.items) UNREACHED) column 0) }
-        ensures used { OnOk result (self.new.used.items
-            ≡ replicate (length self.old.used.items) false) }
+        ensures used { OnOk result (length self.new.used.items ≡ length self.old.used.items) }
+        ensures unused { OnOk result ((row : ℕ) → has_column self.new.used.items row ≡ false) }
         ensures reached { OnOk result (length self.new.reached.items
             ≡ length self.old.reached.items) }
         ensures in_step { OnOk result (AreInStep self.new.places.items self.new.reached.items) }
     {
         self.steps.clear();
         self.places.fill(UNREACHED);
-        self.used.fill(false);
+        clear_set(&mut self.used);
         self.places[column as usize] = 0;
         clear_set(&mut self.reached);
         add_column(&mut self.reached, column);
@@ -87,29 +89,28 @@ impl Walk {
         self.places[column as usize] < UNREACHED
     }
 
-    /// The first column of a set that is at least `from` and that the walk has not reached. The search reads 64 columns at a time.
+    /// The first column of a set that is at least `from` and that the walk has not reached.
     pub fn next_unreached(&self, set: &[u64], from: u32) -> Option<u32>
         requires size { length set.now ≤ 16 }
         requires reached { length self.now.reached.items ≡ length set.now }
         requires from { from ≤ MAX_COLUMNS }
         ensures { MatchOption result
             ((x : ℕ) → from ≤ x → is_fresh set.now self.now.reached.items x ≡ false)
-            (λ next. (from ≤ next)
-            × (is_fresh set.now self.now.reached.items next ≡ true)
-            × ((x : ℕ) → from ≤ x → x < next
-            → is_fresh set.now self.now.reached.items x ≡ false)) }
+            (IsFirstFresh set.now self.now.reached.items from) }
     {
-        let reached = self.reached.as_slice();
-        let mut column = from;
-        while (column as usize) < 64 * set.len() {
-            let chunk = column as usize / 64;
-            let word = outside(set[chunk], reached[chunk]) >> (column % 64);
-            if word != 0 {
-                return Some(column + word.trailing_zeros());
-            }
-            column = column - column % 64 + 64;
-        }
-        None
+        first_outside(set, self.reached.as_slice(), from)
+    }
+
+    /// The first row of a set that is at least `from` and that the walk has not taken.
+    pub fn next_unused(&self, set: &[u64], from: u32) -> Option<u32>
+        requires size { length set.now ≤ 16 }
+        requires used { length self.now.used.items ≡ length set.now }
+        requires from { from ≤ MAX_COLUMNS }
+        ensures { MatchOption result
+            ((x : ℕ) → from ≤ x → is_fresh set.now self.now.used.items x ≡ false)
+            (IsFirstFresh set.now self.now.used.items from) }
+    {
+        first_outside(set, self.used.as_slice(), from)
     }
 
     /// Adds a reached column.
@@ -131,4 +132,25 @@ impl Walk {
         self.steps.push(step)?;
         Ok(())
     }
+}
+
+// The first line of a set that is at least `from` and is not in another set. The search reads 64 lines at a time.
+fn first_outside(set: &[u64], other: &[u64], from: u32) -> Option<u32>
+    requires size { length set.now ≤ 16 }
+    requires other { length other.now ≡ length set.now }
+    requires from { from ≤ MAX_COLUMNS }
+    ensures { MatchOption result
+        ((x : ℕ) → from ≤ x → is_fresh set.now other.now x ≡ false)
+        (IsFirstFresh set.now other.now from) }
+{
+    let mut line = from;
+    while (line as usize) < 64 * set.len() {
+        let chunk = line as usize / 64;
+        let word = outside(set[chunk], other[chunk]) >> (line % 64);
+        if word != 0 {
+            return Some(line + word.trailing_zeros());
+        }
+        line = line - line % 64 + 64;
+    }
+    None
 }

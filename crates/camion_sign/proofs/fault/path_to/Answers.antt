@@ -27,3 +27,7 @@ pub returns : goal.returns
 returns c =
     path_back c.args.matrix.now c.args.start.row c.args.start.column c.args.last c.args.walk.now c.loop-place.place c.loop-place.lines.items c.reverse.new.self.items c.requires.walked c.requires.order c.requires.reached c.requires.first c.requires.last
     c.loop-place-test.false c.reverse.ensures.items c.loop-place.invariant.1
+
+pub loop-place-smaller : goal.loop-place-smaller
+loop-place-smaller c =
+    earlier_place c.args.matrix.now c.args.start.row c.args.start.column c.args.walk.now c.loop-place.place c.index-step-in-loop-place.result.now c.requires.walked c.loop-place-test.true c.loop-place.invariant.0 c.index-step-in-loop-place.ensures

@@ -1,6 +1,6 @@
-use Rattle.std.proofs.Common.{◌≢◌, ◌<◌, ◌+◌, ◌-◌, ◌∙◌, ◌++◌, ◌∷◌, [], Bool, pos, subst, arith, ap, sym, refl, of_z, w8, nat_eq}
+use Rattle.std.proofs.Common.{◌≢◌, ◌<◌, ◌+◌, ◌-◌, ◌∙◌, ◌++◌, ◌∷◌, [], ℕ, List, Bool, pos, subst, arith, ap, sym, refl, of_z, w8, nat_eq}
 use Rattle.camion_sign.specs.declared.walk.ReachedColumn.{ReachedColumn}
-use Rattle.camion_sign.specs.Walks.{progress}
+use Rattle.camion_sign.specs.Walks.{HasOneMore, progress}
 use Rattle.camion_sign.proofs.EntryTests.{test_two}
 use Rattle.cmr_base.specs.Matrix.{entry, height}
 use Rattle.cmr_base.proofs.ColumnWords.{words_long}
@@ -103,5 +103,17 @@ returns-clause-walking c =
     let shape = c.by_rows.ensures.shape in
     let tall : r < height m = omega (arith, c.requires.early, c.requires.row) in
     let is = words_of_row c.by_rows.result.now m r words c.by_rows.ensures.value c.support_words-columns.ensures in
+    let one : HasOneMore walk.used.items r c.add_column.new.set.items = record { size = c.add_column.ensures.size; only = c.add_column.ensures.only; here = c.add_column.ensures.here; kept = c.add_column.ensures.kept } in
     end_row m c.args.start.row c.args.start.column c.args.head r c.loop-column.low c.index-from.result.now c.args.walk.now walk _ state
-    (λ x up n. not_fresh m r words walk.places.items walk.reached.items is shape tall state.fits.in_step x (c.in_default.ensures x up) n) refl refl refl refl
+    (λ x up n. not_fresh m r words walk.places.items walk.reached.items is shape tall state.fits.in_step x (c.in_default.ensures x up) n) refl refl one refl
+
+pub returns-clause-used : goal.returns-clause-used
+returns-clause-used c =
+    let state = c.loop-column.invariant.state in
+    subst (λ (v : List ℕ). HasOneMore v c.args.row c.add_column.new.set.items) state.used
+    (record { size = c.add_column.ensures.size; only = c.add_column.ensures.only; here = c.add_column.ensures.here; kept = c.add_column.ensures.kept })
+
+pub add_column-requires : goal.add_column-requires
+add_column-requires c =
+    let state = c.loop-column.invariant.state in
+    omega (arith, state.fits.used, c.requires.early, c.requires.row, c.by_rows.ensures.shape.height_in)

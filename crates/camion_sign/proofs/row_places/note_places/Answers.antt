@@ -1,38 +1,45 @@
 use Rattle.std.proofs.Common.{◌≡◌, ◌≢◌, ◌∙◌, ◌<◌, ◌+◌, ℕ, pos, to_z, of_z, w8, sym, ap, subst, arith}
 use Rattle.std.proofs.lemmas.Int.{ints}
 use Rattle.cmr_base.specs.Matrix.{Matrix, entry, with_entry}
-use Rattle.cmr_base.proofs.EntryBytes.{zero_byte}
-use Rattle.camion_sign.specs.Signings.{TellsFrom, AreSquare}
-use Rattle.camion_sign.proofs.EntryTests.{zero_as_byte}
-use Rattle.camion_sign.proofs.PlaceLinks.{tells_place, note_zero, note_square, note_tells, note_others}
+use Rattle.cmr_base.proofs.Booleans.{nonzero_is}
+use Rattle.cmr_base.specs.Trees.{support}
+use Rattle.camion_sign.specs.Signings.{AreSquare, ShowsPlacesFrom}
+use Rattle.camion_sign.proofs.PlaceLinks.{note_others, note_square, note_shows, note_zeros, shows_place}
 use Rattle.camion_sign.proofs.row_places.note_places.Goals as goal
-use Rattle.camion_sign.proofs.row_places.note_places.Goals.{then-entry-ne0, else-entry-ne0}
 
 pub loop-last-preserved : goal.loop-last-preserved
 loop-last-preserved c =
     let m = c.args.matrix.now in
     let t = c.args.start.row in
     let x = c.args.start.column in
-    let last = c.loop-last.last in
+    let last = c.in-Some.last in
     let links = c.loop-last.links in
     let before = c.loop-last.invariant in
-    let State : Matrix → Type 0 = λ new. AreSquare m new × TellsFrom m t x (last + 1) new × ((a b : ℕ) → a ≢ x → entry new a b ≡ entry c.args.links.now a b) in
-    elim c.if-entry-ne0.branch [
-      | then-entry-ne0 w ↦
-          let z = w.place_mark.result in
-          let small = w.place_mark.ensures.small in
-          let low = small.low in
-          let high = small.high in
-          let kept : to_z w8 (of_z w8 z) ≡ z = omega (arith, ints) in
-          let inside : last < m.width = omega (arith, c.loop-last-test.true, c.columns-last-end.ensures.columns) in
-          let one : entry m t last ≢ pos 0 = λ h. w.if-entry-ne0.true (zero_as_byte c.entry.result (c.entry.ensures.value ∙ h)) in
-          let tells = tells_place m t x last c.args.walk.now c.requires.walked (let a = c.loop-last.auto.last in omega arith) c.requires.first one z w.place_mark.ensures.reached w.place_mark.ensures.unreached in
-          subst State (sym (w.links-is ∙ w.set.ensures ∙ ap (with_entry links x last) kept)) (
-            note_square m links t x last before.0 before.1 z small c.requires.column inside,
-            note_tells m links t x last before.0 before.1 z small c.requires.column inside tells,
-            λ a b d. note_others m links t x last before.0 before.1 z small c.requires.column inside a b d ∙ before.2 a b d,
-          )
-      | else-entry-ne0 w ↦
-          let zero : entry m t last ≡ pos 0 = sym c.entry.ensures.value ∙ zero_byte c.entry.result c.entry.ensures.small w.if-entry-ne0.false in
-          subst State (sym w.links-is) (before.0, note_zero m links t x last before.0 before.1 zero, before.2)
-    ]
+    let found = c.in-Some.ensures.first in
+    let inside : last < m.width = subst (λ (a : Matrix). last < a.width) c.by_rows.ensures.value found.1 in
+    let one : entry m t last ≢ pos 0 = nonzero_is (entry m t last) (sym (ap (λ (a : Matrix). support a t last) c.by_rows.ensures.value) ∙ found.2) in
+    let here = note_zeros m links t x c.loop-last.from before.square before.shows c.by_rows.result.now last c.by_rows.ensures.value found.3 in
+    let z = c.place_mark.result in
+    let small = c.place_mark.ensures.small in
+    let low = small.low in
+    let high = small.high in
+    let kept : to_z w8 (of_z w8 z) ≡ z = omega (arith, ints) in
+    let shows = shows_place m t x last c.args.walk.now c.requires.walked (omega (arith, before.low, found.0)) c.requires.first one z c.place_mark.ensures.reached c.place_mark.ensures.unreached in
+    let State : Matrix → Type 0 = λ new. AreSquare m new × ShowsPlacesFrom m t x (last + 1) new × ((a b : ℕ) → a ≢ x → entry new a b ≡ entry c.args.links.now a b) in
+    let state : State c.set.new.self = subst State (sym (c.set.ensures ∙ ap (with_entry links x last) kept)) (
+      note_square m links t x last before.square here z small c.requires.column inside,
+      note_shows m links t x last before.square here z small c.requires.column inside shows,
+      λ a b d. note_others m links t x last before.square here z small c.requires.column inside a b d ∙ before.others a b d,
+    ) in
+    record {
+      square = state.0;
+      shows = state.1;
+      others = state.2;
+      low = omega (arith, before.low, found.0);
+      inside = omega (arith, inside);
+    }
+
+pub returns-clause-shows : goal.returns-clause-shows
+returns-clause-shows c =
+    let before = c.loop-last.invariant in
+    note_zeros c.args.matrix.now c.loop-last.links c.args.start.row c.args.start.column c.loop-last.from before.square before.shows c.by_rows.result.now c.args.matrix.now.width c.by_rows.ensures.value (λ y up below. c.in_default.ensures.first y up)

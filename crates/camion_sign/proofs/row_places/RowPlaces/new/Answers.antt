@@ -17,7 +17,7 @@ returns c =
       fits = record {
         matrix = shape;
         places = c.in_ok-new.ensures.places ∙ wide;
-        used = c.in_ok-new.ensures.used ∙ c.rows.ensures.rows;
+        used = c.in_ok-new.ensures.used ∙ ap words_for c.rows.ensures.rows;
         reached = c.in_ok-new.ensures.reached ∙ ap words_for wide;
         in_step = c.in_ok-new.ensures.in_step;
       };

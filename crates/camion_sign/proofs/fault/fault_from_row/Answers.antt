@@ -1,5 +1,0 @@
-use Rattle.camion_sign.proofs.FirstFaults.{first_of_rows}
-use Rattle.camion_sign.proofs.fault.fault_from_row.Goals as goal
-
-pub returns-in-Some : goal.returns-in-Some
-returns-in-Some c = first_of_rows c.args.matrix.now c.loop-row.row c.in_ok-fault.field-0 c.in-Some.fault c.in-Some.is c.loop-row.invariant.passed c.in_ok-fault.ensures.found

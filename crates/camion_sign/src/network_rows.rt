@@ -1,0 +1,70 @@
+// First rows without a fault, because they agree with a network matrix or with a transposed one.
+ghost use Rattle.std.specs.Prelude.{◌≤◌, IfOk};
+ghost use Rattle.cmr_base.specs.Matrix.{height};
+ghost use Rattle.network_orient.specs.FirstRows.{HasNoFaultBefore};
+
+use cmr_base::{LineSet, Memory, RowsAndColumns};
+use network_orient::rows_without_fault;
+use std::alloc::Global;
+
+// Walks without a search for a tree find the first fault sooner if columns have at most this number of nonzeros on average.
+const FEW: u32 = 8;
+
+// Walks find a fault in this number of rows sooner than a search for a tree of fewer rows.
+const ROWS: u32 = 64;
+
+/// The number of first rows that the search skips, since they have no fault.
+pub fn passed_rows(alloc: Global, matrix: &RowsAndColumns<'_>) -> Result<u32, Memory>
+    ensures { IfOk result (HasNoFaultBefore matrix.now) }
+{
+    if is_sparse(matrix) {
+        return Ok(0);
+    }
+    rows_without_fault(alloc, matrix)
+}
+
+/// The same if the whole matrix has no tree, from a number of first rows on that have no fault. A prefix of the rows is halved
+/// until it has a tree.
+pub fn passed_prefix(alloc: Global, matrix: &RowsAndColumns<'_>, first: u32) -> Result<u32, Memory>
+    requires { HasNoFaultBefore matrix.now first }
+    ensures { IfOk result (HasNoFaultBefore matrix.now) }
+{
+    if is_sparse(matrix) {
+        return Ok(first);
+    }
+    let mut passed = first;
+    let mut end = matrix.rows();
+    'halves: while passed < end && end - passed > ROWS {
+        let middle = passed + (end - passed) / 2;
+        let found = prefix_without_fault(alloc, matrix, middle)?;
+        if found < middle {
+            end = middle;
+        }
+        if found > passed {
+            passed = found;
+        }
+    }
+    Ok(passed)
+}
+
+// Whether columns have few nonzeros on average.
+fn is_sparse(matrix: &RowsAndColumns<'_>) -> bool {
+    matrix.by_rows().nonzeros() / FEW <= matrix.columns()
+}
+
+// The number of first rows, at most a given number, that have no fault by a tree of the first rows.
+fn prefix_without_fault(
+    alloc: Global,
+    matrix: &RowsAndColumns<'_>,
+    rows: u32,
+) -> Result<u32, Memory>
+    requires { rows ≤ height matrix.now }
+    ensures few { IfOk result (λ passed. passed ≤ rows) }
+    ensures passed { IfOk result (HasNoFaultBefore matrix.now) }
+{
+    let lines = LineSet::all(alloc, rows, matrix.columns())?;
+    let prefix = matrix.by_rows().part(alloc, &lines)?;
+    let columns = matrix.columns_of(alloc, &lines)?;
+    let passed = rows_without_fault(alloc, &RowsAndColumns::of(&prefix, &columns))?;
+    Ok(passed.min(rows))
+}
