@@ -14,7 +14,7 @@ import os
 import re
 import signal
 import sys
-from collections.abc import Callable, Iterator
+from collections.abc import Callable, Iterator, Sequence
 from contextlib import closing
 from pathlib import Path
 from typing import Any
@@ -155,8 +155,8 @@ class _Run:
             progress = Progress(sources, chosen.part[1])
             with closing(progress):
                 items = self._left(part_of(items_of(sources, chosen.format), *chosen.part), progress)
-                for row in pool.rows(blocks_of(items, chosen.block)):
-                    self._write(table, row, progress)
+                for rows in pool.rows(blocks_of(items, chosen.block)):
+                    self._write(table, rows, progress)
             table.finish()
         self.tell()
 
@@ -217,13 +217,15 @@ class _Run:
             else:
                 yield item
 
-    def _write(self, table: Table, row: Row, progress: Progress) -> None:
-        """Keeps the evidence of a row and then the row, so that one that stands in the table has its evidence."""
-        for name, text in row.evidence.items():
-            _keep(Path(self.chosen.evidence), row, name, text)
-        table.write(row)
-        self._count(row.file, row.number, row.verdicts, row.fault, progress.say, row.message)
-        progress.step(row)
+    def _write(self, table: Table, rows: Sequence[Row], progress: Progress) -> None:
+        """Keeps the evidence of rows and then the rows, so that one that stands in the table has its evidence."""
+        for row in rows:
+            for name, text in row.evidence.items():
+                _keep(Path(self.chosen.evidence), row, name, text)
+        table.write(rows)
+        for row in rows:
+            self._count(row.file, row.number, row.verdicts, row.fault, progress.say, row.message)
+        progress.step(rows)
 
     def _count(
         self,
