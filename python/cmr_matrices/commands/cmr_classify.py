@@ -17,10 +17,9 @@ import sys
 from collections.abc import Callable, Iterator, Sequence
 from contextlib import closing
 from pathlib import Path
-from typing import Any
+from typing import TYPE_CHECKING, Any
 
 from ..classifying.classes import CLASS_NAMES, MatrixClass, chosen_classes
-from ..classifying.cluster import Cluster
 from ..classifying.pools import Processes, blocks_of
 from ..classifying.progress import Progress
 from ..classifying.streams import Item, items_of, part_of, sources_of
@@ -30,6 +29,9 @@ from ..classifying.work import CONTRADICTION, Row, Settings
 from ..errors import BadInput, ProgramMissing
 from ..program import find_program
 from .command import command_parser, end, integer_between, write_text
+
+if TYPE_CHECKING:
+    from ..classifying.cluster import Cluster
 
 FAULTS, CONTRADICTIONS, INTERRUPTED = 3, 8, 130
 
@@ -207,6 +209,9 @@ class _Run:
             not chosen.no_batch,
         )
         if chosen.dask:
+            # What it needs of Python's library takes a while to load.
+            from ..classifying.cluster import Cluster  # pylint: disable=import-outside-toplevel
+
             return Cluster(chosen.dask, settings, chosen.worker_program)
         return Processes(chosen.jobs, settings)
 
