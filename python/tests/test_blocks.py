@@ -3,6 +3,7 @@
 from __future__ import annotations
 
 import doctest
+import pickle
 import sys
 import tempfile
 import unittest
@@ -69,7 +70,9 @@ class Blocks(unittest.TestCase):
     def test_many(self) -> None:
         for infers in (False, True):
             rows = self.rows(replace(self.settings, infers=infers), *([1, 5, 6, 7] * 50))
-            self.assertEqual([(row.rows, dict(row.verdicts), row.fault) for row in rows[:2]], [(1, YES, None), (5, YES, None)])
+            self.assertEqual(
+                [(row.rows, dict(row.verdicts), row.fault) for row in rows[:2]], [(1, YES, None), (5, YES, None)]
+            )
             self.assertEqual({(row.fault, tuple(row.verdicts.values())) for row in rows}, {(None, ("yes",) * 3)})
 
     def test_a_death(self) -> None:
@@ -93,6 +96,13 @@ class Blocks(unittest.TestCase):
         self.assertIsNone(next(coming)[0].fault)
         coming.close()
 
+    def test_settings_that_were_sent(self) -> None:
+        chosen = tuple(kind for kind in CLASSES if kind.name in ("regular", "camion"))
+        settings = replace(self.settings, classes=chosen, supports=True)
+        for it in (settings, pickle.loads(pickle.dumps(settings))):
+            (row,) = classify_block([Item("file", 1, b"1 1 -1", size=6)], it)
+            self.assertEqual((dict(row.verdicts), row.fault), ({"regular": "yes", "camion": "yes"}, None))
+
     def test_no_matrix(self) -> None:
         self.assertEqual(classify_block([], self.settings), [])
 
@@ -104,7 +114,19 @@ class Shapes(unittest.TestCase):
         self.assertEqual(found.failed, 0)
 
     def test_what_may_have_a_fault(self) -> None:
-        for text in (b"", b"1", b"1 1", b"1 1 x", b"1 1 2", b"1 2 1", b"1 1 1 1", b"1001 0", b"-1 0", b"1_0 1 1", b"9" * 5000 + b" 1 1"):
+        for text in (
+            b"",
+            b"1",
+            b"1 1",
+            b"1 1 x",
+            b"1 1 2",
+            b"1 2 1",
+            b"1 1 1 1",
+            b"1001 0",
+            b"-1 0",
+            b"1_0 1 1",
+            b"9" * 5000 + b" 1 1",
+        ):
             self.assertIsNone(shape_of(text, "dense"), text)
         for text in (b"1 1", b"1 1 1 1 1", b"1 1 1 1 1 2", b"1 1 1 x 1 1"):
             self.assertIsNone(shape_of(text, "sparse"), text)

@@ -74,7 +74,7 @@ def replies(program: Path, requests: Sequence[Request], time_limit: TimeLimit = 
 def replies_at_once(
     program: Path, requests: Sequence[Request], time_limit: TimeLimit = None, most: int = 2**31
 ) -> Iterator[list[Reply]]:
-    """The same in lists of the replies that come at once, at most so long."""
+    """The same replies in lists of up to `most`: each list has those that have come. `time_limit` in seconds is for each of the lists."""
     count, died = 0, -1
     while count < len(requests):
         try:

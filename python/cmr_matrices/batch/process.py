@@ -51,7 +51,7 @@ class Process:
         self._lacks = 1
         """The bytes that the first reply lacks at least."""
         self._pace = 0.0
-        """The seconds in which a reply came lately."""
+        """The seconds for each of the replies that came last."""
         self._waiting = 0
 
     @property

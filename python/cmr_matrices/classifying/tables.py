@@ -1,7 +1,8 @@
 """Tables: a row for each matrix, written as it is found, as CSV, JSON lines or Parquet.
 
-Rows are written whole, those that come at once by one call, after their evidence. If a table was cut off, in a row or between two, writing resumes at the end of
-the last whole row. Parquet cannot be written row by row, so the rows are kept in a table of JSON lines beside it until all are there.
+Rows are written whole, those that come at once by one call, after their evidence. If a table was cut off, in a row or between two, writing
+resumes at the end of the last whole row. Parquet cannot be written row by row, so the rows are kept in a table of JSON lines beside it
+until all are there.
 """
 
 from __future__ import annotations

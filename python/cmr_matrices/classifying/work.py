@@ -1,7 +1,7 @@
 """A matrix is classified: the program is asked for each class, and the verdicts are held against the known inclusions.
 
-What is asked about a matrix, and what becomes of the answers, is a talk: a generator that gives questions and takes what the program says of
-them. So one call of the program can have the questions of many matrices (`blocks`).
+What is asked about a matrix, and what becomes of the answers, is a talk: a generator that gives questions and takes what the program
+says of them. So the program can be asked about many matrices at once (`blocks`).
 """
 
 from __future__ import annotations
@@ -80,7 +80,7 @@ class Settings:
 
     @cached_property
     def _asked_with_signs(self) -> Sequence[MatrixClass]:
-        return [kind for kind in self.classes if not kind.is_binary or (self.supports and kind is _REGULAR)]
+        return [kind for kind in self.classes if not kind.is_binary or (self.supports and kind == _REGULAR)]
 
     def order(self, is_sparse: bool) -> Sequence[MatrixClass]:
         """The order in which classes are asked for if verdicts settle others."""
@@ -288,8 +288,8 @@ class _Asked:
     def compare(self) -> _Asking:
         """Holds the verdicts against the inclusions.
 
-        If `tu` and `regular` are asked of matrices without signs, it also asks whether the support of a totally unimodular matrix with signs
-        is regular.
+        If `tu` and `regular` are asked of matrices without signs, it also asks whether the support of a totally unimodular matrix with
+        signs is regular.
         """
         broken = [str(one) for one in contradictions(self.verdicts)]
         if self.verdicts.get("tu") == "yes" and self.verdicts.get("regular") == "-":
@@ -308,7 +308,7 @@ class _Asked:
         return said.verdict
 
     def _source_of(self, kind: MatrixClass) -> _Source:
-        return self.support if kind is _REGULAR and self.support is not None else self.source
+        return self.support if self.support is not None and kind == _REGULAR else self.source
 
     def _ask(self, kinds: Sequence[MatrixClass]) -> _Asking:
         """Asks for classes. A run that was ended by the limit of time leaves its class undecided, and the others are asked."""
