@@ -4,10 +4,13 @@
 
 It measures the processor time of the command, its process and all runs of the program. This depends less than the clock on other work of
 the machine, but a run whose memory was given to other processes still takes up to twice as long. So the measurements take turns, and the
-best and the median round are printed. The matrices a second by the clock are printed beside them. They include the start of Python.
+best and the median round are printed. The matrices a second by the clock are printed beside them. They include the start of Python, whose
+modules are compiled before.
 
-Each kind of matrix is measured with all classes, and with `--infer`, which derives some verdicts from others. Then a run for each class is
-measured by itself, as `cmr-classify` makes it, and a run whose arguments are refused, which is only the start and the end of the program.
+Each kind of matrix is measured with all classes, and with `--infer`, which derives some verdicts from others. Of each row it prints the
+processor time of Python and of `cmr-batch` in a worker, and of a run whose input is empty, which is only the start of the command. With
+`--no-batch`, which measures the command with that option, a run for each class is then measured by itself, as `cmr-classify` makes it, and
+a run whose arguments are refused, which is only the start and the end of the program.
 """
 
 import argparse
@@ -25,8 +28,14 @@ TOP = Path(__file__).resolve().parents[1]
 sys.path.insert(0, str(TOP / "python"))
 
 from cmr_matrices import CmrError  # noqa: E402
+from cmr_matrices.batch.kept import batch_of  # noqa: E402
 from cmr_matrices.classifying.asking import ask  # noqa: E402
+from cmr_matrices.classifying.blocks import classify_block  # noqa: E402
 from cmr_matrices.classifying.classes import CLASSES  # noqa: E402
+from cmr_matrices.classifying.pools import blocks_of  # noqa: E402
+from cmr_matrices.classifying.streams import Item  # noqa: E402
+from cmr_matrices.classifying.work import Settings  # noqa: E402
+from cmr_matrices.clock import KEPT  # noqa: E402
 from cmr_matrices.held_texts import held_text  # noqa: E402
 
 COMMAND = TOP / "scripts" / "cmr-classify"
@@ -61,24 +70,57 @@ def in_turns(works, rounds, *whose):
     return [tuple(map(sorted, zip(*column))) for column in zip(*times)]
 
 
-def rates(program, count, rounds):
+def rates(program, count, rounds, more):
     with tempfile.TemporaryDirectory() as folder:
         names, works = [], []
+        empty = Path(folder, "empty")
+        empty.touch()
+        environment = {**os.environ, "PYTHONPYCACHEPREFIX": os.path.join(folder, "modules")}
+        environment.pop("PYTHONDONTWRITEBYTECODE", None)
+
+        def classified(file, *options):
+            words = [sys.executable, COMMAND, file, "--jobs", "1", "--program", program, *more, *options]
+            nothing = subprocess.DEVNULL
+            subprocess.run(words, stdout=nothing, stderr=nothing, check=True, env=environment)
+
+        classified(empty)
         for place, (name, entries) in enumerate(KINDS.items()):
             file = Path(folder, str(place))
             file.write_text("".join(texts(entries, count)), encoding="ascii")
             for option in ([], ["--infer"]):
-                words = [sys.executable, COMMAND, file, "--jobs", "1", "--program", program, *option]
                 names.append(" ".join([name, *option]))
-                works.append(lambda words=words: silent(words))
-        for name, kinds in zip(names, in_turns(works, rounds, resource.RUSAGE_CHILDREN)):
-            for what, times in zip(("a processor second", "a second by the clock"), kinds):
+                works.append(lambda file=file, option=option: classified(file, *option))
+        *kinds, (start, _) = in_turns([*works, lambda: classified(empty)], rounds, resource.RUSAGE_CHILDREN)
+        for name, found in zip(names, kinds):
+            for what, times in zip(("a processor second", "a second by the clock"), found):
                 best, middle = count / times[0], count / times[len(times) // 2]
                 print(f"{name}: {best:.0f} {what}, middle {middle:.0f}", flush=True)
+        print(f"the start of the command: {start[0]:.3f} processor seconds, in each of these")
 
 
-def silent(words):
-    subprocess.run(words, stdout=subprocess.DEVNULL, stderr=subprocess.DEVNULL, check=True)
+def shares(program, count, rounds):
+    """Prints the processor time of a row in a worker, of Python and of `cmr-batch`."""
+    for name, entries in KINDS.items():
+        items = [Item("-", number, text.encode(), size=len(text)) for number, text in enumerate(texts(entries, count), 1)]
+        for infers in (False, True):
+            settings = Settings(CLASSES, program, infers=infers, pivots=20)
+            found = [worked(list(blocks_of(iter(items), 16)), settings) for _ in range(rounds)]
+            python, batch = (min(column) * 1e6 / count for column in zip(*found))
+            print(f"{name}{' --infer' * infers}: a row takes {python:.0f} us of Python and {batch:.0f} us of cmr-batch")
+
+
+def worked(blocks, settings):
+    """The processor seconds of Python and of `cmr-batch` for the rows of some blocks."""
+    classify_block(blocks[0], settings)
+    before = time.process_time(), kept_seconds()
+    for block in blocks:
+        classify_block(block, settings)
+    return time.process_time() - before[0], kept_seconds() - before[1]
+
+
+def kept_seconds():
+    # The clock of a process of Linux, in nanoseconds.
+    return sum(time.clock_gettime(~process << 3 | 2) for process in KEPT)
 
 
 def runs(program, entries, rounds):
@@ -105,10 +147,14 @@ def main():
     parser.add_argument("--program", required=True)
     parser.add_argument("--count", type=int, default=1000)
     parser.add_argument("--rounds", type=int, default=5)
+    parser.add_argument("--no-batch", action="store_true")
     chosen = parser.parse_args()
     program = os.path.abspath(chosen.program)
-    rates(program, chosen.count, chosen.rounds)
-    runs(program, KINDS["half of the entries 1"], 10 * chosen.rounds)
+    rates(program, chosen.count, chosen.rounds, ["--no-batch"] if chosen.no_batch else [])
+    if chosen.no_batch or batch_of(program) is None:
+        runs(program, KINDS["half of the entries 1"], 10 * chosen.rounds)
+    else:
+        shares(program, chosen.count, chosen.rounds)
 
 
 if __name__ == "__main__":

@@ -31,7 +31,7 @@ from cmr_matrices import (
 from cmr_matrices.batch import frames, kept, netstrings
 from cmr_matrices.batch.frames import Reply, Request, can_be_sent
 from cmr_matrices.batch.kept import batch_of, end_all, replies
-from cmr_matrices.batch.netstrings import NoNetstring, taken
+from cmr_matrices.batch.netstrings import NoNetstring, lacking, netstring, whole
 from cmr_matrices.batch.process import Process
 from cmr_matrices.clock import Clock, ProcessorClock, TimeLimit, processor_seconds
 from cmr_matrices.single_run import single_run
@@ -40,7 +40,7 @@ from tests.support import EXAMPLES, TOP, is_gone, needs_batch, needs_module, wai
 STAND_IN = """\
 import os, sys, time
 sys.path.insert(0, {package!r})
-from cmr_matrices.batch.netstrings import netstring, netstrings, row, taken
+from cmr_matrices.batch.netstrings import netstring, netstrings, row, whole
 
 def replied(request):
     words, *files = netstrings(request)
@@ -70,12 +70,13 @@ def replied(request):
         sys.exit(5)
     return netstring(row([b"0", str(os.getpid()).encode(), b""]))
 
-got = bytearray()
+got = b""
 while piece := os.read(0, 65536):
     got += piece
-    while (first := taken(got)) is not None:
-        del got[: first[1]]
-        sys.stdout.buffer.write(replied(first[0]))
+    requests, end = whole(got)
+    got = got[end:]
+    for request in requests:
+        sys.stdout.buffer.write(replied(request))
         sys.stdout.flush()
 """
 
@@ -96,11 +97,24 @@ class Texts(unittest.TestCase):
     def test_what_is_no_netstring(self) -> None:
         for text in (b":", b"x", b"03:abc,", b"+3:abc,", b"3:abc;", b"12345678901"):
             with self.assertRaises(NoNetstring, msg=repr(text)):
-                taken(text)
+                whole(text)
+            # What comes before is given first.
+            self.assertEqual(whole(b"1:a," + text), ([b"a"], 4), msg=repr(text))
+            self.assertEqual(lacking(text), 0, msg=repr(text))
 
     def test_what_is_cut(self) -> None:
-        for text in (b"", b"1", b"12:", b"3:abc"):
-            self.assertIsNone(taken(text), msg=repr(text))
+        for text, lacks in ((b"", 1), (b"1", 1), (b"12:", 13), (b"3:abc", 1), (b"3:a", 3)):
+            self.assertEqual(whole(text), ([], 0), msg=repr(text))
+            self.assertEqual(whole(b"1:a,0:," + text), ([b"a", b""], 7), msg=repr(text))
+            self.assertEqual(lacking(text), lacks, msg=repr(text))
+
+    def test_each_cut(self) -> None:
+        texts = [b"a" * size for size in (0, 1, 9, 10, 99, 100, 12345)]
+        stream = b"".join(map(netstring, texts))
+        for at in range(0, len(stream), 7):
+            found, end = whole(stream[:at])
+            rest, _ = whole(stream[end:])
+            self.assertEqual(found + rest, texts)
 
     def test_what_is_no_reply(self) -> None:
         for text in (b"", b"1:0,0:,", b"1:0,0:,0:,1:f,", b"1:x,0:,0:,", b"1:0,0:,0:"):
@@ -359,11 +373,11 @@ class Answers(unittest.TestCase):
         calls, plain = count(), Process.replies
 
         def dying(
-            process: Process, requests: Sequence[Request], limit: TimeLimit
-        ) -> Generator[Reply, None, None]:
+            process: Process, requests: Sequence[Request], limit: TimeLimit, most: int
+        ) -> Generator[list[Reply], None, None]:
             if next(calls) % 5 == 2:
                 os.kill(process.number, signal.SIGKILL)
-            return plain(process, requests, limit)
+            return plain(process, requests, limit, most)
 
         with mock.patch.object(Process, "replies", dying):
             self.assertEqual(model_report(model).to_json(), report.to_json())

@@ -12,9 +12,10 @@ from dataclasses import replace
 from pathlib import Path
 
 from cmr_matrices import ExcludedMinor, Matrix, check, find_program
+from cmr_matrices.classifying.blocks import classify
 from cmr_matrices.classifying.classes import CLASS_NAMES, CLASSES, INCLUSIONS, contradictions, settle
 from cmr_matrices.classifying.streams import Item
-from cmr_matrices.classifying.work import CONTRADICTION, Settings, classify
+from cmr_matrices.classifying.work import CONTRADICTION, Settings
 from cmr_matrices.excluded import CLASSES as MINOR_CLASSES
 from tests.open_matrices import latin_square
 from tests.support import FANO, R10, TRIANGLE, needs_program

@@ -10,9 +10,10 @@ import unittest
 from pathlib import Path
 
 from cmr_matrices import Matrix, find_program
+from cmr_matrices.classifying.blocks import classify
 from cmr_matrices.classifying.classes import CLASSES
 from cmr_matrices.classifying.streams import TEXT_LIMIT, Format, Item, items_of, part_of, sources_of, texts_of
-from cmr_matrices.classifying.work import Row, Settings, classify
+from cmr_matrices.classifying.work import Row, Settings
 from tests.support import needs_program
 
 

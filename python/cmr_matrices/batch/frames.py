@@ -3,6 +3,8 @@
 >>> request = Request.of(["tu", "-"], {"-": b"1 1\\n1\\n"})
 >>> request.frame
 b'25:9:2:tu,1:-,,1:-,6:1 1\\n1\\n,,'
+>>> request == Request.of_parts(words_part(("tu", "-")), file_part("-", b"1 1\\n1\\n"))
+True
 >>> Reply.of(b"1:0,4:yes\\n,0:,")
 Reply(status=0, output=b'yes\\n', error=b'', files={})
 """
@@ -10,19 +12,18 @@ Reply(status=0, output=b'yes\\n', error=b'', files={})
 from __future__ import annotations
 
 from collections.abc import Mapping, Sequence
-from dataclasses import dataclass, field
 from functools import lru_cache
+from typing import NamedTuple
 
 from .netstrings import NoNetstring, netstring, netstrings, row
 
-__all__ = ["Reply", "Request", "can_be_sent"]
+__all__ = ["Reply", "Request", "can_be_sent", "file_part", "words_part"]
 
 _MOST = 2**31
 """The number of bytes that the text of a netstring has at most, and one more."""
 
 
-@dataclass(frozen=True, slots=True)
-class Request:
+class Request(NamedTuple):
     """A run: its frame, in which its words are, and the contents of the names that it may read."""
 
     frame: bytes
@@ -30,27 +31,31 @@ class Request:
     @classmethod
     def of(cls, words: Sequence[str], files: Mapping[str, bytes]) -> Request:
         """The request of words and files. Standard input is the file `-`."""
-        held = [_file(name, content) for name, content in files.items()]
-        return cls(netstring(b"".join([_words(tuple(words)), *held])))
+        return cls.of_parts(words_part(tuple(words)), *(file_part(name, content) for name, content in files.items()))
+
+    @classmethod
+    def of_parts(cls, words: bytes, *files: bytes) -> Request:
+        """The request of words and files whose parts are made already."""
+        return cls(netstring(b"".join((words, *files))))
 
 
-@dataclass(frozen=True, slots=True)
-class Reply:
+class Reply(NamedTuple):
     """What a run gave: its status, standard output and standard error, and the files that it wrote."""
 
     status: int
     output: bytes
     error: bytes
-    files: Mapping[str, bytes] = field(default_factory=dict)
+    files: Mapping[str, bytes]
 
     @classmethod
     def of(cls, text: bytes) -> Reply:
         """The reply with a text. Raises `NoNetstring` if it is the text of none."""
         parts = netstrings(text)
-        if len(parts) < 3 or len(parts) % 2 == 0 or not parts[0].isdigit():
+        count = len(parts)
+        if count < 3 or count % 2 == 0 or not parts[0].isdigit():
             raise NoNetstring(text)
-        names = [name.decode("utf-8") for name in parts[3::2]]
-        return cls(int(parts[0]), parts[1], parts[2], dict(zip(names, parts[4::2], strict=True)))
+        files = {name.decode("utf-8"): content for name, content in zip(parts[3::2], parts[4::2])} if count > 3 else {}
+        return cls(int(parts[0]), parts[1], parts[2], files)
 
 
 def can_be_sent(words: Sequence[str], files: Mapping[str, bytes]) -> bool:
@@ -64,12 +69,12 @@ def can_be_sent(words: Sequence[str], files: Mapping[str, bytes]) -> bool:
 
 
 @lru_cache(maxsize=256)
-def _words(words: tuple[str, ...]) -> bytes:
-    """The words in one netstring. They are the same for many runs."""
+def words_part(words: tuple[str, ...]) -> bytes:
+    """The part of a request with its words. They are the same for many runs."""
     return netstring(row(word.encode("utf-8") for word in words))
 
 
 @lru_cache(maxsize=2)
-def _file(name: str, content: bytes) -> bytes:
-    """A file, of which one run after another asks. So a long text is put into netstrings once."""
+def file_part(name: str, content: bytes) -> bytes:
+    """The part of a request with a file, of which one run after another asks. So a long text is put into netstrings once."""
     return row((name.encode("utf-8"), content))

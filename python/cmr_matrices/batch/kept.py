@@ -19,7 +19,7 @@ from ..clock import TimeLimit
 from .frames import Reply, Request
 from .process import Ended, Process
 
-__all__ = ["batch_of", "end_all", "replies"]
+__all__ = ["batch_of", "end_all", "replies", "replies_at_once"]
 
 _Key = tuple[str, int, int]
 
@@ -67,13 +67,21 @@ def replies(program: Path, requests: Sequence[Request], time_limit: TimeLimit = 
     `time_limit` is in seconds, for each reply, or a clock for all. If the process dies, another one is asked for the replies that are
     left. Raises `TimeLimitReached`, `ProgramMissing`, or `ProgramFault` if the process dies again before the same reply.
     """
+    for found in replies_at_once(program, requests, time_limit, 1):
+        yield from found
+
+
+def replies_at_once(
+    program: Path, requests: Sequence[Request], time_limit: TimeLimit = None, most: int = 2**31
+) -> Iterator[list[Reply]]:
+    """The same replies in lists of up to `most`: each list has those that have come. `time_limit` in seconds is for each of the lists."""
     count, died = 0, -1
     while count < len(requests):
         try:
-            with closing(_process(program).replies(requests[count:], time_limit)) as coming:
-                for reply in coming:
-                    count += 1
-                    yield reply
+            with closing(_process(program).replies(requests[count:], time_limit, most)) as coming:
+                for found in coming:
+                    count += len(found)
+                    yield found
         except Ended:
             if died == count:
                 raise

@@ -4,16 +4,18 @@
 b'2:tu,'
 >>> netstrings(b"2:tu,0:,")
 [b'tu', b'']
->>> taken(bytearray(b"2:tu,0:"))
-(b'tu', 5)
->>> taken(bytearray(b"2:t"))
+>>> whole(b"2:tu,0:,3:net")
+([b'tu', b''], 8)
+>>> lacking(b"3:net")
+1
 """
 
 from __future__ import annotations
 
 from collections.abc import Iterable
+from functools import lru_cache
 
-__all__ = ["NoNetstring", "netstring", "netstrings", "row", "taken"]
+__all__ = ["NoNetstring", "lacking", "netstring", "netstrings", "row", "whole"]
 
 _DIGITS = 10
 """The digits of the longest length, which is below 2^31."""
@@ -36,40 +38,52 @@ def row(texts: Iterable[bytes]) -> bytes:
 
 def netstrings(text: bytes) -> list[bytes]:
     """The texts of the netstrings in a text. Raises `NoNetstring` if it does not consist of netstrings."""
-    found = []
-    at, size = 0, len(text)
-    while at < size:
-        colon = text.find(b":", at, at + _DIGITS + 1)
-        digits = text[at:colon]
-        if colon < 0 or not _is_length(digits):
-            raise NoNetstring(text)
-        end = colon + 1 + int(digits)
-        if end >= size or text[end] != _COMMA:
-            raise NoNetstring(text)
-        found.append(text[colon + 1 : end])
-        at = end + 1
+    found, end = whole(text)
+    if end != len(text):
+        raise NoNetstring(text)
     return found
 
 
-def taken(text: bytes | bytearray, at: int = 0) -> tuple[bytes, int] | None:
-    """The text of the netstring at a place, and the place after it, or None if it is not whole.
+def whole(text: bytes) -> tuple[list[bytes], int]:
+    """The texts of the whole netstrings with which a text begins, and the place after them.
 
-    Raises `NoNetstring` if none begins there, whatever bytes follow.
+    Raises `NoNetstring` if there are none, and what is there begins none.
     """
-    colon = text.find(b":", at, at + _DIGITS + 1)
-    digits = text[at:colon] if colon >= 0 else text[at : at + _DIGITS + 1]
-    if (colon >= 0 or digits) and not _is_length(digits):
-        raise NoNetstring(bytes(digits))
-    if colon < 0:
-        return None
-    end = colon + 1 + int(digits)
-    if len(text) <= end:
-        return None
-    if text[end] != _COMMA:
-        raise NoNetstring(bytes(digits))
-    return bytes(text[colon + 1 : end]), end + 1
+    found: list[bytes] = []
+    at, size = 0, len(text)
+    try:
+        while (colon := text.find(b":", at, at + _DIGITS + 1)) >= 0:
+            end = colon + 1 + _length(text[at:colon])
+            if end >= size:
+                return found, at
+            if text[end] != _COMMA:
+                raise NoNetstring(text[at:colon])
+            found.append(text[colon + 1 : end])
+            at = end + 1
+        if at < size:
+            _length(text[at : at + _DIGITS + 1])
+    except NoNetstring:
+        if not found:
+            raise
+    return found, at
 
 
-def _is_length(digits: bytes | bytearray) -> bool:
-    """Whether digits are those of a length, or its first ones."""
-    return digits.isdigit() and len(digits) <= _DIGITS and (len(digits) == 1 or digits[0] != _ZERO)
+def lacking(text: bytes) -> int:
+    """The bytes that the first netstring of a text lacks at least, or 0 if the text begins with a whole one or with none."""
+    colon = text.find(b":", 0, _DIGITS + 1)
+    try:
+        if colon >= 0:
+            return max(colon + 2 + _length(text[:colon]) - len(text), 0)
+        if text:
+            _length(text[: _DIGITS + 1])
+    except NoNetstring:
+        return 0
+    return 1
+
+
+@lru_cache(maxsize=1024)
+def _length(digits: bytes) -> int:
+    """The length with these digits, or the beginning of a length. A few lengths come again and again."""
+    if not digits.isdigit() or len(digits) > _DIGITS or (len(digits) > 1 and digits[0] == _ZERO):
+        raise NoNetstring(digits)
+    return int(digits)

@@ -5,6 +5,7 @@ from __future__ import annotations
 import os
 import select
 import subprocess
+import time
 from collections.abc import Generator, Sequence
 from contextlib import suppress
 from pathlib import Path
@@ -12,11 +13,14 @@ from pathlib import Path
 from ..clock import KEPT, Clock, TimeLimit
 from ..errors import ProgramFault, ProgramMissing
 from .frames import Reply, Request
-from .netstrings import NoNetstring, taken
+from .netstrings import NoNetstring, lacking, whole
 
 __all__ = ["Ended", "Process"]
 
 _PIECE = 65536
+_NOTHING = memoryview(b"")
+_SHORTEST, _LONGEST = 0.0001, 0.005
+"""The seconds of a pause in which replies come together. Without it the process would wake this one for each of them."""
 # The status by which a shell says that a file is no program.
 _NOT_RUN = 126
 
@@ -40,7 +44,14 @@ class Process:
         os.set_blocking(self._output, False)
         self._poll = select.poll()
         self._poll.register(self._output, select.POLLIN)
-        self._got = bytearray()
+        self._left = _NOTHING
+        """What is left to write."""
+        self._pieces: list[bytes] = []
+        """What was read and is no whole reply yet."""
+        self._lacks = 1
+        """The bytes that the first reply lacks at least."""
+        self._pace = 0.0
+        """The seconds for each of the replies that came last."""
         self._waiting = 0
 
     @property
@@ -53,38 +64,50 @@ class Process:
         """Its number in the system."""
         return self._process.pid
 
-    def replies(self, requests: Sequence[Request], time_limit: TimeLimit) -> Generator[Reply, None, None]:
-        """The replies to requests, in their order, each as soon as it comes. All requests are sent at once.
+    def replies(
+        self, requests: Sequence[Request], time_limit: TimeLimit, most: int = 1
+    ) -> Generator[list[Reply], None, None]:
+        """The replies to requests, in their order, as soon as they come, up to `most` at a time. All requests are sent at once.
 
-        `time_limit` is in seconds, for each reply, or a clock for all. Raises `TimeLimitReached`, `Ended`, or `ProgramFault` if a reply
-        is none. These exceptions, and any that is raised before the last reply is taken, also end the process.
+        `time_limit` is in seconds, for each wait for replies, or a clock for all. Raises `TimeLimitReached`, `Ended`, or `ProgramFault` if
+        a reply is none. These exceptions, and any that is raised before the last reply is taken, also end the process.
         """
         self._waiting = len(requests)
         try:
-            left = self._after_write(memoryview(b"".join([request.frame for request in requests])))
+            self._left = memoryview(b"".join([request.frame for request in requests]))
+            self._write()
             while self._waiting:
-                clock = Clock.of(time_limit)
-                while (text := self._taken()) is None:
-                    left = self._moved(left, clock)
-                reply = self._reply(text)
-                self._waiting -= 1
-                yield reply
+                texts = self._heard(time_limit)
+                for at in range(0, len(texts), most):
+                    found = [self._reply(text) for text in texts[at : at + most]]
+                    self._waiting -= len(found)
+                    yield found
         finally:
             if self._waiting:
                 self.end()
 
-    def _taken(self) -> bytes | None:
-        """The text of the first whole reply, which is taken."""
-        if not self._got:
-            return None
+    def _heard(self, time_limit: TimeLimit) -> list[bytes]:
+        """The texts of the replies that have come, at least one of them."""
+        clock, begun = Clock.of(time_limit), time.monotonic()
+        while not (texts := self._taken()):
+            self._move(clock)
+        if len(texts) > self._waiting:
+            raise self._fault(texts[self._waiting][:20])
+        self._pace = (time.monotonic() - begun) / len(texts)
+        return texts
+
+    def _taken(self) -> list[bytes]:
+        """The texts of the whole replies that were read, which are taken."""
+        if self._lacks > 0:
+            return []
+        got = b"".join(self._pieces)
         try:
-            first = taken(self._got)
+            texts, end = whole(got)
         except NoNetstring:
-            raise self._fault(bytes(self._got[:20])) from None
-        if first is None:
-            return None
-        del self._got[: first[1]]
-        return first[0]
+            raise self._fault(got[:20]) from None
+        self._pieces = [got[end:]]
+        self._lacks = lacking(self._pieces[0])
+        return texts
 
     def _reply(self, text: bytes) -> Reply:
         try:
@@ -95,35 +118,38 @@ class Process:
     def _fault(self, said: bytes) -> ProgramFault:
         return ProgramFault(0, f"{self.program} is not cmr-batch: it says {said!r}")
 
-    def _moved(self, left: memoryview, clock: Clock) -> memoryview:
-        """Waits until something can be written or read, and writes or reads it. What is left to write."""
-        if left:
+    def _move(self, clock: Clock) -> None:
+        """Waits until something can be written or read, and writes or reads it."""
+        if self._left:
             self._poll.register(self._input, select.POLLOUT)
+        elif self._waiting > 1:
+            # Half of the time that all replies may take.
+            pause = self._pace * self._waiting / 2
+            if pause > _SHORTEST:
+                time.sleep(min(pause, _LONGEST))
         found = dict(self._poll.poll(_milliseconds(clock)))
-        if left:
+        if self._left:
             self._poll.unregister(self._input)
         if self._input in found:
-            left = self._after_write(left)
+            self._write()
         if self._output in found:
-            piece = os.read(self._output, _PIECE)
-            if not piece:
-                raise self._ended()
-            self._got += piece
-        return left
+            self._read()
 
-    def _after_write(self, left: memoryview) -> memoryview:
-        """What is left to write once as much is written as the pipe takes."""
+    def _write(self) -> None:
+        """Writes as much as the pipe takes. If the process has ended, its last replies can still be read."""
         try:
-            return left[os.write(self._input, left) :]
+            self._left = self._left[os.write(self._input, self._left) :] or _NOTHING
         except BlockingIOError:
-            return left
+            pass
         except BrokenPipeError:
-            # The replies that it has written before its end are read first.
-            os.set_blocking(self._output, True)
-            self._got += _all_of(self._output)
-            if taken(self._got) is None:
-                raise self._ended() from None
-            return left[len(left) :]
+            self._left = _NOTHING
+
+    def _read(self) -> None:
+        piece = os.read(self._output, _PIECE)
+        if not piece:
+            raise self._ended()
+        self._pieces.append(piece)
+        self._lacks -= len(piece)
 
     def _ended(self) -> Ended:
         assert self._process.stderr
@@ -162,10 +188,3 @@ def _started(program: Path) -> subprocess.Popen[bytes]:
         raise ProgramMissing([str(program)]) from None
     except OSError as fault:
         raise ProgramFault(_NOT_RUN, f"{program} cannot be run: {fault.strerror}") from fault
-
-
-def _all_of(descriptor: int) -> bytes:
-    pieces = []
-    while piece := os.read(descriptor, _PIECE):
-        pieces.append(piece)
-    return b"".join(pieces)

@@ -6,26 +6,27 @@ import tempfile
 import time
 from collections.abc import Iterator, Mapping, Sequence
 from contextlib import ExitStack
-from dataclasses import dataclass, field
+from dataclasses import dataclass
+from functools import cached_property
 from pathlib import Path
-from typing import Protocol
+from typing import NamedTuple, Protocol
 
-from ..batch.frames import Request
-from ..batch.kept import replies
+from ..batch.frames import Reply, Request, file_part, words_part
+from ..batch.kept import replies_at_once
+from ..errors import CmrError
 from ..held_texts import held_text
 from .asking import ask, verdict_of
 from .classes import MatrixClass
 from .streams import Format
 
-__all__ = ["Asker", "OneByOne", "Question", "Said", "Together"]
+__all__ = ["Asker", "OneByOne", "Question", "Said", "Together", "Wording"]
 
 
 @dataclass(frozen=True)
-class Question:
-    """Whether the matrix of a text is in a class, and with which options the program is asked."""
+class Wording:
+    """How the program is asked for a class: the format of the text, more options, and whether it writes evidence."""
 
     kind: MatrixClass
-    text: bytes
     form: Format
     budget: tuple[str, ...] = ()
     has_evidence: bool = False
@@ -36,21 +37,39 @@ class Question:
         options = [word for option, ending in evidence for word in (option, path + ending)]
         return [*self.kind.words, "-i", self.form, *self.budget, *options]
 
+    @cached_property
+    def part(self) -> bytes:
+        """The words in a request. They are the same for many matrices."""
+        return words_part((*self.words(), "-"))
 
-@dataclass(frozen=True)
-class Said:
-    """A verdict with its texts of evidence, by their endings, and the seconds that it took."""
+
+class Question(NamedTuple):
+    """Whether the matrix of a text is in a class."""
+
+    wording: Wording
+    text: bytes
+
+
+class Said(NamedTuple):
+    """A verdict with its texts of evidence, by their endings, and the seconds that it took, or the fault in place of these."""
 
     verdict: str
     seconds: float
-    evidence: Mapping[str, bytes] = field(default_factory=dict)
+    evidence: Mapping[str, bytes]
+    fault: CmrError | OSError | MemoryError | None = None
 
 
 class Asker(Protocol):
     """Who asks for verdicts. What it holds is let go at the end of its context."""
 
-    def said(self, questions: Sequence[Question]) -> Iterator[Said]:
-        """What the program says of each question, in their order. Raises what `run` of the package raises."""
+    most: int
+    """Of how many matrices it is asked at once."""
+
+    def said(self, questions: Sequence[Question]) -> Iterator[list[Said]]:
+        """What the program says of each question, in their order, in lists of what comes at once.
+
+        Raises what `run` of the package raises, if the questions after the fault have to be asked again.
+        """
 
     def __enter__(self) -> Asker: ...
 
@@ -59,6 +78,8 @@ class Asker(Protocol):
 
 class OneByOne:
     """Starts a process for each question."""
+
+    most = 1
 
     def __init__(self, program: str, time_limit: float | None) -> None:
         self._program = program
@@ -73,26 +94,26 @@ class OneByOne:
     def __exit__(self, *_: object) -> None:
         self._stack.close()
 
-    def said(self, questions: Sequence[Question]) -> Iterator[Said]:
+    def said(self, questions: Sequence[Question]) -> Iterator[list[Said]]:
         """What the program says of each question. It is asked for one when the one before is taken."""
         for question in questions:
             begun = time.monotonic()
             file = self._file(question.text)
-            if question.has_evidence:
-                verdict, evidence = self._with_evidence(question, file)
+            if question.wording.has_evidence:
+                verdict, evidence = self._with_evidence(question.wording, file)
             else:
-                verdict, evidence = self._verdict(question, file), {}
-            yield Said(verdict, time.monotonic() - begun, evidence)
+                verdict, evidence = self._verdict(question.wording, file), {}
+            yield [Said(verdict, time.monotonic() - begun, evidence)]
 
-    def _verdict(self, question: Question, file: int, path: str = "") -> str:
-        return ask(self._program, question.words(path), file, question.kind.said, self._time_limit)
+    def _verdict(self, wording: Wording, file: int, path: str = "") -> str:
+        return ask(self._program, wording.words(path), file, wording.kind.said, self._time_limit)
 
-    def _with_evidence(self, question: Question, file: int) -> tuple[str, dict[str, bytes]]:
+    def _with_evidence(self, wording: Wording, file: int) -> tuple[str, dict[str, bytes]]:
         if self._folder is None:
             self._folder = Path(self._stack.enter_context(tempfile.TemporaryDirectory(prefix="cmr-")))
-        paths = {ending: self._folder / ending for _, ending in question.kind.evidence}
+        paths = {ending: self._folder / ending for _, ending in wording.kind.evidence}
         try:
-            verdict = self._verdict(question, file, f"{self._folder}/")
+            verdict = self._verdict(wording, file, f"{self._folder}/")
             return verdict, {ending: path.read_bytes() for ending, path in paths.items() if path.exists()}
         finally:
             for path in paths.values():
@@ -107,6 +128,8 @@ class OneByOne:
 class Together:
     """Sends all questions at once to the process of `cmr-batch` that this thread keeps."""
 
+    most = 32
+
     def __init__(self, program: Path, time_limit: float | None) -> None:
         self._program = program
         self._time_limit = time_limit
@@ -117,12 +140,20 @@ class Together:
     def __exit__(self, *_: object) -> None:
         pass
 
-    def said(self, questions: Sequence[Question]) -> Iterator[Said]:
-        """What the program says of each question."""
-        begun = time.monotonic()
-        requests = [Request.of((*question.words(), "-"), {"-": question.text}) for question in questions]
-        for question, reply in zip(questions, replies(self._program, requests, self._time_limit), strict=True):
-            verdict = verdict_of(reply.status, reply.output or reply.error, question.kind.said)
+    def said(self, questions: Sequence[Question]) -> Iterator[list[Said]]:
+        """What the program says of each question. The time of a list is divided among its verdicts."""
+        begun, at = time.monotonic(), 0
+        requests = [Request.of_parts(wording.part, file_part("-", text)) for wording, text in questions]
+        for found in replies_at_once(self._program, requests, self._time_limit):
             now = time.monotonic()
-            yield Said(verdict, now - begun, reply.files)
-            begun = now
+            seconds = (now - begun) / len(found)
+            yield [_said(question, reply, seconds) for question, reply in zip(questions[at:], found)]
+            begun, at = now, at + len(found)
+
+
+def _said(question: Question, reply: Reply, seconds: float) -> Said:
+    try:
+        verdict = verdict_of(reply.status, reply.output or reply.error, question.wording.kind.said)
+    except CmrError as fault:
+        return Said("", seconds, {}, fault)
+    return Said(verdict, seconds, reply.files)

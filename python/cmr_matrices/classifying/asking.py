@@ -10,6 +10,7 @@ from collections.abc import Sequence
 from contextlib import suppress
 from functools import cache
 
+from ..batch.process import Ended
 from ..errors import BadText, CmrError, ProgramFault, TimeLimitReached
 from ..program import NO, UNDECIDED, YES, fault_of
 
@@ -80,17 +81,25 @@ def _printed(reading: int, process: int, time_limit: float | None) -> tuple[int,
 
 def verdict_of(status: int, printed: bytes, said: str) -> str:
     """The verdict of a run with a status that has printed this first. Raises the fault of a status that is no answer."""
+    verdict = _VERDICTS.get(status)
+    if verdict is not None and printed.startswith(_line(said, verdict)):
+        return verdict
     line = printed[:4096].split(b"\n", 1)[0].decode("utf-8", "surrogateescape")
-    if status not in _VERDICTS:
+    if verdict is None:
         raise fault_of(status, line)
-    verdict = _VERDICTS[status]
     if line != f"{said}: {verdict}":
         raise ProgramFault(status, f"the program is not cmr: its first line is {line!r}")
     return verdict
+
+
+@cache
+def _line(said: str, verdict: str) -> bytes:
+    """The line of a verdict, which is asked for again and again."""
+    return f"{said}: {verdict}\n".encode()
 
 
 def fault_words(fault: CmrError) -> tuple[str, int | None]:
     """The kind of a fault, and its byte if it has one."""
     if isinstance(fault, BadText):
         return fault.kind, fault.byte
-    return type(fault).__name__, None
+    return "ProgramFault" if isinstance(fault, Ended) else type(fault).__name__, None

@@ -4,6 +4,7 @@ from __future__ import annotations
 
 from collections.abc import Iterable, Iterator, Mapping, Sequence
 from dataclasses import dataclass
+from functools import lru_cache
 
 from ..errors import BadInput
 
@@ -101,15 +102,31 @@ def chosen_classes(names: str) -> tuple[MatrixClass, ...]:
     return tuple(kind for kind in CLASSES if kind.name in chosen)
 
 
-def contradictions(verdicts: Mapping[str, str]) -> Iterator[Inclusion]:
+def contradictions(verdicts: Mapping[str, str]) -> tuple[Inclusion, ...]:
     """The inclusions that a row breaks: each class of `within` has a yes, and `holds` has a no."""
-    for inclusion in INCLUSIONS:
-        if verdicts.get(inclusion.holds) == "no" and all(verdicts.get(name) == "yes" for name in inclusion.within):
-            yield inclusion
+    return _broken_by(tuple(map(verdicts.get, CLASS_NAMES)))
+
+
+@lru_cache(maxsize=4096)
+def _broken_by(words: tuple[str | None, ...]) -> tuple[Inclusion, ...]:
+    """The inclusions that the verdicts on all classes break. Many rows have the same verdicts."""
+    verdicts = dict(zip(CLASS_NAMES, words))
+    return tuple(
+        inclusion
+        for inclusion in INCLUSIONS
+        if verdicts[inclusion.holds] == "no" and all(verdicts[name] == "yes" for name in inclusion.within)
+    )
 
 
 def settle(verdicts: dict[str, str], names: Sequence[str]) -> None:
     """Adds the verdicts on some classes that follow from those that are there."""
+    verdicts.update(_settled(tuple(verdicts.items()), tuple(names)))
+
+
+@lru_cache(maxsize=4096)
+def _settled(known: tuple[tuple[str, str], ...], names: tuple[str, ...]) -> dict[str, str]:
+    """What follows from verdicts that are known. Many rows have the same verdicts."""
+    verdicts = dict(known)
     changed = True
     while changed:
         changed = False
@@ -117,6 +134,7 @@ def settle(verdicts: dict[str, str], names: Sequence[str]) -> None:
             if name in names and name not in verdicts:
                 verdicts[name] = verdict
                 changed = True
+    return {name: verdict for name, verdict in verdicts.items() if (name, verdict) not in known}
 
 
 def asking_order(classes: Iterable[MatrixClass], is_sparse: bool) -> list[MatrixClass]:

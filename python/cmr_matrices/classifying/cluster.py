@@ -21,9 +21,10 @@ from typing import Any
 from ..batch.kept import batch_of
 from ..errors import BadInput, ProgramMissing
 from ..program import find_program
+from .blocks import classify_block
 from .pools import Block, died
 from .streams import Item
-from .work import Row, Settings, classify_block, with_texts
+from .work import Row, Settings, with_texts
 
 __all__ = ["Cluster"]
 
@@ -62,7 +63,7 @@ class Cluster:
             self._client.upload_file(shutil.copy(path, os.path.join(folder, name + end + _NEW)))
         return name
 
-    def rows(self, blocks: Iterator[Block]) -> Iterator[Row]:
+    def rows(self, blocks: Iterator[Block]) -> Iterator[list[Row]]:
         """The rows of all blocks, a block after the other as they are done."""
         running: dict[Any, Block] = {}
         again: deque[Block] = deque()
@@ -71,7 +72,7 @@ class Cluster:
         for future in finished:
             block = running.pop(future)
             try:
-                rows: Sequence[Row] = future.result()
+                rows: list[Row] = future.result()
             except self._dask.KilledWorker:
                 rows = []
                 if len(block) == 1:
@@ -81,7 +82,7 @@ class Cluster:
                 raise BadInput(f"on a worker {fault}") from fault
             except (OSError, self._dask.CancelledError) as fault:
                 raise BadInput("the Dask scheduler is lost: --resume goes on with the table") from fault
-            yield from rows
+            yield rows
             self._fill(finished, running, again, blocks)
 
     def close(self) -> None:

@@ -16,12 +16,14 @@ from multiprocessing.connection import Connection
 from typing import Any
 
 from ..batch.kept import end_all
+from .blocks import rows_at_once
 from .streams import Item
-from .work import Row, Settings, classify
+from .work import Row, Settings
 
 __all__ = ["Block", "Processes", "blocks_of", "died"]
 
 Block = list[Item]
+_Key = tuple[str, int]
 
 _BYTES = 2**20
 _PATIENCE = 0.5
@@ -50,34 +52,36 @@ def died(item: Item, what: str = "the worker that classified it died twice") -> 
 
 
 class Processes:
-    """Processes of this machine, each with a pipe: a block goes in, and its rows come out one by one."""
+    """Processes of this machine, each with a pipe: a block goes in, and its rows come out as they are found."""
 
     def __init__(self, jobs: int, settings: Settings) -> None:
         self._settings = settings
         self._workers: dict[Connection, Any] = {}
-        self._given: dict[Connection, deque[Item]] = {}
+        self._given: dict[Connection, dict[_Key, Item]] = {}
         self._again: deque[Block] = deque()
-        self._suspects: set[tuple[str, int]] = set()
+        self._suspects: set[_Key] = set()
         # It is kept, since it costs more to make one for each row than to read the row.
         self._ready = selectors.PollSelector()
         for _ in range(jobs):
             self._start()
 
-    def rows(self, blocks: Iterator[Block]) -> Iterator[Row]:
-        """The rows of all blocks, as they are found."""
+    def rows(self, blocks: Iterator[Block]) -> Iterator[list[Row]]:
+        """The rows of all blocks, in lists of those that are found at once."""
         for connection in list(self._workers):
             self._give(connection, blocks)
         while self._given:
             for key, _ in self._ready.select():
                 connection = key.data
                 try:
-                    row: Row = connection.recv()
+                    rows: list[Row] = connection.recv()
                 except (EOFError, OSError):
-                    yield from self._lost(connection, blocks)
+                    yield self._lost(connection, blocks)
                     continue
-                yield row
-                self._given[connection].popleft()
-                if not self._given[connection]:
+                yield rows
+                given = self._given[connection]
+                for row in rows:
+                    del given[row.file, row.number]
+                if not given:
                     self._ended(connection)
                     self._give(connection, blocks)
 
@@ -106,7 +110,7 @@ class Processes:
         block = self._again.popleft() if self._again else next(blocks, [])
         if not block:
             return
-        self._given[connection] = deque(block)
+        self._given[connection] = {(item.file, item.number): item for item in block}
         self._ready.register(connection, selectors.EVENT_READ, connection)
         try:
             connection.send(block)
@@ -116,9 +120,9 @@ class Processes:
     def _ended(self, connection: Connection) -> list[Item]:
         """Lets a worker be without a block, and gives what is left of it."""
         self._ready.unregister(connection)
-        return list(self._given.pop(connection))
+        return list(self._given.pop(connection).values())
 
-    def _lost(self, connection: Connection, blocks: Iterator[Block]) -> Iterator[Row]:
+    def _lost(self, connection: Connection, blocks: Iterator[Block]) -> list[Row]:
         """Puts another worker in the place of one that died, and its matrices back, the one that it was at by itself."""
         left = self._ended(connection)
         process = self._workers.pop(connection)
@@ -126,14 +130,14 @@ class Processes:
         process.join()
         first = left.pop(0)
         key = first.file, first.number
-        if key in self._suspects:
-            yield died(first)
-        else:
+        rows = [died(first)] if key in self._suspects else []
+        if not rows:
             self._suspects.add(key)
             self._again.append([first])
         if left:
             self._again.append(left)
         self._give(self._start(), blocks)
+        return rows
 
 
 def _serve(connection: Connection, others: Connection, settings: Settings) -> None:
@@ -143,8 +147,8 @@ def _serve(connection: Connection, others: Connection, settings: Settings) -> No
     signal.signal(signal.SIGTERM, _leave)
     try:
         while True:
-            for item in connection.recv():
-                connection.send(classify(item, settings))
+            for rows in rows_at_once(connection.recv(), settings):
+                connection.send(rows)
     except (EOFError, OSError):
         return
     finally:

@@ -30,17 +30,16 @@ class Progress:
         self._found += size
         self._before += 1
 
-    def step(self, row: Row) -> None:
-        """A row was written."""
-        self._done += 1
-        self._found += row.size
-        total = self._total()
+    def step(self, rows: Sequence[Row]) -> None:
+        """Rows were written."""
+        self._done += len(rows)
+        self._found += sum([row.size for row in rows])
         if self._bar is not None:
-            self._bar.total = total
-            self._bar.update()
+            self._bar.total = self._total()
+            self._bar.update(len(rows))
         elif time.monotonic() - self._told >= _SECONDS:
             self._told = time.monotonic()
-            print(self._line(total), file=sys.stderr, flush=True)
+            print(self._line(self._total()), file=sys.stderr, flush=True)
 
     def say(self, text: str) -> None:
         """Prints a line that stays, above the bar."""

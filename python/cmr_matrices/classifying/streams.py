@@ -28,6 +28,8 @@ TEXT_LIMIT = 16 * 2**20
 _COUNT = re.compile(rb"\+?0*([0-9]{1,10})")
 _WORD = re.compile(rb"[^\t-\r ]+")
 _PIECE = 2**16
+_WIDTH = 4
+"""The bytes in which most entries are written, with the white space after them."""
 _LINES = 1000
 _MODELS = frozenset(FORMATS)
 
@@ -169,6 +171,8 @@ class _Words:
 
     def take(self, count: int) -> bool:
         """Takes `count` words, and returns whether the stream has them, each of them whole."""
+        if self._take_at_once(count):
+            return True
         left = count
         while left and self.next() is not None and not self.is_cut:
             left -= 1
@@ -178,6 +182,20 @@ class _Words:
             if last is not None:
                 self._stand_at(last)
         return not left
+
+    def _take_at_once(self, count: int) -> bool:
+        """Takes `count` words if the beginning of what was read has them, which is so for all short texts but those between two pieces."""
+        at = self.end - self._base
+        piece = self._piece[at : at + _WIDTH * count + _WIDTH]
+        if len(piece) < 2 * count:
+            return False
+        words = piece.split(None, count)
+        if len(words) <= count:
+            return False
+        end = at + len(piece[: len(piece) - len(words[count])].rstrip())
+        self.start = self.end = self._base + end
+        self._places = _WORD.finditer(self._piece, end)
+        return True
 
     def begin(self) -> None:
         """Lets a text begin at the last word."""

@@ -1,18 +1,18 @@
 """Tables: a row for each matrix, written as it is found, as CSV, JSON lines or Parquet.
 
-A row is written whole, by one call, after its evidence. If a table was cut off, in a row or between two, writing resumes at the end of
-the last whole row. Parquet cannot be written row by row, so the rows are kept in a table of JSON lines beside it until all are there.
+Rows are written whole, those that come at once by one call, after their evidence. If a table was cut off, in a row or between two, writing
+resumes at the end of the last whole row. Parquet cannot be written row by row, so the rows are kept in a table of JSON lines beside it
+until all are there.
 """
 
 from __future__ import annotations
 
 import csv
 import fcntl
-import io
 import json
 import os
 import sys
-from collections.abc import Iterator, Sequence
+from collections.abc import Iterable, Iterator, Sequence
 from pathlib import Path
 from typing import Any, BinaryIO, Protocol
 
@@ -56,22 +56,22 @@ class Done:
 class Lines(Protocol):
     """The format of rows in a file, as bytes."""
 
-    def head(self, classes: Sequence[str]) -> bytes:
+    def head(self, columns: Sequence[str]) -> bytes:
         """The bytes before all rows."""
 
-    def row(self, values: dict[str, Any]) -> bytes:
-        """A row, with its end."""
+    def rows(self, columns: Sequence[str], rows: Iterable[Sequence[Any]]) -> bytes:
+        """Rows with their values in columns, each with its end."""
 
     def read(self, stream: BinaryIO) -> Iterator[tuple[list[str], dict[str, Any] | None, int]]:
         """The whole rows, each with the columns and the position in the file after it; first the head, without a row."""
 
 
 class _Csv:
-    def head(self, classes: Sequence[str]) -> bytes:
-        return _csv_line(columns_of(classes))
+    def head(self, columns: Sequence[str]) -> bytes:
+        return _csv_lines([columns])
 
-    def row(self, values: dict[str, Any]) -> bytes:
-        return _csv_line(["" if value is None else value for value in values.values()])
+    def rows(self, columns: Sequence[str], rows: Iterable[Sequence[Any]]) -> bytes:
+        return _csv_lines(rows)
 
     def read(self, stream: BinaryIO) -> Iterator[tuple[list[str], dict[str, Any] | None, int]]:
         place = 0
@@ -98,11 +98,11 @@ class _Csv:
 
 
 class _JsonLines:
-    def head(self, classes: Sequence[str]) -> bytes:
+    def head(self, columns: Sequence[str]) -> bytes:
         return b""
 
-    def row(self, values: dict[str, Any]) -> bytes:
-        return json.dumps(values).encode("ascii") + b"\n"
+    def rows(self, columns: Sequence[str], rows: Iterable[Sequence[Any]]) -> bytes:
+        return "".join([json.dumps(dict(zip(columns, values))) + "\n" for values in rows]).encode("ascii")
 
     def read(self, stream: BinaryIO) -> Iterator[tuple[list[str], dict[str, Any] | None, int]]:
         place = 0
@@ -121,16 +121,17 @@ class Table:
         self._stream = stream
         self._lines = lines
         self._classes = classes
+        self._columns = columns_of(classes)
         self._finished = finished
 
     def begin(self) -> None:
         """Writes the head of the table, before all rows."""
-        self._stream.write(self._lines.head(self._classes))
+        self._stream.write(self._lines.head(self._columns))
         self._stream.flush()
 
-    def write(self, row: Row) -> None:
-        """Writes a row, whole."""
-        self._stream.write(self._lines.row(_values(row, self._classes)))
+    def write(self, rows: Iterable[Row]) -> None:
+        """Writes rows, whole."""
+        self._stream.write(self._lines.rows(self._columns, [_values(row, self._classes) for row in rows]))
         self._stream.flush()
 
     def finish(self) -> None:
@@ -228,11 +229,12 @@ def _read(stream: BinaryIO, lines: Lines, name: str) -> Iterator[tuple[list[str]
         raise BadInput(f"{name}: there is no row at byte {end}: {fault}") from fault
 
 
-def _values(row: Row, classes: Sequence[str]) -> dict[str, Any]:
-    before = (row.file, row.number, row.rows, row.columns, row.nonzeros)
-    verdicts = (row.verdicts.get(name, "") for name in classes)
-    behind = (row.milliseconds, row.fault, row.byte, row.message)
-    return dict(zip(columns_of(classes), (*before, *verdicts, *behind), strict=True))
+def _values(row: Row, classes: Sequence[str]) -> list[Any]:
+    """The values of a row in the columns of `columns_of`."""
+    found = row.verdicts
+    verdicts = [found.get(name, "") for name in classes]
+    after = row.milliseconds, row.fault, row.byte, row.message
+    return [row.file, row.number, row.rows, row.columns, row.nonzeros, *verdicts, *after]
 
 
 def _lines_of(path: Path) -> Lines:
@@ -241,10 +243,18 @@ def _lines_of(path: Path) -> Lines:
     return _Csv()
 
 
-def _csv_line(words: Sequence[Any]) -> bytes:
-    text = io.StringIO()
-    csv.writer(text, lineterminator="\r\n").writerow(words)
-    return text.getvalue()[:-2].encode("utf-8", "surrogateescape") + b"\n"
+class _Written(list[str]):
+    """The lines that are written to it."""
+
+    def write(self, line: str) -> None:
+        """Adds a line with its end `\\r\\n`, for the sake of which the module csv quotes both characters."""
+        self.append(line[:-2] + "\n")
+
+
+def _csv_lines(rows: Iterable[Sequence[Any]]) -> bytes:
+    written = _Written()
+    csv.writer(written, lineterminator="\r\n").writerows(rows)
+    return "".join(written).encode("utf-8", "surrogateescape")
 
 
 def _csv_value(name: str, word: str) -> Any:
@@ -296,5 +306,5 @@ def _unpack(finished: Path, path: Path) -> None:
     unfinished = path.with_name(path.name + ".unfinished")
     with open(unfinished, "wb") as stream:
         for _, batch in _parquet_batches(finished):
-            stream.writelines(_JsonLines().row(values) for values in batch)
+            stream.writelines(_JsonLines().rows(list(values), [list(values.values())]) for values in batch)
     unfinished.replace(path)

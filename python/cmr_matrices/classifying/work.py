@@ -1,11 +1,16 @@
-"""A matrix is classified: the program is asked for each class, and the verdicts are held against the known inclusions."""
+"""A matrix is classified: the program is asked for each class, and the verdicts are held against the known inclusions.
+
+What is asked about a matrix, and what becomes of the answers, is a talk: a generator that gives questions and takes what the program
+says of them. So the program can be asked about many matrices at once (`blocks`).
+"""
 
 from __future__ import annotations
 
 import time
-from collections.abc import Callable, Mapping, Sequence
+from collections.abc import Callable, Generator, Mapping, Sequence
 from contextlib import suppress
 from dataclasses import dataclass, field, replace
+from functools import cached_property
 
 from ..answers import Answer
 from ..batch.kept import batch_of
@@ -15,12 +20,13 @@ from ..matrix import Matrix
 from ..minors import excluded_minor
 from ..modellers import from_model
 from ..questions import is_balanced, is_regular, is_totally_unimodular
-from .askers import Asker, OneByOne, Question, Said, Together
+from .askers import Asker, OneByOne, Question, Said, Together, Wording
 from .asking import fault_words
 from .classes import CLASSES, MatrixClass, asking_order, contradictions, settle
+from .shapes import Shape, shape_of
 from .streams import Format, Item
 
-__all__ = ["CONTRADICTION", "Row", "Settings", "classify", "classify_block", "with_texts"]
+__all__ = ["CONTRADICTION", "Row", "Settings", "Talk", "talk", "with_texts"]
 
 CONTRADICTION = "Contradiction"
 
@@ -57,19 +63,49 @@ class Settings:
     """Whether the process of `cmr-batch` that a worker keeps answers all questions, if there is such a program."""
 
     def asker(self) -> Asker:
-        """Who asks for the verdicts of a matrix."""
+        """Who asks for the verdicts of some matrices."""
         batch = batch_of(self.program) if self.batch else None
         if batch is None:
             return OneByOne(self.program, self.time_limit)
         return Together(batch, self.time_limit)
 
-    def budget(self, kind: MatrixClass) -> list[str]:
-        """The words of the first run on a class, which makes no pivots."""
-        return ["--lines", str(self.lines)] if kind.has_budget and self.lines is not None else []
+    @property
+    def asks_again(self) -> bool:
+        """Whether a class that is undecided is asked again."""
+        return bool(self.pivots or self.tries)
 
-    def asks(self, kind: MatrixClass, shape: _Shape) -> bool:
-        """Whether a matrix has a verdict on a class."""
-        return shape.is_binary or not kind.is_binary or (self.supports and kind is _REGULAR)
+    def asked(self, is_binary: bool) -> Sequence[MatrixClass]:
+        """The classes on which a matrix has a verdict, in the order in which they are asked for if no verdict settles others."""
+        return self.classes if is_binary else self._asked_with_signs
+
+    @cached_property
+    def _asked_with_signs(self) -> Sequence[MatrixClass]:
+        return [kind for kind in self.classes if not kind.is_binary or (self.supports and kind == _REGULAR)]
+
+    def order(self, is_sparse: bool) -> Sequence[MatrixClass]:
+        """The order in which classes are asked for if verdicts settle others."""
+        return self._orders[is_sparse]
+
+    @cached_property
+    def _orders(self) -> Mapping[bool, Sequence[MatrixClass]]:
+        return {is_sparse: asking_order(self.classes, is_sparse) for is_sparse in (False, True)}
+
+    def wording(self, kind: MatrixClass, form: Format, has_evidence: bool) -> Wording:
+        """How the program is asked for a class in the first run, which makes no pivots."""
+        return self._wordings[kind.name, form, has_evidence]
+
+    @cached_property
+    def _wordings(self) -> Mapping[tuple[str, Format, bool], Wording]:
+        forms: tuple[Format, Format] = "dense", "sparse"
+        return {
+            (kind.name, form, has_evidence): Wording(kind, form, self._budget(kind), has_evidence)
+            for kind in CLASSES
+            for form in forms
+            for has_evidence in (False, True)
+        }
+
+    def _budget(self, kind: MatrixClass) -> tuple[str, ...]:
+        return ("--lines", str(self.lines)) if kind.has_budget and self.lines is not None else ()
 
 
 @dataclass(frozen=True)
@@ -92,31 +128,47 @@ class Row:
     """The bytes of the text or model."""
 
 
-@dataclass(frozen=True)
-class _Shape:
-    rows: int
-    columns: int
-    nonzeros: int
-    is_binary: bool
+Talk = Generator[Sequence[Question], Sequence[Said], Row]
+"""What is asked about a matrix: it gives questions, takes what is said of each, and returns the row."""
+
+_Talked = Generator[Sequence[Question], Sequence[Said], Sequence[Said]]
+_Asking = Generator[Sequence[Question], Sequence[Said], None]
 
 
-def classify_block(items: Sequence[Item], settings: Settings) -> list[Row]:
-    """The rows of some matrices."""
-    return [classify(item, settings) for item in items]
+class _Watch:
+    """The seconds that a matrix takes: here, and until its questions are answered."""
+
+    def __init__(self) -> None:
+        self._spent = 0.0
+        self._begun = time.perf_counter()
+
+    def said(self, questions: Sequence[Question]) -> _Talked:
+        """What is said of questions. Raises the first fault, except a limit of time, which may have passed for each question."""
+        self._spent += time.perf_counter() - self._begun
+        found = yield questions
+        self._begun = time.perf_counter()
+        for _, seconds, _, fault in found:
+            self._spent += seconds
+            if fault is not None and not isinstance(fault, TimeoutError):
+                raise fault
+        return found
+
+    def milliseconds(self) -> float:
+        """The time up to now."""
+        return round((self._spent + time.perf_counter() - self._begun) * 1000, 3)
 
 
-def classify(item: Item, settings: Settings) -> Row:
-    """The row of a matrix. It raises nothing: the row contains every fault."""
-    begun = time.perf_counter()
+def talk(item: Item, settings: Settings) -> Talk:
+    """The talk about a matrix. It raises nothing: the row contains every fault."""
+    watch = _Watch()
     try:
-        row = _read_and_asked(item, settings)
+        return (yield from _read_and_asked(item, settings, watch))
     except ProgramFault as fault:
         kind, byte = fault_words(fault)
         message = ("what follows is not read" if item.is_last else None) if isinstance(fault, BadText) else str(fault)
-        row = _faulty(item, kind, message, None if byte is None else item.start + byte)
+        return _faulty(item, watch, kind, message, None if byte is None else item.start + byte)
     except (CmrError, OSError, MemoryError) as fault:
-        row = _faulty(item, type(fault).__name__, str(fault))
-    return replace(row, milliseconds=round((time.perf_counter() - begun) * 1000, 3), size=item.size)
+        return _faulty(item, watch, _kind(fault), str(fault))
 
 
 def with_texts(item: Item) -> Item:
@@ -129,46 +181,43 @@ def with_texts(item: Item) -> Item:
         return replace(item, fault=(_kind(fault), str(fault)))
 
 
-def _read_and_asked(item: Item, settings: Settings) -> Row:
+def _read_and_asked(item: Item, settings: Settings, watch: _Watch) -> Talk:
     if item.fault is not None:
-        return _faulty(item, *item.fault)
+        return _faulty(item, watch, *item.fault)
     text = _model_text(item) if item.text is None else item.text
-    with settings.asker() as asker:
-        asked = _Asked(settings, _Source(text, item.form), asker)
-        shape = _shape_of(text, item.form)
-        if shape is None:
-            asked.must_be_read()
-            raise ProgramFault(0, "the program reads a text whose counts and entries do not fit")
-        if settings.supports and not shape.is_binary:
-            asked.support = asked.source.support()
-        return _row(item, shape, asked)
-
-
-def _row(item: Item, shape: _Shape, asked: _Asked) -> Row:
-    asked.all_classes(shape)
-    if asked.settings.minors:
+    asked = _Asked(settings, _Source(text, item.form), watch)
+    shape = shape_of(text, item.form)
+    if shape is None:
+        yield from asked.must_be_read()
+        raise ProgramFault(0, "the program reads a text whose counts and entries do not fit")
+    if settings.supports and not shape.is_binary:
+        asked.support = asked.source.support()
+    yield from asked.all_classes(shape)
+    if settings.minors:
         asked.add_minors()
-    fault, message = asked.fault
-    broken = [] if asked.settings.infers else [str(one) for one in contradictions(asked.verdicts)]
-    if not asked.settings.infers and not asked.support_fits():
-        broken.append("the support of tu in regular")
-    if broken:
-        fault, message = CONTRADICTION, "; ".join(broken)
-    kept = {kind.name: asked.verdicts.get(kind.name, "") for kind in asked.settings.classes}
+    if not settings.infers:
+        yield from asked.compare()
+    return _row(item, shape, asked, watch)
+
+
+def _row(item: Item, shape: Shape, asked: _Asked, watch: _Watch) -> Row:
+    verdicts = {kind.name: asked.verdicts.get(kind.name, "") for kind in asked.settings.classes}
     return Row(
         item.file,
         item.number,
         shape.rows,
         shape.columns,
         shape.nonzeros,
-        kept,
-        fault=fault,
-        message=message,
+        verdicts,
+        watch.milliseconds(),
+        fault=asked.fault[0],
+        message=asked.fault[1],
         evidence=asked.evidence,
+        size=item.size,
     )
 
 
-@dataclass(frozen=True)
+@dataclass(frozen=True, slots=True)
 class _Source:
     """A text of a matrix."""
 
@@ -188,7 +237,7 @@ class _Source:
 class _Asked:
     """What the program says of the matrix of a text."""
 
-    def __init__(self, settings: Settings, source: _Source, asker: Asker) -> None:
+    def __init__(self, settings: Settings, source: _Source, watch: _Watch) -> None:
         self.settings = settings
         self.source = source
         self.support: _Source | None = None
@@ -196,22 +245,23 @@ class _Asked:
         self.verdicts: dict[str, str] = {}
         self.evidence: dict[str, bytes] = {}
         self.fault: tuple[str | None, str | None] = (None, None)
-        self._asker = asker
+        self._watch = watch
 
-    def all_classes(self, shape: _Shape) -> None:
+    def all_classes(self, shape: Shape) -> _Asking:
         """Asks about each class on which the matrix has a verdict, except classes that are settled already if `infers` is set."""
-        classes = self.settings.classes
-        names = [kind.name for kind in classes if self.settings.asks(kind, shape)]
-        if not names:
-            self.must_be_read()
-        self.verdicts.update({kind.name: "-" for kind in classes if kind.name not in names})
-        if not self.settings.infers:
-            self._ask([kind for kind in classes if kind.name in names])
+        settings = self.settings
+        asked = settings.asked(shape.is_binary)
+        if not asked:
+            yield from self.must_be_read()
+        names = [kind.name for kind in asked]
+        self.verdicts.update({kind.name: "-" for kind in settings.classes if kind.name not in names})
+        if not settings.infers:
+            if asked:
+                yield from self._ask(asked)
             return
-        is_sparse = shape.nonzeros <= shape.rows + shape.columns
-        for kind in asking_order(classes, is_sparse):
+        for kind in settings.order(shape.nonzeros <= shape.rows + shape.columns):
             if kind.name not in self.verdicts:
-                self._ask([kind])
+                yield from self._ask([kind])
                 settle(self.verdicts, names)
 
     def add_minors(self) -> None:
@@ -231,49 +281,55 @@ class _Asked:
                     if minor is not None:
                         self.evidence[f"{kind.word}/minor"] = minor.to_text().encode("ascii")
 
-    def must_be_read(self) -> None:
+    def must_be_read(self) -> _Asking:
         """Raises the fault of the text, if no class is asked that would find it."""
-        self._verdict(_CAMION, self.source)
+        yield from self._verdict(_CAMION, self.source)
 
-    def support_fits(self) -> bool:
-        """Whether the support of a totally unimodular matrix with signs is regular, if both classes are asked of matrices without signs."""
-        if self.verdicts.get("tu") != "yes" or self.verdicts.get("regular") != "-":
-            return True
-        return self._verdict(_REGULAR, self.source.support()) != "no"
+    def compare(self) -> _Asking:
+        """Holds the verdicts against the inclusions.
+
+        If `tu` and `regular` are asked of matrices without signs, it also asks whether the support of a totally unimodular matrix with
+        signs is regular.
+        """
+        broken = [str(one) for one in contradictions(self.verdicts)]
+        if self.verdicts.get("tu") == "yes" and self.verdicts.get("regular") == "-":
+            if (yield from self._verdict(_REGULAR, self.source.support())) == "no":
+                broken.append("the support of tu in regular")
+        if broken:
+            self.fault = CONTRADICTION, "; ".join(broken)
 
     def _question(self, kind: MatrixClass, source: _Source, has_evidence: bool) -> Question:
-        return Question(kind, source.text, source.form, tuple(self.settings.budget(kind)), has_evidence)
+        return Question(self.settings.wording(kind, source.form, has_evidence), source.text)
 
-    def _verdict(self, kind: MatrixClass, source: _Source) -> str:
-        return next(self._asker.said([self._question(kind, source, has_evidence=False)])).verdict
+    def _verdict(self, kind: MatrixClass, source: _Source) -> Generator[Sequence[Question], Sequence[Said], str]:
+        (said,) = yield from self._watch.said([self._question(kind, source, has_evidence=False)])
+        if said.fault is not None:
+            raise said.fault
+        return said.verdict
 
     def _source_of(self, kind: MatrixClass) -> _Source:
-        return self.support if kind is _REGULAR and self.support is not None else self.source
+        return self.support if self.support is not None and kind == _REGULAR else self.source
 
-    def _ask(self, kinds: Sequence[MatrixClass]) -> None:
+    def _ask(self, kinds: Sequence[MatrixClass]) -> _Asking:
         """Asks for classes. A run that was ended by the limit of time leaves its class undecided, and the others are asked."""
-        left = list(kinds)
-        while left:
-            found: list[Said] = []
-            questions = [self._question(kind, self._source_of(kind), self.settings.evidence) for kind in left]
-            try:
-                for said in self._asker.said(questions):
-                    found.append(said)
-            except TimeoutError as fault:
-                self._late(left[len(found)], fault)
-            for kind, said in zip(left, found):
+        has_evidence = self.settings.evidence
+        questions = [self._question(kind, self._source_of(kind), has_evidence) for kind in kinds]
+        for kind, said in zip(kinds, (yield from self._watch.said(questions))):
+            if said.fault is not None:
+                self._late(kind, said.fault)
+            else:
                 self._keep(kind, said)
-            left = left[len(found) + 1 :]
 
-    def _late(self, kind: MatrixClass, fault: TimeoutError) -> None:
+    def _late(self, kind: MatrixClass, fault: Exception) -> None:
         self.verdicts[kind.name] = "undecided"
         self.fault = type(fault).__name__, f"{kind.name}: {fault}"
 
     def _keep(self, kind: MatrixClass, said: Said) -> None:
         """Keeps a verdict with its evidence. If it is undecided, the class is asked again with pivots and in other orders, if requested."""
-        self.evidence.update({f"{kind.name}/{ending}": text for ending, text in said.evidence.items()})
+        for ending, text in said.evidence.items():
+            self.evidence[f"{kind.name}/{ending}"] = text
         self.verdicts[kind.name] = said.verdict
-        if said.verdict == "undecided" and (self.settings.pivots or self.settings.tries):
+        if said.verdict == "undecided" and self.settings.asks_again:
             try:
                 self.verdicts[kind.name] = self._asked_again(kind, self._source_of(kind), said.seconds)
             except TimeoutError as fault:
@@ -310,29 +366,13 @@ def _dense_text(matrix: Matrix) -> str:
     return "\n".join(["{} {}".format(*matrix.shape), *rows, ""])
 
 
-def _shape_of(text: bytes, form: Format) -> _Shape | None:
-    """The sizes of a matrix and what its entries are, or None if the text may have a fault, which the program then names."""
-    try:
-        numbers = [int(word) for word in text.decode("ascii").split()]
-    except ValueError:
-        return None
-    length = 3 if form == "sparse" else 2
-    head, entries = numbers[:length], numbers[5::3] if form == "sparse" else numbers[2:]
-    if b"_" in text or len(head) < length or min(head) < 0 or max(head[:2]) > 1000:
-        return None
-    is_whole = len(numbers) == length + (3 * head[2] if form == "sparse" else head[0] * head[1])
-    values = set(entries)
-    if not is_whole or not values <= {-1, 0, 1}:
-        return None
-    return _Shape(head[0], head[1], len(entries) - entries.count(0), -1 not in values)
-
-
 def _model_text(item: Item) -> bytes:
     return from_model(item.file).to_text().encode("ascii")
 
 
-def _faulty(item: Item, kind: str, message: str | None, byte: int | None = None) -> Row:
-    return Row(item.file, item.number, None, None, None, {}, fault=kind, byte=byte, message=message)
+def _faulty(item: Item, watch: _Watch, kind: str, message: str | None, byte: int | None = None) -> Row:
+    taken = watch.milliseconds()
+    return Row(item.file, item.number, None, None, None, {}, taken, kind, byte, message, size=item.size)
 
 
 def _kind(fault: Exception) -> str:

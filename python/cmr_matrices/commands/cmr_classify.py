@@ -14,13 +14,12 @@ import os
 import re
 import signal
 import sys
-from collections.abc import Callable, Iterator
+from collections.abc import Callable, Iterator, Sequence
 from contextlib import closing
 from pathlib import Path
-from typing import Any
+from typing import TYPE_CHECKING, Any
 
 from ..classifying.classes import CLASS_NAMES, MatrixClass, chosen_classes
-from ..classifying.cluster import Cluster
 from ..classifying.pools import Processes, blocks_of
 from ..classifying.progress import Progress
 from ..classifying.streams import Item, items_of, part_of, sources_of
@@ -30,6 +29,9 @@ from ..classifying.work import CONTRADICTION, Row, Settings
 from ..errors import BadInput, ProgramMissing
 from ..program import find_program
 from .command import command_parser, end, integer_between, write_text
+
+if TYPE_CHECKING:
+    from ..classifying.cluster import Cluster
 
 FAULTS, CONTRADICTIONS, INTERRUPTED = 3, 8, 130
 
@@ -155,8 +157,8 @@ class _Run:
             progress = Progress(sources, chosen.part[1])
             with closing(progress):
                 items = self._left(part_of(items_of(sources, chosen.format), *chosen.part), progress)
-                for row in pool.rows(blocks_of(items, chosen.block)):
-                    self._write(table, row, progress)
+                for rows in pool.rows(blocks_of(items, chosen.block)):
+                    self._write(table, rows, progress)
             table.finish()
         self.tell()
 
@@ -207,6 +209,9 @@ class _Run:
             not chosen.no_batch,
         )
         if chosen.dask:
+            # What it needs of Python's library takes a while to load.
+            from ..classifying.cluster import Cluster  # pylint: disable=import-outside-toplevel
+
             return Cluster(chosen.dask, settings, chosen.worker_program)
         return Processes(chosen.jobs, settings)
 
@@ -217,13 +222,15 @@ class _Run:
             else:
                 yield item
 
-    def _write(self, table: Table, row: Row, progress: Progress) -> None:
-        """Keeps the evidence of a row and then the row, so that one that stands in the table has its evidence."""
-        for name, text in row.evidence.items():
-            _keep(Path(self.chosen.evidence), row, name, text)
-        table.write(row)
-        self._count(row.file, row.number, row.verdicts, row.fault, progress.say, row.message)
-        progress.step(row)
+    def _write(self, table: Table, rows: Sequence[Row], progress: Progress) -> None:
+        """Keeps the evidence of rows and then the rows, so that one that stands in the table has its evidence."""
+        for row in rows:
+            for name, text in row.evidence.items():
+                _keep(Path(self.chosen.evidence), row, name, text)
+        table.write(rows)
+        for row in rows:
+            self._count(row.file, row.number, row.verdicts, row.fault, progress.say, row.message)
+        progress.step(rows)
 
     def _count(
         self,
