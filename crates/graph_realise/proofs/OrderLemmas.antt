@@ -47,12 +47,12 @@ module _ (M : ℕ → ℕ → Bool) (m : ℕ) (side : ℕ → ℕ → Bool) (lie
   inserted_ordered : (ys : List ℕ) (p x : ℕ) → x < m → ((y : ℕ) → IsIn y ys → y < m) → ¬ (IsIn x ys) → IsOrdered (beyond side lies) ys → p ≤ length ys
       → ((k : ℕ) → k + 1 ≡ p → beyond side lies x (get_or ys k 0) ≡ true) → ((k : ℕ) → p ≤ k → k < length ys → beyond side lies x (get_or ys k 0) ≡ false)
       → IsOrdered (beyond side lies) (take p ys ++ x ∷ drop p ys)
-  inserted_ordered ys zero x lx below new o le last behind =
-      ((λ y h. let q = found_at ys y h in ((λ e. new (subst (λ (z : ℕ). IsIn z ys) (sym e) h)), subst (λ (z : ℕ). beyond side lies x z ≡ false) q.2 (behind q.0 (omega arith) q.1))), o)
-  inserted_ordered [] (suc p) x lx below new o le last behind = absurd (omega arith)
-  inserted_ordered (h ∷ L) (suc p) x lx below new o le last behind = (
+  inserted_ordered ys zero x lx below new o le last tail =
+      ((λ y h. let q = found_at ys y h in ((λ e. new (subst (λ (z : ℕ). IsIn z ys) (sym e) h)), subst (λ (z : ℕ). beyond side lies x z ≡ false) q.2 (tail q.0 (omega arith) q.1))), o)
+  inserted_ordered [] (suc p) x lx below new o le last tail = absurd (omega arith)
+  inserted_ordered (h ∷ L) (suc p) x lx below new o le last tail = (
     least,
-    inserted_ordered L p x lx (λ y k. below y (inr k)) (λ k. new (inr k)) o.1 (omega arith) later (λ k a b. behind (suc k) (omega arith) (omega arith)),
+    inserted_ordered L p x lx (λ y k. below y (inr k)) (λ k. new (inr k)) o.1 (omega arith) later (λ k a b. tail (suc k) (omega arith) (omega arith)),
   )
     where
       later : (k : ℕ) → k + 1 ≡ p → beyond side lies x (get_or L k 0) ≡ true
@@ -87,8 +87,8 @@ module _ (M : ℕ → ℕ → Bool) (m : ℕ) (side : ℕ → ℕ → Bool) (lie
   pub order_more : (order : List ℕ) (place arc : ℕ) → arc < m → IsGrowingOrder (beyond side lies) arc order → place ≤ length order
       → ((k : ℕ) → k + 1 ≡ place → beyond side lies arc (get_or order k 0) ≡ true) → ((k : ℕ) → place ≤ k → k < length order → beyond side lies arc (get_or order k 0) ≡ false)
       → (new : List ℕ) → new ≡ insert order place arc → length new ≡ length order + 1 → IsGrowingOrder (beyond side lies) (arc + 1) new
-  order_more order place arc l so le last behind new e long = rw e (record {
-    ordered = inserted_ordered order place arc l (λ y h. let k = so.only y h in omega arith) (λ h. let k = so.only arc h in absurd (omega arith)) so.ordered le last behind;
+  order_more order place arc l so le last tail new e long = rw e (record {
+    ordered = inserted_ordered order place arc l (λ y h. let k = so.only y h in omega arith) (λ h. let k = so.only arc h in absurd (omega arith)) so.ordered le last tail;
     all = λ row k. inserted_in order place arc row (before row (cases_lt row arc) k);
     only = λ row h. after row (in_inserted order place arc row h);
     many = sym (ap (λ (xs : List ℕ). length xs) e) ∙ long ∙ ap (λ (z : ℕ). z + 1) so.many;

@@ -31,4 +31,4 @@ IsSpotIn m n (Last column) = column < n
 pub record IsPlaceInOrder (sides : ArcSides) (order : List ℕ) (arc found : ℕ) : Type 0 where
   pub within : found ≤ length order
   pub last : (k : ℕ) → k + 1 ≡ found → is_beyond sides arc (slice_index order k) ≡ true
-  pub behind : (k : ℕ) → found ≤ k → k < length order → is_beyond sides arc (slice_index order k) ≡ false
+  pub after : (k : ℕ) → found ≤ k → k < length order → is_beyond sides arc (slice_index order k) ≡ false

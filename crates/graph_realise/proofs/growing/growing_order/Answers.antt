@@ -22,5 +22,5 @@ loop-arc-preserved c =
     let found = subst (λ (xs : List ℕ). IsPlaceInOrder sides xs c.loop-arc.arc c.place_in-place.result) c.deref.ensures.value c.place_in-place.ensures in
     let l = c.loop-arc-test.true in
     let e = c.rows-arc-end.ensures.rows in
-    order_more (support m) (height m) (side_in sides) (end_in sides) c.requires.cuts order c.place_in-place.result c.loop-arc.arc (omega arith) c.loop-arc.invariant found.within found.last found.behind
+    order_more (support m) (height m) (side_in sides) (end_in sides) c.requires.cuts order c.place_in-place.result c.loop-arc.arc (omega arith) c.loop-arc.invariant found.within found.last found.after
     c.insert.new.self.items c.in_ok-insert.ensures.items (let k = c.in_ok-insert.ensures.len in omega (arith, c.insert.new.self.ok, c.loop-arc.order.ok))

@@ -6,7 +6,7 @@ use Rattle.graph_realise.proofs.growing.place_in.Given as goal
 abbrev pub invariant-places : goal.invariant-places
 invariant-places l = record {
   within : l.place ≤ length l.order;
-  behind : (k : ℕ) → l.place ≤ k → k < length l.order → is_beyond l.sides l.arc (slice_index l.order k) ≡ false;
+  after : (k : ℕ) → l.place ≤ k → k < length l.order → is_beyond l.sides l.arc (slice_index l.order k) ≡ false;
 }
 
 abbrev pub decreases-places : goal.decreases-places
