@@ -12,8 +12,8 @@ use Rattle.balance.specs.SearchedFaults.{HasSearchedFaults}
 use Rattle.balance.proofs.FaultNumbers.{balanced_after}
 use Rattle.balance.proofs.FaultSets.{balanced_from_transposed, least_from_transposed}
 
-module _ (m : Matrix) (is : IsMatrix m) (limit : ℕ) where
-  of_search : (found : LeastSubmatrix) → HasSearchedFor MakeFaultAt IsLeastFaultByRows m limit found → HasSearchedFaults m limit found
+module _ (m : Matrix) (is : IsMatrix m) (budget : ℕ) where
+  of_search : (found : LeastSubmatrix) → HasSearchedFor MakeFaultAt IsLeastFaultByRows m budget found → HasSearchedFaults m budget found
   of_search Clean h = (
     h.0,
     elim (cases_lt m.width (height m)) [
@@ -30,6 +30,6 @@ module _ (m : Matrix) (is : IsMatrix m) (limit : ℕ) where
   )
   of_search (TooMany shorter) h = h
 
-  pub searched : {E : Type 0} (result : Result LeastSubmatrix E) → IfOk result (HasSearchedFor MakeFaultAt IsLeastFaultByRows m limit) → IfOk result (HasSearchedFaults m limit)
+  pub searched : {E : Type 0} (result : Result LeastSubmatrix E) → IfOk result (HasSearchedFor MakeFaultAt IsLeastFaultByRows m budget) → IfOk result (HasSearchedFaults m budget)
   searched (Ok found) h = of_search found h
   searched (Err e) h = tt

@@ -11,8 +11,8 @@ use Rattle.balance.specs.BalanceFaults.{IsBalanced, HasNoFaultColumns, IsLeastFa
 abbrev pub HasNoFaultBelow : Matrix → ℕ → Type 0
 HasNoFaultBelow m number = (others : List ℕ) → IsRowSet m others → set_number others < number → HasNoFaultColumns m others
 
--- too many lines if and only if the shorter side is above the limit; otherwise the matrix is balanced, or this is the least fault
+-- too many lines if and only if the shorter side is above the budget; otherwise the matrix is balanced, or this is the least fault
 abbrev pub HasSearchedFaults : Matrix → ℕ → LeastSubmatrix → Type 0
-HasSearchedFaults m limit Clean = (shorter_side m ≤ limit) × IsBalanced m
-HasSearchedFaults m limit (Found lines) = (shorter_side m ≤ limit) × IsLeastFault m lines.rows lines.columns
-HasSearchedFaults m limit (TooMany shorter) = (limit < shorter) × (shorter ≡ shorter_side m)
+HasSearchedFaults m budget Clean = (shorter_side m ≤ budget) × IsBalanced m
+HasSearchedFaults m budget (Found lines) = (shorter_side m ≤ budget) × IsLeastFault m lines.rows lines.columns
+HasSearchedFaults m budget (TooMany shorter) = (budget < shorter) × (shorter ≡ shorter_side m)

@@ -5,18 +5,14 @@ use Rattle.std.proofs.lemmas.Bool.{true≢false}
 use Rattle.cmr_base.specs.Matrix.{Matrix, height}
 use Rattle.std.specs.declared.alloc.Global.{Global}
 use Rattle.std.specs.declared.boxed.Box.{Box}
-use Rattle.cmr_base.specs.declared.item_list.ItemList.{ItemList}
-use Rattle.cmr_base.specs.declared.line.Line.{Line}
 use Rattle.cmr_base.specs.declared.line_set.LineSet.{LineSet}
-use Rattle.cmr_base.specs.declared.separation.Two.{Two}
-use Rattle.cmr_base.specs.declared.separation.Three.{Three}
 use Rattle.cmr_base.proofs.Lists.{all-append}
 use Rattle.tree_type.specs.declared.refusal.Refusal.{Refusal}
 use Rattle.tree_type.specs.declared.refusal.Rule.{Rule}
 use Rattle.tree_type.specs.declared.refusal.Rule.TheVariants as rule
-use Rattle.tree_type.specs.DecompositionTrees.{Finding, Reduced, TwoSum, ThreeSum, Pivoted, Tree, Trees, Branch, NoTrees, MoreTrees, SizedTree, one_tree, two_trees, lines_at_root, tree_of, trees_below, finding_of}
+use Rattle.tree_type.specs.DecompositionTrees.{Finding, Pivoted, Tree, Trees, Branch, NoTrees, MoreTrees, SizedTree, one_tree, lines_at_root, tree_of, trees_below, finding_of}
 use Rattle.tree_type.specs.declared.tree.Node.{Node}
-use Rattle.tree_type.proofs.NodeTrees.{said, tree_is, said_reduced, said_two_sum, said_three_sum, said_pivoted}
+use Rattle.tree_type.proofs.NodeTrees.{said, tree_is, said_pivoted}
 use Rattle.tree_type.specs.declared.tree.Kind.{Kind}
 use Rattle.tree_type.specs.declared.tree.Kind.TheVariants as kind
 use Rattle.tree_type.specs.Invariant.{AreLines, AreTreesWithin, IsTreeFor}
@@ -272,15 +268,6 @@ whole_answer m tree (Some refusal) h = h
 
 pub kind_is : (node : Node) (k : Kind) (f : Finding) (trees : Trees) → node.kind ≡ k → said k ≡ (f, trees) → tree_of node ≡ Branch node.lines f trees
 kind_is node k f trees e h = tree_is node ∙ ap (λ s. Branch node.lines s.0 s.1) (ap said e ∙ h)
-
-pub reduced_is : (node : Node) (steps : ItemList Line) (child : Box Node Global) → node.kind ≡ kind.Reduced steps child → tree_of node ≡ Branch node.lines (Reduced steps) (one_tree (tree_of child.value))
-reduced_is node steps child e = kind_is node (kind.Reduced steps child) (Reduced steps) (one_tree (tree_of child.value)) e (said_reduced steps child)
-
-pub two_sum_is : (node : Node) (two : Two) (a b : Box Node Global) → node.kind ≡ kind.TwoSum two a b → tree_of node ≡ Branch node.lines (TwoSum two) (two_trees (tree_of a.value) (tree_of b.value))
-two_sum_is node two a b e = kind_is node (kind.TwoSum two a b) (TwoSum two) (two_trees (tree_of a.value) (tree_of b.value)) e (said_two_sum two a b)
-
-pub three_sum_is : (node : Node) (three : Three) (a b : Box Node Global) → node.kind ≡ kind.ThreeSum three a b → tree_of node ≡ Branch node.lines (ThreeSum three) (two_trees (tree_of a.value) (tree_of b.value))
-three_sum_is node three a b e = kind_is node (kind.ThreeSum three a b) (ThreeSum three) (two_trees (tree_of a.value) (tree_of b.value)) e (said_three_sum three a b)
 
 pub pivoted_is : (node : Node) (place : PlacedPivot) (child : Box Node Global) → node.kind ≡ kind.Pivoted place child → tree_of node ≡ Branch node.lines (Pivoted place) (one_tree (tree_of child.value))
 pivoted_is node place child e = kind_is node (kind.Pivoted place child) (Pivoted place) (one_tree (tree_of child.value)) e (said_pivoted place child)

@@ -1,5 +1,5 @@
 -- The children of a node, one after another.
-use Rattle.std.proofs.Common.{◌≡◌, ◌≢◌, ◌<◌, ◌≤◌, ◌+◌, ◌-◌, ◌∙◌, ℕ, Bool, suc, List, [], ◌∷◌, ◌++◌, drop, get_or, length, map, Option, Some, None, ap, refl, sym, subst, arith}
+use Rattle.std.proofs.Common.{◌≡◌, ◌≢◌, ◌<◌, ◌≤◌, ◌+◌, ◌-◌, ◌∙◌, ℕ, Bool, suc, List, [], ◌∷◌, ◌++◌, drop, get_or, length, Option, Some, None, ap, refl, sym, subst, arith}
 use Rattle.std.proofs.lemmas.List.{drop_more}
 use Rattle.std.specs.declared.alloc.Global.{Global}
 use Rattle.std.specs.declared.boxed.Box.{Box}
@@ -9,20 +9,18 @@ use Rattle.cmr_base.specs.declared.placed_pivot.PlacedPivot.{PlacedPivot}
 use Rattle.cmr_base.proofs.Parts.{length-increasing}
 use Rattle.tree_type.specs.declared.refusal.Refusal.{Refusal}
 use Rattle.tree_type.specs.declared.tree.Node.{Node}
-use Rattle.tree_type.specs.declared.tree.NodeList.{NodeList}
 use Rattle.tree_type.specs.declared.tree.Kind.TheOpen as open'
 use Rattle.tree_type.specs.declared.tree.Kind.TheVariants as kind
 use Rattle.tree_type.specs.declared.tree.Kind.TheViews.{roll-Kind}
-use Rattle.tree_type.specs.DecompositionTrees.{Finding, OneSum, Tree, Trees, Branch, children_of, count_trees, finding_of, lines_at_root, list_of, nodes_in, trees_from, trees_of, tree_of}
+use Rattle.tree_type.specs.DecompositionTrees.{Finding, OneSum, Tree, Trees, Branch, children_of, count_trees, finding_of, lines_at_root, list_of, trees_from, tree_of}
 use Rattle.tree_type.specs.Invariant.{AreLines, AreTreesWithin, FitsLines, HasChildren, size_of}
 use Rattle.tree_type.specs.Places.{MadePivot, pivots_below, places_from, places_below}
-use Rattle.tree_type.proofs.Forests.{count_list, trees_are}
+use Rattle.tree_type.proofs.Forests.{count_list}
 use Rattle.tree_type.proofs.NodeChildren.{trees_back}
-use Rattle.tree_type.proofs.NodeTrees.{said_one_sum}
 use Rattle.tree_type.proofs.OtherKinds.{KindCase, by_kind, finding_in}
 use Rattle.tree_type.proofs.PlacedLines.{lines_within}
 use Rattle.cert_check.specs.Answers.{AnswersOn, AnswersFrom, AnswersBelow, IsAfter, IsValidNode, nodes_below, due_child_of}
-use Rattle.cert_check.proofs.Answering.{answers_after, broken_before, kind_is}
+use Rattle.cert_check.proofs.Answering.{answers_after, broken_before}
 
 -- the children from a number on satisfy `IsValidNode`, and an answer on them and the nodes below them is an answer on all
 pub record AreLeft (here : Matrix) (below_pivot : Bool) (path : List ℕ) (tree : Tree) (number : ℕ) (rest : List Tree) : Type 0 where
@@ -86,13 +84,7 @@ module _ (here : Matrix) (below_pivot : Bool) (path : List ℕ) (tree : Tree) (n
   pub left_none : (trees : List Tree) → trees ≡ [] → AreLeft here below_pivot path tree number trees → AnswersBelow here below_pivot path tree None
   left_none trees e left = λ m pivots after. (subst (AreLeft here below_pivot path tree number) e left).answers m pivots after None tt
 
--- ---- the nodes of a one-sum
-
-abbrev pub trees_left : List Node → Trees
-trees_left nodes = trees_from (map tree_of nodes)
-
-pub one_sum_is : (node : Node) (children : NodeList) → node.kind ≡ kind.OneSum children → tree_of node ≡ Branch node.lines OneSum (trees_left (nodes_in children))
-one_sum_is node children e = kind_is node (kind.OneSum children) OneSum (trees_of children) e (said_one_sum children) ∙ ap (Branch node.lines OneSum) (trees_are children)
+-- ---- the nodes of a list
 
 pub child_first : (nodes : List Node) (i : ℕ) (child : Node) → i < length nodes → child ≡ get_or nodes i child → drop i nodes ≡ child ∷ drop (i + 1) nodes
 child_first nodes i child l e = drop_more nodes i child l ∙ ap (λ node. node ∷ drop (i + 1) nodes) (sym e)

@@ -94,21 +94,21 @@ again_line_set height width lines few_rows few_columns inside increasing =
 -- ---- steps
 
 -- the row and the column of a step
-again_place : (height width row column : ℕ) (name : StepName) (word : List ℕ) (behind : List (List ℕ)) (step : SignStep) → height ≤ 1000 → width ≤ 1000 → row < height → column < width
-    → step_name_in word ≡ Ok name → Again (step_of height width name row column) behind step → Again (next_step height width) (word ∷ number_of_line row ∷ number_of_line column ∷ behind) step
-again_place height width row column name word behind step few_rows few_columns in_rows in_columns named later =
+again_place : (height width row column : ℕ) (name : StepName) (word : List ℕ) (others : List (List ℕ)) (step : SignStep) → height ≤ 1000 → width ≤ 1000 → row < height → column < width
+    → step_name_in word ≡ Ok name → Again (step_of height width name row column) others step → Again (next_step height width) (word ∷ number_of_line row ∷ number_of_line column ∷ others) step
+again_place height width row column name word others step few_rows few_columns in_rows in_columns named later =
     let r : row + 1 - 1 ≡ row = omega arith in
     let c : column + 1 - 1 ≡ column = omega arith in
     again_bind (field Short step_name_in) _
-    (word ∷ []) (number_of_line row ∷ number_of_line column ∷ behind) name step
+    (word ∷ []) (number_of_line row ∷ number_of_line column ∷ others) name step
     (again_field Short step_name_in word name named)
     (again_bind (field Short (line_in height)) _
-    (number_of_line row ∷ []) (number_of_line column ∷ behind) (row + 1) step
+    (number_of_line row ∷ []) (number_of_line column ∷ others) (row + 1) step
     (again_field Short (line_in height) (number_of_line row) (row + 1) (line_again height row few_rows in_rows))
     (again_bind (field Short (line_in width)) _
-    (number_of_line column ∷ []) behind (column + 1) step
+    (number_of_line column ∷ []) others (column + 1) step
     (again_field Short (line_in width) (number_of_line column) (column + 1) (line_again width column few_columns in_columns))
-    (subst (λ (i : ℕ). Again (step_of height width name i (column + 1 - 1)) behind step) (sym r) (subst (λ (j : ℕ). Again (step_of height width name row j) behind step) (sym c) later))))
+    (subst (λ (i : ℕ). Again (step_of height width name i (column + 1 - 1)) others step) (sym r) (subst (λ (j : ℕ). Again (step_of height width name row j) others step) (sym c) later))))
 
 again_step : (height width : ℕ) (step : SignStep) → height ≤ 1000 → width ≤ 1000 → IsStepIn height width step → IsIncreasingStep step → Again (next_step height width) (step_words step) step
 again_step height width (Free row column) few_rows few_columns inside increasing =

@@ -20,7 +20,8 @@ use Rattle.cmr_classes.proofs.GraphMatrixAnswers.{one_graph_matrix}
 pub same_file : (f : File) → HoldAlikeNetworks f f
 same_file f = same refl
 
-lines_back : (transposed : Bool) (found : Option LineSet) → option_map (tested_lines transposed) (option_map (tested_lines transposed) found) ≡ found
+-- the lines of the tested matrix are lines of the given matrix, and the other way round
+pub lines_back : (transposed : Bool) (found : Option LineSet) → option_map (tested_lines transposed) (option_map (tested_lines transposed) found) ≡ found
 lines_back true None = refl
 lines_back true (Some lines) = refl
 lines_back false None = refl

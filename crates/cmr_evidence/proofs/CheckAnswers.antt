@@ -18,7 +18,7 @@ use Rattle.chains.specs.SignSteps as signing
 use Rattle.chains.specs.SignSteps.{AreSigns, LeadTo, signed_by}
 use Rattle.chains.proofs.ChainChecks.{lead_from, rule_signs}
 use Rattle.chains.proofs.ChainViolators.{chains_mean_violators, chains_refute_regularity, unsigned_signs}
-use Rattle.tree_laws.specs.Laws.{IsRefuted, Tells}
+use Rattle.tree_laws.specs.Laws.{IsRefuted, VerdictMeans}
 use Rattle.cert_check.proofs.Answering.{lines_is}
 use Rattle.tree_text.specs.TreeReading.{PlainTree, tree}
 use Rattle.tree_type.specs.Places.{places}
@@ -66,27 +66,27 @@ pub root_height : (m : Matrix) (t : SizedTree) → IsSound m t → length t.root
 root_height m t sound = ap (λ (lines : LineSet). length lines.rows) (sym (lines_is t.root)) ∙ all_rows m t.rows t.columns (tree_of t.root) sound
 
 one_tree : (m : Matrix) (t : PlainTree) (r s : Report) → TreeDecides m t r → TreeDecides m t s → r.status ≡ s.status
-one_tree m t r s (accepted sound tells e) (accepted sound' tells' f) = status_of r _ e ∙ sym (status_of s _ f)
-one_tree m t r s (accepted sound tells e) (refused path broken is f) = absurd (sound_unbroken m (places t.rows t.columns t.root) path broken sound is)
-one_tree m t r s (refused path broken is e) (accepted sound tells f) = absurd (sound_unbroken m (places t.rows t.columns t.root) path broken sound is)
+one_tree m t r s (accepted sound means e) (accepted sound' means' f) = status_of r _ e ∙ sym (status_of s _ f)
+one_tree m t r s (accepted sound means e) (refused path broken is f) = absurd (sound_unbroken m (places t.rows t.columns t.root) path broken sound is)
+one_tree m t r s (refused path broken is e) (accepted sound means f) = absurd (sound_unbroken m (places t.rows t.columns t.root) path broken sound is)
 one_tree m t r s (refused path broken is e) (refused path' broken' is' f) = status_of r _ e ∙ sym (status_of s _ f)
 
-by_verdict : (m : Matrix) (t : PlainTree) (sound : IsSoundFor m t) (v : Verdict) → verdict_of t.root ≡ v → Tells m v → (answer : Answer) → (accepted_report m v).status ≡ answer_status answer → TreeMeans m t answer
-by_verdict m t sound verdicts.Yes e tells Yes is = (sound, e, unimodular m tells.unimodular)
-by_verdict m t sound verdicts.Yes e tells No is = absurd (omega arith)
-by_verdict m t sound verdicts.Yes e tells Undecided is = absurd (omega arith)
-by_verdict m t sound verdicts.Yes e tells Refused is = absurd (omega arith)
-by_verdict m t sound (verdicts.No fault) e tells Yes is = absurd (omega arith)
-by_verdict m t sound (verdicts.No fault) e tells No is = (sound, fault, e, not_unimodular m fault tells)
-by_verdict m t sound (verdicts.No fault) e tells Undecided is = absurd (omega arith)
-by_verdict m t sound (verdicts.No fault) e tells Refused is = absurd (omega arith)
-by_verdict m t sound (verdicts.Open lines) e tells Yes is = absurd (omega arith)
-by_verdict m t sound (verdicts.Open lines) e tells No is = absurd (omega arith)
-by_verdict m t sound (verdicts.Open lines) e tells Undecided is = (sound, lines, e)
-by_verdict m t sound (verdicts.Open lines) e tells Refused is = absurd (omega arith)
+by_verdict : (m : Matrix) (t : PlainTree) (sound : IsSoundFor m t) (v : Verdict) → verdict_of t.root ≡ v → VerdictMeans m v → (answer : Answer) → (accepted_report m v).status ≡ answer_status answer → TreeMeans m t answer
+by_verdict m t sound verdicts.Yes e means Yes is = (sound, e, unimodular m means.unimodular)
+by_verdict m t sound verdicts.Yes e means No is = absurd (omega arith)
+by_verdict m t sound verdicts.Yes e means Undecided is = absurd (omega arith)
+by_verdict m t sound verdicts.Yes e means Refused is = absurd (omega arith)
+by_verdict m t sound (verdicts.No fault) e means Yes is = absurd (omega arith)
+by_verdict m t sound (verdicts.No fault) e means No is = (sound, fault, e, not_unimodular m fault means)
+by_verdict m t sound (verdicts.No fault) e means Undecided is = absurd (omega arith)
+by_verdict m t sound (verdicts.No fault) e means Refused is = absurd (omega arith)
+by_verdict m t sound (verdicts.Open lines) e means Yes is = absurd (omega arith)
+by_verdict m t sound (verdicts.Open lines) e means No is = absurd (omega arith)
+by_verdict m t sound (verdicts.Open lines) e means Undecided is = (sound, lines, e)
+by_verdict m t sound (verdicts.Open lines) e means Refused is = absurd (omega arith)
 
 tree_says : (m : Matrix) (t : PlainTree) (r : Report) (answer : Answer) → TreeDecides m t r → r.status ≡ answer_status answer → TreeMeans m t answer
-tree_says m t r answer (accepted sound tells e) is = by_verdict m t sound (verdict_of t.root) refl tells answer (sym (status_of r _ e) ∙ is)
+tree_says m t r answer (accepted sound means e) is = by_verdict m t sound (verdict_of t.root) refl means answer (sym (status_of r _ e) ∙ is)
 tree_says m t r Yes (refused path broken not e) is = let s = status_of r _ e in absurd (omega arith)
 tree_says m t r No (refused path broken not e) is = let s = status_of r _ e in absurd (omega arith)
 tree_says m t r Undecided (refused path broken not e) is = let s = status_of r _ e in absurd (omega arith)
@@ -164,7 +164,7 @@ accepted_answers m (verdicts.No fault) r e = (No, status_of r _ e)
 accepted_answers m (verdicts.Open lines) r e = (Undecided, status_of r _ e)
 
 tree_answers : (m : Matrix) (t : PlainTree) (r : Report) → TreeDecides m t r → IsAnswered r
-tree_answers m t r (accepted sound tells e) = accepted_answers m (verdict_of t.root) r e
+tree_answers m t r (accepted sound means e) = accepted_answers m (verdict_of t.root) r e
 tree_answers m t r (refused path broken not e) = (Refused, status_of r _ e)
 
 violator_answers : (m : Matrix) (lines : LineSet) (r : Report) → ViolatorDecides m lines r → IsAnswered r

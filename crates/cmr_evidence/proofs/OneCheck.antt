@@ -58,9 +58,9 @@ one_broken a c step step' is x y = elim x.broken [
 -- ---- one report on each kind of evidence
 
 one_of_tree : (m : Matrix) (t : PlainTree) (r s : Report) → TreeDecides m t r → TreeDecides m t s → r ≡ s
-one_of_tree m t r s (accepted sound tells e) (accepted sound' tells' f) = e ∙ sym f
-one_of_tree m t r s (accepted sound tells e) (refused path broken is f) = absurd (sound_unbroken m (places t.rows t.columns t.root) path broken sound is)
-one_of_tree m t r s (refused path broken is e) (accepted sound tells f) = absurd (sound_unbroken m (places t.rows t.columns t.root) path broken sound is)
+one_of_tree m t r s (accepted sound means e) (accepted sound' means' f) = e ∙ sym f
+one_of_tree m t r s (accepted sound means e) (refused path broken is f) = absurd (sound_unbroken m (places t.rows t.columns t.root) path broken sound is)
+one_of_tree m t r s (refused path broken is e) (accepted sound means f) = absurd (sound_unbroken m (places t.rows t.columns t.root) path broken sound is)
 one_of_tree m t r s (refused path broken is e) (refused path' broken' is' f) =
     let same = one_refusal m (places t.rows t.columns t.root) path path' broken broken' is is' in
     e ∙ ap₂ refused_report same.0 same.1 ∙ sym f

@@ -1,13 +1,13 @@
 -- A violator has a square submatrix whose determinant is none of -1, 0 and 1.
-use Rattle.std.proofs.Common.{◌≡◌, ◌<◌, ◌≤◌, ◌⊎◌, inl, inr, ℕ, zero, suc, ℤ, pos, negsuc, List, [], ◌∷◌, length, refl, sym, subst, arith}
+use Rattle.std.proofs.Common.{◌≡◌, ◌<◌, ◌≤◌, ◌⊎◌, inl, inr, ℕ, ℤ, List, [], ◌∷◌, length, refl, sym, subst, arith}
 use Rattle.std.proofs.lemmas.Bool.{cases_lt}
 use Rattle.cmr_base.specs.declared.line_set.LineSet.{LineSet}
 use Rattle.cmr_base.specs.Matrix.{Matrix, height, entry, IsEntry}
-use Rattle.cmr_base.proofs.Integers.{sums}
 use Rattle.cmr_base.proofs.IncreasingLists.{row_set_increases, column_set_increases, increasing_row_set, increasing_column_set}
 use Rattle.ghouila.proofs.Expansions.{determinant_is, minor}
 use Rattle.ghouila.proofs.Minors.{no_violator_by_minors}
 use Rattle.ghouila.proofs.Sublists.{IsSublist, sublist_increases}
+use Rattle.ghouila.proofs.EntryTests.{entry_or_not}
 use Rattle.tree_laws.specs.Laws.{IsRefuted}
 use Rattle.cmr_evidence.specs.Unimodular.{HasOtherDeterminant}
 
@@ -22,13 +22,6 @@ every_or_one (x ∷ R) Holds Fails test = go (every_or_one R Holds Fails test) (
     go (inl none) (inl some) = inl (λ P h. elim h [ inl k ↦ none P k | inr k ↦ subst Holds (sym k.1) (some k.0 k.2) ])
     go (inl none) (inr bad) = inr (x ∷ bad.0, inr (bad.0, refl, bad.1), bad.2)
     go (inr bad) some = inr (bad.0, inl bad.1, bad.2)
-
-entry_or_other : (z : ℤ) → IsEntry z ⊎ (¬ IsEntry z)
-entry_or_other (pos zero) = inl (record { low = omega (arith, sums); high = omega (arith, sums) })
-entry_or_other (pos (suc zero)) = inl (record { low = omega (arith, sums); high = omega (arith, sums) })
-entry_or_other (pos (suc (suc n))) = inr (λ h. let l = h.high in omega (arith, sums))
-entry_or_other (negsuc zero) = inl (record { low = omega (arith, sums); high = omega (arith, sums) })
-entry_or_other (negsuc (suc n)) = inr (λ h. let l = h.low in omega (arith, sums))
 
 module _ (M : ℕ → ℕ → ℤ) where
   abbrev HasEntry : List ℕ → List ℕ → Type 0
@@ -46,7 +39,7 @@ module _ (M : ℕ → ℕ → ℤ) where
   pub entries_or_other : (R C : List ℕ) → ((P Q : List ℕ) → IsSublist P R → IsSublist Q C → length P ≡ length Q → IsEntry (minor M Q P))
       ⊎ ((P : List ℕ) × IsSublist P R × (Q : List ℕ) × IsSublist Q C × IsOther P Q)
   entries_or_other R C = elim (every_or_one R (λ P. (Q : List ℕ) → IsSublist Q C → HasEntry P Q) (λ P. (Q : List ℕ) × IsSublist Q C × IsOther P Q)
-      (λ P. every_or_one C (HasEntry P) (IsOther P) (λ Q. entry_unless_other P Q (entry_or_other (minor M Q P)) (cases_lt (length P) (length Q)) (cases_lt (length Q) (length P))))) [
+      (λ P. every_or_one C (HasEntry P) (IsOther P) (λ Q. entry_unless_other P Q (entry_or_not (minor M Q P)) (cases_lt (length P) (length Q)) (cases_lt (length Q) (length P))))) [
         | inl all ↦ inl (λ P Q h k. all P h Q k)
         | inr one ↦ inr (one.0, one.1, one.2.0, one.2.1, one.2.2)
       ]

@@ -16,7 +16,7 @@ use Rattle.tree_type.specs.Verdicts.{Verdict, verdict_of}
 use Rattle.tree_type.specs.declared.refusal.Rule.{Rule}
 use Rattle.tree_type.specs.declared.refusal.Rule.TheVariants.{NotViolator}
 use Rattle.tree_text.specs.TreeReading.{PlainTree}
-use Rattle.tree_laws.specs.Laws.{IsRefuted, Tells}
+use Rattle.tree_laws.specs.Laws.{IsRefuted, VerdictMeans}
 use Rattle.cmr_front.specs.declared.outcome.FaultKind.TheVariants as faults
 use Rattle.cmr_front.specs.declared.status.Answer.{Answer}
 use Rattle.cmr_front.specs.declared.status.Answer.TheVariants.{Yes, No, Undecided, Refused}
@@ -114,7 +114,7 @@ refused_step_report step = said Refused (codes "refused: step " ++ decimal step 
 
 -- a tree is accepted if each node keeps all rules, and its verdict is then right
 pub data TreeDecides (m : Matrix) (t : PlainTree) (report : Report) : Type 0 where
-  accepted : IsSoundFor m t → Tells m (verdict_of t.root) → report ≡ accepted_report m (verdict_of t.root) → TreeDecides m t report
+  accepted : IsSoundFor m t → VerdictMeans m (verdict_of t.root) → report ≡ accepted_report m (verdict_of t.root) → TreeDecides m t report
   refused : (path : List ℕ) (broken : Rule) → IsBrokenFor m t path broken → report ≡ refused_report path broken → TreeDecides m t report
 
 pub data ViolatorDecides (m : Matrix) (lines : LineSet) (report : Report) : Type 0 where

@@ -1,6 +1,6 @@
 //! The answer and the printed words of a verdict.
 ghost use Rattle.std.specs.Prelude.{◌≡◌, ◌++◌, OnOk};
-ghost use Rattle.tree_laws.specs.Laws.{Tells};
+ghost use Rattle.tree_laws.specs.Laws.{VerdictMeans};
 ghost use Rattle.tree_type.specs.Verdicts.{verdict_shown};
 ghost use Rattle.cmr_evidence.specs.VerdictWords.{answer_of, answer_word, named_line};
 
@@ -37,7 +37,7 @@ pub fn push_named_line(
     matrix: &Matrix,
     verdict: &VerdictOf<'_>,
 ) -> Result<(), Memory>
-    requires { Tells matrix.now (verdict_shown verdict.now) }
+    requires { VerdictMeans matrix.now (verdict_shown verdict.now) }
     ensures { OnOk result (text.new.items
         ≡ text.old.items ++ named_line matrix.now (verdict_shown verdict.now)) }
 {

@@ -6,6 +6,7 @@ use Rattle.std.specs.Result.{IsErr, IsErrAnd}
 use Rattle.cmr_io.specs.Causes.{Rose}
 use Rattle.cmr_io.specs.Log.{Log}
 use Rattle.cmr_io.specs.Reads.{Reads}
+use Rattle.cmr_io.proofs.CauseLemmas.{rose_later, rose_until}
 use Rattle.cmr_front.specs.declared.outcome.Outcome.{Outcome}
 use Rattle.cmr_front.specs.declared.outcome.Stop.{Stop}
 use Rattle.cmr_front.specs.declared.outcome.Stop.TheVariants as stops
@@ -30,14 +31,6 @@ pointwise f g h = λ i. λ x. h x i
 pub passed_on : (D : Result Outcome Stop → Type 0) (r : Result Outcome Stop) (stop : Stop) → IsErr r × IsErrAnd r (λ e. e ≡ stop) → D (Err stop) → D r
 passed_on D (Ok outcome) stop h d = let e = h.0 in cc
 passed_on D (Err e) stop h d = subst (λ s. D (Err s)) (sym h.1) d
-
-pub rose_from : (before mid now : ℕ) → before ≤ mid → Rose mid now → Rose before now
-rose_from before mid now h (inl up) = inl (omega arith)
-rose_from before mid now h (inr last) = inr last
-
-rose_until : (before mid now : ℕ) → mid ≤ now → Rose before mid → Rose before now
-rose_until before mid now h (inl up) = inl (omega arith)
-rose_until before mid now h (inr last) = inr (omega arith)
 
 -- what is ordered is a lawful tool, or nothing
 abbrev pub IsLawfulOrder : Ordered → Type 0
@@ -115,7 +108,7 @@ seen_from ended tells before held reads writes failed faults after status same a
       output_taken = u.output_taken;
       error = u.error;
       error_taken = u.error_taken;
-      cause = rose_from before.shelf_faults faults after.shelf_faults h u.cause;
+      cause = rose_later before.shelf_faults faults after.shelf_faults h u.cause;
     })
     carried report after status (cut_short e c) = cut_short e (record {
       files = c.files;
@@ -304,7 +297,7 @@ runs ordered standing before held reads writes failed faults ended after status 
       ];
       device = λ device. elim carried.given [
         | inl s ↦ inl (rose_until before.shelf_faults faults after.shelf_faults carried.later (decided.cause (sym s ∙ device)))
-        | inr cut ↦ elim cut.1 [ inl shelf ↦ inl (rose_from before.shelf_faults faults after.shelf_faults decided.later shelf) | inr output' ↦ inr output' ]
+        | inr cut ↦ elim cut.1 [ inl shelf ↦ inl (rose_later before.shelf_faults faults after.shelf_faults decided.later shelf) | inr output' ↦ inr output' ]
       ];
       statuses = elim carried.given [ inl s ↦ subst IsStatus (sym s) (is_status ended) | inr cut ↦ inr (failures.Device, cut.0) ];
     }

@@ -14,17 +14,17 @@ is_err_of (Err e) error is = ap (λ (x : ReadError). Err x) is
 -- ---- given bytes
 
 -- one more piece
-pub told_on : (content bytes left piece rest new : List ℕ) → content ≡ bytes ++ left → left ≡ piece ++ rest → new ≡ bytes ++ piece → content ≡ new ++ rest
-told_on content bytes left piece rest new told given is =
+pub left_on : (content bytes left piece rest new : List ℕ) → content ≡ bytes ++ left → left ≡ piece ++ rest → new ≡ bytes ++ piece → content ≡ new ++ rest
+left_on content bytes left piece rest new told given is =
     told ∙ ap (λ (xs : List ℕ). bytes ++ xs) given ∙ sym (append_assoc bytes piece rest) ∙ ap (λ (xs : List ℕ). xs ++ rest) (sym is)
 
 -- a prefix of a piece is also a prefix of the piece with later bytes
-pub items_on : (bytes into behind new : List ℕ) (count : ℕ) → count ≤ length into → new ≡ bytes ++ take count (into ++ behind) → new ≡ bytes ++ take count into
-items_on bytes into behind new count within is = is ∙ ap (λ (xs : List ℕ). bytes ++ xs) (take-append-le count into behind within)
+pub items_on : (bytes into beyond new : List ℕ) (count : ℕ) → count ≤ length into → new ≡ bytes ++ take count (into ++ beyond) → new ≡ bytes ++ take count into
+items_on bytes into beyond new count within is = is ∙ ap (λ (xs : List ℕ). bytes ++ xs) (take-append-le count into beyond within)
 
-pub length_on : (many new : ℕ) (into behind : List ℕ) (count : ℕ) → count ≤ length into → new ≡ many + length (take count (into ++ behind)) → new ≡ many + count
-length_on many new into behind count within is =
-    is ∙ ap (λ (n : ℕ). many + n) (ap length (take-append-le count into behind within) ∙ length-take-le count into within)
+pub length_on : (many new : ℕ) (into beyond : List ℕ) (count : ℕ) → count ≤ length into → new ≡ many + length (take count (into ++ beyond)) → new ≡ many + count
+length_on many new into beyond count within is =
+    is ∙ ap (λ (n : ℕ). many + n) (ap length (take-append-le count into beyond within) ∙ length-take-le count into within)
 
 -- an allocation failed
 pub gives-refused : {A : Type 0} (most : ℕ) (content left : List ℕ) (begun : Bool) (bytes : List ℕ) (result : Result (Vec ℕ A) ReadError) → content ≡ bytes ++ left → length bytes ≤ most + 1

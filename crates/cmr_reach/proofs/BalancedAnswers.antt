@@ -12,8 +12,8 @@ use Rattle.tree_type.specs.Verdicts as verdicts
 use Rattle.tree_type.specs.Verdicts.{verdict_of}
 use Rattle.decomp_tree.specs.PivotedShapes.{IsShapeWith}
 use Rattle.decomp_tree.proofs.OneVerdict.{one_verdict}
-use Rattle.tree_laws.specs.Laws.{Tells}
-use Rattle.tree_laws.proofs.SoundTrees.{tells}
+use Rattle.tree_laws.specs.Laws.{VerdictMeans}
+use Rattle.tree_laws.proofs.SoundTrees.{verdict_means}
 use Rattle.leaf_enumerate.specs.declared.search.LeastSubmatrix.{LeastSubmatrix}
 use Rattle.leaf_enumerate.specs.declared.search.LeastSubmatrix.TheVariants.{Clean, Found, TooMany}
 use Rattle.balance.specs.BalanceFaults.{IsBalanced, IsLeastFault}
@@ -26,7 +26,7 @@ use Rattle.cmr_front.specs.Status.{answer_status}
 use Rattle.cmr_front.specs.Tool.{IsLawful}
 use Rattle.cmr_front.proofs.MatrixText.{lawful}
 use Rattle.cmr_front.proofs.Statuses.{IsAnswered, status_of}
-use Rattle.cmr_reach.specs.Balanced.{BalancedDecides, BalancedMeans, IsDecomposed, IsFaultOf, IsInRanges, IsUndecided, IsUntold, balanced_source, balanced_tool, cycle, decomposed, search_report, searched, BalancedOrder, balanced_app, balanced_order, balanced_order_in}
+use Rattle.cmr_reach.specs.Balanced.{BalancedDecides, BalancedMeans, IsDecomposed, IsFaultOf, IsInRanges, IsUndecided, NeedsSearch, balanced_source, balanced_tool, cycle, decomposed, search_report, searched, BalancedOrder, balanced_app, balanced_order, balanced_order_in}
 use Rattle.clap.specs.Words.{Row, Text}
 use Rattle.cmr_front.specs.declared.matrix_file.MatrixForm.{MatrixForm}
 use Rattle.cmr_front.specs.Words.Parsing.{fault_in, file_in, matches_with_input}
@@ -56,11 +56,11 @@ tree_for m tree rows columns is = subst (λ n. IsTreeFor n m.width (tree_of tree
 
 -- a matrix with a sound tree whose verdict is yes is balanced
 pub balanced_by_tree : (m : Matrix) → IsMatrix m → (tree : SizedTree) → IsDecTree tree → IsSound m tree → verdict_of (tree_of tree.root) ≡ verdicts.Yes → IsBalanced m
-balanced_by_tree m shape tree is sound says = free_is_balanced m (is_ternary m shape) (subst (Tells m) says (tells m shape tree.rows tree.columns (tree_of tree.root) is sound)).none
+balanced_by_tree m shape tree is sound says = free_is_balanced m (is_ternary m shape) (subst (VerdictMeans m) says (verdict_means m shape tree.rows tree.columns (tree_of tree.root) is sound)).none
 
 -- ---- one status
 
-same_found : (o : BalancedOrder) (m : Matrix) (a b : LeastSubmatrix) → HasSearchedFaults m o.lines a → HasSearchedFaults m o.lines b → (search_report o m a).status ≡ (search_report o m b).status
+same_found : (o : BalancedOrder) (m : Matrix) (a b : LeastSubmatrix) → HasSearchedFaults m o.budget a → HasSearchedFaults m o.budget b → (search_report o m a).status ≡ (search_report o m b).status
 same_found o m Clean Clean f g = refl
 same_found o m Clean (Found lines) f g = let is = least_is_fault m lines g.1 in absurd (f.1 lines.rows lines.columns is.row_set is.column_set is.balance_fault)
 same_found o m Clean (TooMany shorter) f g = let l = f.0 in let a = g.0 in let e = g.1 in absurd (omega arith)
@@ -74,13 +74,13 @@ same_found o m (TooMany shorter) (TooMany shorter') f g = refl
 one_status : (o : BalancedOrder) (m : Matrix) (r s : Report) → BalancedDecides o m r → BalancedDecides o m s → r.status ≡ s.status
 one_status o m r s (cycle fault is bad e) (cycle fault' is' bad' f) = status_of r _ e ∙ sym (status_of s _ f)
 one_status o m r s (cycle fault is bad e) (decomposed none tree balanced f) = absurd (not_both m fault none is)
-one_status o m r s (cycle fault is bad e) (searched untold found has f) = absurd (not_both m fault untold.no_fault is)
+one_status o m r s (cycle fault is bad e) (searched needed found has f) = absurd (not_both m fault needed.no_fault is)
 one_status o m r s (decomposed none tree balanced e) (cycle fault is bad f) = absurd (not_both m fault none is)
 one_status o m r s (decomposed none tree balanced e) (decomposed none' tree' balanced' f) = status_of r _ e ∙ sym (status_of s _ f)
-one_status o m r s (decomposed none tree balanced e) (searched untold found has f) = absurd (untold.undecomposed tree)
-one_status o m r s (searched untold found has e) (cycle fault is bad f) = absurd (not_both m fault untold.no_fault is)
-one_status o m r s (searched untold found has e) (decomposed none tree balanced f) = absurd (untold.undecomposed tree)
-one_status o m r s (searched untold found has e) (searched untold' found' has' f) = status_of r _ e ∙ same_found o m found found' has has' ∙ sym (status_of s _ f)
+one_status o m r s (decomposed none tree balanced e) (searched needed found has f) = absurd (needed.undecomposed tree)
+one_status o m r s (searched needed found has e) (cycle fault is bad f) = absurd (not_both m fault needed.no_fault is)
+one_status o m r s (searched needed found has e) (decomposed none tree balanced f) = absurd (needed.undecomposed tree)
+one_status o m r s (searched needed found has e) (searched needed' found' has' f) = status_of r _ e ∙ same_found o m found found' has has' ∙ sym (status_of s _ f)
 
 -- ---- the meaning
 
@@ -97,21 +97,21 @@ module _ (o : BalancedOrder) (m : Matrix) where
   says_no fault is Undecided e = absurd (omega arith)
   says_no fault is Refused e = absurd (omega arith)
 
-  says_open : IsUndecided o.lines o.pivots m → (answer : Answer) → 6 ≡ answer_status answer → BalancedMeans o m answer
+  says_open : IsUndecided o.budget o.pivots m → (answer : Answer) → 6 ≡ answer_status answer → BalancedMeans o m answer
   says_open is Yes e = absurd (omega arith)
   says_open is No e = absurd (omega arith)
   says_open is Undecided e = is
   says_open is Refused e = absurd (omega arith)
 
-  says_found : IsUntold o.lines o.pivots m → (found : LeastSubmatrix) → HasSearchedFaults m o.lines found → (answer : Answer) → (search_report o m found).status ≡ answer_status answer → BalancedMeans o m answer
-  says_found untold Clean has answer e = says_yes has.1 answer e
-  says_found untold (Found lines) has answer e = says_no lines (least_is_fault m lines has.1) answer e
-  says_found untold (TooMany shorter) has answer e = says_open (record { untold = untold; above = subst (λ n. o.lines < n) has.1 has.0 }) answer e
+  says_found : NeedsSearch o.budget o.pivots m → (found : LeastSubmatrix) → HasSearchedFaults m o.budget found → (answer : Answer) → (search_report o m found).status ≡ answer_status answer → BalancedMeans o m answer
+  says_found needed Clean has answer e = says_yes has.1 answer e
+  says_found needed (Found lines) has answer e = says_no lines (least_is_fault m lines has.1) answer e
+  says_found needed (TooMany shorter) has answer e = says_open (record { needed = needed; above = subst (λ n. o.budget < n) has.1 has.0 }) answer e
 
 says : (o : BalancedOrder) (m : Matrix) (r : Report) (answer : Answer) → BalancedDecides o m r → r.status ≡ answer_status answer → BalancedMeans o m answer
 says o m r answer (cycle fault is bad e) status = says_no o m fault bad answer (sym (status_of r _ e) ∙ status)
 says o m r answer (decomposed none tree balanced e) status = says_yes o m balanced answer (sym (status_of r _ e) ∙ status)
-says o m r answer (searched untold found has e) status = says_found o m untold found has answer (sym (status_of r _ e) ∙ status)
+says o m r answer (searched needed found has e) status = says_found o m needed found has answer (sym (status_of r _ e) ∙ status)
 
 -- ---- a decision is an answer
 
@@ -123,7 +123,7 @@ search_answers o m (TooMany shorter) r e = (Undecided, status_of r _ e)
 answers : (o : BalancedOrder) (m : Matrix) (r : Report) → BalancedDecides o m r → IsAnswered r
 answers o m r (cycle fault found bad e) = (No, status_of r _ e)
 answers o m r (decomposed none tree all e) = (Yes, status_of r _ e)
-answers o m r (searched untold found has e) = search_answers o m found r e
+answers o m r (searched needed found has e) = search_answers o m found r e
 
 pub balanced_lawful : (o : BalancedOrder) → IsLawful (balanced_tool o)
 balanced_lawful o = lawful (balanced_source o) (BalancedDecides o) (BalancedMeans o) (says o) (IsInRanges o) (one_status o) (answers o)
@@ -133,7 +133,7 @@ pub balanced_order-ranges : (words : List Text) (o : BalancedOrder) → balanced
 balanced_order-ranges words o e = go (matches_with_input balanced_app words) e
   where
     order_with : List Row → MatrixForm → ℕ → ℕ → ℕ → BalancedOrder
-    order_with rows form lines pivots workers = record { form = form; lines = lines; pivots = pivots; workers = workers; fault = fault_in rows; file = file_in rows }
+    order_with rows form lines pivots workers = record { form = form; budget = budget; pivots = pivots; workers = workers; fault = fault_in rows; file = file_in rows }
 
     go : (rows : Option (List Row)) → (rows >>= balanced_order_in) ≡ Some o → IsInRanges o × (o.pivots ≤ 100)
     go None e = cc

@@ -25,13 +25,13 @@ one_status o m r s (no fault is e) (yes none f) = absurd (not_both m fault none 
 one_status o m r s (no fault is e) (no fault' is' f) = status_of r _ e ∙ sym (status_of s _ f)
 
 -- the meaning of an answer for a matrix, without its consequences
-abbrev Tells : Matrix → Answer → Type 0
-Tells m Yes = HasNoCycleFault (entry m)
-Tells m No = (fault : LineSet) × IsCycleFault m fault.rows fault.columns
-Tells m Undecided = ⊥
-Tells m Refused = ⊥
+abbrev AnswerMeans : Matrix → Answer → Type 0
+AnswerMeans m Yes = HasNoCycleFault (entry m)
+AnswerMeans m No = (fault : LineSet) × IsCycleFault m fault.rows fault.columns
+AnswerMeans m Undecided = ⊥
+AnswerMeans m Refused = ⊥
 
-says : (o : CamionOrder) (m : Matrix) (r : Report) (answer : Answer) → CamionDecides o m r → r.status ≡ answer_status answer → Tells m answer
+says : (o : CamionOrder) (m : Matrix) (r : Report) (answer : Answer) → CamionDecides o m r → r.status ≡ answer_status answer → AnswerMeans m answer
 says o m r Yes (yes none e) is = none
 says o m r No (yes none e) is = let s = status_of r _ e in absurd (omega arith)
 says o m r Undecided (yes none e) is = let s = status_of r _ e in absurd (omega arith)
@@ -42,11 +42,11 @@ says o m r Undecided (no fault lines e) is = let s = status_of r _ e in absurd (
 says o m r Refused (no fault lines e) is = let s = status_of r _ e in absurd (omega arith)
 
 -- its consequences
-means : (m : Matrix) (answer : Answer) → IsMatrix m → Tells m answer → CamionMeans m answer
+means : (m : Matrix) (answer : Answer) → IsMatrix m → AnswerMeans m answer → CamionMeans m answer
 means m Yes is none = (none, λ n ternary one unimodular. (fault_free_decides m n (is_ternary m is) ternary one unimodular).1 none)
 means m No is (fault, found) = (fault, found, λ unimodular. not_both m fault ((fault_free_decides m m (is_ternary m is) (is_ternary m is) (own_support m) unimodular).0 unimodular) found)
-means m Undecided is told = told
-means m Refused is told = told
+means m Undecided is right = right
+means m Refused is right = right
 
 answers : (o : CamionOrder) (m : Matrix) (r : Report) → CamionDecides o m r → IsAnswered r
 answers o m r (yes none e) = (Yes, status_of r _ e)
@@ -54,11 +54,11 @@ answers o m r (no fault is e) = (No, status_of r _ e)
 
 pub camion_lawful : (o : CamionOrder) → IsLawful (camion_tool o)
 camion_lawful o =
-    let told = lawful (camion_source o) (CamionDecides o) Tells (says o) (Unit {0}) (one_status o) (answers o) in
+    let right = lawful (camion_source o) (CamionDecides o) AnswerMeans (says o) (Unit {0}) (one_status o) (answers o) in
     record {
-      one_status = told.one_status;
+      one_status = right.one_status;
       means = λ texts r answer reported is.
-          let found = told.means texts r answer reported is in
+          let found = right.means texts r answer reported is in
           (found.0, found.1, found.2, found.3, means found.2 answer (read_is_matrix o.form false found.0 found.2 found.3) found.4);
-      at_fault = told.at_fault;
+      at_fault = right.at_fault;
     }

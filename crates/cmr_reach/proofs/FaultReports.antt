@@ -33,7 +33,7 @@ one_of_camion o m r s (no fault is e) (no other is' f) = e ∙ one_cycle camion_
 pub camion_has_one_report : (o : CamionOrder) → HasOneReport (camion_tool o)
 camion_has_one_report o = one_report_of_matrix (camion_source o) (Unit {0}) (CamionDecides o) CamionMeans (λ m is. one_of_camion o m)
 
-one_found : (o : BalancedOrder) (m : Matrix) (a b : LeastSubmatrix) → HasSearchedFaults m o.lines a → HasSearchedFaults m o.lines b → search_report o m a ≡ search_report o m b
+one_found : (o : BalancedOrder) (m : Matrix) (a b : LeastSubmatrix) → HasSearchedFaults m o.budget a → HasSearchedFaults m o.budget b → search_report o m a ≡ search_report o m b
 one_found o m Clean Clean f g = refl
 one_found o m Clean (Found lines) f g = let is = least_is_fault m lines g.1 in absurd (f.1 lines.rows lines.columns is.row_set is.column_set is.balance_fault)
 one_found o m Clean (TooMany shorter) f g = let l = f.0 in let a = g.0 in let e = g.1 in absurd (omega arith)
@@ -47,13 +47,13 @@ one_found o m (TooMany shorter) (TooMany shorter') f g = refl
 one_of_balanced : (o : BalancedOrder) (m : Matrix) (r s : Report) → BalancedDecides o m r → BalancedDecides o m s → r ≡ s
 one_of_balanced o m r s (cycle fault is bad e) (cycle other is' bad' f) = e ∙ one_cycle balanced_label o.fault m fault other is is' ∙ sym f
 one_of_balanced o m r s (cycle fault is bad e) (decomposed none tree all f) = absurd (not_both m fault none is)
-one_of_balanced o m r s (cycle fault is bad e) (searched untold found has f) = absurd (not_both m fault untold.no_fault is)
+one_of_balanced o m r s (cycle fault is bad e) (searched needed found has f) = absurd (not_both m fault needed.no_fault is)
 one_of_balanced o m r s (decomposed none tree all e) (cycle fault is bad f) = absurd (not_both m fault none is)
 one_of_balanced o m r s (decomposed none tree all e) (decomposed none' tree' all' f) = e ∙ sym f
-one_of_balanced o m r s (decomposed none tree all e) (searched untold found has f) = absurd (untold.undecomposed tree)
-one_of_balanced o m r s (searched untold found has e) (cycle fault is bad f) = absurd (not_both m fault untold.no_fault is)
-one_of_balanced o m r s (searched untold found has e) (decomposed none tree all f) = absurd (untold.undecomposed tree)
-one_of_balanced o m r s (searched untold found has e) (searched untold' found' has' f) = e ∙ one_found o m found found' has has' ∙ sym f
+one_of_balanced o m r s (decomposed none tree all e) (searched needed found has f) = absurd (needed.undecomposed tree)
+one_of_balanced o m r s (searched needed found has e) (cycle fault is bad f) = absurd (not_both m fault needed.no_fault is)
+one_of_balanced o m r s (searched needed found has e) (decomposed none tree all f) = absurd (needed.undecomposed tree)
+one_of_balanced o m r s (searched needed found has e) (searched needed' found' has' f) = e ∙ one_found o m found found' has has' ∙ sym f
 
 pub balanced_has_one_report : (o : BalancedOrder) → HasOneReport (balanced_tool o)
 balanced_has_one_report o = one_report_of_matrix (balanced_source o) (IsInRanges o) (BalancedDecides o) (BalancedMeans o) (λ m is. one_of_balanced o m)
@@ -61,7 +61,7 @@ balanced_has_one_report o = one_report_of_matrix (balanced_source o) (IsInRanges
 -- ---- the workers
 
 abbrev with_workers : BalancedOrder → ℕ → BalancedOrder
-with_workers o n = record { form = o.form; lines = o.lines; pivots = o.pivots; workers = n; fault = o.fault; file = o.file }
+with_workers o n = record { form = o.form; budget = o.budget; pivots = o.pivots; workers = n; fault = o.fault; file = o.file }
 
 same_search : (o : BalancedOrder) (n workers : ℕ) (m : Matrix) (found : LeastSubmatrix) → search_report (with_workers o n) m found ≡ search_report (with_workers o workers) m found
 same_search o n workers m Clean = refl
@@ -71,7 +71,7 @@ same_search o n workers m (TooMany shorter) = refl
 balanced_same : (o : BalancedOrder) (n workers : ℕ) (m : Matrix) (report : Report) → BalancedDecides (with_workers o n) m report → BalancedDecides (with_workers o workers) m report
 balanced_same o n workers m report (cycle fault is bad e) = cycle fault is bad e
 balanced_same o n workers m report (decomposed none tree all e) = decomposed none tree all e
-balanced_same o n workers m report (searched untold found has e) = searched untold found has (e ∙ same_search o n workers m found)
+balanced_same o n workers m report (searched needed found has e) = searched needed found has (e ∙ same_search o n workers m found)
 
 -- their number does not affect the reports
 pub balanced_workers : (o : BalancedOrder) (n workers : ℕ) (bytes : List (List ℕ)) (report : Report) → (balanced_tool (with_workers o n)).Reports bytes report → (balanced_tool (with_workers o workers)).Reports bytes report

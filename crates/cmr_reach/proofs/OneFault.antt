@@ -1,16 +1,10 @@
 -- The least balance fault is unique.
-use Rattle.std.proofs.Common.{◌≡◌, ◌≤◌, ◌∙◌, ℕ, List, ap, sym, subst, inl, inr, arith}
+use Rattle.std.proofs.Common.{◌≡◌, ◌≤◌, ◌∙◌, ℕ, List, subst, inl, inr}
 use Rattle.std.proofs.lemmas.Bool.{cases_lt}
 use Rattle.cmr_base.specs.Matrix.{Matrix, height}
-use Rattle.cmr_base.specs.LineSets.{set_number, set_numbered}
-use Rattle.cmr_base.proofs.IncreasingLists.{IncreasesIn, row_set_increases, column_set_increases}
-use Rattle.cmr_base.proofs.SetNumbers.{numbered_same}
+use Rattle.cmr_base.proofs.IncreasingLists.{row_set_increases, column_set_increases}
 use Rattle.balance.specs.BalanceFaults.{IsLeastFault, IsLeastFaultByColumns, IsLeastFaultByRows, IsLeastFaultColumns, IsLeastFaultRows}
-
-same_set : (high : ℕ) (lines others : List ℕ) → IncreasesIn 0 high lines → IncreasesIn 0 high others → set_number lines ≤ set_number others → set_number others ≤ set_number lines → lines ≡ others
-same_set high lines others increases increases' up down =
-    let same : set_number lines ≡ set_number others = omega arith in
-    sym (numbered_same high lines increases) ∙ ap (set_numbered high 0) same ∙ numbered_same high others increases'
+use Rattle.decomp_tree.proofs.OneLeast.{same_set}
 
 one_by_rows : (m : Matrix) (rows columns rows' columns' : List ℕ) → IsLeastFaultByRows m rows columns → IsLeastFaultByRows m rows' columns' → (rows ≡ rows') × (columns ≡ columns')
 one_by_rows m rows columns rows' columns' x y =

@@ -1,5 +1,7 @@
 -- The separation that the root of a sound tree names.
-use Rattle.std.proofs.Common.{◌≡◌, ◌∙◌, ℕ, List, Some, None, Result, Ok, Err, IfOk, refl, ap, sym, subst}
+use Rattle.std.proofs.Common.{◌≡◌, ◌≢◌, ◌∙◌, ℕ, List, Some, None, Result, Ok, Err, IfOk, refl, ap, sym, subst}
+use Rattle.std.specs.declared.alloc.Global.{Global}
+use Rattle.std.specs.declared.boxed.Box.{Box}
 use Rattle.cmr_base.specs.Matrix.{Matrix, IsMatrix, entry, height}
 use Rattle.cmr_base.specs.LineSets.{first_lines}
 use Rattle.cmr_base.specs.Separations.{IsThreeSeparation, IsTwoSeparation, listed}
@@ -15,8 +17,12 @@ use Rattle.tree_type.specs.Soundness.{IsSound, IsSoundTree}
 use Rattle.tree_type.specs.DecompositionTrees.{Branch, Finding, SizedTree, Trees, ThreeSum, TwoSum, tree_of, finding_of}
 use Rattle.tree_type.specs.declared.refusal.Rule.TheVariants as rule
 use Rattle.tree_type.specs.declared.tree.Kind.{Kind}
+use Rattle.tree_type.specs.declared.tree.Kind.TheOpen as open'
+use Rattle.tree_type.specs.declared.tree.Kind.TheVariants as kind
+use Rattle.tree_type.specs.declared.tree.Kind.TheViews.{roll-Kind}
 use Rattle.tree_type.specs.declared.tree.Node.{Node}
 use Rattle.tree_type.proofs.NodeTrees.{said, tree_is}
+use Rattle.tree_type.proofs.OtherKinds.{KindCase, by_kind, finding_in}
 use Rattle.tree_type.proofs.SideLemmas.{three_sums_separate, two_sums_separate}
 use Rattle.cmr_reach.specs.Parts.{HasNoParts, IsArranged}
 
@@ -60,8 +66,15 @@ module _ (m : Matrix) (t : SizedTree) (root : Node) (here : root ≡ t.root) whe
   pub sound_by_kind : (k : Kind) (finding : Finding) (trees : Trees) → root.kind ≡ k → said k ≡ (finding, trees) → IsSound m t → IsSoundTree m t.rows t.columns (Branch root.lines finding trees)
   sound_by_kind k finding trees e f sound = subst (IsSoundTree m t.rows t.columns) (tree_here k finding trees e f) sound
 
-  pub none_by_kind : (k : Kind) (finding : Finding) (trees : Trees) → root.kind ≡ k → said k ≡ (finding, trees) → HasNoParts m finding → IsArranged m (finding_of (tree_of t.root)) None
-  none_by_kind k finding trees e f none = subst (HasNoParts m) (sym (ap finding_of (tree_here k finding trees e f))) none
+  -- a root of another kind has no parts
+  pub other_root : ((two : Two) (one_child two_child : Box Node Global) → root.kind ≢ kind.TwoSum two one_child two_child)
+      → ((three : Three) (one_child two_child : Box Node Global) → root.kind ≢ kind.ThreeSum three one_child two_child) → IsArranged m (finding_of (tree_of t.root)) None
+  other_root no_two no_three = subst (λ (node : Node). HasNoParts m (finding_of (tree_of node))) here (by_kind root (HasNoParts m) each)
+    where
+      each : (case : KindCase) → roll-Kind case ≡ root.kind → HasNoParts m (finding_in case)
+      each (open'.TwoSum two one_child two_child) rolls = absurd (no_two two one_child two_child (sym rolls ∙ kind.rolls-TwoSum two one_child two_child))
+      each (open'.ThreeSum three one_child two_child) rolls = absurd (no_three three one_child two_child (sym rolls ∙ kind.rolls-ThreeSum three one_child two_child))
+      each case rolls = λ sum both is. is
 
   pub two_by_kind : (k : Kind) (two : Two) (trees : Trees) (both : Arranged) → root.kind ≡ k → said k ≡ (TwoSum two, trees) → IsMatrix m → both ≡ arranged m (two_arrangement m two)
       → IsRoundTrip sums.Two m both → IsArranged m (finding_of (tree_of t.root)) (Some both)

@@ -33,7 +33,7 @@ use Rattle.cmr_reach.specs.declared.tools.balanced.BalancedOptions.{BalancedOpti
 -- the options of `balanced`
 pub record BalancedOrder : Type 0 where
   pub form : MatrixForm
-  pub lines : ℕ
+  pub budget : ℕ
   pub pivots : ℕ
   pub workers : ℕ
   pub fault : Option (List ℕ)
@@ -46,10 +46,10 @@ balanced_app = tool_app (codes "balanced") (form_rule ∷ lines_rule ∷ pivots_
 abbrev pub balanced_order_in : List Row → Option BalancedOrder
 balanced_order_in rows = do
   form ← form_in rows
-  lines ← lines_in rows
+  budget ← lines_in rows
   pivots ← pivots_in rows
   workers ← workers_in rows
-  Some (record { form = form; lines = lines; pivots = pivots; workers = workers; fault = fault_in rows; file = file_in rows })
+  Some (record { form = form; budget = budget; pivots = pivots; workers = workers; fault = fault_in rows; file = file_in rows })
 
 abbrev pub balanced_order : List Text → Option BalancedOrder
 balanced_order words = matches_with_input balanced_app words >>= balanced_order_in
@@ -57,7 +57,7 @@ balanced_order words = matches_with_input balanced_app words >>= balanced_order_
 abbrev pub balanced_order_of : BalancedOptions → BalancedOrder
 balanced_order_of options = record {
   form = options.form;
-  lines = options.lines;
+  budget = options.budget;
   pivots = options.pivots;
   workers = options.workers;
   fault = option_map (λ name. name.now) options.fault;
@@ -83,7 +83,7 @@ pub record IsFaultOf (m : Matrix) (fault : LineSet) : Type 0 where
   pub balance_fault : IsBalanceFault (entry m) fault.rows fault.columns
 
 -- there is no cycle fault, and the decomposition does not decide
-pub record IsUntold (budget pivots : ℕ) (m : Matrix) : Type 0 where
+pub record NeedsSearch (budget pivots : ℕ) (m : Matrix) : Type 0 where
   pub no_fault : HasNoCycleFault (entry m)
   pub undecomposed : ¬ (IsDecomposed budget pivots m)
 
@@ -97,23 +97,23 @@ search_report o m (TooMany shorter) = open_report balanced_label m
 -- result of the search of its shorter side within the budget.
 pub data BalancedDecides (o : BalancedOrder) (m : Matrix) (report : Report) : Type 0 where
   cycle : (fault : LineSet) → IsCycleFault m fault.rows fault.columns → IsFaultOf m fault → report ≡ fault_report balanced_label o.fault m fault → BalancedDecides o m report
-  decomposed : HasNoCycleFault (entry m) → IsDecomposed o.lines o.pivots m → IsBalanced m → report ≡ yes_report balanced_label → BalancedDecides o m report
-  searched : IsUntold o.lines o.pivots m → (found : LeastSubmatrix) → HasSearchedFaults m o.lines found → report ≡ search_report o m found → BalancedDecides o m report
+  decomposed : HasNoCycleFault (entry m) → IsDecomposed o.budget o.pivots m → IsBalanced m → report ≡ yes_report balanced_label → BalancedDecides o m report
+  searched : NeedsSearch o.budget o.pivots m → (found : LeastSubmatrix) → HasSearchedFaults m o.budget found → report ≡ search_report o m found → BalancedDecides o m report
 
 -- an open matrix: only a search decides, and the shorter side has too many lines for it
 pub record IsUndecided (budget pivots : ℕ) (m : Matrix) : Type 0 where
-  pub untold : IsUntold budget pivots m
+  pub needed : NeedsSearch budget pivots m
   pub above : budget < shorter_side m
 
 abbrev pub BalancedMeans : BalancedOrder → Matrix → Answer → Type 0
 BalancedMeans o m Yes = IsBalanced m
 BalancedMeans o m No = (fault : LineSet) × IsFaultOf m fault
-BalancedMeans o m Undecided = IsUndecided o.lines o.pivots m
+BalancedMeans o m Undecided = IsUndecided o.budget o.pivots m
 BalancedMeans o m Refused = ⊥
 
 -- the ranges of its numbers
 pub record IsInRanges (o : BalancedOrder) : Type 0 where
-  pub lines : o.lines ≤ MAX_LINES
+  pub budget : o.budget ≤ MAX_LINES
   pub some : 1 ≤ o.workers
   pub workers : o.workers ≤ 64
 

@@ -38,16 +38,16 @@ ReportsAreOne = (order : Order) → WritesNoNetwork order → HasOneReport (tool
 
 -- the same order with another number of workers
 abbrev pub with_workers : ℕ → Order → Order
-with_workers n (tu o) = tu (record { form = o.form; lines = o.lines; pivots = o.pivots; workers = n; tree = o.tree; fault = o.fault; file = o.file })
-with_workers n (regular o) = regular (record { form = o.form; lines = o.lines; pivots = o.pivots; workers = n; tree = o.tree; fault = o.fault; signed = o.signed; chain = o.chain; file = o.file })
+with_workers n (tu o) = tu (record { form = o.form; budget = o.budget; pivots = o.pivots; workers = n; tree = o.tree; fault = o.fault; file = o.file })
+with_workers n (regular o) = regular (record { form = o.form; budget = o.budget; pivots = o.pivots; workers = n; tree = o.tree; fault = o.fault; signed = o.signed; chain = o.chain; file = o.file })
 with_workers n (series_parallel o) = series_parallel o
 with_workers n (test p o) = test p o
-with_workers n (generate o) = generate (record { what = o.what; size = o.size; number = o.number; lines = o.lines; pivots = o.pivots; workers = n; output = o.output })
+with_workers n (generate o) = generate (record { what = o.what; size = o.size; number = o.number; budget = o.budget; pivots = o.pivots; workers = n; output = o.output })
 with_workers n (check o) = check o
 with_workers n (upgrade o) = upgrade o
 with_workers n (camion o) = camion o
 with_workers n (sign o) = sign o
-with_workers n (balanced o) = balanced (record { form = o.form; lines = o.lines; pivots = o.pivots; workers = n; fault = o.fault; file = o.file })
+with_workers n (balanced o) = balanced (record { form = o.form; budget = o.budget; pivots = o.pivots; workers = n; fault = o.fault; file = o.file })
 with_workers n (parts o) = parts o
 with_workers n (compose o) = compose o
 

@@ -18,8 +18,8 @@ use Rattle.camion_sign.specs.SignOrder.{IsNextSign}
 use Rattle.chains.specs.SignSteps.{LeadTo, signed_by}
 use Rattle.chains.proofs.ChainAgain.{chain_again}
 use Rattle.camion_sign.proofs.SignedSteps.{few_signed, steps_in}
-use Rattle.tree_laws.specs.Laws.{IsRefuted, Tells}
-use Rattle.tree_laws.proofs.SoundTrees.{tells}
+use Rattle.tree_laws.specs.Laws.{IsRefuted, VerdictMeans}
+use Rattle.tree_laws.proofs.SoundTrees.{verdict_means}
 use Rattle.tree_type.specs.DecompositionTrees.{SizedTree, tree_of}
 use Rattle.tree_type.specs.Verdicts as verdicts
 use Rattle.tree_text.specs.TreeReading.{tree}
@@ -60,7 +60,7 @@ module _ (form : MatrixForm) (file evidence matrix_text : List ℕ) (m : Matrix)
       subst (λ kind. CheckReportsBy (check_of form file evidence) kind matrix_text (tree_bytes t) (accepted_report m (verdict_in t))) (sym (kind_of_tree (tree_bytes t) _ again))
       (read_reported faults.Matrix file (λ m. EvidenceReports evidence kinds.Tree m (tree_bytes t)) (matrix_in form false matrix_text) m (accepted_report m (verdict_in t)) read
       (read_reported faults.Tree evidence (TreeDecides m) (tree (text_of (tree_bytes t))) _ (accepted_report m (verdict_in t)) again
-      (accepted d.sound (tells m is t.rows t.columns (tree_of t.root) d.is_tree d.sound) refl)))
+      (accepted d.sound (verdict_means m is t.rows t.columns (tree_of t.root) d.is_tree d.sound) refl)))
 
   violator_checked : IsMatrix m → matrix_in form false matrix_text ≡ Ok m → (fault : LineSet) → IsRefuted m fault
       → CheckReports (check_of form file evidence) matrix_text (submatrix_text (height m) m.width fault) (accepted_report m (verdicts.No fault))
@@ -127,7 +127,7 @@ matrix_found source InRanges Decides Says (texts (bytes ∷ other ∷ others)) r
 
 -- the violator of a no
 refuted_by_no : (m : Matrix) → IsMatrix m → (budget pivots : ℕ) (t : SizedTree) (fault : LineSet) → IsDecomposition budget pivots m t → verdict_in t ≡ verdicts.No fault → IsRefuted m fault
-refuted_by_no m is budget pivots t fault d refutes = subst (Tells m) refutes (tells m is t.rows t.columns (tree_of t.root) d.is_tree d.sound)
+refuted_by_no m is budget pivots t fault d refutes = subst (VerdictMeans m) refutes (verdict_means m is t.rows t.columns (tree_of t.root) d.is_tree d.sound)
 
 pub tests_are_accepted : TestsAreAccepted
 tests_are_accepted o held report answer reports status =
@@ -146,9 +146,9 @@ tests_are_accepted o held report answer reports status =
       decomposition = d.decomposition;
       report_is = d.report_is;
       tree_accepted = λ evidence later same holds. checks_to o.form o.file evidence text (tree_bytes d.tree) later (accepted_report m (verdict_in d.tree)) (read later same) holds
-          (tree_checked o.form o.file evidence text m is found.3 o.lines o.pivots d.tree d.decomposition);
+          (tree_checked o.form o.file evidence text m is found.3 o.budget o.pivots d.tree d.decomposition);
       violator_accepted = λ fault refutes evidence later same holds. checks_to o.form o.file evidence text (submatrix_text (height m) m.width fault) later (accepted_report m (verdicts.No fault)) (read later same) holds
-          (violator_checked o.form o.file evidence text m is found.3 fault (refuted_by_no m is o.lines o.pivots d.tree fault d.decomposition refutes));
+          (violator_checked o.form o.file evidence text m is found.3 fault (refuted_by_no m is o.budget o.pivots d.tree fault d.decomposition refutes));
     }
 
 pub signings_are_accepted : SigningsAreAccepted
@@ -173,10 +173,10 @@ signings_are_accepted o held report answer reports status =
       decomposition = d.decomposition;
       report_is = d.report_is;
       tree_accepted = λ file evidence later there holds. checks_to Dense file evidence (dense_text m) (tree_bytes d.tree) later (accepted_report m (verdict_in d.tree)) (read file later there) holds
-          (tree_checked Dense file evidence (dense_text m) m is again o.lines o.pivots d.tree d.decomposition);
+          (tree_checked Dense file evidence (dense_text m) m is again o.budget o.pivots d.tree d.decomposition);
       violator_accepted = λ fault refutes file evidence later there holds. checks_to Dense file evidence (dense_text m) (submatrix_text (height m) m.width fault) later (accepted_report m (verdicts.No fault)) (read file later there) holds
-          (violator_checked Dense file evidence (dense_text m) m is again fault (refuted_by_no m is o.lines o.pivots d.tree fault d.decomposition refutes));
+          (violator_checked Dense file evidence (dense_text m) m is again fault (refuted_by_no m is o.budget o.pivots d.tree fault d.decomposition refutes));
       chain_accepted = λ fault refutes evidence later same holds. checks_to o.form o.file evidence text (chain_text (chain_with a d.steps fault)) later (irregular_report m fault)
           (read_same held later (matrix_file o.file) same ∙ read_alone held (matrix_file o.file) text found.1) holds
-          (chain_checked o.form o.file evidence text a m d.steps fault found.3 d.signing (refuted_by_no m is o.lines o.pivots d.tree fault d.decomposition refutes));
+          (chain_checked o.form o.file evidence text a m d.steps fault found.3 d.signing (refuted_by_no m is o.budget o.pivots d.tree fault d.decomposition refutes));
     }

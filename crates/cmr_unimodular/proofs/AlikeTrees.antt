@@ -91,10 +91,10 @@ module _ (budget pivots : ℕ) (m : Matrix) (t u : SizedTree) (is : IsDecomposit
 
 decided_alike : (o : VerdictOrder) (m : Matrix) (r s : Report) → Decides o m r → Decides o m s → DifferInFiles HoldAlikeTrees r s
 decided_alike o m r s a b =
-    alike_reports HoldAlikeTrees r (verdict_report o m a.tree) s (verdict_report o m b.tree) a.report_is b.report_is (verdicts_alike o.lines o.pivots m a.tree b.tree a.decomposition b.decomposition o)
+    alike_reports HoldAlikeTrees r (verdict_report o m a.tree) s (verdict_report o m b.tree) a.report_is b.report_is (verdicts_alike o.budget o.pivots m a.tree b.tree a.decomposition b.decomposition o)
 
 decided_equal : (o : VerdictOrder) (m : Matrix) (r s : Report) → o.tree ≡ None → Decides o m r → Decides o m s → r ≡ s
-decided_equal o m r s none a b = a.report_is ∙ verdicts_equal o.lines o.pivots m a.tree b.tree a.decomposition b.decomposition o none ∙ sym b.report_is
+decided_equal o m r s none a b = a.report_is ∙ verdicts_equal o.budget o.pivots m a.tree b.tree a.decomposition b.decomposition o none ∙ sym b.report_is
 
 pub tu_alike : (o : TuOrder) → HasAlikeReports HoldAlikeTrees (tu_tool o)
 tu_alike o = alike_of_matrix (DifferInFiles HoldAlikeTrees) (equal_reports HoldAlikeTrees same_file) (tu_source o) (Decides (tu_verdict o)) (λ m is. decided_alike (tu_verdict o) m)
@@ -105,8 +105,8 @@ tu_has_one_report o none = one_report_of_matrix (tu_source o) (tu_tool o).InRang
 pub generate_has_one_report : (o : GenerateOrder) → HasOneReport (generate_tool o)
 generate_has_one_report o bytes r s a b =
     let made : b.made ≡ a.made = one_made o b.made a.made b.is_made a.is_made in
-    let other : Decides (generate_verdict o) a.made b.told = subst (λ m. Decides (generate_verdict o) m b.told) made b.verdict in
-    a.report_is ∙ ap₂ (generate_report o) (sym made) (decided_equal (generate_verdict o) a.made a.told b.told refl a.verdict other) ∙ sym b.report_is
+    let other : Decides (generate_verdict o) a.made b.tested = subst (λ m. Decides (generate_verdict o) m b.tested) made b.verdict in
+    a.report_is ∙ ap₂ (generate_report o) (sym made) (decided_equal (generate_verdict o) a.made a.tested b.tested refl a.verdict other) ∙ sym b.report_is
 
 -- ---- `regular`
 
@@ -114,8 +114,8 @@ module _ (o : RegularOrder) (a : Matrix) (r s : Report) (x : RegularDecides o a 
   one_signed : (y.steps ≡ x.steps) × (y.signed ≡ x.signed)
   one_signed = one_signing a y.signed x.signed y.steps x.steps x.signing.matrix y.signing.by_camion x.signing.by_camion
 
-  other_decomposition : IsDecomposition o.lines o.pivots x.signed y.tree
-  other_decomposition = subst (λ m. IsDecomposition o.lines o.pivots m y.tree) one_signed.1 y.decomposition
+  other_decomposition : IsDecomposition o.budget o.pivots x.signed y.tree
+  other_decomposition = subst (λ m. IsDecomposition o.budget o.pivots m y.tree) one_signed.1 y.decomposition
 
   other_report : s ≡ regular_report o a x.steps x.signed y.tree
   other_report = y.report_is ∙ ap₂ (λ (steps : List SignStep) (signed : Matrix). regular_report o a steps signed y.tree) one_signed.0 one_signed.1
@@ -123,10 +123,10 @@ module _ (o : RegularOrder) (a : Matrix) (r s : Report) (x : RegularDecides o a 
   signed_alike : DifferInFiles HoldAlikeTrees r s
   signed_alike =
       alike_reports HoldAlikeTrees r (regular_report o a x.steps x.signed x.tree) s (regular_report o a x.steps x.signed y.tree) x.report_is other_report
-      (signings_alike o.lines o.pivots x.signed x.tree y.tree x.decomposition other_decomposition o a x.steps)
+      (signings_alike o.budget o.pivots x.signed x.tree y.tree x.decomposition other_decomposition o a x.steps)
 
   signed_equal : o.tree ≡ None → r ≡ s
-  signed_equal none = x.report_is ∙ signings_equal o.lines o.pivots x.signed x.tree y.tree x.decomposition other_decomposition o a x.steps none ∙ sym other_report
+  signed_equal none = x.report_is ∙ signings_equal o.budget o.pivots x.signed x.tree y.tree x.decomposition other_decomposition o a x.steps none ∙ sym other_report
 
 pub regular_alike : (o : RegularOrder) → HasAlikeReports HoldAlikeTrees (regular_tool o)
 regular_alike o = alike_of_matrix (DifferInFiles HoldAlikeTrees) (equal_reports HoldAlikeTrees same_file) (regular_source o) (RegularDecides o) (λ a is r s x y. signed_alike o a r s x y)

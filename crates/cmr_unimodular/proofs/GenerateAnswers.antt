@@ -52,10 +52,10 @@ one_made o m n a b = one_generated o.what o.size o.number m n a.is_matrix b.is_m
 -- ---- its verdict
 
 -- the report on it
-pub reported : (o : GenerateOrder) (m : Matrix) (told : Report) (r : Result Outcome Memory) → IsGenerated o.what o.size o.number m → Decides (generate_verdict o) m told
-    → IfOk r (λ outcome. outcome_report outcome ≡ generate_report o m told) → IfOk r (λ outcome. IsMatrix m) → IfOk r (λ outcome. GenerateDecides o (outcome_report outcome))
-reported o m told (Ok outcome) generated verdict is shape = record { made = m; is_made = record { generated = generated; is_matrix = shape }; told = told; verdict = verdict; report_is = is }
-reported o m told (Err memory) generated verdict is shape = tt
+pub reported : (o : GenerateOrder) (m : Matrix) (tested : Report) (r : Result Outcome Memory) → IsGenerated o.what o.size o.number m → Decides (generate_verdict o) m tested
+    → IfOk r (λ outcome. outcome_report outcome ≡ generate_report o m tested) → IfOk r (λ outcome. IsMatrix m) → IfOk r (λ outcome. GenerateDecides o (outcome_report outcome))
+reported o m tested (Ok outcome) generated verdict is shape = record { made = m; is_made = record { generated = generated; is_matrix = shape }; tested = tested; verdict = verdict; report_is = is }
+reported o m tested (Err memory) generated verdict is shape = tt
 
 -- the greatest sizes
 pub size_low : (what : MakeKind) (size : ℕ) → size ≤ most_size what → size ≤ MAX_ROWS
@@ -68,17 +68,17 @@ sum_size_low TwoSum size h e = h
 
 one_status : (o : GenerateOrder) (r s : Report) → GenerateDecides o r → GenerateDecides o s → r.status ≡ s.status
 one_status o r s a b =
-    let other : Decides (generate_verdict o) a.made b.told = subst (λ m. Decides (generate_verdict o) m b.told) (one_made o b.made a.made b.is_made a.is_made) b.verdict in
-    status_of r _ a.report_is ∙ one_verdict (generate_verdict o) a.made a.told b.told a.verdict other ∙ sym (status_of s _ b.report_is)
+    let other : Decides (generate_verdict o) a.made b.tested = subst (λ m. Decides (generate_verdict o) m b.tested) (one_made o b.made a.made b.is_made a.is_made) b.verdict in
+    status_of r _ a.report_is ∙ one_verdict (generate_verdict o) a.made a.tested b.tested a.verdict other ∙ sym (status_of s _ b.report_is)
 
 says : (o : GenerateOrder) (r : Report) (answer : Answer) → GenerateDecides o r → r.status ≡ answer_status answer → GenerateMeans o answer
 says o r answer d is =
     let v = d.verdict in
-    let status : answer_status (answer_of (verdict_in v.tree)) ≡ answer_status answer = sym (status_of d.told _ v.report_is) ∙ sym (status_of r _ d.report_is) ∙ is in
-    (d.made, d.is_made, unimodular_means o.lines o.pivots d.made v.tree v.decomposition v.told answer status)
+    let status : answer_status (answer_of (verdict_in v.tree)) ≡ answer_status answer = sym (status_of d.tested _ v.report_is) ∙ sym (status_of r _ d.report_is) ∙ is in
+    (d.made, d.is_made, unimodular_means o.budget o.pivots d.made v.tree v.decomposition v.right answer status)
 
 answers : (o : GenerateOrder) (r : Report) → GenerateDecides o r → IsAnswered r
-answers o r d = (answer_of (verdict_in d.verdict.tree), status_of r _ d.report_is ∙ status_of d.told _ d.verdict.report_is)
+answers o r d = (answer_of (verdict_in d.verdict.tree), status_of r _ d.report_is ∙ status_of d.tested _ d.verdict.report_is)
 
 pub generate_lawful : (o : GenerateOrder) → IsLawful (generate_tool o)
 generate_lawful o = record { one_status = λ bytes. one_status o; means = λ bytes. says o; at_fault = λ bytes r d is. absurd (no_fault r (answers o r d) is) }
@@ -102,7 +102,7 @@ pub generate_order-ranges : (words : List Text) (o : GenerateOrder) → generate
 generate_order-ranges words o e = go (matches_in generate_app words) e
   where
     order_with : MakeKind → Option (List ℕ) → ℕ → ℕ → ℕ → ℕ → ℕ → GenerateOrder
-    order_with what output size number lines pivots workers = record { what = what; size = size; number = number; lines = lines; pivots = pivots; workers = workers; output = output }
+    order_with what output size number lines pivots workers = record { what = what; size = size; number = number; budget = budget; pivots = pivots; workers = workers; output = output }
 
     of_values : (what : MakeKind) (output : Option (List ℕ)) (size number lines pivots workers : Option ℕ)
         → ((n : ℕ) → size ≡ Some n → (1 ≤ n) × (n ≤ most_size what)) → ((n : ℕ) → number ≡ Some n → n < 2 ^ 31) → ((n : ℕ) → lines ≡ Some n → n ≤ MAX_LINES)

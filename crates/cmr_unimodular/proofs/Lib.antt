@@ -1,7 +1,7 @@
 pub mod OneVerdict
 pub mod Outlines
 pub mod OpenParts
-pub mod Told
+pub mod RightVerdicts
 pub mod UnimodularAnswers
 pub mod TuAnswers
 pub mod GenerateAnswers

@@ -11,5 +11,5 @@ use Rattle.cmr_front.proofs.Statuses.{status_of}
 
 pub one_verdict : (o : VerdictOrder) (m : Matrix) (r s : Report) → Decides o m r → Decides o m s → r.status ≡ s.status
 one_verdict o m r s a b =
-    let same : verdict_in a.tree ≡ verdict_in b.tree = one_tried_verdict o.lines o.pivots m (tree_of a.tree.root) (tree_of b.tree.root) a.decomposition.shape b.decomposition.shape in
+    let same : verdict_in a.tree ≡ verdict_in b.tree = one_tried_verdict o.budget o.pivots m (tree_of a.tree.root) (tree_of b.tree.root) a.decomposition.shape b.decomposition.shape in
     status_of r _ a.report_is ∙ ap (λ v. answer_status (answer_of v)) same ∙ sym (status_of s _ b.report_is)

@@ -9,7 +9,7 @@ use Rattle.chains.proofs.ChainViolators.{chains_mean_violators, chains_refute_re
 use Rattle.chains.specs.declared.step.SignStep.{SignStep}
 use Rattle.chains.specs.ChainTexts.{AreLinesIn, chain_text}
 use Rattle.chains.specs.Chains.{IsSoundChain}
-use Rattle.tree_laws.specs.Laws.{IsRefuted, Tells}
+use Rattle.tree_laws.specs.Laws.{IsRefuted, VerdictMeans}
 use Rattle.tree_type.specs.DecompositionTrees.{SizedTree}
 use Rattle.tree_type.specs.Verdicts as verdicts
 use Rattle.tree_type.specs.Verdicts.{Verdict}
@@ -25,7 +25,7 @@ use Rattle.cmr_front.proofs.Statuses.{status_of}
 use Rattle.cmr_unimodular.specs.Regular.{HasLinesIn, IsSignedTo, RegularDecides, RegularMeans, RegularSays, chain_with, regular_report, regular_source, regular_tool, regular_verdict, RegularOrder, regular_app, regular_order, regular_order_in}
 use Rattle.cmr_unimodular.specs.Tu.{UnimodularMeans}
 use Rattle.cmr_evidence.specs.VerdictWords.{answer_of}
-use Rattle.cmr_unimodular.specs.Verdict.{Decides, IsDecomposition, IsTold, verdict_in, verdict_report}
+use Rattle.cmr_unimodular.specs.Verdict.{Decides, IsDecomposition, IsRightVerdict, verdict_in, verdict_report}
 use Rattle.cmr_unimodular.proofs.OneSigning.{one_signing}
 use Rattle.cmr_unimodular.proofs.OneVerdict.{one_verdict}
 use Rattle.cmr_unimodular.proofs.UnimodularAnswers.{unimodular_means}
@@ -38,7 +38,7 @@ use Rattle.cmr_front.proofs.Numbers.{with_numbers}
 -- ---- the chain
 
 -- a violator of the signed matrix has its lines in the matrix
-pub lines_in_matrix : (a signed : Matrix) (steps : List SignStep) (v : Verdict) → IsSignedTo a steps signed → Tells signed v → HasLinesIn (height a) a.width v
+pub lines_in_matrix : (a signed : Matrix) (steps : List SignStep) (v : Verdict) → IsSignedTo a steps signed → VerdictMeans signed v → HasLinesIn (height a) a.width v
 lines_in_matrix a signed steps verdicts.Yes is right = tt
 lines_in_matrix a signed steps (verdicts.No fault) is right = (
   (λ k l. let r = right.row_set.in_range k l in let h = is.one_support.height_same in omega arith),
@@ -63,8 +63,8 @@ sound a signed steps fault is right = record {
 one_status : (o : RegularOrder) (a : Matrix) (r s : Report) → RegularDecides o a r → RegularDecides o a s → r.status ≡ s.status
 one_status o a r s x y =
     let same : y.signed ≡ x.signed = (one_signing a y.signed x.signed y.steps x.steps x.signing.matrix y.signing.by_camion x.signing.by_camion).1 in
-    let first : Decides (regular_verdict o) x.signed (verdict_report (regular_verdict o) x.signed x.tree) = record { tree = x.tree; decomposition = x.decomposition; told = x.told; report_is = refl } in
-    let second : Decides (regular_verdict o) y.signed (verdict_report (regular_verdict o) y.signed y.tree) = record { tree = y.tree; decomposition = y.decomposition; told = y.told; report_is = refl } in
+    let first : Decides (regular_verdict o) x.signed (verdict_report (regular_verdict o) x.signed x.tree) = record { tree = x.tree; decomposition = x.decomposition; right = x.right; report_is = refl } in
+    let second : Decides (regular_verdict o) y.signed (verdict_report (regular_verdict o) y.signed y.tree) = record { tree = y.tree; decomposition = y.decomposition; right = y.right; report_is = refl } in
     status_of r _ x.report_is
     ∙ one_verdict (regular_verdict o) x.signed (verdict_report (regular_verdict o) x.signed x.tree) (verdict_report (regular_verdict o) y.signed y.tree) first
     (subst (λ m. Decides (regular_verdict o) m (verdict_report (regular_verdict o) y.signed y.tree)) same second)
@@ -72,7 +72,7 @@ one_status o a r s x y =
 
 -- ---- its meaning
 
-says_signed : (o : RegularOrder) (a signed : Matrix) (steps : List SignStep) → IsSignedTo a steps signed → (answer : Answer) → UnimodularMeans o.lines o.pivots signed answer → RegularSays o a steps signed answer
+says_signed : (o : RegularOrder) (a signed : Matrix) (steps : List SignStep) → IsSignedTo a steps signed → (answer : Answer) → UnimodularMeans o.budget o.pivots signed answer → RegularSays o a steps signed answer
 says_signed o a signed steps is Yes (tree, decomposition, e, good) =
     (tree, decomposition, e, record { regular = (signed, is_ternary signed is.signed_matrix, is.one_support, good.signings); unimodular = good })
 says_signed o a signed steps is No (tree, decomposition, fault, e, bad) =
@@ -94,7 +94,7 @@ says_signed o a signed steps is Refused none = none
 says : (o : RegularOrder) (a : Matrix) (r : Report) (answer : Answer) → RegularDecides o a r → r.status ≡ answer_status answer → RegularMeans o a answer
 says o a r answer d is =
     let status : answer_status (answer_of (verdict_in d.tree)) ≡ answer_status answer = sym (status_of r _ d.report_is) ∙ is in
-    (d.steps, d.signed, d.signing, says_signed o a d.signed d.steps d.signing answer (unimodular_means o.lines o.pivots d.signed d.tree d.decomposition d.told answer status))
+    (d.steps, d.signed, d.signing, says_signed o a d.signed d.steps d.signing answer (unimodular_means o.budget o.pivots d.signed d.tree d.decomposition d.right answer status))
 
 pub regular_lawful : (o : RegularOrder) → IsLawful (regular_tool o)
 regular_lawful o = lawful (regular_source o) (RegularDecides o) (RegularMeans o) (says o) _ (one_status o) (λ a r d. (answer_of (verdict_in d.tree), status_of r _ d.report_is))
@@ -104,10 +104,10 @@ pub fault_lines : (rows columns : ℕ) (v : Verdict) (fault : LineSet) → v ≡
 fault_lines rows columns v fault e lines = subst (HasLinesIn rows columns) e lines
 
 -- the report
-pub reported : (o : RegularOrder) (a signed : Matrix) (steps : List SignStep) (tree : SizedTree) (r : Result Outcome Memory) → IsSignedTo a steps signed → IsDecomposition o.lines o.pivots signed tree → IsTold o.lines o.pivots signed (verdict_in tree)
+pub reported : (o : RegularOrder) (a signed : Matrix) (steps : List SignStep) (tree : SizedTree) (r : Result Outcome Memory) → IsSignedTo a steps signed → IsDecomposition o.budget o.pivots signed tree → IsRightVerdict o.budget o.pivots signed (verdict_in tree)
     → IfOk r (λ outcome. outcome_report outcome ≡ regular_report o a steps signed tree) → IfOk r (λ outcome. RegularDecides o a (outcome_report outcome))
-reported o a signed steps tree (Ok outcome) signing decomposition told is = record { steps = steps; signed = signed; signing = signing; tree = tree; decomposition = decomposition; told = told; report_is = is }
-reported o a signed steps tree (Err memory) signing decomposition told is = tt
+reported o a signed steps tree (Ok outcome) signing decomposition right is = record { steps = steps; signed = signed; signing = signing; tree = tree; decomposition = decomposition; right = right; report_is = is }
+reported o a signed steps tree (Err memory) signing decomposition right is = tt
 
 -- the chain that is written
 pub chain_written : (a : Matrix) (steps : List SignStep) (violator fault : LineSet) (rows columns : ℕ) → violator ≡ fault → rows ≡ height a → columns ≡ a.width
@@ -121,7 +121,7 @@ regular_order-ranges words o e = go (matches_with_input regular_app words) e
     order_with : List Row → MatrixForm → ℕ → ℕ → ℕ → RegularOrder
     order_with rows form lines pivots workers = record {
       form = form;
-      lines = lines;
+      budget = budget;
       pivots = pivots;
       workers = workers;
       tree = first_of (codes "tree") rows;

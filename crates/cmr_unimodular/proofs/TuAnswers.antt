@@ -19,7 +19,7 @@ use Rattle.cmr_front.specs.Words.Parsing.{fault_in, file_in, matches_with_input}
 use Rattle.cmr_front.proofs.Numbers.{with_numbers}
 
 says : (o : TuOrder) (m : Matrix) (r : Report) (answer : Answer) → Decides (tu_verdict o) m r → r.status ≡ answer_status answer → TuMeans o m answer
-says o m r answer d is = unimodular_means o.lines o.pivots m d.tree d.decomposition d.told answer (sym (status_of r _ d.report_is) ∙ is)
+says o m r answer d is = unimodular_means o.budget o.pivots m d.tree d.decomposition d.right answer (sym (status_of r _ d.report_is) ∙ is)
 
 pub tu_lawful : (o : TuOrder) → IsLawful (tu_tool o)
 tu_lawful o = lawful (tu_source o) (Decides (tu_verdict o)) (TuMeans o) (says o) _ (one_verdict (tu_verdict o)) (λ m r d. (answer_of (verdict_in d.tree), status_of r _ d.report_is))
@@ -29,7 +29,7 @@ pub tu_order-ranges : (words : List Text) (o : TuOrder) → tu_order words ≡ S
 tu_order-ranges words o e = go (matches_with_input tu_app words) e
   where
     order_with : List Row → MatrixForm → ℕ → ℕ → ℕ → TuOrder
-    order_with rows form lines pivots workers = record { form = form; lines = lines; pivots = pivots; workers = workers; tree = first_of (codes "tree") rows; fault = fault_in rows; file = file_in rows }
+    order_with rows form lines pivots workers = record { form = form; budget = budget; pivots = pivots; workers = workers; tree = first_of (codes "tree") rows; fault = fault_in rows; file = file_in rows }
 
     go : (rows : Option (List Row)) → (rows >>= tu_order_in) ≡ Some o → (tu_tool o).InRanges × (o.pivots ≤ 100)
     go None e = cc

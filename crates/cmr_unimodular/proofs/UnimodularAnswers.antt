@@ -9,22 +9,22 @@ use Rattle.cmr_front.specs.declared.status.Answer.TheVariants.{Yes, No, Undecide
 use Rattle.cmr_front.specs.Status.{answer_status}
 use Rattle.cmr_unimodular.specs.Tu.{UnimodularMeans}
 use Rattle.cmr_evidence.specs.VerdictWords.{answer_of}
-use Rattle.cmr_unimodular.specs.Verdict.{IsDecomposition, IsTold, verdict_in}
+use Rattle.cmr_unimodular.specs.Verdict.{IsDecomposition, IsRightVerdict, verdict_in}
 use Rattle.cmr_evidence.proofs.Unimodular.{not_unimodular, unimodular}
 
-module _ (budget pivots : ℕ) (m : Matrix) (tree : SizedTree) (decomposition : IsDecomposition budget pivots m tree) (told : IsTold budget pivots m (verdict_in tree)) where
+module _ (budget pivots : ℕ) (m : Matrix) (tree : SizedTree) (decomposition : IsDecomposition budget pivots m tree) (right : IsRightVerdict budget pivots m (verdict_in tree)) where
   by_verdict : (v : Verdict) → verdict_in tree ≡ v → (answer : Answer) → answer_status (answer_of v) ≡ answer_status answer → UnimodularMeans budget pivots m answer
-  by_verdict verdicts.Yes e Yes is = (tree, decomposition, e, unimodular m (subst (IsTold budget pivots m) e told).unimodular)
+  by_verdict verdicts.Yes e Yes is = (tree, decomposition, e, unimodular m (subst (IsRightVerdict budget pivots m) e right).unimodular)
   by_verdict verdicts.Yes e No is = absurd (omega arith)
   by_verdict verdicts.Yes e Undecided is = absurd (omega arith)
   by_verdict verdicts.Yes e Refused is = absurd (omega arith)
   by_verdict (verdicts.No fault) e Yes is = absurd (omega arith)
-  by_verdict (verdicts.No fault) e No is = (tree, decomposition, fault, e, not_unimodular m fault (subst (IsTold budget pivots m) e told))
+  by_verdict (verdicts.No fault) e No is = (tree, decomposition, fault, e, not_unimodular m fault (subst (IsRightVerdict budget pivots m) e right))
   by_verdict (verdicts.No fault) e Undecided is = absurd (omega arith)
   by_verdict (verdicts.No fault) e Refused is = absurd (omega arith)
   by_verdict (verdicts.Open lines) e Yes is = absurd (omega arith)
   by_verdict (verdicts.Open lines) e No is = absurd (omega arith)
-  by_verdict (verdicts.Open lines) e Undecided is = (tree, decomposition, lines, e, subst (IsTold budget pivots m) e told)
+  by_verdict (verdicts.Open lines) e Undecided is = (tree, decomposition, lines, e, subst (IsRightVerdict budget pivots m) e right)
   by_verdict (verdicts.Open lines) e Refused is = absurd (omega arith)
 
   pub unimodular_means : (answer : Answer) → answer_status (answer_of (verdict_in tree)) ≡ answer_status answer → UnimodularMeans budget pivots m answer

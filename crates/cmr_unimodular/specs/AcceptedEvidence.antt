@@ -47,7 +47,7 @@ pub record IsAcceptedTest (o : TuOrder) (held : Held) (report : Report) : Type 0
   pub matrix : Matrix
   pub matrix_is : matrix_in o.form false matrix_text ≡ Ok matrix
   pub tree : SizedTree
-  pub decomposition : IsDecomposition o.lines o.pivots matrix tree
+  pub decomposition : IsDecomposition o.budget o.pivots matrix tree
   pub report_is : report ≡ verdict_report (tu_verdict o) matrix tree
   pub tree_accepted : (evidence : List ℕ) (later : Held) → later o.file ≡ held o.file → HoldsEvidence later evidence (tree_bytes tree)
       → ChecksTo (check_of o.form o.file evidence) later (accepted_report matrix (verdict_in tree))
@@ -69,7 +69,7 @@ pub record IsAcceptedSigning (o : RegularOrder) (held : Held) (report : Report) 
   pub signed : Matrix
   pub signing : IsSignedTo matrix steps signed
   pub tree : SizedTree
-  pub decomposition : IsDecomposition o.lines o.pivots signed tree
+  pub decomposition : IsDecomposition o.budget o.pivots signed tree
   pub report_is : report ≡ regular_report o matrix steps signed tree
   pub tree_accepted : (file evidence : List ℕ) (later : Held) → later file ≡ Some (dense_text signed) → HoldsEvidence later evidence (tree_bytes tree)
       → ChecksTo (check_of Dense file evidence) later (accepted_report signed (verdict_in tree))

@@ -26,7 +26,7 @@ pub record GenerateOrder : Type 0 where
   pub what : MakeKind
   pub size : ℕ
   pub number : ℕ
-  pub lines : ℕ
+  pub budget : ℕ
   pub pivots : ℕ
   pub workers : ℕ
   pub output : Option (List ℕ)
@@ -61,10 +61,10 @@ generate_order_in rows = do
   what ← make_kind_in rows
   size ← size_in what rows
   number ← number_in rows
-  lines ← lines_in rows
+  budget ← lines_in rows
   pivots ← pivots_in rows
   workers ← workers_in rows
-  Some (record { what = what; size = size; number = number; lines = lines; pivots = pivots; workers = workers; output = first_of (codes "output") rows })
+  Some (record { what = what; size = size; number = number; budget = budget; pivots = pivots; workers = workers; output = first_of (codes "output") rows })
 
 abbrev pub generate_order : List Text → Option GenerateOrder
 generate_order words = matches_in generate_app words >>= generate_order_in
@@ -74,7 +74,7 @@ generate_order_of options = record {
   what = options.what;
   size = options.size;
   number = options.number;
-  lines = options.lines;
+  budget = options.budget;
   pivots = options.pivots;
   workers = options.workers;
   output = option_map (λ name. name.now) options.output;
@@ -89,7 +89,7 @@ pub record IsMade (o : GenerateOrder) (m : Matrix) : Type 0 where
 
 -- the verdict of `tu` on it
 abbrev pub generate_verdict : GenerateOrder → VerdictOrder
-generate_verdict o = record { label = codes "totally unimodular"; lines = o.lines; pivots = o.pivots; tree = None; fault = None }
+generate_verdict o = record { label = codes "totally unimodular"; budget = o.budget; pivots = o.pivots; tree = None; fault = None }
 
 abbrev pub kind_word : MakeKind → List ℕ
 kind_word Network = codes "network"
@@ -103,29 +103,29 @@ summary_line what m =
 
 -- the summary before the report of `tu`, and the matrix after its files
 abbrev pub generate_report : GenerateOrder → Matrix → Report → Report
-generate_report o m told = record {
-  status = told.status;
-  output = summary_line o.what m ++ told.output;
-  error = told.error;
-  files = told.files ++ asked_file o.output (dense_text m);
+generate_report o m tested = record {
+  status = tested.status;
+  output = summary_line o.what m ++ tested.output;
+  error = tested.error;
+  files = tested.files ++ asked_file o.output (dense_text m);
 }
 
 pub record GenerateDecides (o : GenerateOrder) (report : Report) : Type 0 where
   pub made : Matrix
   pub is_made : IsMade o made
-  pub told : Report
-  pub verdict : Decides (generate_verdict o) made told
-  pub report_is : report ≡ generate_report o made told
+  pub tested : Report
+  pub verdict : Decides (generate_verdict o) made tested
+  pub report_is : report ≡ generate_report o made tested
 
 -- the meaning of `tu` for the generated matrix
 abbrev pub GenerateMeans : GenerateOrder → Answer → Type 0
-GenerateMeans o answer = (made : Matrix) × IsMade o made × UnimodularMeans o.lines o.pivots made answer
+GenerateMeans o answer = (made : Matrix) × IsMade o made × UnimodularMeans o.budget o.pivots made answer
 
 pub record IsInRange (o : GenerateOrder) : Type 0 where
   pub positive : 1 ≤ o.size
   pub size : o.size ≤ most_size o.what
   pub number : o.number < 2 ^ 31
-  pub lines : o.lines ≤ MAX_LINES
+  pub budget : o.budget ≤ MAX_LINES
   pub workers : (1 ≤ o.workers) × (o.workers ≤ 64)
 
 -- it reads no file

@@ -22,7 +22,7 @@ use Rattle.cmr_front.specs.MatrixText.{Source, matrix_tool, source}
 use Rattle.cmr_front.specs.Report.{File, Report, asked_file}
 use Rattle.cmr_front.specs.Tool.{Tool}
 use Rattle.cmr_evidence.specs.Unimodular.{IsNotUnimodular, IsUnimodular}
-use Rattle.cmr_unimodular.specs.Verdict.{VerdictOrder, IsDecomposition, IsOpenPart, IsTold, verdict_in, verdict_report}
+use Rattle.cmr_unimodular.specs.Verdict.{VerdictOrder, IsDecomposition, IsOpenPart, IsRightVerdict, verdict_in, verdict_report}
 use Rattle.clap.specs.Words.{App, Row, Text, first_of}
 use Rattle.cmr_front.specs.declared.matrix_file.MatrixForm.{MatrixForm}
 use Rattle.cmr_unimodular.specs.declared.tools.regular.RegularOptions.{RegularOptions}
@@ -35,7 +35,7 @@ use Rattle.cmr_front.specs.Words.ReadWords.{◌>>=◌}
 -- the options of `regular`
 pub record RegularOrder : Type 0 where
   pub form : MatrixForm
-  pub lines : ℕ
+  pub budget : ℕ
   pub pivots : ℕ
   pub workers : ℕ
   pub tree : Option (List ℕ)
@@ -51,12 +51,12 @@ regular_app = tool_app (codes "regular") (form_rule ∷ lines_rule ∷ pivots_ru
 abbrev pub regular_order_in : List Row → Option RegularOrder
 regular_order_in rows = do
   form ← form_in rows
-  lines ← lines_in rows
+  budget ← lines_in rows
   pivots ← pivots_in rows
   workers ← workers_in rows
   Some (record {
     form = form;
-    lines = lines;
+    budget = budget;
     pivots = pivots;
     workers = workers;
     tree = first_of (codes "tree") rows;
@@ -72,7 +72,7 @@ regular_order words = matches_with_input regular_app words >>= regular_order_in
 abbrev pub regular_order_of : RegularOptions → RegularOrder
 regular_order_of options = record {
   form = options.form;
-  lines = options.lines;
+  budget = options.budget;
   pivots = options.pivots;
   workers = options.workers;
   tree = option_map (λ name. name.now) options.tree;
@@ -85,7 +85,7 @@ regular_order_of options = record {
 -- ---- the reports
 
 abbrev pub regular_verdict : RegularOrder → VerdictOrder
-regular_verdict o = record { label = codes "regular"; lines = o.lines; pivots = o.pivots; tree = o.tree; fault = o.fault }
+regular_verdict o = record { label = codes "regular"; budget = o.budget; pivots = o.pivots; tree = o.tree; fault = o.fault }
 
 abbrev pub regular_source : RegularOrder → Source
 regular_source o = source o.form true o.file
@@ -121,8 +121,8 @@ signing_files o a steps signed verdict = asked_file o.signed (dense_text signed)
 -- the verdict over the signed matrix, with these files after its own
 abbrev pub regular_report : RegularOrder → Matrix → List SignStep → Matrix → SizedTree → Report
 regular_report o a steps signed tree =
-    let told = verdict_report (regular_verdict o) signed tree in
-    record { status = told.status; output = told.output; error = told.error; files = told.files ++ signing_files o a steps signed (verdict_in tree) }
+    let report = verdict_report (regular_verdict o) signed tree in
+    record { status = report.status; output = report.output; error = report.error; files = report.files ++ signing_files o a steps signed (verdict_in tree) }
 
 -- on a 0/1 matrix: by its signing, and by a decomposition of the signed matrix
 pub record RegularDecides (o : RegularOrder) (a : Matrix) (report : Report) : Type 0 where
@@ -130,8 +130,8 @@ pub record RegularDecides (o : RegularOrder) (a : Matrix) (report : Report) : Ty
   pub signed : Matrix
   pub signing : IsSignedTo a steps signed
   pub tree : SizedTree
-  pub decomposition : IsDecomposition o.lines o.pivots signed tree
-  pub told : IsTold o.lines o.pivots signed (verdict_in tree)
+  pub decomposition : IsDecomposition o.budget o.pivots signed tree
+  pub right : IsRightVerdict o.budget o.pivots signed (verdict_in tree)
   pub report_is : report ≡ regular_report o a steps signed tree
 
 -- this signing of the support is totally unimodular
@@ -147,9 +147,9 @@ pub record HasNoGoodSigning (a : Matrix) (steps : List SignStep) (signed : Matri
   pub not_regular : ¬ (IsRegular a)
 
 abbrev pub RegularSays : RegularOrder → Matrix → List SignStep → Matrix → Answer → Type 0
-RegularSays o a steps signed Yes = (tree : SizedTree) × IsDecomposition o.lines o.pivots signed tree × (verdict_in tree ≡ verdicts.Yes) × HasGoodSigning a signed
-RegularSays o a steps signed No = (tree : SizedTree) × IsDecomposition o.lines o.pivots signed tree × (fault : LineSet) × (verdict_in tree ≡ verdicts.No fault) × HasNoGoodSigning a steps signed fault
-RegularSays o a steps signed Undecided = (tree : SizedTree) × IsDecomposition o.lines o.pivots signed tree × (lines : LineSet) × (verdict_in tree ≡ verdicts.Open lines) × IsOpenPart o.lines o.pivots signed lines
+RegularSays o a steps signed Yes = (tree : SizedTree) × IsDecomposition o.budget o.pivots signed tree × (verdict_in tree ≡ verdicts.Yes) × HasGoodSigning a signed
+RegularSays o a steps signed No = (tree : SizedTree) × IsDecomposition o.budget o.pivots signed tree × (fault : LineSet) × (verdict_in tree ≡ verdicts.No fault) × HasNoGoodSigning a steps signed fault
+RegularSays o a steps signed Undecided = (tree : SizedTree) × IsDecomposition o.budget o.pivots signed tree × (lines : LineSet) × (verdict_in tree ≡ verdicts.Open lines) × IsOpenPart o.budget o.pivots signed lines
 RegularSays o a steps signed Refused = ⊥
 
 -- For the signing by Camion: a yes has a tree that the checker accepts for the signed matrix; a no names a violator; undecided names
@@ -158,4 +158,4 @@ abbrev pub RegularMeans : RegularOrder → Matrix → Answer → Type 0
 RegularMeans o a answer = (steps : List SignStep) × (signed : Matrix) × IsSignedTo a steps signed × RegularSays o a steps signed answer
 
 abbrev pub regular_tool : RegularOrder → Tool
-regular_tool o = matrix_tool (regular_source o) ((o.lines ≤ MAX_LINES) × (1 ≤ o.workers) × (o.workers ≤ 64)) (RegularDecides o) (RegularMeans o)
+regular_tool o = matrix_tool (regular_source o) ((o.budget ≤ MAX_LINES) × (1 ≤ o.workers) × (o.workers ≤ 64)) (RegularDecides o) (RegularMeans o)

@@ -23,7 +23,7 @@ use Rattle.cmr_front.specs.Words.ReadWords.{◌>>=◌}
 -- the options of `tu`
 pub record TuOrder : Type 0 where
   pub form : MatrixForm
-  pub lines : ℕ
+  pub budget : ℕ
   pub pivots : ℕ
   pub workers : ℕ
   pub tree : Option (List ℕ)
@@ -37,10 +37,10 @@ tu_app = tool_app (codes "tu") (form_rule ∷ lines_rule ∷ pivots_rule ∷ wor
 abbrev pub tu_order_in : List Row → Option TuOrder
 tu_order_in rows = do
   form ← form_in rows
-  lines ← lines_in rows
+  budget ← lines_in rows
   pivots ← pivots_in rows
   workers ← workers_in rows
-  Some (record { form = form; lines = lines; pivots = pivots; workers = workers; tree = first_of (codes "tree") rows; fault = fault_in rows; file = file_in rows })
+  Some (record { form = form; budget = budget; pivots = pivots; workers = workers; tree = first_of (codes "tree") rows; fault = fault_in rows; file = file_in rows })
 
 abbrev pub tu_order : List Text → Option TuOrder
 tu_order words = matches_with_input tu_app words >>= tu_order_in
@@ -48,7 +48,7 @@ tu_order words = matches_with_input tu_app words >>= tu_order_in
 abbrev pub tu_order_of : TuOptions → TuOrder
 tu_order_of options = record {
   form = options.form;
-  lines = options.lines;
+  budget = options.budget;
   pivots = options.pivots;
   workers = options.workers;
   tree = option_map (λ name. name.now) options.tree;
@@ -59,7 +59,7 @@ tu_order_of options = record {
 -- ---- the reports
 
 abbrev pub tu_verdict : TuOrder → VerdictOrder
-tu_verdict o = record { label = codes "totally unimodular"; lines = o.lines; pivots = o.pivots; tree = o.tree; fault = o.fault }
+tu_verdict o = record { label = codes "totally unimodular"; budget = o.budget; pivots = o.pivots; tree = o.tree; fault = o.fault }
 
 abbrev pub tu_source : TuOrder → Source
 tu_source o = source o.form false o.file
@@ -73,7 +73,7 @@ UnimodularMeans budget pivots m Undecided = (tree : SizedTree) × IsDecompositio
 UnimodularMeans budget pivots m Refused = ⊥
 
 abbrev pub TuMeans : TuOrder → Matrix → Answer → Type 0
-TuMeans o = UnimodularMeans o.lines o.pivots
+TuMeans o = UnimodularMeans o.budget o.pivots
 
 abbrev pub tu_tool : TuOrder → Tool
-tu_tool o = matrix_tool (tu_source o) ((o.lines ≤ MAX_LINES) × (1 ≤ o.workers) × (o.workers ≤ 64)) (Decides (tu_verdict o)) (TuMeans o)
+tu_tool o = matrix_tool (tu_source o) ((o.budget ≤ MAX_LINES) × (1 ≤ o.workers) × (o.workers ≤ 64)) (Decides (tu_verdict o)) (TuMeans o)

@@ -17,7 +17,7 @@ use Rattle.tree_type.specs.Verdicts.{Verdict, verdict_of}
 use Rattle.tree_text.specs.CanonicalTrees.{tree_text}
 use Rattle.open_parts.specs.Rests.{IsFoundInRests}
 use Rattle.open_parts.specs.TriedShapes.{IsTriedWith}
-use Rattle.tree_laws.specs.Laws.{Tells}
+use Rattle.tree_laws.specs.Laws.{VerdictMeans}
 use Rattle.cmr_evidence.specs.VerdictWords.{answer_of, answer_word, named_line}
 use Rattle.cmr_unimodular.specs.declared.verdict.VerdictOptions.{VerdictOptions}
 use Rattle.cmr_unimodular.specs.Outline.{outline_from}
@@ -28,7 +28,7 @@ use Rattle.cmr_front.specs.Status.{answer_status}
 -- the path to a node, and the files of the tree and of a violator.
 pub record VerdictOrder : Type 0 where
   pub label : List ℕ
-  pub lines : ℕ
+  pub budget : ℕ
   pub pivots : ℕ
   pub tree : Option (List ℕ)
   pub fault : Option (List ℕ)
@@ -36,7 +36,7 @@ pub record VerdictOrder : Type 0 where
 abbrev pub verdict_order_of : VerdictOptions → VerdictOrder
 verdict_order_of options = record {
   label = options.label.now;
-  lines = options.lines;
+  budget = options.budget;
   pivots = options.pivots;
   tree = option_map (λ name. name.now) options.tree;
   fault = option_map (λ name. name.now) options.fault;
@@ -99,14 +99,14 @@ verdict_report o m tree = record {
 }
 
 -- the meaning of a verdict for the matrix
-abbrev pub IsTold : (budget pivots : ℕ) → Matrix → Verdict → Type 0
-IsTold budget pivots m verdicts.Yes = Tells m verdicts.Yes
-IsTold budget pivots m (verdicts.No fault) = Tells m (verdicts.No fault)
-IsTold budget pivots m (verdicts.Open lines) = IsOpenPart budget pivots m lines
+abbrev pub IsRightVerdict : (budget pivots : ℕ) → Matrix → Verdict → Type 0
+IsRightVerdict budget pivots m verdicts.Yes = VerdictMeans m verdicts.Yes
+IsRightVerdict budget pivots m (verdicts.No fault) = VerdictMeans m (verdicts.No fault)
+IsRightVerdict budget pivots m (verdicts.Open lines) = IsOpenPart budget pivots m lines
 
 -- on a matrix: by a decomposition; there are several with networks, since the nodes of a network have any numbers
 pub record Decides (o : VerdictOrder) (m : Matrix) (report : Report) : Type 0 where
   pub tree : SizedTree
-  pub decomposition : IsDecomposition o.lines o.pivots m tree
-  pub told : IsTold o.lines o.pivots m (verdict_in tree)
+  pub decomposition : IsDecomposition o.budget o.pivots m tree
+  pub right : IsRightVerdict o.budget o.pivots m (verdict_in tree)
   pub report_is : report ≡ verdict_report o m tree

@@ -24,37 +24,10 @@ fn push_node(text: &mut Vec<u8>, node: &Node, depth: u32) -> Result<(), Memory>
         ≡ text.old.items ++ outline_from depth (tree_of node.now)) }
 {
     push_node_line(text, node, depth)?;
-    match &node.kind {
-        Kind::Reduced { child, .. } => push_node(text, child, depth + 1),
-        Kind::OneSum { children } => {
-            for child in children.as_slice() {
-                push_node(text, child, depth + 1)?;
-            }
-            Ok(())
-        }
-        Kind::TwoSum {
-            one_child,
-            two_child,
-            ..
-        }
-        | Kind::ThreeSum {
-            one_child,
-            two_child,
-            ..
-        } => {
-            push_node(text, one_child, depth + 1)?;
-            push_node(text, two_child, depth + 1)
-        }
-        Kind::Pivoted { child, .. } => push_node(text, child, depth + 1),
-        Kind::Empty
-        | Kind::Cycle { .. }
-        | Kind::Network { .. }
-        | Kind::Conetwork { .. }
-        | Kind::R10
-        | Kind::Enumerated
-        | Kind::Violator { .. }
-        | Kind::Undecided => Ok(()),
+    for index in 0..node.child_count() {
+        push_node(text, node.child(index), depth + 1)?;
     }
+    Ok(())
 }
 
 fn push_node_line(text: &mut Vec<u8>, node: &Node, depth: u32) -> Result<(), Memory>
@@ -95,18 +68,7 @@ fn push_place(text: &mut Vec<u8>, node: &Node) -> Result<(), Memory>
 {
     match &node.kind {
         Kind::Pivoted { place, .. } => push_pivot(text, *place),
-        Kind::Empty
-        | Kind::Cycle { .. }
-        | Kind::Reduced { .. }
-        | Kind::OneSum { .. }
-        | Kind::Network { .. }
-        | Kind::Conetwork { .. }
-        | Kind::R10
-        | Kind::TwoSum { .. }
-        | Kind::ThreeSum { .. }
-        | Kind::Enumerated
-        | Kind::Violator { .. }
-        | Kind::Undecided => {
+        _ => {
             text.push(b'\n')?;
             Ok(())
         }

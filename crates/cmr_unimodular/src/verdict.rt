@@ -1,8 +1,8 @@
 // The verdict on total unimodularity, from a decomposition.
 ghost use Rattle.std.specs.Prelude.{◌≡◌, ◌≤◌, ◌++◌, IfOk, OnOk, map, option_map};
-ghost use Rattle.tree_laws.specs.Laws.{Tells};
+ghost use Rattle.tree_laws.specs.Laws.{VerdictMeans};
 ghost use Rattle.cmr_front.specs.Outcome.{file_of, outcome_report};
-ghost use Rattle.cmr_unimodular.specs.Verdict.{Decides, IsDecomposition, IsTold, fault_file, tree_file, verdict_in, verdict_order_of, verdict_output, verdict_report};
+ghost use Rattle.cmr_unimodular.specs.Verdict.{Decides, IsDecomposition, IsRightVerdict, fault_file, tree_file, verdict_in, verdict_order_of, verdict_output, verdict_report};
 ghost use Rattle.tree_type.specs.Verdicts.{verdict_shown};
 
 use crate::outline::push_outline;
@@ -23,7 +23,7 @@ pub struct VerdictOptions<'a> {
     /// The label of the verdict.
     pub label: &'static [u8],
     /// The maximum number of lines on the shorter side of an exhaustive search, 0 to 24.
-    pub lines: u32,
+    pub budget: u32,
     /// The maximum number of pivots on the path to a node that nothing else decides.
     pub pivots: u32,
     /// The number of workers that share the searches, 1 to 64.
@@ -42,7 +42,7 @@ pub fn give_verdict<'a, R: Threads + Sync>(
     options: &VerdictOptions<'a>,
     matrix: &Matrix,
 ) -> Result<Outcome<'a>, Memory>
-    requires lines { options.now.lines ≤ MAX_LINES }
+    requires budget { options.now.budget ≤ MAX_LINES }
     requires workers { (1 ≤ options.now.workers) × (options.now.workers ≤ 64) }
     ensures { IfOk result (λ outcome.
         Decides (verdict_order_of options.now) matrix.now (outcome_report outcome)) }
@@ -58,19 +58,19 @@ pub fn decomposed<R: Threads + Sync>(
     options: &VerdictOptions<'_>,
     matrix: &Matrix,
 ) -> Result<DecTree, Memory>
-    requires lines { options.now.lines ≤ MAX_LINES }
+    requires budget { options.now.budget ≤ MAX_LINES }
     requires workers { (1 ≤ options.now.workers) × (options.now.workers ≤ 64) }
-    ensures decomposition { IfOk result (IsDecomposition options.now.lines options.now.pivots
+    ensures decomposition { IfOk result (IsDecomposition options.now.budget options.now.pivots
         matrix.now) }
-    ensures told { IfOk result (λ tree.
-        IsTold options.now.lines options.now.pivots matrix.now (verdict_in tree)) }
-    ensures tells { IfOk result (λ tree. Tells matrix.now (verdict_in tree)) }
+    ensures right { IfOk result (λ tree.
+        IsRightVerdict options.now.budget options.now.pivots matrix.now (verdict_in tree)) }
+    ensures means { IfOk result (λ tree. VerdictMeans matrix.now (verdict_in tree)) }
 {
     let tree = decompose(
         rt,
         alloc,
         matrix,
-        options.lines,
+        options.budget,
         options.pivots,
         Workers::new(options.workers),
     )?;
@@ -87,7 +87,7 @@ pub fn report_tree<'a>(
     matrix: &Matrix,
     tree: &DecTree,
 ) -> Result<Outcome<'a>, Memory>
-    requires { Tells matrix.now (verdict_in tree.now) }
+    requires { VerdictMeans matrix.now (verdict_in tree.now) }
     ensures { IfOk result (λ outcome. outcome_report outcome
         ≡ verdict_report (verdict_order_of options.now) matrix.now tree.now) }
 {
@@ -110,7 +110,7 @@ fn verdict_text(
     verdict: &VerdictOf<'_>,
     tree: &DecTree,
 ) -> Result<Vec<u8>, Memory>
-    requires tells { Tells matrix.now (verdict_shown verdict.now) }
+    requires means { VerdictMeans matrix.now (verdict_shown verdict.now) }
     requires shown { verdict_shown verdict.now ≡ verdict_in tree.now }
     ensures { IfOk result (λ text. text.items ≡ verdict_output label.now matrix.now tree.now) }
 {
@@ -145,7 +145,7 @@ fn push_fault<'a>(
     matrix: &Matrix,
     verdict: &VerdictOf<'_>,
 ) -> Result<(), Memory>
-    requires { Tells matrix.now (verdict_shown verdict.now) }
+    requires { VerdictMeans matrix.now (verdict_shown verdict.now) }
     ensures { OnOk result (map file_of files.new.items
         ≡ map file_of files.old.items
         ++ fault_file (option_map (λ name. name.now) name.entry) matrix.now

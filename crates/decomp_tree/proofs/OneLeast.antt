@@ -24,7 +24,7 @@ least_on_lines m rows columns least = elim (cases_lt m.width (height m)) [
       record { row_set = l.row_set; column_set = l.columns_least.column_set; violator = l.columns_least.violator }
 ]
 
-same_set : (high : ℕ) (lines others : List ℕ) → IncreasesIn 0 high lines → IncreasesIn 0 high others → set_number lines ≤ set_number others → set_number others ≤ set_number lines → lines ≡ others
+pub same_set : (high : ℕ) (lines others : List ℕ) → IncreasesIn 0 high lines → IncreasesIn 0 high others → set_number lines ≤ set_number others → set_number others ≤ set_number lines → lines ≡ others
 same_set high lines others increases increases' up down =
     let same : set_number lines ≡ set_number others = omega arith in
     sym (numbered_same high lines increases) ∙ ap (set_numbered high 0) same ∙ numbered_same high others increases'

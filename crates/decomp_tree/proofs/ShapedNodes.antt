@@ -38,19 +38,19 @@ module _ (limit : ℕ) (m : Matrix) (is : IsMatrix m) where
     parts : finding ≡ OneSum → known ≡ children
 
   module _ (lines : LineSet) (are : AreLines m lines) where
-    none_before : (case : Case) → IsFirstCase limit (part m lines) case → HasNoneBefore limit (part m lines) (case_number case)
+    pub none_before : (case : Case) → IsFirstCase limit (part m lines) case → HasNoneBefore limit (part m lines) (case_number case)
     none_before case first earlier l other = first.first earlier l
 
-    no_fault : (case : Case) → IsFirstCase limit (part m lines) case → case_number HasFault < case_number case → HasNoCycleFault (entry (part m lines))
+    pub no_fault : (case : Case) → IsFirstCase limit (part m lines) case → case_number HasFault < case_number case → HasNoCycleFault (entry (part m lines))
     no_fault case first l t c d path fault = first.first HasFault l (t, c, d, path, fault)
 
-    reduced : IsFirstCase limit (part m lines) IsReducible → 0 < length (removal false (part m lines)).steps
+    pub reduced : IsFirstCase limit (part m lines) IsReducible → 0 < length (removal false (part m lines)).steps
     reduced first = elim (cases_lt 0 (length (removal false (part m lines)).steps)) [
       | inl some ↦ some
       | inr none ↦ absurd (not_reducible limit m is lines are (empty_from_length (removal false (part m lines)).steps none) first.applies)
     ]
 
-    long : IsFirstCase limit (part m lines) IsLeft → limit < min (height (part m lines)) (length lines.columns)
+    pub long : IsFirstCase limit (part m lines) IsLeft → limit < min (height (part m lines)) (length lines.columns)
     long first = elim (cases_lt limit (min (height (part m lines)) (length lines.columns))) [
       | inl l ↦ l
       | inr short ↦ absurd (first.first IsShort (omega arith) short)

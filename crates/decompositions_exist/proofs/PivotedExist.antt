@@ -34,18 +34,18 @@ use Rattle.decompositions_exist.proofs.ShapesExist.{shape_exists}
 
 -- ---- what replaces undecided nodes
 
-module _ (m : Matrix) (Stands : LineSet → Tree → Type 0) (some : (lines : LineSet) → AreLines m lines → NotExcluded ((tree : Tree) × Stands lines tree)) where
-  by_finding : (lines : LineSet) (finding : Finding) (trees : Trees) (b : Bool) → is_undecided finding ≡ b → AreLines m lines → NotExcluded ((below : Trees) × AllRefine Stands trees below) → NotExcluded ((tree : Tree) × Refines Stands (Branch lines finding trees) tree)
-  by_finding lines finding trees true e are below none = some lines are (λ found. none (found.0, subst (λ f. Refines Stands (Branch lines f trees) found.0) (sym (only_undecided_is finding e)) found.1))
-  by_finding lines finding trees false e are below none = below (λ rest. none (Branch lines finding rest.0, refined_kept Stands lines finding trees rest.0 e rest.1))
+module _ (m : Matrix) (Holds : LineSet → Tree → Type 0) (some : (lines : LineSet) → AreLines m lines → NotExcluded ((tree : Tree) × Holds lines tree)) where
+  by_finding : (lines : LineSet) (finding : Finding) (trees : Trees) (b : Bool) → is_undecided finding ≡ b → AreLines m lines → NotExcluded ((below : Trees) × AllRefine Holds trees below) → NotExcluded ((tree : Tree) × Refines Holds (Branch lines finding trees) tree)
+  by_finding lines finding trees true e are below none = some lines are (λ found. none (found.0, subst (λ f. Refines Holds (Branch lines f trees) found.0) (sym (only_undecided_is finding e)) found.1))
+  by_finding lines finding trees false e are below none = below (λ rest. none (Branch lines finding rest.0, refined_kept Holds lines finding trees rest.0 e rest.1))
 
   mutual
-    pub refined_exists : (parent : LineSet) (levels : ℕ) (shape : Tree) → AreLines m parent → IsTreeWithin parent levels shape → NotExcluded ((tree : Tree) × Refines Stands shape tree)
+    pub refined_exists : (parent : LineSet) (levels : ℕ) (shape : Tree) → AreLines m parent → IsTreeWithin parent levels shape → NotExcluded ((tree : Tree) × Refines Holds shape tree)
     refined_exists parent levels (Branch lines finding trees) are within none =
         let here = lines_within m lines parent within.1 are in
         by_finding lines finding trees (is_undecided finding) refl here (refined_below lines (levels - 1) trees here within.4) none
 
-    refined_below : (lines : LineSet) (levels : ℕ) (trees : Trees) → AreLines m lines → AreTreesWithin lines levels trees → NotExcluded ((below : Trees) × AllRefine Stands trees below)
+    refined_below : (lines : LineSet) (levels : ℕ) (trees : Trees) → AreLines m lines → AreTreesWithin lines levels trees → NotExcluded ((below : Trees) × AllRefine Holds trees below)
     refined_below lines levels NoTrees are within none = none (NoTrees, refl)
     refined_below lines levels (MoreTrees tree trees) are within none =
         refined_exists lines levels tree are within.0 (λ first. refined_below lines levels trees are within.1 (λ rest. none (MoreTrees first.0 rest.0, (first.0, rest.0, refl, first.1, rest.1))))
@@ -76,12 +76,12 @@ module _ (limit : ℕ) where
       λ x h. contained_below m.width lines.columns x are.columns.in_range (all_contained (Contains lines.columns) fault.columns x among.columns (contains_from_in fault.columns x h)),
     )
 
-    told : (place : PlacedPivot) → IsPlaceIn m lines place → (after : Tree) (verdict : Verdict) → HasFaultAmong lines verdict → NotExcluded ((tree : Tree) × IsMappedBack m lines place after verdict tree)
-    told place at after Yes among none = none (Branch lines (Pivoted place) (one_tree after), refl)
-    told place at after (No fault) among none =
+    decided : (place : PlacedPivot) → IsPlaceIn m lines place → (after : Tree) (verdict : Verdict) → HasFaultAmong lines verdict → NotExcluded ((tree : Tree) × IsMappedBack m lines place after verdict tree)
+    decided place at after Yes among none = none (Branch lines (Pivoted place) (one_tree after), refl)
+    decided place at after (No fault) among none =
         let low = fault_low fault among in
         before_exists m lines place is are at fault low.0 low.1 (λ before. none (Branch lines (Violator before.0) NoTrees, (before.0, before.1, refl)))
-    told place at after (Open left) among none = none (undecided lines, refl)
+    decided place at after (Open left) among none = none (undecided lines, refl)
 
     found_there : (chosen : DrawnPlace) → IsPlaceIn m lines chosen.place → NotExcluded ((tree : Tree) × IsFoundAt IsTreeAfter m lines (Some chosen) tree)
     found_there chosen at none = ternary_or_two m lines chosen.place is are at (λ either. elim either [
@@ -92,7 +92,7 @@ module _ (limit : ℕ) where
           below chosen.state after lines after_is after_are (λ tree.
           let within = drawn_with_within limit pivots chosen.state after lines tree.0 lines (suc (size_of lines + pivots)) after_is tree.1 after_are (lines_themselves after lines after_are) (omega arith) in
           let among = subst (λ (own : LineSet). HasFaultAmong own (verdict_of tree.0)) (drawn_with_lines limit pivots chosen.state after lines tree.0 tree.1) (fault_among lines (suc (size_of lines + pivots)) tree.0 within) in
-          told chosen.place at tree.0 (verdict_of tree.0) among (λ told. none (told.0, inr (ternary, tree.0, (tree.1.shape, tree.1.drawn, tree.1.refines), told.1))))
+          decided chosen.place at tree.0 (verdict_of tree.0) among (λ above. none (above.0, inr (ternary, tree.0, (tree.1.shape, tree.1.drawn, tree.1.refines), above.1))))
       | inr two ↦ none (Branch lines (Violator two.0) NoTrees, inl (two.0, two.1, refl))
     ])
 

@@ -1,7 +1,5 @@
 -- Positions of pivots, the first 2 or -2 after a pivot, and the lines of a fault before it.
-use Rattle.std.proofs.Common.{◌≡◌, ◌≢◌, ◌<◌, ◌⊎◌, ◌↔◌, inl, inr, ℕ, zero, suc, ℤ, pos, negsuc, min, max, List, [], ◌∷◌, length, Contains, Option, Some, None, refl, subst, arith}
-use Rattle.std.specs.List.{AllByRecursion}
-use Rattle.std.proofs.lemmas.Bool.{cases_lt}
+use Rattle.std.proofs.Common.{◌≡◌, ◌≢◌, ◌<◌, ◌⊎◌, ◌↔◌, inl, inr, ℕ, ℤ, List, [], ◌∷◌, length, Contains, Option, Some, None, refl, arith}
 use Rattle.cmr_base.specs.declared.line_set.LineSet.{LineSet}
 use Rattle.cmr_base.specs.declared.placed_pivot.PlacedPivot.{PlacedPivot}
 use Rattle.cmr_base.specs.Matrix.{Matrix, height, entry, IsEntry, IsMatrix}
@@ -9,13 +7,13 @@ use Rattle.cmr_base.specs.Members.{IsIn}
 use Rattle.cmr_base.specs.PlacedPivots.{IsPlaceIn, IsTernaryPivot, pivot_entry}
 use Rattle.cmr_base.specs.Sums.{IsOdd, sum_over}
 use Rattle.cmr_base.proofs.IncreasingLists.{IncreasesIn, increasing_row_set, increasing_column_set}
-use Rattle.cmr_base.proofs.Integers.{sums}
 use Rattle.cmr_base.proofs.Places.{contained_below}
 use Rattle.pivots.specs.declared.drawn.DrawnPlace.{DrawnPlace}
 use Rattle.pivots.specs.ChosenLines.{two_lines}
 use Rattle.pivots.specs.DrawnPlaces.{drawn_place}
 use Rattle.pivots.specs.PivotedParts.{ShowsFirstTwoIn}
-use Rattle.pivots.proofs.PivotedRows.{first_two_apart}
+use Rattle.pivots.proofs.PivotedRows.{first_two_apart, two_among}
+use Rattle.ghouila.proofs.EntryTests.{entry_or_not}
 use Rattle.camion_sign.specs.FaultLines.{IsBuilt}
 use Rattle.camion_sign.proofs.LineLists.{above}
 use Rattle.separating_places.specs.SeparatingPlaces.{IsSeparatingPlace, IsNextPlace}
@@ -39,23 +37,10 @@ next_exists m lines state none = one_of_two ((place : PlacedPivot) × IsSeparati
 
 -- ---- the first 2 or -2
 
-pub entry_or_not : (z : ℤ) → IsEntry z ⊎ (¬ IsEntry z)
-entry_or_not (pos zero) = inl (record { low = omega (arith, sums); high = omega (arith, sums) })
-entry_or_not (pos (suc zero)) = inl (record { low = omega (arith, sums); high = omega (arith, sums) })
-entry_or_not (pos (suc (suc n))) = inr (λ h. let l = h.high in omega (arith, sums, l))
-entry_or_not (negsuc zero) = inl (record { low = omega (arith, sums); high = omega (arith, sums) })
-entry_or_not (negsuc (suc n)) = inr (λ h. let l = h.low in omega (arith, sums, l))
-
 pub entry_unless : (z : ℤ) → NotExcluded (IsEntry z) → IsEntry z
 entry_unless z some = elim (entry_or_not z) [
   | inl is ↦ is
   | inr not ↦ absurd (some not)
-]
-
-two_contained : (lines : List ℕ) (one other : ℕ) → Contains lines one → Contains lines other → AllByRecursion (Contains lines) (two_lines one other)
-two_contained lines one other there there' = elim (cases_lt one other) [
-  | inl l ↦ ((let e : one ≡ min one other = omega (arith, l) in subst (Contains lines) e there), ((let e : other ≡ max one other = omega (arith, l) in subst (Contains lines) e there'), tt))
-  | inr l ↦ ((let e : other ≡ min one other = omega (arith, l) in subst (Contains lines) e there'), ((let e : one ≡ max one other = omega (arith, l) in subst (Contains lines) e there), tt))
 ]
 
 two_increase : (n a b : ℕ) → a ≢ b → a < n → b < n → IncreasesIn 0 n (two_lines a b)
@@ -104,8 +89,8 @@ module _ (m : Matrix) (lines : LineSet) (place : PlacedPivot) (is : IsMatrix m) 
         column_set = increasing_column_set m (two_lines place.column s.column)
             (two_increase m.width place.column s.column found.1 (contained_below m.width lines.columns place.column are.columns.in_range place_in.column) (contained_below m.width lines.columns s.column are.columns.in_range f.has.column_in));
         among = record {
-          rows = two_contained lines.rows place.row s.row place_in.row f.has.row_in;
-          columns = two_contained lines.columns place.column s.column place_in.column f.has.column_in;
+          rows = two_among lines.rows place.row s.row place_in.row f.has.row_in;
+          columns = two_among lines.columns place.column s.column place_in.column f.has.column_in;
         };
         violator = found.2;
       }

@@ -1,5 +1,5 @@
 -- A matrix with a separation has the separation of the first good seed.
-use Rattle.std.proofs.Common.{◌≡◌, ◌∙◌, filter, ℕ, ℤ, List, length, refl, sym, arith}
+use Rattle.std.proofs.Common.{◌≡◌, ◌∙◌, filter, ℕ, List, length, refl, sym}
 use Rattle.std.proofs.lemmas.List.Kept.{IsStrictlyIncreasing-filter}
 use Rattle.cmr_base.specs.declared.line.Line.{Line}
 use Rattle.cmr_base.specs.declared.line.Line.TheVariants.{Row, Column}
@@ -12,12 +12,11 @@ use Rattle.cmr_base.specs.Matrix.{Matrix, height, entry}
 use Rattle.cmr_base.specs.LineSets.{first_lines}
 use Rattle.cmr_base.specs.Separations.{Lines, TwoSeparates, ThreeSeparates, listed}
 use Rattle.cmr_base.specs.Seeds.{IsLine, IsGoodTwo, two_key}
-use Rattle.cmr_base.proofs.ListedLines.{first_lines_contain}
 use Rattle.cmr_base.proofs.RowLists.{in_filter}
 use Rattle.cmr_base.proofs.RemovedLines.{first_lines_increase, row_set_from_within, column_set_from_within}
-use Rattle.cmr_base.proofs.SeedLemmas.{good_two_seed, good_three_seed, outside_grows, two_separation_of_seed}
+use Rattle.cmr_base.proofs.SeedLemmas.{good_two_seed, good_three_seed, two_separation_of_seed}
 use Rattle.two_sep.specs.FirstSeeds.{IsFirstTwoSeparation}
-use Rattle.two_sep.proofs.FirstTwo.{listed_filter}
+use Rattle.two_sep.proofs.FirstTwo.{good_same, listed_filter}
 use Rattle.three_sep.specs.NumberedSeeds.{IsGoodSeed, Seed, seed_key}
 use Rattle.three_sep.specs.ThreeSeparations.{IsFirstThreeSeparation}
 use Rattle.three_sep.proofs.SideLemmas.{lines_of_filters}
@@ -34,28 +33,6 @@ columns_on m S = filter (λ c. S (Column c)) (first_lines m.width)
 
 pub lines_on : Matrix → Lines → LineSet
 lines_on m S = record { rows = rows_on m S; columns = columns_on m S }
-
--- a good seed with the same lines of the matrix
-module _ (m n : ℕ) (M : ℕ → ℕ → ℤ) (i j : ℕ) (S T : Lines) (same : (line : Line) → IsLine m n line → S line ≡ T line) where
-  good_alike : (seed : Line) → IsGoodTwo m n M i j seed S → IsGoodTwo m n M i j seed T
-  good_alike seed g = (
-    g.0,
-    record {
-      line = g.1.line;
-      not_first = g.1.not_first;
-      not_second = g.1.not_second;
-      grown = record {
-        closed = record {
-          upper = λ r c hr hc e f. g.1.grown.closed.upper r c hr hc (same (Row r) (first_lines_contain m r hr) ∙ e) (same (Column c) (first_lines_contain n c hc) ∙ f);
-          lower = λ r c hr hc e f. g.1.grown.closed.lower r c hr hc (same (Row r) (first_lines_contain m r hr) ∙ e) (same (Column c) (first_lines_contain n c hc) ∙ f);
-        };
-        has = (sym (same seed g.1.line) ∙ g.1.grown.has.0, (sym (same (Column j) g.0.column) ∙ g.1.grown.has.1.0, tt));
-        least = λ other closed has line l e. g.1.grown.least other closed has line l (same line l ∙ e);
-      };
-      two = (sym (same (Row i) g.0.row) ∙ g.1.two.0, tt);
-      enough = let a = outside_grows m n T S (λ line l e. same line l ∙ e) in let b = g.1.enough in omega arith;
-    },
-  )
 
 -- ---- two-separations
 
@@ -85,7 +62,7 @@ module _ (m : Matrix) where
   first_two_of : (s : TwoSeed) → IsFirstBy two_number IsTwoSeed s → IsFirstTwoSeparation m (record { side = lines_on m s.side; row = s.row; column = s.column })
   unfolding two_number IsTwoSeed rows_on columns_on lines_on
   first_two_of s f =
-      let good = good_alike (height m) m.width (entry m) s.row s.column s.side (listed (rows_on m s.side) (columns_on m s.side)) (on_lists s.side) s.line f.has in
+      let good = good_same (height m) m.width (entry m) s.row s.column s.side (listed (rows_on m s.side) (columns_on m s.side)) (on_lists s.side) s.line f.has in
       record {
         row_set = row_set_from_within m (rows_on m s.side) (IsStrictlyIncreasing-filter (λ r. s.side (Row r)) (first_lines (height m)) (first_lines_increase (height m))) (λ x h. (in_filter (λ r. s.side (Row r)) x (first_lines (height m)) h).0);
         column_set = column_set_from_within m (columns_on m s.side) (IsStrictlyIncreasing-filter (λ c. s.side (Column c)) (first_lines m.width) (first_lines_increase m.width)) (λ x h. (in_filter (λ c. s.side (Column c)) x (first_lines m.width) h).0);

@@ -1,7 +1,6 @@
 -- A matrix has a decomposition.
-use Rattle.std.proofs.Common.{◌≡◌, ◌<◌, inl, inr, ℕ, zero, suc, false, min, List, [], ◌∷◌, length, refl, arith}
+use Rattle.std.proofs.Common.{◌≡◌, ◌<◌, inl, inr, ℕ, zero, suc, false, List, [], ◌∷◌, refl, arith}
 use Rattle.std.specs.List.{AllByRecursion}
-use Rattle.std.proofs.lemmas.Bool.{cases_lt}
 use Rattle.cmr_base.specs.declared.line_set.LineSet.{LineSet}
 use Rattle.cmr_base.specs.CyclePlaces.{HasNoCycleFault}
 use Rattle.cmr_base.specs.Matrix.{Matrix, height, entry, IsMatrix}
@@ -10,15 +9,16 @@ use Rattle.tree_type.specs.DecompositionTrees.{Finding, Empty, Cycle, Tree, Bran
 use Rattle.tree_type.specs.Invariant.{AreLines, size_of}
 use Rattle.tree_type.specs.Soundness.{part}
 use Rattle.decomp_tree.specs.Shapes.{Case, HasNoLines, HasFault, IsReducible, IsApart, IsNetwork, IsConetwork, IsR10Matrix, IsTwoSum, IsThreeSum, IsShort, IsLeft, case_number, Applies, IsFirstCase, set_in, IsShape, IsShapeOn}
-use Rattle.decomp_tree.specs.Seen.{AreFewer, HasNoneBefore, IsSaid}
+use Rattle.decomp_tree.specs.Seen.{AreFewer, IsSaid}
 use Rattle.decomp_tree.proofs.Children.{child_lines}
 use Rattle.decomp_tree.proofs.Drawn.{AreDrawn, drawn}
-use Rattle.decomp_tree.proofs.Said.{empty_from_length, not_reducible, seen_conetwork, seen_enumerated, seen_network, seen_parts, seen_r10, seen_rest, seen_undecided, seen_violator}
+use Rattle.decomp_tree.proofs.Said.{seen_conetwork, seen_enumerated, seen_network, seen_parts, seen_r10, seen_rest, seen_undecided, seen_violator}
 use Rattle.decomp_tree.proofs.SaidSums.{said_two, said_three}
 use Rattle.tree_type.proofs.PlacedLines.{part_is}
 use Rattle.decomp_tree.specs.PivotedShapes.{all_lines}
 use Rattle.decomp_tree.proofs.PivotedRoots.{all_are_lines}
 use Rattle.decomp_tree.proofs.ShapeTrees.{shape_moved}
+use Rattle.decomp_tree.proofs.ShapedNodes.{long, no_fault, none_before, reduced}
 use Rattle.tree_type.specs.Places.{AllLines}
 use Rattle.decompositions_exist.proofs.NotExcluded.{NotExcluded}
 use Rattle.decompositions_exist.proofs.LeastKeys.{least_number}
@@ -53,24 +53,6 @@ module _ (limit : ℕ) (m : Matrix) (is : IsMatrix m) where
     from_said finding children said no_fault none = children_exist children said.fewer (λ trees.
         none (Branch lines finding (trees_from trees.0), drawn limit m lines finding children trees.0 said (λ l. no_fault) trees.1))
 
-    none_before : (case : Case) → IsFirstCase limit (part m lines) case → HasNoneBefore limit (part m lines) (case_number case)
-    none_before case first earlier l other = first.first earlier l
-
-    no_fault : (case : Case) → IsFirstCase limit (part m lines) case → case_number HasFault < case_number case → HasNoCycleFault (entry (part m lines))
-    no_fault case first l t c d path fault = first.first HasFault l (t, c, d, path, fault)
-
-    reduced : IsFirstCase limit (part m lines) IsReducible → 0 < length (removal false (part m lines)).steps
-    reduced first = elim (cases_lt 0 (length (removal false (part m lines)).steps)) [
-      | inl some ↦ some
-      | inr none ↦ absurd (not_reducible limit m is lines are (empty_from_length (removal false (part m lines)).steps none) first.applies)
-    ]
-
-    long : IsFirstCase limit (part m lines) IsLeft → limit < min (height (part m lines)) (length lines.columns)
-    long first = elim (cases_lt limit (min (height (part m lines)) (length lines.columns))) [
-      | inl l ↦ l
-      | inr short ↦ absurd (first.first IsShort (omega arith) short)
-    ]
-
     by_case : (case : Case) → IsFirstCase limit (part m lines) case → NotExcluded (HasShape lines)
     unfolding HasShape
     by_case HasNoLines first none = none (
@@ -86,32 +68,32 @@ module _ (limit : ℕ) (m : Matrix) (is : IsMatrix m) where
     by_case IsReducible first none =
         let removed = removal false (part m lines) in
         let rest : LineSet = record { rows = removed.rows; columns = removed.columns } in
-        let said = seen_rest limit m is lines are removed.steps rest (none_before IsReducible first) (reduced first) refl refl refl in
-        from_said _ _ said (no_fault IsReducible first (omega arith)) none
+        let said = seen_rest limit m is lines are removed.steps rest (none_before limit m is lines are IsReducible first) (reduced limit m is lines are first) refl refl refl in
+        from_said _ _ said (no_fault limit m is lines are IsReducible first (omega arith)) none
     by_case IsApart first none =
         let parts = first.applies in
-        from_said _ _ (seen_parts limit m is lines are parts.0 (none_before IsApart first) parts.1 parts.2) (no_fault IsApart first (omega arith)) none
-    by_case IsNetwork first none = from_said _ _ (seen_network limit m is lines are first.applies.0 (none_before IsNetwork first) first.applies.1) (no_fault IsNetwork first (omega arith)) none
-    by_case IsConetwork first none = from_said _ _ (seen_conetwork limit m is lines are first.applies.0 (none_before IsConetwork first) first.applies.1) (no_fault IsConetwork first (omega arith)) none
+        from_said _ _ (seen_parts limit m is lines are parts.0 (none_before limit m is lines are IsApart first) parts.1 parts.2) (no_fault limit m is lines are IsApart first (omega arith)) none
+    by_case IsNetwork first none = from_said _ _ (seen_network limit m is lines are first.applies.0 (none_before limit m is lines are IsNetwork first) first.applies.1) (no_fault limit m is lines are IsNetwork first (omega arith)) none
+    by_case IsConetwork first none = from_said _ _ (seen_conetwork limit m is lines are first.applies.0 (none_before limit m is lines are IsConetwork first) first.applies.1) (no_fault limit m is lines are IsConetwork first (omega arith)) none
     by_case IsR10Matrix first none =
-        let clean = no_fault IsR10Matrix first (omega arith) in
-        from_said _ _ (seen_r10 limit m is lines are (none_before IsR10Matrix first) clean first.applies) clean none
+        let clean = no_fault limit m is lines are IsR10Matrix first (omega arith) in
+        from_said _ _ (seen_r10 limit m is lines are (none_before limit m is lines are IsR10Matrix first) clean first.applies) clean none
     by_case IsTwoSum first none =
         let a = first.applies in
-        two_exists (part m lines) a.0 a.1 a.2 a.3 (λ two. from_said _ _ (said_two limit m is lines are two.0 two.1 (none_before IsTwoSum first)) (no_fault IsTwoSum first (omega arith)) none)
+        two_exists (part m lines) a.0 a.1 a.2 a.3 (λ two. from_said _ _ (said_two limit m is lines are two.0 two.1 (none_before limit m is lines are IsTwoSum first)) (no_fault limit m is lines are IsTwoSum first (omega arith)) none)
     by_case IsThreeSum first none =
         let a = first.applies in
-        let clean = no_fault IsThreeSum first (omega arith) in
-        three_exists (part m lines) a.0 a.1 a.2 a.3 a.4 (λ three. from_said _ _ (said_three limit m is lines are three.0 three.1 (none_before IsThreeSum first) clean) clean none)
+        let clean = no_fault limit m is lines are IsThreeSum first (omega arith) in
+        three_exists (part m lines) a.0 a.1 a.2 a.3 a.4 (λ three. from_said _ _ (said_three limit m is lines are three.0 three.1 (none_before limit m is lines are IsThreeSum first) clean) clean none)
     by_case IsShort first none =
-        let clean = no_fault IsShort first (omega arith) in
+        let clean = no_fault limit m is lines are IsShort first (omega arith) in
         least_or_none (part m lines) (λ either. elim either [
-          | inl fault ↦ from_said _ _ (seen_violator limit m is lines are fault.0 (none_before IsShort first) clean first.applies fault.1) clean none
-          | inr free ↦ from_said _ _ (seen_enumerated limit m is lines are (none_before IsShort first) clean first.applies free) clean none
+          | inl fault ↦ from_said _ _ (seen_violator limit m is lines are fault.0 (none_before limit m is lines are IsShort first) clean first.applies fault.1) clean none
+          | inr free ↦ from_said _ _ (seen_enumerated limit m is lines are (none_before limit m is lines are IsShort first) clean first.applies free) clean none
         ])
     by_case IsLeft first none =
-        let clean = no_fault IsLeft first (omega arith) in
-        from_said _ _ (seen_undecided limit m is lines are (λ earlier l other. first.first earlier (omega (arith, l))) clean (long first)) clean none
+        let clean = no_fault limit m is lines are IsLeft first (omega arith) in
+        from_said _ _ (seen_undecided limit m is lines are (λ earlier l other. first.first earlier (omega (arith, l))) clean (long limit m is lines are first)) clean none
 
     shape_here : NotExcluded (HasShape lines)
     shape_here none = first_case_exists limit (part m lines) (λ case. by_case case.0 case.1 none)

@@ -131,25 +131,25 @@ files_on text rest left others files file told name bytes =
 
 -- some words were read, and these bytes are left
 pub record WordsRead (text : List ℕ) (words : List (List ℕ)) (left : List ℕ) : Type 0 where
-  pub told : text ≡ netstrings words ++ left
+  pub text_is : text ≡ netstrings words ++ left
   pub all : AllByRecursion IsWord words
   pub row : HasRow text → HasRow left
 
 pub no_words_read : (text : List ℕ) → WordsRead text [] text
-no_words_read text = record { told = refl; all = tt; row = λ row. row }
+no_words_read text = record { text_is = refl; all = tt; row = λ row. row }
 
 pub word_read : (text left word rest : List ℕ) (words new : List (List ℕ)) → WordsRead text words left → 0 < length left → StartsWith left word rest → IsUtf8 word → new ≡ words ++ (word ∷ []) → WordsRead text new rest
 word_read text left word rest words new read some starts utf8 is =
     subst (λ (all : List (List ℕ)). WordsRead text all rest) (sym is)
     (record {
-      told = words_on text word rest left words read.told starts;
+      text_is = words_on text word rest left words read.text_is starts;
       all = all_push IsWord words word read.all (record { utf8 = utf8; short = starts.short });
       row = λ row. (row_after left word rest some starts (read.row row)).1;
     })
 
 pub words_end : (text left : List ℕ) (words : List (List ℕ)) → WordsRead text words left → length left ≡ 0 → IsRowOf text words
 words_end text (b ∷ left) words read none = absurd (omega arith)
-words_end text [] words read none = record { all = read.all; text = read.told ∙ append-nil (netstrings words) }
+words_end text [] words read none = record { all = read.all; text = read.text_is ∙ append-nil (netstrings words) }
 
 pub no_word : (text left : List ℕ) (words : List (List ℕ)) → WordsRead text words left → 0 < length left → BeginsWithNone left → IsNoRow text
 no_word text left words read some none others row = no_row left some none (read.row (others, row))
@@ -159,19 +159,19 @@ no_utf8 text left word rest words read some starts not_utf8 others row = not_utf
 
 -- some files were read
 pub record FilesRead (text : List ℕ) (files : List NamedBytes) (left : List ℕ) : Type 0 where
-  pub told : text ≡ files_text files ++ left
+  pub text_is : text ≡ files_text files ++ left
   pub all : AllByRecursion IsFile files
   pub row : HasFileRow text → HasFileRow left
 
 pub no_files_read : (text : List ℕ) → FilesRead text [] text
-no_files_read text = record { told = refl; all = tt; row = λ row. row }
+no_files_read text = record { text_is = refl; all = tt; row = λ row. row }
 
 pub file_read : (text left name rest bytes others : List ℕ) (files new : List NamedBytes) → FilesRead text files left → 0 < length left → StartsWith left name rest → IsUtf8 name → StartsWith rest bytes others
     → new ≡ files ++ (record { name = name; bytes = bytes } ∷ []) → FilesRead text new others
 file_read text left name rest bytes others files new read some starts utf8 next is =
     subst (λ (all : List NamedBytes). FilesRead text all others) (sym is)
     (record {
-      told = files_on text rest left others files (record { name = name; bytes = bytes }) read.told starts next;
+      text_is = files_on text rest left others files (record { name = name; bytes = bytes }) read.text_is starts next;
       all = all_push IsFile files (record { name = name; bytes = bytes }) read.all (record { name = record { utf8 = utf8; short = starts.short }; bytes = next.short });
       row = λ row. files_after name rest bytes others (after_name left name rest some starts (read.row row)) next;
     })
@@ -189,7 +189,7 @@ one_more_file files new file name bytes is named held =
 
 pub files_end : (text left : List ℕ) (files : List NamedBytes) → FilesRead text files left → length left ≡ 0 → IsFileRowOf text files
 files_end text (b ∷ left) files read none = absurd (omega arith)
-files_end text [] files read none = record { all = read.all; text = read.told ∙ append-nil (files_text files) }
+files_end text [] files read none = record { all = read.all; text = read.text_is ∙ append-nil (files_text files) }
 
 pub no_name : (text left : List ℕ) (files : List NamedBytes) → FilesRead text files left → 0 < length left → BeginsWithNone left → IsNoFileRow text
 no_name text left files read some none others row = no_file_row left some none (read.row (others, row))

@@ -47,7 +47,7 @@ product_at x (suc (suc (suc zero))) h = let e : x *ℤ pos 0 ≡ pos 0 = omega (
 product_at x (suc (suc (suc (suc zero)))) h = let e : x *ℤ negsuc 0 ≡ neg_ℤ x = omega (arith, ints) in e
 product_at x (suc (suc (suc (suc (suc j))))) h = absurd (omega (arith, h))
 
-circulant_rows : AllByRecursion (IsRow 5) circulant.rows
+pub circulant_rows : AllByRecursion (IsRow 5) circulant.rows
 circulant_rows =
     let a : IsEntry (pos 1) = record { low = omega (arith, ints); high = omega (arith, ints) } in
     let b : IsEntry (negsuc 0) = record { low = omega (arith, ints); high = omega (arith, ints) } in
@@ -127,8 +127,8 @@ with_growth n row x is small = record {
   small = all-append IsEntry row (growth x) is.small (negative_is_entry x small, (zero_is_entry, (zero_is_entry, (negative_is_entry x small, tt))));
 }
 
-behind_zeros : (n w : ℕ) (row : List ℤ) → IsRow n row → IsRow (w + n) (replicate w (pos 0) ++ row)
-behind_zeros n w row is = record {
+after_zeros : (n w : ℕ) (row : List ℤ) → IsRow n row → IsRow (w + n) (replicate w (pos 0) ++ row)
+after_zeros n w row is = record {
   long = let e = is.long in let f = length-append (replicate w (pos 0)) row in let g = length-replicate w (pos 0) in omega (arith, e, f, g);
   small = all-append IsEntry (replicate w (pos 0)) row
       (all_by_places IsEntry (replicate w (pos 0)) (pos 0) (λ k h. subst IsEntry (sym (get_or-replicate w k (pos 0) (pos 0) (let g = length-replicate w (pos 0) in omega (arith, g, h)))) zero_is_entry)) is.small;
@@ -157,7 +157,7 @@ first_row : (s r : ℕ) → ((s ≡ 0) ⊎ (4 * s + 1 ≤ r)) → r < 4 * s + 5 
 first_row s r from h =
     let e : 4 * s + 5 ≡ 4 * (s + 1) + 1 = omega arith in
     subst (λ (n : ℕ). IsRow n (row_of (circulant_sum (s + 1)) r)) e
-    (subst (IsRow (4 * s + 5)) (sym (row_first s r from h)) (behind_zeros 5 (4 * s) (row_of circulant (r - 4 * s)) (circulant_row (r - 4 * s) (omega (arith, h)))))
+    (subst (IsRow (4 * s + 5)) (sym (row_first s r from h)) (after_zeros 5 (4 * s) (row_of circulant (r - 4 * s)) (circulant_row (r - 4 * s) (omega (arith, h)))))
 
 is_sum_row : (k r : ℕ) → r < 4 * (k + 1) + 1 → IsRow (4 * (k + 1) + 1) (row_of (circulant_sum (k + 1)) r)
 is_sum_row zero r h = first_row 0 r (inl refl) (omega (arith, h))
@@ -227,8 +227,8 @@ before_four : (q r d row : ℕ) → q * 4 + r ≡ d → d ≡ row - 1 → (q ≡
 before_four zero r d row e f = inl refl
 before_four (suc q) r d row e f = inr (omega (arith, e, f))
 
-pub brought_behind : (d row : ℕ) → d ≡ row - 1 → (d / 4 ≡ 0) ⊎ (4 * (d / 4) + 1 ≤ row)
-brought_behind d row e = before_four (d / 4) (d % 4) d row (div-add-mod' d 4) e
+pub brought_after : (d row : ℕ) → d ≡ row - 1 → (d / 4 ≡ 0) ⊎ (4 * (d / 4) + 1 ≤ row)
+brought_after d row e = before_four (d / 4) (d % 4) d row (div-add-mod' d 4) e
 
 pub brought_within : (d row : ℕ) → d ≡ row - 1 → row < 4 * (d / 4) + 5
 brought_within d row e = let f = div-add-mod' d 4 in let g = mod_below d 4 (omega arith) in omega (arith, e, f, g)

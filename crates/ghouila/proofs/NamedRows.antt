@@ -17,7 +17,7 @@ use Rattle.ghouila.specs.MarkedSignings.{IsOutcome, NamesLines}
 use Rattle.ghouila.specs.Answer.{SignsOrViolates}
 use Rattle.ghouila.proofs.Marks.{all_marked, marked_increases}
 
-signed_sum-map : (m : Matrix) (rows : List ℕ) (sign : ℕ → ℤ) (column : ℕ) → sum_over rows (λ row. sign row *ℤ entry m row column) ≡ signed_sum m rows (map sign rows) column
+pub signed_sum-map : (m : Matrix) (rows : List ℕ) (sign : ℕ → ℤ) (column : ℕ) → sum_over rows (λ row. sign row *ℤ entry m row column) ≡ signed_sum m rows (map sign rows) column
 signed_sum-map m [] sign column = refl
 signed_sum-map m (row ∷ rows) sign column = ap (λ z. sign row *ℤ entry m row column +ℤ z) (signed_sum-map m rows sign column)
 

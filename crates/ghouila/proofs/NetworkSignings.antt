@@ -6,7 +6,7 @@ use Rattle.std.proofs.lemmas.List.{length-map}
 use Rattle.cmr_base.specs.declared.network.Pair.{Pair}
 use Rattle.cmr_base.specs.Matrix.{Matrix, entry, height, transposed, IsEntry, IsMatrix}
 use Rattle.cmr_base.specs.Members.{IsIn, IsDistinct}
-use Rattle.cmr_base.specs.Signing.{IsSign, signed_sum, IsTotallyUnimodular}
+use Rattle.cmr_base.specs.Signing.{IsSign, IsTotallyUnimodular}
 use Rattle.cmr_base.specs.Sums.{sum_over}
 use Rattle.cmr_base.specs.Cuts.{differ, bit}
 use Rattle.cmr_base.specs.Trees.{WalkStep, tail, head, from, to, IsWalk, IsTree, arcs_of, direction, IsNetworkMatrix, IsConetworkMatrix}
@@ -22,6 +22,7 @@ use Rattle.cmr_base.specs.Violator.{HasNoViolator}
 use Rattle.cmr_base.proofs.TreeCuts.{tail_side, tail_side_kept, tail_side-tail, tail_side-head}
 use Rattle.ghouila.specs.NetworkLaws.{NetworkMatricesAreUnimodular, ConetworkMatricesAreUnimodular}
 use Rattle.ghouila.proofs.CamionLaw.{camion}
+use Rattle.ghouila.proofs.NamedRows.{signed_sum-map}
 
 -- ---- a function that is nonzero at only one item
 
@@ -164,10 +165,6 @@ small_difference true false = record { low = omega (arith, sums); high = omega (
 small_difference false true = record { low = omega (arith, sums); high = omega (arith, sums) }
 small_difference false false = record { low = omega (arith, sums); high = omega (arith, sums) }
 
-signed_sum-map : (m : Matrix) (s : ℕ → ℤ) (rows : List ℕ) (column : ℕ) → signed_sum m rows (map s rows) column ≡ sum_over rows (λ r. s r *ℤ entry m r column)
-signed_sum-map m s [] column = refl
-signed_sum-map m s (r ∷ rows) column = ap (λ (z : ℤ). (s r *ℤ entry m r column) +ℤ z) (signed_sum-map m s rows column)
-
 signs-map : (s : ℕ → ℤ) (rows : List ℕ) → ((r : ℕ) → IsIn r rows → IsSign (s r)) → AllByRecursion IsSign (map s rows)
 signs-map s [] h = tt
 signs-map s (r ∷ rows) h = (h r (inl refl), signs-map s rows (λ x k. h x (inr k)))
@@ -178,7 +175,7 @@ network_signing m net rows is = (
   record {
     one_each = length-map rows s;
     each = signs-map s rows (λ r h. sign_is_sign arcs (height m) tree rows once r (low r h) h);
-    sums = λ column inside. subst IsEntry (sym (signed_sum-map m s rows column ∙ along column inside)) (small_difference (colour arcs (height m) tree rows (head net.0.walks column)) (colour arcs (height m) tree rows (tail net.0.walks column)));
+    sums = λ column inside. subst IsEntry (sym (sym (signed_sum-map m rows s column) ∙ along column inside)) (small_difference (colour arcs (height m) tree rows (head net.0.walks column)) (colour arcs (height m) tree rows (tail net.0.walks column)));
   },
 )
   where

@@ -15,7 +15,7 @@ use Rattle.graph_text.specs.declared.edges.Element.TheVariants.{Row, Column}
 use Rattle.graph_text.specs.declared.edges.NodeWord.{NodeWord}
 use Rattle.graph_text.specs.declared.error.GraphKind.{GraphKind}
 use Rattle.graph_text.specs.declared.error.GraphKind.TheVariants.{Short}
-use Rattle.graph_text.specs.GraphReading.{edge_behind, edges_from, element_in, next_node, node_at, with_edge}
+use Rattle.graph_text.specs.GraphReading.{edge_after, edges_from, element_in, next_node, node_at, with_edge}
 
 abbrev Rest : Type 0
 Rest = (Element × Edge) × Text
@@ -39,14 +39,14 @@ whole_edge size edges tail name words (Err f) element is = refl
 
 -- the edge of the first words, and then the other edges
 pub first_edge : (size : ℕ) (edges : Edges) (word : ℕ × List ℕ) (words : List (ℕ × List ℕ))
-    → edges_from size edges (word ∷ words) ≡ (node_at word >>= λ (tail : NodeWord). edge_behind edges tail (record { size = size; words = words }) >>= and_more size edges)
+    → edges_from size edges (word ∷ words) ≡ (node_at word >>= λ (tail : NodeWord). edge_after edges tail (record { size = size; words = words }) >>= and_more size edges)
 first_edge size edges word [] = refl
 first_edge size edges word (head ∷ []) =
-    bind-same (node_at word) (λ (_ : NodeWord). node_at head >>= λ (_ : NodeWord). Err (Short, size)) (λ (tail : NodeWord). edge_behind edges tail (record { size = size; words = head ∷ [] }) >>= and_more size edges)
+    bind-same (node_at word) (λ (_ : NodeWord). node_at head >>= λ (_ : NodeWord). Err (Short, size)) (λ (tail : NodeWord). edge_after edges tail (record { size = size; words = head ∷ [] }) >>= and_more size edges)
     (λ tail is. last_word size edges tail (node_at head))
 first_edge size edges word (head ∷ name ∷ words) =
     bind-same (node_at word) (λ (tail : NodeWord). node_at head >>= λ (last : NodeWord). placed name.0 (element_in edges name.1) >>= λ (e : Element). edges_from size (with_edge edges e (record { tail = tail; head = last })) words)
-    (λ (tail : NodeWord). edge_behind edges tail (record { size = size; words = head ∷ name ∷ words }) >>= and_more size edges)
+    (λ (tail : NodeWord). edge_after edges tail (record { size = size; words = head ∷ name ∷ words }) >>= and_more size edges)
     (λ tail is. whole_edge size edges tail name words (node_at head) (placed name.0 (element_in edges name.1)) refl)
 
 node_keeps_size : (size : ℕ) (words : List (ℕ × List ℕ)) (node : NodeWord) (rest : Text) → next_node (record { size = size; words = words }) ≡ Ok (node, rest) → rest.size ≡ size
@@ -55,7 +55,7 @@ node_keeps_size size (word ∷ words) node rest h =
     let b = bind_ok (node_at word) (λ (n : NodeWord). Ok (n, record { size = size; words = words })) (node, rest) h in
     sym (ap (λ (p : NodeWord × Text). (p.1).size) (ok_same (b.0, record { size = size; words = words }) (node, rest) b.2))
 
-pub edge_keeps_size : (edges : Edges) (tail : NodeWord) (text : Text) (found : Element × Edge) (rest : Text) → edge_behind edges tail text ≡ Ok (found, rest) → rest.size ≡ text.size
+pub edge_keeps_size : (edges : Edges) (tail : NodeWord) (text : Text) (found : Element × Edge) (rest : Text) → edge_after edges tail text ≡ Ok (found, rest) → rest.size ≡ text.size
 edge_keeps_size edges tail text found rest h =
     let b = bind_ok (next_node text) (λ (head : NodeWord × Text). field Short (element_in edges) head.1 >>= λ (element : Element × Text). Ok ((element.0, record { tail = tail; head = head.0 }), element.1)) (found, rest) h in
     let d = bind_ok (field Short (element_in edges) (b.0).1) (λ (element : Element × Text). Ok ((element.0, record { tail = tail; head = (b.0).0 }), element.1)) (found, rest) b.2 in
@@ -64,17 +64,17 @@ edge_keeps_size edges tail text found rest h =
     sym (ap (λ (p : Rest). (p.1).size) e) ∙ sym named.size_is ∙ node_keeps_size text.size text.words (b.0).0 (b.0).1 b.1
 
 module _ (size : ℕ) (edges : Edges) (word : ℕ × List ℕ) (text : Text) (tail : NodeWord) (total : Result Edges (Fault GraphKind)) (same : text.size ≡ size) (node : node_at word ≡ Ok tail) (before : edges_from size edges (word ∷ text.words) ≡ total) where
-  behind : (edge_behind edges tail text >>= and_more size edges) ≡ total
-  behind = sym (first_edge size edges word text.words ∙ rw node (ap (λ (n : ℕ). edge_behind edges tail (record { size = n; words = text.words }) >>= and_more size edges) (sym same))) ∙ before
+  after : (edge_after edges tail text >>= and_more size edges) ≡ total
+  after = sym (first_edge size edges word text.words ∙ rw node (ap (λ (n : ℕ). edge_after edges tail (record { size = n; words = text.words }) >>= and_more size edges) (sym same))) ∙ before
 
   -- one edge more
-  pub edge_read : (found : Element × Edge) (rest : Text) → edge_behind edges tail text ≡ Ok (found, rest) → edges_from size (with_edge edges found.0 found.1) rest.words ≡ total
-  edge_read found rest is = sym (ap (λ (r : Result Rest (Fault GraphKind)). r >>= and_more size edges) is) ∙ behind
+  pub edge_read : (found : Element × Edge) (rest : Text) → edge_after edges tail text ≡ Ok (found, rest) → edges_from size (with_edge edges found.0 found.1) rest.words ≡ total
+  edge_read found rest is = sym (ap (λ (r : Result Rest (Fault GraphKind)). r >>= and_more size edges) is) ∙ after
 
   -- the fault of an edge is the fault of all edges
-  pub edge_fails : (e : FieldError GraphKind) → Fails e (edge_behind edges tail text) → Fails e total
+  pub edge_fails : (e : FieldError GraphKind) → Fails e (edge_after edges tail text) → Fails e total
   edge_fails errors.Memory fails = tt
-  edge_fails (errors.Fault kind place) fails = sym behind ∙ ap (λ (r : Result Rest (Fault GraphKind)). r >>= and_more size edges) fails
+  edge_fails (errors.Fault kind place) fails = sym after ∙ ap (λ (r : Result Rest (Fault GraphKind)). r >>= and_more size edges) fails
 
 -- the number of edges is within the limits
 pub edges_few : (edges : Edges) (element : Element) (edge : Edge) → length edges.rows ≤ 1000 → length edges.columns ≤ 1000 → (element ≡ Row → length edges.rows < 1000) → (element ≡ Column → length edges.columns < 1000)

@@ -16,7 +16,7 @@ line_short letter line edge low near few =
     let t = length-decimal-le_succ edge.tail (omega (arith, low)) in
     let h = length-decimal-le_succ edge.head (omega (arith, near)) in
     let n = length-decimal-le_succ (line + 1) (omega (arith, few)) in
-    let behind = length-append (decimal edge.head) (32 ∷ name) in
+    let after = length-append (decimal edge.head) (32 ∷ name) in
     let words = length-append (decimal edge.tail) (32 ∷ (decimal edge.head ++ (32 ∷ name))) in
     let all = length-append (decimal edge.tail ++ (32 ∷ (decimal edge.head ++ (32 ∷ name)))) (10 ∷ []) in
     omega arith

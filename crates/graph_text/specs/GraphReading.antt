@@ -69,8 +69,8 @@ next_node text = do
   Ok (node, word.1)
 
 -- the words after the first node of an edge: the element that the edge represents, and the edge
-abbrev pub edge_behind : Edges → NodeWord → Text → Result ((Element × Edge) × Text) (Fault GraphKind)
-edge_behind edges tail text = do
+abbrev pub edge_after : Edges → NodeWord → Text → Result ((Element × Edge) × Text) (Fault GraphKind)
+edge_after edges tail text = do
   head ← next_node text
   element ← field Short (element_in edges) head.1
   Ok ((element.0, record { tail = tail; head = head.0 }), element.1)

@@ -4,7 +4,7 @@ ghost use Rattle.text_fields.specs.Reading.{Gives, Reads, field};
 ghost use Rattle.text_fields.specs.Spelling.{words_in};
 ghost use Rattle.text_fields.specs.TextWords.{text_of};
 ghost use Rattle.graph_text.specs.GraphTexts.{IsGraphText, lettered_name};
-ghost use Rattle.graph_text.specs.GraphReading.{IsReading, all_within, edge_behind, edges_from, element_in, ends, network_in, next_node, no_edges, node_at, node_within, graph_number_in};
+ghost use Rattle.graph_text.specs.GraphReading.{IsReading, all_within, edge_after, edges_from, element_in, ends, network_in, next_node, no_edges, node_at, node_within, graph_number_in};
 ghost use Rattle.graph_text.specs.declared.edges.Element.TheVariants.{Row, Column};
 ghost use Rattle.graph_text.specs.declared.error.GraphKind.TheVariants.{Short};
 
@@ -120,7 +120,7 @@ fn read_edge(
 ) -> Result<(Element, Edge), GraphError>
     requires rows { length edges.now.rows ≤ MAX_ROWS }
     requires columns { length edges.now.columns ≤ MAX_COLUMNS }
-    ensures read { Reads (λ edge. edge) words.new result (edge_behind edges.now tail words.old) }
+    ensures read { Reads (λ edge. edge) words.new result (edge_after edges.now tail words.old) }
     ensures row { IfOk result (λ edge. edge.0 ≡ Row → length edges.now.rows < MAX_ROWS) }
     ensures column { IfOk result (λ edge. edge.0 ≡ Column
         → length edges.now.columns < MAX_COLUMNS) }

@@ -10,8 +10,8 @@ use Rattle.leaf_enumerate.specs.RowSets.{HasColumnSet}
 use Rattle.leaf_enumerate.specs.Searched.{HasSearched, HasSearchedFor}
 use Rattle.leaf_enumerate.proofs.RowSets.{none_at_all}
 
-module _ (m : Matrix) (is : IsMatrix m) (limit : ℕ) where
-  of_search : (found : LeastSubmatrix) → HasSearchedFor HasColumnSet IsLeastByRows m limit found → HasSearched m limit found
+module _ (m : Matrix) (is : IsMatrix m) (budget : ℕ) where
+  of_search : (found : LeastSubmatrix) → HasSearchedFor HasColumnSet IsLeastByRows m budget found → HasSearched m budget found
   of_search Clean h = (
     h.0,
     elim (cases_lt m.width (height m)) [
@@ -28,6 +28,6 @@ module _ (m : Matrix) (is : IsMatrix m) (limit : ℕ) where
   )
   of_search (TooMany shorter) h = h
 
-  pub searched : {E : Type 0} (result : Result LeastSubmatrix E) → IfOk result (HasSearchedFor HasColumnSet IsLeastByRows m limit) → IfOk result (HasSearched m limit)
+  pub searched : {E : Type 0} (result : Result LeastSubmatrix E) → IfOk result (HasSearchedFor HasColumnSet IsLeastByRows m budget) → IfOk result (HasSearched m budget)
   searched (Ok found) h = of_search found h
   searched (Err e) h = tt

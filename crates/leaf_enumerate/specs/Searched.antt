@@ -10,11 +10,11 @@ use Rattle.leaf_enumerate.specs.declared.search.LeastSubmatrix.TheVariants.{Clea
 abbrev pub shorter_side : Matrix → ℕ
 shorter_side m = min (height m) m.width
 
--- too many lines if and only if the shorter side is above the limit; otherwise no violator, or the least one
+-- too many lines if and only if the shorter side is above the budget; otherwise no violator, or the least one
 abbrev pub HasSearched : Matrix → ℕ → LeastSubmatrix → Type 0
-HasSearched m limit Clean = (shorter_side m ≤ limit) × HasNoViolator m
-HasSearched m limit (Found lines) = (shorter_side m ≤ limit) × IsLeastViolator m lines.rows lines.columns
-HasSearched m limit (TooMany shorter) = (limit < shorter) × (shorter ≡ shorter_side m)
+HasSearched m budget Clean = (shorter_side m ≤ budget) × HasNoViolator m
+HasSearched m budget (Found lines) = (shorter_side m ≤ budget) × IsLeastViolator m lines.rows lines.columns
+HasSearched m budget (TooMany shorter) = (budget < shorter) × (shorter ≡ shorter_side m)
 
 -- ---- any kind of submatrix
 
@@ -28,9 +28,9 @@ pub record HoldsNowhere (holds : Matrix → ℕ → Type 0) (m : Matrix) : Type 
   pub few_rows : height m ≤ m.width → NoneBetween (holds m) 0 (2 ^ height m)
   pub few_columns : m.width < height m → NoneBetween (holds (transposed m)) 0 (2 ^ height (transposed m))
 
--- too many lines if and only if the shorter side is above the limit; otherwise no set satisfies the predicate, or this is the least
+-- too many lines if and only if the shorter side is above the budget; otherwise no set satisfies the predicate, or this is the least
 -- submatrix
 abbrev pub HasSearchedFor : (Matrix → ℕ → Type 0) → (Matrix → List ℕ → List ℕ → Type 0) → Matrix → ℕ → LeastSubmatrix → Type 0
-HasSearchedFor holds is_least m limit Clean = (shorter_side m ≤ limit) × HoldsNowhere holds m
-HasSearchedFor holds is_least m limit (Found lines) = (shorter_side m ≤ limit) × IsLeastOf is_least m lines.rows lines.columns
-HasSearchedFor holds is_least m limit (TooMany shorter) = (limit < shorter) × (shorter ≡ shorter_side m)
+HasSearchedFor holds is_least m budget Clean = (shorter_side m ≤ budget) × HoldsNowhere holds m
+HasSearchedFor holds is_least m budget (Found lines) = (shorter_side m ≤ budget) × IsLeastOf is_least m lines.rows lines.columns
+HasSearchedFor holds is_least m budget (TooMany shorter) = (budget < shorter) × (shorter ≡ shorter_side m)

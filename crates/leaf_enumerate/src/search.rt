@@ -19,26 +19,26 @@ pub enum LeastSubmatrix {
     Clean,
     /// The least submatrix.
     Found(LineSet),
-    /// The shorter side has more lines than the limit. `shorter` is its number of lines.
+    /// The shorter side has more lines than the budget. `shorter` is its number of lines.
     TooMany { shorter: u32 },
 }
 
-/// Gives the least violator of a matrix whose shorter side has at most `limit` lines. The search tries the sets of
+/// Gives the least violator of a matrix whose shorter side has at most `budget` lines. The search tries the sets of
 /// the shorter side, rows in a tie, by increasing number, and for each set it finds the least set of the other side.
 /// The answer does not depend on the number of workers.
 pub fn least_violator<R: Threads + Sync>(
     rt: &R,
     alloc: Global,
     matrix: &Matrix,
-    limit: u32,
+    budget: u32,
     workers: Workers,
 ) -> Result<LeastSubmatrix, Memory>
-    requires limit { limit ≤ MAX_LINES }
-    ensures { IfOk result (HasSearched matrix.now limit) }
+    requires budget { budget ≤ MAX_LINES }
+    ensures { IfOk result (HasSearched matrix.now budget) }
 {
     let columns = matrix.transposed(alloc)?;
     let both = RowsAndColumns::of(matrix, &columns);
-    least_violator_of(rt, alloc, &both, limit, workers)
+    least_violator_of(rt, alloc, &both, budget, workers)
 }
 
 /// Gives the least violator of a matrix that is available by rows and by columns.
@@ -46,17 +46,17 @@ pub fn least_violator_of<R: Threads + Sync>(
     rt: &R,
     alloc: Global,
     matrix: &RowsAndColumns<'_>,
-    limit: u32,
+    budget: u32,
     workers: Workers,
 ) -> Result<LeastSubmatrix, Memory>
-    requires limit { limit ≤ MAX_LINES }
-    ensures { IfOk result (HasSearched matrix.now limit) }
+    requires budget { budget ≤ MAX_LINES }
+    ensures { IfOk result (HasSearched matrix.now budget) }
 {
     let _rows = matrix.rows();
-    least_submatrix(rt, alloc, matrix, &Violators, limit, workers)
+    least_submatrix(rt, alloc, matrix, &Violators, budget, workers)
 }
 
-/// Gives the least submatrix of a kind in a matrix whose shorter side has at most `limit` lines. The search tests the
+/// Gives the least submatrix of a kind in a matrix whose shorter side has at most `budget` lines. The search tests the
 /// sets of the shorter side, rows in a tie, by increasing number. The answer does not depend on the number of
 /// workers. The time doubles with each line of the shorter side.
 pub fn least_submatrix<R: Threads + Sync, S: Sought>(
@@ -64,15 +64,15 @@ pub fn least_submatrix<R: Threads + Sync, S: Sought>(
     alloc: Global,
     matrix: &RowsAndColumns<'_>,
     sought: &S,
-    limit: u32,
+    budget: u32,
     workers: Workers,
 ) -> Result<LeastSubmatrix, Memory>
-    requires limit { limit ≤ MAX_LINES }
+    requires budget { budget ≤ MAX_LINES }
     ensures { IfOk result (HasSearchedFor (S.holds sought.now) (S.is_least sought.now) matrix.now
-        limit) }
+        budget) }
 {
     let shorter = matrix.rows().min(matrix.columns());
-    if shorter > limit {
+    if shorter > budget {
         return Ok(LeastSubmatrix::TooMany { shorter });
     }
     match least(rt, alloc, matrix, sought, workers)? {

@@ -143,9 +143,9 @@ row_value row column (z ∷ entries) zero =
     let here : column + 0 ≡ column = omega arith in
     rw here (kept_here z row column (row_triples row (column + 1) entries) (row_unnamed_before row (column + 1) entries row column (omega arith)))
 row_value row column (z ∷ entries) (suc k) =
-    let behind : column + suc k ≡ column + 1 + k = omega arith in
+    let after : column + suc k ≡ column + 1 + k = omega arith in
     kept_skip (is_nonzero z) (record { row = row; column = column; value = z }) (row_triples row (column + 1) entries) row (column + suc k) (differ_right row row column (column + suc k) (omega arith))
-    ∙ ap (value_at (row_triples row (column + 1) entries) row) behind
+    ∙ ap (value_at (row_triples row (column + 1) entries) row) after
     ∙ row_value row (column + 1) entries k
 
 all_value : (row : ℕ) (rows : List (List ℤ)) (r c : ℕ) → value_at (triples_from row rows) (row + r) (1 + c) ≡ get_or (get_or rows r []) c (pos 0)
@@ -156,9 +156,9 @@ all_value row (entries ∷ rows) zero c =
     ∙ ap (λ r. value_at (row_triples row 1 entries) r (1 + c)) here
     ∙ row_value row 1 entries c
 all_value row (entries ∷ rows) (suc r) c =
-    let behind : row + suc r ≡ row + 1 + r = omega arith in
+    let after : row + suc r ≡ row + 1 + r = omega arith in
     value_back (row_triples row 1 entries) (triples_from (row + 1) rows) (row + suc r) (1 + c) (row_unnamed_other row 1 entries (row + suc r) (1 + c) (omega arith))
-    ∙ ap (λ r. value_at (triples_from (row + 1) rows) r (1 + c)) behind
+    ∙ ap (λ r. value_at (triples_from (row + 1) rows) r (1 + c)) after
     ∙ all_value (row + 1) rows r c
 
 -- the text of an entry is a word that represents it

@@ -32,11 +32,11 @@ own_size_found size text n rest h =
     (f.word, f.words_are, renamed_ok text_kind (count_in f.word.1) b.0 b.1 ∙ ap Ok same)
 
 -- the two lists and the end
-abbrev lines_behind : ℕ → ℕ → ℕ → ℕ → Text → Result LineSet (Fault TextKind)
-lines_behind height width p q text = increasing_lines height RowOutOfRange p text >>= λ rows. increasing_lines width ColumnOutOfRange q rows.1 >>= λ columns. ended Extra (record { rows = rows.0; columns = columns.0 }) columns.1
+abbrev lines_after : ℕ → ℕ → ℕ → ℕ → Text → Result LineSet (Fault TextKind)
+lines_after height width p q text = increasing_lines height RowOutOfRange p text >>= λ rows. increasing_lines width ColumnOutOfRange q rows.1 >>= λ columns. ended Extra (record { rows = rows.0; columns = columns.0 }) columns.1
 
-abbrev counts_behind : ℕ → ℕ → Text → Result LineSet (Fault TextKind)
-counts_behind height width text = field Short (limited height RowOutOfRange) text >>= λ p. field Short (limited width ColumnOutOfRange) p.1 >>= λ q. lines_behind height width p.0 q.0 q.1
+abbrev counts_after : ℕ → ℕ → Text → Result LineSet (Fault TextKind)
+counts_after height width text = field Short (limited height RowOutOfRange) text >>= λ p. field Short (limited width ColumnOutOfRange) p.1 >>= λ q. lines_after height width p.0 q.0 q.1
 
 record AreLists (height width p q : ℕ) (words : List (List ℕ)) (lines : LineSet) : Type 0 where
   row_words : List (List ℕ)
@@ -49,7 +49,7 @@ record AreLists (height width p q : ℕ) (words : List (List ℕ)) (lines : Line
   rows_increase : IncreasesIn 0 height lines.rows
   columns_increase : IncreasesIn 0 width lines.columns
 
-lists_found : (height width p q : ℕ) (text : Text) (lines : LineSet) → lines_behind height width p q text ≡ Ok lines → AreLists height width p q (texts_of text.words) lines
+lists_found : (height width p q : ℕ) (text : Text) (lines : LineSet) → lines_after height width p q text ≡ Ok lines → AreLists height width p q (texts_of text.words) lines
 lists_found height width p q text lines h =
     let a = bind_ok (increasing_lines height RowOutOfRange p text) (λ (rows : List ℕ × Text). increasing_lines width ColumnOutOfRange q rows.1 >>= λ columns. ended Extra (record { rows = rows.0; columns = columns.0 }) columns.1) lines h in
     let b = bind_ok (increasing_lines width ColumnOutOfRange q a.0.1) (λ (columns : List ℕ × Text). ended Extra (record { rows = a.0.0; columns = columns.0 }) columns.1) lines a.2 in
@@ -83,13 +83,13 @@ four_words a b c d words x y z rest e f g h = rw (e, f, g, h) refl
 -- a text that is read is a submatrix text
 submatrix_found : (height width : ℕ) (text : Text) (lines : LineSet) → named_lines height width text ≡ Ok lines → IsSubmatrix height width (texts_of text.words) lines
 submatrix_found height width text lines h =
-    let a = bind_ok (field Short (own_size height) text) (λ (same : ℕ × Text). field Short (own_size width) same.1 >>= λ same. counts_behind height width same.1) lines h in
-    let b = bind_ok (field Short (own_size width) a.0.1) (λ (same : ℕ × Text). counts_behind height width same.1) lines a.2 in
-    let d = bind_ok (field Short (limited height RowOutOfRange) b.0.1) (λ (p : ℕ × Text). field Short (limited width ColumnOutOfRange) p.1 >>= λ q. lines_behind height width p.0 q.0 q.1) lines b.2 in
-    let e = bind_ok (field Short (limited width ColumnOutOfRange) d.0.1) (λ (q : ℕ × Text). lines_behind height width d.0.0 q.0 q.1) lines d.2 in
+    let a = bind_ok (field Short (own_size height) text) (λ (same : ℕ × Text). field Short (own_size width) same.1 >>= λ same. counts_after height width same.1) lines h in
+    let b = bind_ok (field Short (own_size width) a.0.1) (λ (same : ℕ × Text). counts_after height width same.1) lines a.2 in
+    let d = bind_ok (field Short (limited height RowOutOfRange) b.0.1) (λ (p : ℕ × Text). field Short (limited width ColumnOutOfRange) p.1 >>= λ q. lines_after height width p.0 q.0 q.1) lines b.2 in
+    let e = bind_ok (field Short (limited width ColumnOutOfRange) d.0.1) (λ (q : ℕ × Text). lines_after height width d.0.0 q.0 q.1) lines d.2 in
     go a.0 b.0 d.0 e.0 a.1 b.1 d.1 e.1 e.2
   where
-    go : (a b d e : ℕ × Text) → field Short (own_size height) text ≡ Ok a → field Short (own_size width) a.1 ≡ Ok b → field Short (limited height RowOutOfRange) b.1 ≡ Ok d → field Short (limited width ColumnOutOfRange) d.1 ≡ Ok e → lines_behind height width d.0 e.0 e.1 ≡ Ok lines → IsSubmatrix height width (texts_of text.words) lines
+    go : (a b d e : ℕ × Text) → field Short (own_size height) text ≡ Ok a → field Short (own_size width) a.1 ≡ Ok b → field Short (limited height RowOutOfRange) b.1 ≡ Ok d → field Short (limited width ColumnOutOfRange) d.1 ≡ Ok e → lines_after height width d.0 e.0 e.1 ≡ Ok lines → IsSubmatrix height width (texts_of text.words) lines
     go a b d e ha hb hd he h =
         let same_height = own_size_found height text a.0 a.1 ha in
         let same_width = own_size_found width a.1 b.0 b.1 hb in
@@ -120,7 +120,7 @@ own_size_again : (size : ℕ) (word : List ℕ) → count_in word ≡ Ok size �
 own_size_again size word h = let same : eqb size size ≡ true = grind (arith, nat_tests) in rw (h, same) refl
 
 lists_again : (height width size : ℕ) (words : List (ℕ × List ℕ)) (lines : LineSet) → AreLists height width (length lines.rows) (length lines.columns) (texts_of words) lines
-    → lines_behind height width (length lines.rows) (length lines.columns) (record { size = size; words = words }) ≡ Ok lines
+    → lines_after height width (length lines.rows) (length lines.columns) (record { size = size; words = words }) ≡ Ok lines
 lists_again height width size words lines are =
     let s = split_texts words are.row_words are.column_words are.words_are in
     let rows : increasing_lines height RowOutOfRange (length lines.rows) (record { size = size; words = words }) ≡ Ok (lines.rows, record { size = size; words = s.second }) =

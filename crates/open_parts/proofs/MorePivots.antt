@@ -16,9 +16,9 @@ use Rattle.tree_type.specs.Places.{Due, These, Place, due_child, lines_of_each, 
 use Rattle.tree_type.specs.Soundness.{part}
 use Rattle.tree_type.specs.Verdicts.{Verdict, Yes, No, Open, first_in, first_among, fault_at, open_at, verdict_from, verdict_of}
 use Rattle.tree_type.proofs.PlacedLines.{lines_within}
-use Rattle.tree_laws.specs.Laws.{Tells}
+use Rattle.tree_laws.specs.Laws.{VerdictMeans}
 use Rattle.tree_laws.proofs.FreeSets.{IsFreeOn}
-use Rattle.tree_laws.proofs.SoundTrees.{free_tree, none_or, tells}
+use Rattle.tree_laws.proofs.SoundTrees.{free_tree, none_or, verdict_means}
 use Rattle.decomp_tree.specs.PlainTrees.{plain_finding, plain_tree, plain_trees}
 use Rattle.decomp_tree.specs.Shapes.{IsShapedAt, IsShapeOn}
 use Rattle.decomp_tree.specs.Refined.{is_undecided, Refines, AllRefine}
@@ -301,8 +301,8 @@ module _ (limit pivots more : ℕ) (few : limit ≤ 24) (m : Matrix) (is : IsMat
   -- a fault is found in the rests of an undecided node
   found_answered : (left fault : LineSet) → verdict_of d.drawn ≡ Open left → Refines (IsTriedLeaf limit m) d.drawn tree → verdict_of tree ≡ No fault → (w : Verdict) → verdict_of d'.drawn ≡ w → IsTriedIfOpen limit m d'.drawn w other → (some : LineSet) × (verdict_of other ≡ No some)
   found_answered left fault open' r says Yes e same =
-      let yes = subst (Tells m) (ap verdict_of same ∙ e) (tells m is (height m) m.width other (tried_shapes_are_trees limit more m other is d') (tried_shapes_are_sound limit more m other few is d')) in
-      let refuted = subst (Tells m) says (tells m is (height m) m.width tree (tried_shapes_are_trees limit pivots m tree is d) (tried_shapes_are_sound limit pivots m tree few is d)) in
+      let yes = subst (VerdictMeans m) (ap verdict_of same ∙ e) (verdict_means m is (height m) m.width other (tried_shapes_are_trees limit more m other is d') (tried_shapes_are_sound limit more m other few is d')) in
+      let refuted = subst (VerdictMeans m) says (verdict_means m is (height m) m.width tree (tried_shapes_are_trees limit pivots m tree is d) (tried_shapes_are_sound limit pivots m tree few is d)) in
       absurd (refuted.not_unimodular yes.unimodular)
   found_answered left fault open' r says (No named) e same = (named, ap verdict_of same ∙ e)
   found_answered left fault open' r says (Open left') e r' =

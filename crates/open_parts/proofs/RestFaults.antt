@@ -11,8 +11,8 @@ use Rattle.tree_type.specs.Places.{AllLines}
 use Rattle.tree_type.specs.Soundness.{part}
 use Rattle.tree_type.specs.Verdicts.{No, verdict_of}
 use Rattle.tree_type.proofs.PlacedLines.{lines_within, part_is}
-use Rattle.tree_laws.specs.Laws.{Tells}
-use Rattle.tree_laws.proofs.SoundTrees.{tells}
+use Rattle.tree_laws.specs.Laws.{VerdictMeans}
+use Rattle.tree_laws.proofs.SoundTrees.{verdict_means}
 use Rattle.decomp_tree.specs.Seen.{IsPlacedSet}
 use Rattle.decomp_tree.specs.Shapes.{IsShape, set_in}
 use Rattle.decomp_tree.proofs.FaultLines.{fault_in, fault_of_verdict}
@@ -49,5 +49,5 @@ module _ (limit : ℕ) (m : Matrix) (lines : LineSet) (is : IsMatrix m) (are : A
   pub fault_violates : limit ≤ 24 → IsViolator (entry m) (set_in lines fault).rows (set_in lines fault).columns
   fault_violates few =
       let sound = shapes_are_sound limit few (part m lines) is_part tree shape in
-      let told = subst (Tells (part m lines)) says (tells (part m lines) is_part (height (part m lines)) (part m lines).width tree is_tree sound) in
+      let told = subst (VerdictMeans (part m lines)) says (verdict_means (part m lines) is_part (height (part m lines)) (part m lines).width tree is_tree sound) in
       violator_in m lines fault.rows fault.columns (all_by_places (λ r. r < length lines.rows) fault.rows 0 fault_placed.rows) (all_by_places (λ c. c < length lines.columns) fault.columns 0 fault_placed.columns) told.violator

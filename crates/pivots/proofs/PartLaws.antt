@@ -43,7 +43,7 @@ chosen : (P : ℕ → Type 0) (x : ℕ) (b there : Bool) (xs fewer : List ℕ) �
 chosen P x true there xs fewer p join all = (x ∷ fewer, one_more_first x fewer, (p, all_fewer P there x fewer xs join all))
 chosen P x false there xs fewer p join all = (fewer, refl, all_fewer P there x fewer xs join all)
 
-parity : (z : ℤ) → (b : Bool) × HasParity b z
+pub parity : (z : ℤ) → (b : Bool) × HasParity b z
 parity z = elim (even_or_odd z) [ inl e ↦ (false, e) | inr e ↦ (true, e) ]
 
 -- equal entries have the same violators
@@ -172,7 +172,7 @@ replaced_is_small m lines place small ternary i j = go (listed lines.rows lines.
     go true false e f = small i j
     go false t e f = small i j
 
-rectangular_filled : (h w : ℕ) (entries : ℕ → ℕ → ℤ) → IsRectangular (filled h w entries)
+pub rectangular_filled : (h w : ℕ) (entries : ℕ → ℕ → ℤ) → IsRectangular (filled h w entries)
 rectangular_filled h w entries i inside =
     ap length (get_or-map (λ row. map (entries row) (first_lines w)) (first_lines h) i 0 [] (let e = length-range_with_len 0 h in let high = height-filled h w entries in omega arith))
     ∙ length-map (first_lines w) (entries (get_or (first_lines h) i 0)) ∙ length-range_with_len 0 w

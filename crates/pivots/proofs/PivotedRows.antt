@@ -172,7 +172,7 @@ first_two_of m lines place rows columns k column e f first =
 
 -- ---- two lines
 
-two_among : (lines : List ℕ) (one other : ℕ) → Contains lines one → Contains lines other → AllByRecursion (Contains lines) (two_lines one other)
+pub two_among : (lines : List ℕ) (one other : ℕ) → Contains lines one → Contains lines other → AllByRecursion (Contains lines) (two_lines one other)
 two_among lines one other there there' = elim (cases_lt one other) [
   | inl lt ↦ ((let e : one ≡ min one other = omega arith in subst (Contains lines) e there), ((let e : other ≡ max one other = omega arith in subst (Contains lines) e there'), tt))
   | inr ge ↦ ((let e : other ≡ min one other = omega arith in subst (Contains lines) e there'), ((let e : one ≡ max one other = omega arith in subst (Contains lines) e there), tt))

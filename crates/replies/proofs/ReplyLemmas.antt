@@ -25,6 +25,7 @@ use Rattle.cmr_front.specs.Status.{answer_status, failure_status}
 use Rattle.cmr_front.specs.Tool.{Tool}
 use Rattle.cmr_front.specs.Unread.{between}
 use Rattle.replies.specs.RequestReplies.{IsReply, IsReplyTo, Lacks, MeansOrdered, memory_reply, named, refused, reply_of, reported, unread}
+use Rattle.cmr_base.proofs.Options.{some_same}
 
 -- ---- values
 
@@ -51,15 +52,6 @@ same_file n n' b b' x y = ap (λ (it : List ℕ). file it b) x ∙ ap (λ (it : 
     file : List ℕ → List ℕ → NamedBytes
     file n b = record { name = n; bytes = b }
 
-head_is : {A : Type 0} (x y : A) (xs ys : List A) → x ∷ xs ≡ y ∷ ys → x ≡ y
-head_is x y xs ys e = cc
-
-tail_is : {A : Type 0} (x y : A) (xs ys : List A) → x ∷ xs ≡ y ∷ ys → xs ≡ ys
-tail_is x y xs ys e = cc
-
-some_is : {A : Type 0} (x y : A) → Some x ≡ Some y → x ≡ y
-some_is x y e = cc
-
 false_is_true : false ≡ true → ⊥
 false_is_true e = absurd (cc)
 
@@ -82,8 +74,7 @@ same_files [] [] names bytes = refl
 same_files [] (o ∷ os) names bytes = absurd (cc)
 same_files (f ∷ fs) [] names bytes = absurd (cc)
 same_files (f ∷ fs) (o ∷ os) names bytes =
-    ap (λ (x : NamedBytes). x ∷ fs) (same_file f.name o.name f.bytes o.bytes (head_is f.name o.name _ _ names) (head_is f.bytes o.bytes _ _ bytes))
-    ∙ ap (λ (xs : List NamedBytes). named o ∷ xs) (same_files fs os (tail_is f.name o.name _ _ names) (tail_is f.bytes o.bytes _ _ bytes))
+    ap (λ (x : NamedBytes). x ∷ fs) (same_file f.name o.name f.bytes o.bytes (cc) (cc)) ∙ ap (λ (xs : List NamedBytes). named o ∷ xs) (same_files fs os (cc) (cc))
 
 -- the written files are those of the writes
 files_are : (files : List NamedBytes) (others : List File) (writes : Log) → writes ≡ log_of files → writes ≡ after_files no_log others → files ≡ map named others
@@ -128,7 +119,7 @@ missing_at : (held : Names) (files : List InputFile) (place : ℕ) (name : List 
 missing_at held [] zero name bytes at e gone = absurd (cc)
 missing_at held [] (suc place) name bytes at e gone = absurd (cc)
 missing_at held (f ∷ files) zero name bytes at e gone =
-    let same : f.name ≡ name = some_is f.name name at in
+    let same : f.name ≡ name = some_same f.name name at in
     not_there_is (most_bytes f.kind) (held f.name) f.name (given held files) (subst (λ (n : List ℕ). is_none (held n) ≡ true) (sym same) gone) ∙ ap not_there same
 missing_at held (f ∷ files) (suc place) name bytes at e gone =
     let more = rest_texts f.name (reading held f) (given held (take place files)) bytes e in
@@ -139,7 +130,7 @@ missing_at held (f ∷ files) (suc place) name bytes at e gone =
 last_lacks : (held : Names) (names : List (List ℕ)) (place : ℕ) (name : List ℕ) → slice_get names place ≡ Some name → lacks_last held (take (suc place) names) ≡ is_none (held name)
 last_lacks held [] zero name at = absurd (cc)
 last_lacks held [] (suc place) name at = absurd (cc)
-last_lacks held (n ∷ names) zero name at = ap (λ (it : List ℕ). is_none (held it)) (some_is n name at)
+last_lacks held (n ∷ names) zero name at = ap (λ (it : List ℕ). is_none (held it)) (some_same n name at)
 last_lacks held (n ∷ []) (suc zero) name at = absurd (cc)
 last_lacks held (n ∷ []) (suc (suc place)) name at = absurd (cc)
 last_lacks held (n ∷ m ∷ names) (suc place) name at = last_lacks held (m ∷ names) place name at

@@ -102,12 +102,12 @@ module _ (m : Matrix) where
 
 -- ---- the tool
 
-module _ (o : BalancedOrder) (low : o.lines ≤ MAX_LINES) where
-  balanced_if_decomposed : (m : Matrix) → IsMatrix m → IsDecomposed o.lines o.pivots m → IsBalanced m
+module _ (o : BalancedOrder) (low : o.budget ≤ MAX_LINES) where
+  balanced_if_decomposed : (m : Matrix) → IsMatrix m → IsDecomposed o.budget o.pivots m → IsBalanced m
   balanced_if_decomposed m is d =
       let node = node_of_tree (height m) m.width d.tree d.is_tree in
       let sized : SizedTree = record { rows = height m; columns = m.width; root = node.0 } in
-      let sound = pivoted_shapes_are_sound o.lines o.pivots m d.tree low is d.shape in
+      let sound = pivoted_shapes_are_sound o.budget o.pivots m d.tree low is d.shape in
       balanced_by_tree m is sized (subst (IsTreeFor (height m) m.width) (sym node.1) d.is_tree) (subst (IsSoundTree m (height m) m.width) (sym node.1) sound)
       (subst (λ tree. verdict_of tree ≡ verdicts.Yes) (sym node.1) d.verdict)
 
@@ -118,9 +118,9 @@ module _ (o : BalancedOrder) (low : o.lines ≤ MAX_LINES) where
   ])
     where
       without_fault : (m : Matrix) → IsMatrix m → HasNoCycleFault (entry m) → HasReport (BalancedDecides o m)
-      without_fault m is no_fault none = one_of_two (IsDecomposed o.lines o.pivots m) (λ either. elim either [
+      without_fault m is no_fault none = one_of_two (IsDecomposed o.budget o.pivots m) (λ either. elim either [
         | inl d ↦ none (yes_report balanced_label, decomposed no_fault d (balanced_if_decomposed m is d) refl)
-        | inr not ↦ searched_exists m o.lines (λ found. none (search_report o m found.0, searched (record { no_fault = no_fault; undecomposed = not }) found.0 found.1 refl))
+        | inr not ↦ searched_exists m o.budget (λ found. none (search_report o m found.0, searched (record { no_fault = no_fault; undecomposed = not }) found.0 found.1 refl))
       ])
 
   pub balanced_has_report : (texts : List (List ℕ)) → length texts ≡ 1 → HasReport ((balanced_tool o).Reports texts)

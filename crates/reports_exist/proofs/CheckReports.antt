@@ -22,7 +22,7 @@ use Rattle.tree_type.specs.Verdicts.{verdict_of}
 use Rattle.tree_type.specs.declared.refusal.Rule.TheVariants.{NotViolator}
 use Rattle.tree_text.specs.TreeReading.{PlainTree, tree}
 use Rattle.tree_text.proofs.ReadTrees.{read_for}
-use Rattle.tree_laws.proofs.SoundTrees.{tells}
+use Rattle.tree_laws.proofs.SoundTrees.{verdict_means}
 use Rattle.cmr_front.specs.declared.matrix_file.MatrixForm.{MatrixForm}
 use Rattle.cmr_front.specs.declared.outcome.FaultKind.TheVariants as faults
 use Rattle.cmr_front.specs.MatrixText.{matrix_in}
@@ -103,7 +103,7 @@ module _ (either : SoundOrBroken) where
   tree_has_report m is bytes t e none =
       let fits = read_for (text_of bytes) t e in
       sound_or_refused either m t fits (λ answer. elim answer [
-        | inl sound ↦ none (accepted_report m (verdict_of t.root), accepted sound (tells m is t.rows t.columns t.root fits sound) refl)
+        | inl sound ↦ none (accepted_report m (verdict_of t.root), accepted sound (verdict_means m is t.rows t.columns t.root fits sound) refl)
         | inr broken ↦ none (refused_report broken.0 broken.1, refused broken.0 broken.1 broken.2 refl)
       ])
 

@@ -11,15 +11,15 @@ use Rattle.cmr_reach.specs.declared.tools.compose_tool.Obstacle.TheVariants.{Bad
 use Rattle.cmr_reach.specs.Compose.{ComposeDecides, ComposeOrder, ComposeReports, HaveFewColumns, HaveFewRows, composed, composed_report, compose_tool, obstacle_report, refused}
 use Rattle.decompositions_exist.proofs.NotExcluded.{one_of_two}
 use Rattle.reports_exist.proofs.TextReports.{HasReport, on_pair, on_text}
-use Rattle.reports_exist.proofs.FilledShapes.{filled_rectangular}
+use Rattle.pivots.proofs.PartLaws.{rectangular_filled}
 
 sum_rectangular : (kind : SumKind) (first second : Matrix) → IsRectangular (sum_of kind first second)
-sum_rectangular One first second = filled_rectangular _ _ _
-sum_rectangular Two first second = filled_rectangular _ _ _
-sum_rectangular Delta first second = filled_rectangular _ _ _
-sum_rectangular YForm first second = filled_rectangular _ _ _
-sum_rectangular Mixed first second = filled_rectangular _ _ _
-sum_rectangular Concentrated first second = filled_rectangular _ _ _
+sum_rectangular One first second = rectangular_filled _ _ _
+sum_rectangular Two first second = rectangular_filled _ _ _
+sum_rectangular Delta first second = rectangular_filled _ _ _
+sum_rectangular YForm first second = rectangular_filled _ _ _
+sum_rectangular Mixed first second = rectangular_filled _ _ _
+sum_rectangular Concentrated first second = rectangular_filled _ _ _
 
 sum_is_matrix : (kind : SumKind) (first second : Matrix) → HaveFewRows kind first second → HaveFewColumns kind first second → HaveSum kind first second → HasTernaryEntries (sum_of kind first second) → IsMatrix (sum_of kind first second)
 sum_is_matrix kind first second rows columns have small =

@@ -1,5 +1,5 @@
 -- `generate` has a report.
-use Rattle.std.proofs.Common.{◌≡◌, ◌≤◌, ◌+◌, ◌-◌, ℕ, zero, suc, ℤ, pos, negsuc, ◌*ℤ◌, Bool, true, false, cond, nat_lt, List, [], ◌∷◌, get_or, refl, sym, subst, arith}
+use Rattle.std.proofs.Common.{◌≡◌, ◌≤◌, ◌+◌, ◌-◌, ℕ, zero, suc, ℤ, pos, ◌*ℤ◌, Bool, true, false, cond, nat_lt, List, [], ◌∷◌, get_or, refl, sym, subst, arith}
 use Rattle.std.specs.List.{AllByRecursion}
 use Rattle.cmr_base.specs.Draws.{draws}
 use Rattle.cmr_base.specs.Matrix.{HasTernaryEntries, IsEntry, IsMatrix, IsRectangular, Matrix, entry, height}
@@ -8,35 +8,25 @@ use Rattle.cmr_base.specs.Separations.{zeros}
 use Rattle.cmr_base.proofs.FilledCells.{filled_small}
 use Rattle.cmr_base.proofs.Integers.{sums}
 use Rattle.cmr_base.proofs.Lists.{all_at}
-use Rattle.cmr_base.proofs.SmallEntries.{product_is_entry, zero_is_entry}
+use Rattle.cmr_base.proofs.SmallEntries.{entry_at, product_is_entry, zero_is_entry}
 use Rattle.generate.specs.declared.making.MakeKind.{MakeKind}
 use Rattle.generate.specs.declared.making.MakeKind.TheVariants.{Network, TwoSum}
 use Rattle.generate.specs.Generated.{circulant, circulant_sum, generated_network, generated_sum, IsGenerated}
 use Rattle.generate.proofs.JoinedRows.{IsRow, all_negated_rows, length-negated_rows, matrix_rows, sum_height, sum_width}
 use Rattle.generate.proofs.RandomTrees.{is_network}
+use Rattle.generate.proofs.SumRows.{circulant_rows}
 use Rattle.cmr_unimodular.specs.Generate.{GenerateOrder, IsInRange, IsMade, generate_report, generate_tool, generate_verdict}
 use Rattle.cmr_unimodular.proofs.GenerateAnswers.{size_low, sum_size_low}
-use Rattle.reports_exist.proofs.FilledShapes.{filled_rectangular}
 use Rattle.reports_exist.proofs.NetworkMatrices.{network_height, network_is_matrix, network_matrix, network_reproduces, network_width}
 use Rattle.reports_exist.proofs.TextReports.{HasReport}
 use Rattle.reports_exist.proofs.UnimodularReports.{verdict_has_report}
+use Rattle.pivots.proofs.PartLaws.{rectangular_filled}
 
 -- ---- matrices of rows
 
-is_one : IsEntry (pos 1)
-is_one = record { low = omega (arith, sums); high = omega (arith, sums) }
-
-is_minus : IsEntry (negsuc 0)
-is_minus = record { low = omega (arith, sums); high = omega (arith, sums) }
-
-cells_small : (row : List ℤ) → AllByRecursion IsEntry row → (column : ℕ) → IsEntry (get_or row column (pos 0))
-cells_small [] all column = zero_is_entry
-cells_small (x ∷ row) all zero = all.0
-cells_small (x ∷ row) all (suc column) = cells_small row all.1 column
-
 rows_small : (width : ℕ) (rows : List (List ℤ)) → AllByRecursion (IsRow width) rows → (row column : ℕ) → IsEntry (get_or (get_or rows row []) column (pos 0))
 rows_small width [] all row column = zero_is_entry
-rows_small width (first ∷ rows) all zero column = cells_small first all.0.small column
+rows_small width (first ∷ rows) all zero column = entry_at first all.0.small column
 rows_small width (first ∷ rows) all (suc row) column = rows_small width rows all.1 row column
 
 matrix_of_rows : (m : Matrix) → AllByRecursion (IsRow m.width) m.rows → height m ≤ 1000 → m.width ≤ 1000 → IsMatrix m
@@ -48,18 +38,6 @@ matrix_of_rows m all rows columns = record {
 }
 
 -- ---- sums of circulants
-
-circulant_rows : AllByRecursion (IsRow 5) circulant.rows
-circulant_rows = (
-  record { long = refl; small = (is_one, (is_minus, (zero_is_entry, (zero_is_entry, (is_minus, tt))))) },
-  (
-    record { long = refl; small = (is_minus, (is_one, (is_minus, (zero_is_entry, (zero_is_entry, tt))))) },
-    (
-      record { long = refl; small = (zero_is_entry, (is_minus, (is_one, (is_minus, (zero_is_entry, tt))))) },
-      (record { long = refl; small = (zero_is_entry, (zero_is_entry, (is_minus, (is_one, (is_minus, tt))))) }, (record { long = refl; small = (is_minus, (zero_is_entry, (zero_is_entry, (is_minus, (is_one, tt))))) }, tt)),
-    ),
-  ),
-)
 
 circulant_is_matrix : IsMatrix circulant
 circulant_is_matrix = matrix_of_rows circulant circulant_rows (omega arith) (omega arith)
@@ -87,7 +65,7 @@ sum_small (suc (suc k)) = two_sum_small (circulant_sum (suc k)) circulant (sum_s
 sum_rectangular : (k : ℕ) → IsRectangular (circulant_sum k)
 sum_rectangular zero = circulant_is_matrix.rectangular
 sum_rectangular (suc zero) = circulant_is_matrix.rectangular
-sum_rectangular (suc (suc k)) = filled_rectangular _ _ _
+sum_rectangular (suc (suc k)) = rectangular_filled _ _ _
 
 sum_is_matrix : (k : ℕ) → 1 ≤ k → k ≤ 249 → IsMatrix (circulant_sum k)
 sum_is_matrix k some few =
@@ -127,5 +105,5 @@ module _ (o : GenerateOrder) (range : IsInRange o) where
   pub generate_has_report : (texts : List (List ℕ)) → HasReport ((generate_tool o).Reports texts)
   generate_has_report texts none =
       let m = made o.what refl in
-      verdict_has_report (generate_verdict o) m.0 range.lines m.1.is_matrix (λ told.
-      none (generate_report o m.0 told.0, record { made = m.0; is_made = m.1; told = told.0; verdict = told.1; report_is = refl }))
+      verdict_has_report (generate_verdict o) m.0 range.budget m.1.is_matrix (λ tested.
+      none (generate_report o m.0 tested.0, record { made = m.0; is_made = m.1; tested = tested.0; verdict = tested.1; report_is = refl }))

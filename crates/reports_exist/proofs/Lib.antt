@@ -6,7 +6,6 @@ pub mod MinimalReports
 pub mod SeriesParallelReports
 pub mod PathReports
 pub mod CamionReports
-pub mod FilledShapes
 pub mod ComposeReports
 pub mod SignedParts
 pub mod PartsReports

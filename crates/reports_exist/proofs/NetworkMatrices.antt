@@ -1,5 +1,5 @@
 -- A network has a matrix.
-use Rattle.std.proofs.Common.{◌≡◌, ◌≤◌, ◌<◌, ◌∙◌, ◌⊎◌, inl, inr, ℕ, ℤ, pos, negsuc, Bool, true, false, cond, List, [], ◌∷◌, nat_eq, refl, ap, sym, subst, arith}
+use Rattle.std.proofs.Common.{◌≡◌, ◌≤◌, ◌<◌, ◌∙◌, ◌⊎◌, inl, inr, ℕ, ℤ, pos, Bool, true, false, cond, List, [], ◌∷◌, refl, ap, sym, subst, arith}
 use Rattle.std.proofs.lemmas.Bool.{cases_lt}
 use Rattle.cmr_base.specs.declared.network.Network.{Network as Net}
 use Rattle.cmr_base.specs.declared.network.Pair.{Pair}
@@ -9,10 +9,10 @@ use Rattle.cmr_base.specs.Members.{IsDistinct, IsIn}
 use Rattle.cmr_base.specs.Trees.{IsDirectedPathOf, IsNetworkOf, IsWalk, Realises, Reproduces, WalkStep, arcs_of, direction, from, head, tail, to}
 use Rattle.cmr_base.proofs.FilledCells.{filled_small}
 use Rattle.cmr_base.proofs.FilledMatrices.{entry-filled, height-filled}
-use Rattle.cmr_base.proofs.Integers.{sums}
 use Rattle.cmr_base.proofs.RowLists.{in_or_not}
 use Rattle.cmr_base.proofs.SmallEntries.{zero_is_entry}
-use Rattle.reports_exist.proofs.FilledShapes.{filled_rectangular}
+use Rattle.cmr_base.proofs.ColumnSteps.{direction_is_small}
+use Rattle.pivots.proofs.PartLaws.{rectangular_filled}
 
 -- ---- walks without a repeated arc
 
@@ -67,18 +67,6 @@ module _ (arcs : List Pair) where
 
 -- ---- the matrix
 
-direction_is_entry : (steps : List WalkStep) (row : ℕ) → IsEntry (direction steps row)
-direction_is_entry [] row = zero_is_entry
-direction_is_entry (step ∷ steps) row = go (nat_eq row step.arc) step.forwards (direction_is_entry steps row)
-  where
-    sign : (b : Bool) → IsEntry (cond b (pos 1) (negsuc 0))
-    sign true = record { low = omega (arith, sums); high = omega (arith, sums) }
-    sign false = record { low = omega (arith, sums); high = omega (arith, sums) }
-
-    go : (b c : Bool) → IsEntry (direction steps row) → IsEntry (cond b (cond c (pos 1) (negsuc 0)) (direction steps row))
-    go true c later = sign c
-    go false c later = later
-
 module _ (net : Net) (m n : ℕ) (is : IsNetworkOf net m n) where
   column_path : (column : ℕ) → column < n → IsPath net.arcs (tail net.walks column) (head net.walks column)
   column_path column l =
@@ -97,7 +85,7 @@ module _ (net : Net) (m n : ℕ) (is : IsNetworkOf net m n) where
   entries_small row column = go (cases_lt column n)
     where
       go : (c : (column < n) ⊎ (n ≤ column)) → IsEntry (elim c as (λ _. ℤ) [ inl l ↦ direction (column_path column l).steps row | inr l ↦ pos 0 ])
-      go (inl l) = direction_is_entry (column_path column l).steps row
+      go (inl l) = direction_is_small (column_path column l).steps row
       go (inr l) = zero_is_entry
 
   -- the entries of a column are the directions of a path
@@ -127,7 +115,7 @@ module _ (net : Net) (m n : ℕ) (is : IsNetworkOf net m n) where
   pub network_is_matrix : m ≤ 1000 → n ≤ 1000 → IsMatrix network_matrix
   unfolding network_matrix
   network_is_matrix rows columns = record {
-    rectangular = filled_rectangular m n entries;
+    rectangular = rectangular_filled m n entries;
     small = filled_small m n entries entries_small;
     height_in = subst (λ k. k ≤ 1000) (sym (height-filled m n entries)) rows;
     width_in = columns;

@@ -27,6 +27,6 @@ order_has_report either (check o) bytes range count = check_has_report either o 
 order_has_report either (upgrade o) bytes range count = upgrade_has_report o bytes count
 order_has_report either (camion o) bytes range count = camion_has_report o bytes count
 order_has_report either (sign o) bytes range count = sign_has_report o bytes count
-order_has_report either (balanced o) bytes range count = balanced_has_report o range.lines bytes count
+order_has_report either (balanced o) bytes range count = balanced_has_report o range.budget bytes count
 order_has_report either (parts o) bytes range count = parts_has_report either o bytes count
 order_has_report either (compose o) bytes range count = compose_has_report o bytes count

@@ -1,6 +1,5 @@
 -- `graphic` and `network` have a report on each matrix text.
-use Rattle.std.proofs.Common.{◌≡◌, inl, inr, ℕ, Bool, true, false, List, Option, Some, None, length, option_map, refl, sym, subst}
-use Rattle.cmr_base.specs.declared.line_set.LineSet.{LineSet}
+use Rattle.std.proofs.Common.{◌≡◌, inl, inr, ℕ, Bool, true, false, List, length, option_map, refl, sym, subst}
 use Rattle.cmr_base.specs.declared.network.Network.{Network as Net}
 use Rattle.cmr_base.specs.GreedySets.{IsGreedySet, IsHereditary, IsMinimalWithout}
 use Rattle.cmr_base.specs.Matrix.{Matrix, IsMatrix}
@@ -15,6 +14,7 @@ use Rattle.cmr_classes.specs.declared.tools.graphic_network.TestedProperty.{Test
 use Rattle.cmr_classes.specs.declared.tools.graphic_network.TestedProperty.TheVariants.{Graphic, Network}
 use Rattle.cmr_classes.specs.GraphicNetwork.{Has, IsTestable, Shows, TestDecides, TestOrder, is_binary, path_tool, test_no, test_source, test_yes, tested_lines, tested_matrix}
 use Rattle.cmr_classes.specs.GraphicNetwork as decides
+use Rattle.cmr_classes.proofs.AlikeNetworks.{lines_back}
 use Rattle.decompositions_exist.proofs.NotExcluded.{one_of_two}
 use Rattle.reports_exist.proofs.MinimalReports.{asked_exists}
 use Rattle.reports_exist.proofs.TextReports.{HasReport, on_matrix}
@@ -31,13 +31,6 @@ tested_is_matrix : (transposed : Bool) (m : Matrix) → IsMatrix m → IsMatrix 
 tested_is_matrix true m is = is_matrix-transposed m is
 tested_is_matrix false m is = is
 
--- the lines of the tested matrix are lines of the given matrix, and the other way round
-option_again : (b : Bool) (found : Option LineSet) → option_map (tested_lines b) (option_map (tested_lines b) found) ≡ found
-option_again true None = refl
-option_again false None = refl
-option_again true (Some lines) = refl
-option_again false (Some lines) = refl
-
 -- a network that shows the property
 shown : (p : TestedProperty) (m : Matrix) → Has p m → (net : Net) × Shows p net m
 shown Graphic m has = has.1
@@ -50,7 +43,7 @@ module _ (p : TestedProperty) (o : TestOrder) where
     | inr lacks ↦
         asked_exists (Has p) (tested_matrix o.transposed m) (minimal p (tested_matrix o.transposed m) (tested_is_matrix o.transposed m is) lacks) o.minimal (λ found.
         let own = option_map (tested_lines o.transposed) found.0 in
-        let asked = subst (IsMinimalAsked (Has p) (tested_matrix o.transposed m) o.minimal) (sym (option_again o.transposed found.0)) found.1 in
+        let asked = subst (IsMinimalAsked (Has p) (tested_matrix o.transposed m) o.minimal) (sym (lines_back o.transposed found.0)) found.1 in
         none (test_no p o m own, decides.no own (record { lacks = lacks; asked = asked }) refl))
   ])
 

@@ -37,12 +37,7 @@ use Rattle.sign_tool.proofs.StepRows.{in_left, in_rows}
 use Rattle.decompositions_exist.proofs.LeastKeys.{IsFirstBy, IsLeast, first_key, least_number}
 use Rattle.decompositions_exist.proofs.NotExcluded.{NotExcluded, one_of_two}
 use Rattle.decompositions_exist.proofs.PivotsExist.{entry_unless}
-
-parity_of : (z : ℤ) → (b : Bool) × HasParity b z
-parity_of z = elim (even_or_odd z) [
-  | inl even ↦ (false, even)
-  | inr odd ↦ (true, odd)
-]
+use Rattle.pivots.proofs.PartLaws.{parity as parity_of}
 
 -- rows with entries -1, 0 and 1
 abbrev pub AreSmall : Matrix → List ℕ → Type 0

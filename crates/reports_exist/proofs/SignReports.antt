@@ -1,12 +1,11 @@
 -- `sign` has a report on each matrix and each set of its rows.
-use Rattle.std.proofs.Common.{◌≡◌, ◌*ℤ◌, ◌+ℤ◌, ℕ, suc, ℤ, pos, Bool, true, false, ◌∙◌, List, [], ◌∷◌, Contains, Ok, length, map, get_or, refl, ap, subst, arith}
+use Rattle.std.proofs.Common.{◌≡◌, ◌*ℤ◌, ◌+ℤ◌, ℕ, suc, ℤ, pos, Bool, true, false, ◌∙◌, List, ◌∷◌, Contains, Ok, length, map, get_or, refl, subst, arith}
 use Rattle.std.proofs.lemmas.List.{length-map}
 use Rattle.std.proofs.lemmas.List.Elements.{All-from_recursion}
 use Rattle.cmr_base.specs.declared.line_set.LineSet.{LineSet}
 use Rattle.cmr_base.specs.LineSets.{IsRowSet}
-use Rattle.cmr_base.specs.Matrix.{IsEntry, IsMatrix, Matrix, entry, height}
-use Rattle.cmr_base.specs.Signing.{IsSign, IsSigning, signed_sum}
-use Rattle.cmr_base.specs.Sums.{sum_over}
+use Rattle.cmr_base.specs.Matrix.{IsEntry, IsMatrix, Matrix, height}
+use Rattle.cmr_base.specs.Signing.{IsSign, IsSigning}
 use Rattle.cmr_base.proofs.IncreasingLists.{increasing_column_set, increasing_row_set, row_set_increases}
 use Rattle.cmr_base.proofs.Lists.{all-map}
 use Rattle.cmr_base.proofs.Members.{increasing_are_distinct}
@@ -15,6 +14,7 @@ use Rattle.text_fields.specs.TextWords.{text_of}
 use Rattle.ghouila.specs.Answer.{IsViolatorAmong}
 use Rattle.ghouila.specs.Found.{MarksViolator, SignsRows, marked}
 use Rattle.ghouila.proofs.Marks.{all_marked, marked_increases}
+use Rattle.ghouila.proofs.NamedRows.{signed_sum-map}
 use Rattle.sign_tool.specs.declared.signing.SetSigning.TheVariants.{Signed, Violated}
 use Rattle.sign_tool.proofs.StepRows.{names_each_once}
 use Rattle.cmr_front.specs.declared.outcome.FaultKind.TheVariants as faults
@@ -26,16 +26,12 @@ use Rattle.cmr_reach.specs.Sign.{SignDecides, SignOrder, SignReports, sign_repor
 use Rattle.reports_exist.proofs.RunsExist.{Ends, ends_exist, signed, violated}
 use Rattle.reports_exist.proofs.TextReports.{HasReport, on_pair, on_text}
 
-sum_of_signs : (m : Matrix) (rows : List ℕ) (sign : ℕ → ℤ) (column : ℕ) → sum_over rows (λ row. sign row *ℤ entry m row column) ≡ signed_sum m rows (map sign rows) column
-sum_of_signs m [] sign column = refl
-sum_of_signs m (row ∷ rows) sign column = ap (λ z. sign row *ℤ entry m row column +ℤ z) (sum_of_signs m rows sign column)
-
 module _ (m : Matrix) (rows : List ℕ) (is : IsRowSet m rows) where
   signing : (signs sums : List ℤ) → SignsRows m rows signs sums → IsSigning m rows (map (λ row. get_or signs row (pos 0)) rows)
   signing signs sums s = record {
     one_each = length-map rows (λ row. get_or signs row (pos 0));
     each = all-map IsSign (λ row. get_or signs row (pos 0)) rows s.each;
-    sums = λ column l. subst IsEntry (s.sums_are column l ∙ sum_of_signs m rows (λ row. get_or signs row (pos 0)) column) (s.entries column l);
+    sums = λ column l. subst IsEntry (s.sums_are column l ∙ signed_sum-map m rows (λ row. get_or signs row (pos 0)) column) (s.entries column l);
   }
 
   violator : (row_marks column_marks odd : List Bool) → MarksViolator m rows row_marks column_marks odd → IsViolatorAmong m rows (marked row_marks) (marked column_marks)

@@ -10,7 +10,7 @@ use Rattle.open_parts.specs.TriedShapes.{IsTriedWith}
 use Rattle.open_parts.proofs.TriedRoots.{tried_shapes_are_sound, tried_shapes_are_trees}
 use Rattle.cmr_unimodular.specs.Tu.{TuOrder, tu_source, tu_tool, tu_verdict}
 use Rattle.cmr_unimodular.specs.Verdict.{Decides, IsDecomposition, VerdictOrder, verdict_report}
-use Rattle.cmr_unimodular.proofs.Told.{told}
+use Rattle.cmr_unimodular.proofs.RightVerdicts.{verdict_is_right}
 use Rattle.decompositions_exist.proofs.NodesExist.{node_of_tree}
 use Rattle.decompositions_exist.proofs.NotExcluded.{NotExcluded}
 use Rattle.decompositions_exist.proofs.TriedExist.{tried_with_exists}
@@ -32,9 +32,9 @@ decomposition_exists budget pivots m low is none = tried_with_exists budget m is
       },
     ))
 
-pub verdict_has_report : (o : VerdictOrder) (m : Matrix) → o.lines ≤ MAX_LINES → IsMatrix m → HasReport (Decides o m)
-verdict_has_report o m low is none = decomposition_exists o.lines o.pivots m low is (λ found.
-    none (verdict_report o m found.0, record { tree = found.0; decomposition = found.1; told = told o.lines o.pivots m is found.0 found.1; report_is = refl }))
+pub verdict_has_report : (o : VerdictOrder) (m : Matrix) → o.budget ≤ MAX_LINES → IsMatrix m → HasReport (Decides o m)
+verdict_has_report o m low is none = decomposition_exists o.budget o.pivots m low is (λ found.
+    none (verdict_report o m found.0, record { tree = found.0; decomposition = found.1; right = verdict_is_right o.budget o.pivots m is found.0 found.1; report_is = refl }))
 
-pub tu_has_report : (o : TuOrder) → o.lines ≤ MAX_LINES → (texts : List (List ℕ)) → length texts ≡ 1 → HasReport ((tu_tool o).Reports texts)
+pub tu_has_report : (o : TuOrder) → o.budget ≤ MAX_LINES → (texts : List (List ℕ)) → length texts ≡ 1 → HasReport ((tu_tool o).Reports texts)
 tu_has_report o low = on_matrix (tu_source o) (Decides (tu_verdict o)) (λ bytes m e. verdict_has_report (tu_verdict o) m low (read_is_matrix o.form false bytes m e))

@@ -1,5 +1,5 @@
 -- The turns of the loop, one after another.
-use Rattle.std.proofs.Common.{◌≡◌, ◌≤◌, ◌<◌, ◌++◌, ◌∙◌, ◌-◌, inl, inr, ℕ, zero, suc, IsTrue, List, [], ◌∷◌, drop, take, length, length-append, map, Result, Ok, Err, refl, sym, ap, subst, arith, append_assoc}
+use Rattle.std.proofs.Common.{◌≡◌, ◌≤◌, ◌<◌, ◌++◌, ◌∙◌, ◌-◌, ℕ, zero, suc, IsTrue, List, [], ◌∷◌, drop, take, length, length-append, map, Result, Ok, Err, refl, sym, ap, subst, arith, append_assoc}
 use Rattle.std.specs.List.{AllByRecursion}
 use Rattle.std.proofs.lemmas.List.{append-nil, map-append}
 use Rattle.std.proofs.Math.Seq.{drop-append_seam}
@@ -12,6 +12,7 @@ use Rattle.cmr_io.specs.Whole.{AppendsPrefix}
 use Rattle.cmr_io.specs.declared.device.Shelf as shelves
 use Rattle.cmr_io.specs.declared.device.Sink as sinks
 use Rattle.cmr_io.proofs.ReadLemmas.{more_and_more, more_of_none}
+use Rattle.cmr_io.proofs.CauseLemmas.{rose_later}
 use Rattle.netstrings.specs.Netstrings.{IsIncomplete, StartsWith, netstring, netstrings}
 use Rattle.frames.specs.NamedFiles.{NamedBytes}
 use Rattle.frames.specs.Replies.{ReplyValue, reply_text}
@@ -54,7 +55,7 @@ pub none_heard : (before now : Seen) (held : List ℕ) → now.reads ≡ before.
 none_heard before now held reads left failed moments h said taken faults tells reading writes = record {
   given = [];
   texts = ap (λ (r : Reads). r.texts) reads ∙ sym (more_of_none before.reads.texts);
-  told = λ told. sym left;
+  exposed = λ tells. sym left;
   says = (refl, failed);
   moments = moments;
   heard = h ∙ sym (append-nil before.heard);
@@ -129,7 +130,7 @@ pub record Serves (rule : Rule) (before now : Seen) (held : List ℕ) : Type 0 w
   pub taken : now.taken ≡ before.taken ++ replies exchanges
   pub heard_is : now.heard ≡ before.heard ++ (frames exchanges ++ held)
   pub said : now.said ≡ before.said ++ replies exchanges
-  pub told : IsTrue before.tells → before.left ≡ (frames exchanges ++ held) ++ now.left
+  pub exposed : IsTrue before.tells → before.left ≡ (frames exchanges ++ held) ++ now.left
   pub first : RepliesFirst rule before now
   pub ends : now.reads.ends ≡ before.reads.ends
   pub later : before.faults ≤ now.faults
@@ -146,7 +147,7 @@ starts rule before = record {
   taken = sym (append-nil before.taken);
   heard_is = sym (append-nil before.heard);
   said = sym (append-nil before.said);
-  told = λ told. refl;
+  exposed = λ tells. refl;
   first = record { later = []; moments = sym (append-nil before.moments); each = tt };
   ends = refl;
   later = omega arith;
@@ -164,7 +165,7 @@ ends_short rule before now held s = record {
   left = held;
   given = s.given;
   heard = s.heard_is;
-  told = s.told;
+  exposed = s.exposed;
   ended = memory s.taken;
   first = s.first;
   names = s.names;
@@ -184,7 +185,7 @@ reply_goes_on rule before mid now held rest after text s first says is =
     let one = says.0.0 in
     let here : StartsWith held one.text rest = subst (λ (t : List ℕ). StartsWith held t rest) (sym says.0.1) first in
     let on = frame_taken s.exchanges one held rest here in
-    let told : IsTrue before.tells → before.left ≡ (frames (s.exchanges ++ one ∷ []) ++ rest) ++ mid.left = λ tells. s.told tells ∙ ap (λ (xs : List ℕ). xs ++ mid.left) on in
+    let exposed : IsTrue before.tells → before.left ≡ (frames (s.exchanges ++ one ∷ []) ++ rest) ++ mid.left = λ tells. s.exposed tells ∙ ap (λ (xs : List ℕ). xs ++ mid.left) on in
     let next : Serves rule before (has_taken mid (mid.taken ++ reply_text one.reply) now.faults (mid.said ++ reply_text one.reply)) rest = record {
       exchanges = s.exchanges ++ one ∷ [];
       right = all-append (IsRight rule) s.exchanges (one ∷ []) s.right (says.0.2, tt);
@@ -192,7 +193,7 @@ reply_goes_on rule before mid now held rest after text s first says is =
       taken = reply_said before.taken mid.taken s.exchanges one s.taken;
       heard_is = s.heard_is ∙ ap (λ (xs : List ℕ). before.heard ++ xs) on;
       said = reply_said before.said mid.said s.exchanges one s.said;
-      told = told;
+      exposed = exposed;
       first = record { later = s.first.later; moments = s.first.moments; each = s.first.each };
       ends = s.ends;
       later = let a = s.later in let b = says.2 in omega arith;
@@ -210,16 +211,12 @@ same_served rule before mid now held ending s same ended = subst (λ (n : Seen).
   left = held;
   given = s.given;
   heard = s.heard_is;
-  told = s.told;
+  exposed = s.exposed;
   ended = ended;
   first = s.first;
   names = s.names;
   writes = s.writes;
 })
-
-rose_later : (first mid last : ℕ) → first ≤ mid → Rose mid last → Rose first last
-rose_later first mid last later (inl more) = inl (omega arith)
-rose_later first mid last later (inr full) = inr full
 
 reply_ends : (rule : Rule) (before mid now : Seen) (held rest text : List ℕ) (ending : Ending) → Serves rule before mid held → StartsWith held text rest → IsReplied rule text mid now (Err ending) → HasServed rule before now ending
 reply_ends rule before mid now held rest text endings.Done s first says = absurd says
@@ -235,7 +232,7 @@ reply_ends rule before mid now held rest text endings.Unwritten s first says =
       left = held;
       given = s.given;
       heard = s.heard_is;
-      told = s.told;
+      exposed = s.exposed;
       ended = unwritten one says.0.2 rest here prefix (rose_later before.faults mid.faults now.faults s.later says.3);
       first = record { later = s.first.later; moments = s.first.moments; each = s.first.each };
       names = s.names;
@@ -274,8 +271,8 @@ heard_on before mid now front held given first next =
     ∙ append_assoc before (front ++ held) given
     ∙ ap (λ (xs : List ℕ). before ++ xs) (append_assoc front held given)
 
-told_on : (front held given first next last : List ℕ) → first ≡ (front ++ held) ++ next → next ≡ given ++ last → first ≡ (front ++ (held ++ given)) ++ last
-told_on front held given first next last a b =
+left_on : (front held given first next last : List ℕ) → first ≡ (front ++ held) ++ next → next ≡ given ++ last → first ≡ (front ++ (held ++ given)) ++ last
+left_on front held given first next last a b =
     a
     ∙ ap (λ (xs : List ℕ). (front ++ held) ++ xs) b
     ∙ sym (append_assoc (front ++ held) given last)
@@ -289,7 +286,7 @@ piece_goes_on rule before mid now held after s part h = subst (λ (xs : List ℕ
   taken = h.taken ∙ s.taken;
   heard_is = heard_on before.heard mid.heard now.heard (frames s.exchanges) held h.given s.heard_is h.heard;
   said = h.said ∙ s.said;
-  told = λ tells. told_on (frames s.exchanges) held h.given before.left mid.left now.left (s.told tells) (h.told (s.tells ∙ tells));
+  exposed = λ tells. left_on (frames s.exchanges) held h.given before.left mid.left now.left (s.exposed tells) (h.exposed (s.tells ∙ tells));
   first = first_on rule before mid now held s part h.moments;
   ends = h.says.1 ∙ s.ends;
   later = subst (λ (n : ℕ). before.faults ≤ n) (sym h.faults) s.later;
@@ -306,7 +303,7 @@ piece_ends rule before mid now held after ending s part h = record {
   left = held ++ h.given;
   given = texts_on before mid now (frames s.exchanges) held h.given s.given h.texts;
   heard = heard_on before.heard mid.heard now.heard (frames s.exchanges) held h.given s.heard_is h.heard;
-  told = λ tells. told_on (frames s.exchanges) held h.given before.left mid.left now.left (s.told tells) (h.told (s.tells ∙ tells));
+  exposed = λ tells. left_on (frames s.exchanges) held h.given before.left mid.left now.left (s.exposed tells) (h.exposed (s.tells ∙ tells));
   ended = go ending h.says;
   first = first_on rule before mid now held s part h.moments;
   names = h.names ∙ s.names;

@@ -59,7 +59,7 @@ pub record HasServed (rule : Rule) (before now : Seen) (ending : Ending) : Type 
   pub left : List ℕ
   pub given : now.reads.texts ≡ with_more before.reads.texts (frames exchanges ++ left)
   pub heard : now.heard ≡ before.heard ++ (frames exchanges ++ left)
-  pub told : IsTrue before.tells → before.left ≡ (frames exchanges ++ left) ++ now.left
+  pub exposed : IsTrue before.tells → before.left ≡ (frames exchanges ++ left) ++ now.left
   pub ended : EndsServing rule left (before.taken ++ replies exchanges) before now ending
   pub first : RepliesFirst rule before now
   pub names : now.reads.names ≡ before.reads.names

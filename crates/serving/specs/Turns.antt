@@ -71,7 +71,7 @@ HearsSo before now held given after (Err endings.Memory) = Unit {0}
 pub record IsHeard (before now : Seen) (held after : List ℕ) (result : Result (Unit {0}) Ending) : Type 0 where
   pub given : List ℕ
   pub texts : now.reads.texts ≡ with_more before.reads.texts given
-  pub told : IsTrue before.tells → before.left ≡ given ++ now.left
+  pub exposed : IsTrue before.tells → before.left ≡ given ++ now.left
   pub says : HearsSo before now held given after result
   pub moments : now.moments ≡ before.moments ++ moment_of before ∷ []
   pub heard : now.heard ≡ before.heard ++ given

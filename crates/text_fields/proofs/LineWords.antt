@@ -19,8 +19,8 @@ pub record IsWord (word : List ℕ) : Type 0 where
 run_of_word : (at : ℕ) (word : List ℕ) (space : ℕ) (rest : List ℕ) → IsSolid word → is_space space ≡ true → run_and_words at (word ++ space ∷ rest) ≡ (word, words_from (at + length word + 1) rest)
 run_of_word at [] space rest solid is = let here : at + 0 + 1 ≡ at + 1 = omega arith in rw (is, here) refl
 run_of_word at (b ∷ word) space rest solid is =
-    let behind : at + suc (length word) + 1 ≡ at + 1 + length word + 1 = omega arith in
-    rw (solid.0, run_of_word (at + 1) word space rest solid.1 is, behind) refl
+    let ends_at : at + suc (length word) + 1 ≡ at + 1 + length word + 1 = omega arith in
+    rw (solid.0, run_of_word (at + 1) word space rest solid.1 is, ends_at) refl
 
 -- offsets do not matter
 with_word_at : (a b : ℕ) (run : List ℕ) (words others : List (ℕ × List ℕ)) → texts_of words ≡ texts_of others → texts_of (with_word a run words) ≡ texts_of (with_word b run others)

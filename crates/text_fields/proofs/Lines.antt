@@ -6,11 +6,11 @@ use Rattle.std.proofs.lemmas.List.{append-nil, take_all}
 use Rattle.text_fields.specs.Written.{text_line, text_of_lines, Draft, with_word, with_end, with_line}
 
 -- words in a line that already has a word
-words_behind : (bytes word : List ℕ) (words : List (List ℕ)) → fold with_word (record { bytes = bytes ++ word; is_begun = true }) words ≡ record { bytes = bytes ++ join_with_byte 32 (word ∷ words); is_begun = true }
-words_behind bytes word [] = refl
-words_behind bytes word (next ∷ words) =
+words_after : (bytes word : List ℕ) (words : List (List ℕ)) → fold with_word (record { bytes = bytes ++ word; is_begun = true }) words ≡ record { bytes = bytes ++ join_with_byte 32 (word ∷ words); is_begun = true }
+words_after bytes word [] = refl
+words_after bytes word (next ∷ words) =
     ap (λ b. fold with_word (record { bytes = b; is_begun = true }) words) (append_assoc bytes word (32 ∷ next))
-    ∙ words_behind bytes (word ++ 32 ∷ next) words
+    ∙ words_after bytes (word ++ 32 ∷ next) words
     ∙ ap (λ b. record { bytes = bytes ++ b; is_begun = true }) (regroup word next words)
   where
     regroup : (word next : List ℕ) (words : List (List ℕ)) → join_with_byte 32 ((word ++ 32 ∷ next) ∷ words) ≡ join_with_byte 32 (word ∷ next ∷ words)
@@ -24,7 +24,7 @@ line_written draft words none = go draft.bytes draft.is_begun none words
     go : (bytes : List ℕ) (b : Bool) → b ≡ false → (words : List (List ℕ)) → with_end (fold with_word (record { bytes = bytes; is_begun = b }) words) ≡ with_line (record { bytes = bytes; is_begun = b }) words
     go bytes true none words = absurd (cc)
     go bytes false none [] = refl
-    go bytes false none (word ∷ words) = ap with_end (words_behind bytes word words) ∙ ap (λ b. record { bytes = b; is_begun = false }) (append_assoc bytes (join_with_byte 32 (word ∷ words)) (10 ∷ []))
+    go bytes false none (word ∷ words) = ap with_end (words_after bytes word words) ∙ ap (λ b. record { bytes = b; is_begun = false }) (append_assoc bytes (join_with_byte 32 (word ∷ words)) (10 ∷ []))
 
 -- a line whose words were written one after another
 pub line_ended : {A : Type 0} (draft start : Draft) (write : A → List ℕ) (values : List A) (n : ℕ) → draft ≡ fold with_word start (map write (take n values)) → length values ≤ n → start.is_begun ≡ false → with_end draft ≡ with_line start (map write values)

@@ -20,7 +20,7 @@ use Rattle.tree_type.specs.Verdicts.{first_in, first_among, fault_at, open_at, v
 use Rattle.tree_type.specs.Invariant.{AreLines, FitsLines, HasChildren, IsTreeWithin, AreTreesWithin, IsTreeFor}
 use Rattle.tree_type.specs.Places.{Due, AllLines, MadePivot, matrix_after, pivots_below, places_from, places_below, due_child, lines_left, lines_of_each}
 use Rattle.tree_type.specs.Soundness.{part, HasItsLines, Demands, MayStand, KeepsAll, IsSoundTree}
-use Rattle.tree_laws.specs.Laws.{IsProved, IsRefuted, Tells}
+use Rattle.tree_laws.specs.Laws.{IsProved, IsRefuted, VerdictMeans}
 use Rattle.tree_laws.proofs.FreeSets.{IsFreeOn, free_from_part, none_from_free}
 use Rattle.tree_type.proofs.PlacedLines.{lines_within, part_is}
 use Rattle.tree_laws.proofs.Leaves.{free_empty, free_network, free_conetwork}
@@ -229,8 +229,8 @@ module _ (m : Matrix) (is : IsMatrix m) where
       )
 
   -- the verdict of a tree that keeps all rules is right
-  pub tells : (rows columns : ℕ) (tree : Tree) → IsTreeFor rows columns tree → IsSoundTree m rows columns tree → Tells m (verdict_of tree)
-  tells rows columns tree within keeps = go (first_in fault_at tree) (first_in open_at tree) refl refl
+  pub verdict_means : (rows columns : ℕ) (tree : Tree) → IsTreeFor rows columns tree → IsSoundTree m rows columns tree → VerdictMeans m (verdict_of tree)
+  verdict_means rows columns tree within keeps = go (first_in fault_at tree) (first_in open_at tree) refl refl
     where
       all : AreLines m (lines_at_root tree) × ((lines_at_root tree).rows ≡ first_lines (height m)) × ((lines_at_root tree).columns ≡ first_lines m.width)
       all = whole rows columns tree within keeps
@@ -247,7 +247,7 @@ module _ (m : Matrix) (is : IsMatrix m) where
         not_unimodular = λ unimodular. let s = unimodular fault.rows lines.rows in unsigned m fault.rows fault.columns lines.columns v s.0 s.1;
       }
 
-      go : (f o : Option LineSet) → first_in fault_at tree ≡ f → first_in open_at tree ≡ o → Tells m (verdict_from f o)
+      go : (f o : Option LineSet) → first_in fault_at tree ≡ f → first_in open_at tree ≡ o → VerdictMeans m (verdict_from f o)
       go (Some fault) o e h = (refuted fault (fault_tree m [] [] (AllLines rows columns) (lines_at_root tree) 2001 tree fault all.0 within.nodes keeps e))
       go None (Some lines) e h = tt
       go None None e h = (proved (none_from_free m (subst (λ xs. FreeIn (entry m) (Contains xs) (Contains (first_lines m.width))) all.1

@@ -23,11 +23,11 @@ pub record IsRefuted (m : Matrix) (fault : LineSet) : Type 0 where
   pub not_unimodular : ¬ (IsTotallyUnimodular m)
 
 -- the verdict is right; the verdict undecided promises nothing
-abbrev pub Tells : Matrix → Verdict → Type 0
-Tells m Yes = IsProved m
-Tells m (No fault) = IsRefuted m fault
-Tells m (Open lines) = Unit {0}
+abbrev pub VerdictMeans : Matrix → Verdict → Type 0
+VerdictMeans m Yes = IsProved m
+VerdictMeans m (No fault) = IsRefuted m fault
+VerdictMeans m (Open lines) = Unit {0}
 
 -- the verdict of a sound tree is right
 abbrev pub SoundMeans : Type 0
-SoundMeans = (m : Matrix) → IsMatrix m → (tree : SizedTree) → IsDecTree tree → IsSound m tree → Tells m (verdict_of (tree_of tree.root))
+SoundMeans = (m : Matrix) → IsMatrix m → (tree : SizedTree) → IsDecTree tree → IsSound m tree → VerdictMeans m (verdict_of (tree_of tree.root))

@@ -31,8 +31,8 @@ module _ (header : Header) (levels : ℕ) (parent : Option LineSet) (text : Text
   pub children_fail : (e : FieldError TreeKind) → Fails e children → Fails e (node header (suc levels) parent text)
   children_fail e fails = rw read (bind_fails e children (λ (children : List Tree × Text). Ok (Branch head.lines head.finding (trees_from children.0), children.1)) fails)
 
-  pub node_made : (trees : List Tree) (behind : Text) → children ≡ Ok (trees, behind) → node header (suc levels) parent text ≡ Ok (Branch head.lines head.finding (trees_from trees), behind)
-  node_made trees behind made = rw (read, made) refl
+  pub node_made : (trees : List Tree) (left : Text) → children ≡ Ok (trees, left) → node header (suc levels) parent text ≡ Ok (Branch head.lines head.finding (trees_from trees), left)
+  node_made trees left made = rw (read, made) refl
 
 err_same : {A E : Type 0} (x y : E) → ◌≡◌ {A = Result A E} (Err x) (Err y) → x ≡ y
 err_same x y h = cc

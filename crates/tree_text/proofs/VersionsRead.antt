@@ -87,15 +87,15 @@ module _ (sizes : Sizes) where
 
 -- the words before the root, with a reader for the root
 module _ (read : Header → Reader Tree) (kept : (sizes : Sizes) (text : Text) (tree : Tree × Text) → read (in_version sizes One) text ≡ Ok tree → read (in_version sizes Two) text ≡ Ok tree) where
-  abbrev behind : Version → Text → Result PlainTree (Fault TreeKind)
-  behind version text = do
+  abbrev rest : Version → Text → Result PlainTree (Fault TreeKind)
+  rest version text = do
     rows ← field Short (limited 1000) text
     columns ← field Short (limited 1000) rows.1
     root ← read (in_version (record { rows = rows.0; columns = columns.0 }) version) columns.1
     ended Extra (record { rows = rows.0; columns = columns.0; root = root.0 }) root.1
 
-  behind_kept : (text : Text) (t : PlainTree) → behind One text ≡ Ok t → behind Two text ≡ Ok t
-  behind_kept text t h =
+  rest_kept : (text : Text) (t : PlainTree) → rest One text ≡ Ok t → rest Two text ≡ Ok t
+  rest_kept text t h =
       let rows = bind_ok (field Short (limited 1000) text) _ t h in
       let columns = bind_ok (field Short (limited 1000) rows.0.1) _ t rows.2 in
       let sizes : Sizes = record { rows = rows.0.0; columns = columns.0.0 } in
@@ -111,7 +111,7 @@ module _ (read : Header → Reader Tree) (kept : (sizes : Sizes) (text : Text) (
     text_from word titled = Ok (titled, record { size = size; words = word ∷ words })
 
     abbrev after_version : Result (Version × Text) (Fault TreeKind) → Result PlainTree (Fault TreeKind)
-    after_version read_version = read_version >>= λ version. behind version.0 version.1
+    after_version read_version = read_version >>= λ version. rest version.0 version.1
 
     abbrev after_title : (ℕ × List ℕ) → Result Title TreeKind → Result PlainTree (Fault TreeKind)
     after_title word titled = (placed name.0 titled >>= text_from word) >>= λ found. after_version (field Short (version_in found.0) found.1)
@@ -119,7 +119,7 @@ module _ (read : Header → Reader Tree) (kept : (sizes : Sizes) (text : Text) (
     titled_kept : (first second : ℕ × List ℕ) (t : PlainTree) → first.1 ≡ version_word One → second.1 ≡ version_word Two → after_title first (Ok title.Tree) ≡ Ok t → after_title second (Ok title.Tree) ≡ Ok t
     titled_kept first second t one two h =
         let begun = subst (λ r. after_version r ≡ Ok t) (versioned One size first words one refl) h in
-        subst (λ r. after_version r ≡ Ok t) (sym (versioned Two size second words two refl)) (behind_kept (record { size = size; words = words }) t begun)
+        subst (λ r. after_version r ≡ Ok t) (sym (versioned Two size second words two refl)) (rest_kept (record { size = size; words = words }) t begun)
 
   whole_kept : (size : ℕ) (name first second : ℕ × List ℕ) (words : List (ℕ × List ℕ)) (t : PlainTree) → name.1 ≡ title_word title.Tree → first.1 ≡ version_word One → second.1 ≡ version_word Two
       → read_whole read (record { size = size; words = name ∷ first ∷ words }) ≡ Ok t → read_whole read (record { size = size; words = name ∷ second ∷ words }) ≡ Ok t

@@ -30,13 +30,13 @@ some_words : (pairs : List Pair) (more : List (List ℕ)) → 0 < length pairs �
 some_words [] more some = absurd (omega (arith, some))
 some_words (pair ∷ pairs) more some = omega arith
 
-behind : (words more : List (List ℕ)) → 0 < length more → 0 < length (words ++ more)
-behind [] more some = some
-behind (word ∷ words) more some = omega arith
+some_after : (words more : List (List ℕ)) → 0 < length more → 0 < length (words ++ more)
+some_after [] more some = some
+some_after (word ∷ words) more some = omega arith
 
 later_words : (words : List (List ℕ)) (pairs : List Pair) → 0 < length pairs → 0 < length (words ++ flat_map pair_words pairs)
 later_words words [] some = absurd (omega (arith, some))
-later_words words (pair ∷ pairs) some = behind words (flat_map pair_words (pair ∷ pairs)) (omega arith)
+later_words words (pair ∷ pairs) some = some_after words (flat_map pair_words (pair ∷ pairs)) (omega arith)
 
 -- the line of a network that has words
 pub network_ended : (text middle start : Draft) (n : net.Network) → text ≡ fold with_word middle (flat_map pair_words n.walks) → middle ≡ fold with_word start (flat_map pair_words n.arcs) → start.is_begun ≡ false

@@ -23,7 +23,7 @@ listed_filter p n x l = same_test (list_any (λ y. nat_eq y x) (filter p (first_
 
 -- a good seed with the same lines of the matrix
 module _ (m n : ℕ) (M : ℕ → ℕ → ℤ) (i j : ℕ) (S T : Lines) (same : (line : Line) → IsLine m n line → S line ≡ T line) where
-  good_same : (seed : Line) → IsGoodTwo m n M i j seed S → IsGoodTwo m n M i j seed T
+  pub good_same : (seed : Line) → IsGoodTwo m n M i j seed S → IsGoodTwo m n M i j seed T
   good_same seed g = (
     g.0,
     record {

@@ -10,7 +10,7 @@ pub fn is_text<R: Abort + AllocGlobal>(rt: &R, found: &[u8], text: &str) -> Resu
     Ok(())
 }
 
-/// Stops the test where the answer to a row of a table is another one. A row has what is asked, and behind `; ` the answer.
+/// Stops the test where the answer to a row of a table is another one. A row has what is asked, and after `; ` the answer.
 pub fn are_texts<R, F>(rt: &R, table: &str, answer: F) -> Result<(), Fail>
 where
     R: Abort + AllocGlobal,

@@ -49,7 +49,7 @@ pub fn run_of(row: &str) -> Result<Run<'_>, Fail> {
         before: parts.next().ok_or("no files")?,
         status: parts.next().ok_or("no status")?,
         printed: parts.next().ok_or("nothing printed")?,
-        after: parts.next().ok_or("no files behind")?,
+        after: parts.next().ok_or("no files at the end")?,
     })
 }
 

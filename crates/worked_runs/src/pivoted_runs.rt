@@ -22,7 +22,7 @@ fn devices_with<R: AllocGlobal>(rt: &R, matrix: &str) -> Result<Devices, Fail> {
 }
 
 #[test]
-fn a_yes_behind_pivots(rt: HostRuntime) -> Result<(), Fail> {
+fn a_yes_after_pivots(rt: HostRuntime) -> Result<(), Fail> {
     let mut on = devices_with(&rt, TWO_GOODS)?;
     ends_so(
         &rt,
@@ -42,7 +42,7 @@ fn a_yes_behind_pivots(rt: HostRuntime) -> Result<(), Fail> {
 }
 
 #[test]
-fn a_no_behind_pivots(rt: HostRuntime) -> Result<(), Fail> {
+fn a_no_after_pivots(rt: HostRuntime) -> Result<(), Fail> {
     let mut on = devices_with(&rt, LATIN_SQUARES)?;
     ends_so(&rt, &mut on, "tu f", 6, "totally unimodular: undecided\n")?;
     ends_so(

@@ -1,6 +1,6 @@
 //! Checking evidence on a matrix: a decomposition tree, a chain of signs, or a violator.
 ghost use Rattle.chains.specs.Chains.{IsSoundChain};
-ghost use Rattle.tree_laws.specs.Laws.{Tells};
+ghost use Rattle.tree_laws.specs.Laws.{VerdictMeans};
 ghost use Rattle.clap.specs.Words.{app_of, found_of, rows_of};
 ghost use Rattle.std.specs.Prelude.{◌≡◌, IfOk, IsTrue};
 ghost use Rattle.tree_text.specs.TreeReading.{plain_of};
@@ -317,7 +317,7 @@ fn accepted<'a>(
     matrix: &Matrix,
     verdict: &VerdictOf<'_>,
 ) -> Result<Outcome<'a>, Memory>
-    requires { Tells matrix.now (verdict_shown verdict.now) }
+    requires { VerdictMeans matrix.now (verdict_shown verdict.now) }
     ensures { IfOk result (λ outcome. outcome_report outcome
         ≡ accepted_report matrix.now (verdict_shown verdict.now)) }
 {

@@ -11,7 +11,7 @@ ghost use Rattle.cmr_base.specs.CyclePlaces.{HasNoCycleFault};
 ghost use Rattle.cmr_base.specs.Matrix.{IsMatrix, entry};
 ghost use Rattle.cmr_front.specs.Outcome.{outcome_report};
 ghost use Rattle.cmr_front.specs.Words.ReadWords.{Gives};
-ghost use Rattle.cmr_reach.specs.Balanced.{BalancedDecides, IsDecomposed, IsInRanges, IsUntold, balanced_app, balanced_order, balanced_order_in, balanced_order_of, balanced_tool, search_report};
+ghost use Rattle.cmr_reach.specs.Balanced.{BalancedDecides, IsDecomposed, IsInRanges, NeedsSearch, balanced_app, balanced_order, balanced_order_in, balanced_order_of, balanced_tool, search_report};
 
 use crate::faults::{fault_outcome, open_outcome, yes_outcome};
 use balance::{LeastSubmatrix, least_balance_fault};
@@ -38,7 +38,7 @@ pub struct BalancedOptions<'a> {
     /// The form of the matrix text.
     pub form: MatrixForm,
     /// The maximum number of lines on the shorter side of an exhaustive search, 0 to 24.
-    pub lines: u32,
+    pub budget: u32,
     /// The maximum number of pivots of the decomposition on the path to a node that nothing else decides, 0 to 100.
     pub pivots: u32,
     /// The number of workers that share a search, 1 to 64. The answer does not depend on it.
@@ -70,7 +70,7 @@ fn options_in<'a>(matches: &ArgMatches<'a>) -> Result<BalancedOptions<'a>, Words
 {
     Ok(BalancedOptions {
         form: form_in(matches)?,
-        lines: lines_in(matches)?,
+        budget: lines_in(matches)?,
         pivots: pivots_in(matches)?,
         workers: workers_in(matches)?,
         fault: fault_in(matches),
@@ -157,12 +157,12 @@ fn is_decomposed<R: Threads + Sync>(
     requires ranges { IsInRanges (balanced_order_of options.now) }
     requires shape { IsMatrix matrix.now }
     ensures yes { IfOk result (λ says. says ≡ true
-        → IsDecomposed options.now.lines options.now.pivots matrix.now × IsBalanced matrix.now) }
+        → IsDecomposed options.now.budget options.now.pivots matrix.now × IsBalanced matrix.now) }
     ensures no { IfOk result (λ says. says ≡ false
-        → ¬ (IsDecomposed options.now.lines options.now.pivots matrix.now)) }
+        → ¬ (IsDecomposed options.now.budget options.now.pivots matrix.now)) }
 {
     let workers = Workers::new(options.workers);
-    let tree = decompose(rt, alloc, matrix, options.lines, options.pivots, workers)?;
+    let tree = decompose(rt, alloc, matrix, options.budget, options.pivots, workers)?;
     let _root = tree.root();
     Ok(says_yes(&tree))
 }
@@ -185,12 +185,12 @@ fn search<'a, R: Threads + Sync>(
 ) -> Result<Outcome<'a>, Memory>
     requires ranges { IsInRanges (balanced_order_of options.now) }
     requires shape { IsMatrix matrix.now }
-    requires untold { IsUntold options.now.lines options.now.pivots matrix.now }
+    requires needed { NeedsSearch options.now.budget options.now.pivots matrix.now }
     ensures { IfOk result (λ outcome.
         BalancedDecides (balanced_order_of options.now) matrix.now (outcome_report outcome)) }
 {
     let workers = Workers::new(options.workers);
-    let found = least_balance_fault(rt, alloc, matrix, options.lines, workers)?;
+    let found = least_balance_fault(rt, alloc, matrix, options.budget, workers)?;
     search_outcome(alloc, options, matrix, &found)
 }
 
@@ -200,7 +200,7 @@ fn search_outcome<'a>(
     matrix: &Matrix,
     found: &LeastSubmatrix,
 ) -> Result<Outcome<'a>, Memory>
-    requires { HasSearchedFaults matrix.now options.now.lines found.now }
+    requires { HasSearchedFaults matrix.now options.now.budget found.now }
     ensures { IfOk result (λ outcome. outcome_report outcome
         ≡ search_report (balanced_order_of options.now) matrix.now found.now) }
 {

@@ -210,17 +210,7 @@ fn arrange_root(alloc: Global, matrix: &Matrix, tree: &DecTree) -> Result<Option
     match &tree.root().kind {
         Kind::TwoSum { two, .. } => Ok(Some(arrange_two(alloc, matrix, two)?)),
         Kind::ThreeSum { three, .. } => Ok(Some(arrange_three(alloc, matrix, three)?)),
-        Kind::Empty
-        | Kind::Cycle { .. }
-        | Kind::Reduced { .. }
-        | Kind::OneSum { .. }
-        | Kind::Network { .. }
-        | Kind::Conetwork { .. }
-        | Kind::R10
-        | Kind::Enumerated
-        | Kind::Violator { .. }
-        | Kind::Undecided
-        | Kind::Pivoted { .. } => Ok(None),
+        _ => Ok(None),
     }
 }
 

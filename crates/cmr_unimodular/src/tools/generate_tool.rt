@@ -36,7 +36,7 @@ pub struct GenerateOptions<'a> {
     /// The number from which all other numbers are drawn, below 2^31.
     pub number: u32,
     /// The maximum number of lines on the shorter side of a part for an exhaustive search, 0 to 24.
-    pub lines: u32,
+    pub budget: u32,
     /// The maximum number of pivots on the path to a part that nothing else decides, 0 to 100.
     pub pivots: u32,
     /// The number of workers that share the searches, 1 to 64. The answer does not depend on it.
@@ -115,7 +115,7 @@ fn options_in<'a>(matches: &ArgMatches<'a>) -> Result<GenerateOptions<'a>, Words
         what,
         size: size_in(what, matches)?,
         number: number_in(matches)?,
-        lines: lines_in(matches)?,
+        budget: lines_in(matches)?,
         pivots: pivots_in(matches)?,
         workers: workers_in(matches)?,
         output: value_in(matches, OUTPUT),
@@ -164,8 +164,8 @@ fn make_and_test<'a, R: Threads + Sync>(
         GenerateDecides (generate_order_of options.now) (outcome_report outcome)) }
 {
     let matrix = make(alloc, options.what, options.size, options.number)?;
-    let told = give_verdict(rt, alloc, &verdict_options(options), &matrix)?;
-    with_summary(alloc, options, &matrix, told)
+    let verdict = give_verdict(rt, alloc, &verdict_options(options), &matrix)?;
+    with_summary(alloc, options, &matrix, verdict)
 }
 
 fn verdict_options<'a>(options: &GenerateOptions<'a>) -> VerdictOptions<'a>
@@ -174,7 +174,7 @@ fn verdict_options<'a>(options: &GenerateOptions<'a>) -> VerdictOptions<'a>
 {
     VerdictOptions {
         label: b"totally unimodular",
-        lines: options.lines,
+        budget: options.budget,
         pivots: options.pivots,
         workers: options.workers,
         tree: None,
@@ -187,18 +187,19 @@ fn with_summary<'a>(
     alloc: Global,
     options: &GenerateOptions<'a>,
     matrix: &Matrix,
-    told: Outcome<'a>,
+    verdict: Outcome<'a>,
 ) -> Result<Outcome<'a>, Memory>
     ensures report { IfOk result (λ outcome. outcome_report outcome
-        ≡ generate_report (generate_order_of options.now) matrix.now (outcome_report told.entry)) }
+        ≡ generate_report (generate_order_of options.now) matrix.now
+        (outcome_report verdict.entry)) }
     ensures shape { IfOk result (λ outcome. IsMatrix matrix.now) }
 {
     let mut output = summary(alloc, options.what, matrix)?;
-    output.extend_from_slice(&told.output)?;
-    let mut files = told.files;
+    output.extend_from_slice(&verdict.output)?;
+    let mut files = verdict.files;
     push_matrix(alloc, &mut files, options.output, matrix)?;
     Ok(Outcome {
-        answer: told.answer,
+        answer: verdict.answer,
         output,
         files,
     })

@@ -1,6 +1,6 @@
 //! Testing whether a 0/1 matrix has a totally unimodular signing.
 ghost use Rattle.chains.specs.ChainTexts.{AreLinesIn, IsStepIn, chain_text};
-ghost use Rattle.tree_laws.specs.Laws.{Tells};
+ghost use Rattle.tree_laws.specs.Laws.{VerdictMeans};
 ghost use Rattle.clap.specs.Words.{app_of, found_of, rows_of};
 ghost use Rattle.std.specs.List.{AllByRecursion};
 ghost use Rattle.std.specs.Prelude.{◌*◌, ◌++◌, ◌≡◌, ◌≤◌, IfOk, OnOk, length, map, option_map};
@@ -38,7 +38,7 @@ pub struct RegularOptions<'a> {
     /// The form of the matrix text.
     pub form: MatrixForm,
     /// The maximum number of lines on the shorter side of a part for an exhaustive search, 0 to 24.
-    pub lines: u32,
+    pub budget: u32,
     /// The maximum number of pivots on the path to a part that nothing else decides, 0 to 100.
     pub pivots: u32,
     /// The number of workers that share the searches, 1 to 64. The answer does not depend on it.
@@ -77,7 +77,7 @@ fn options_in<'a>(matches: &ArgMatches<'a>) -> Result<RegularOptions<'a>, WordsE
 {
     Ok(RegularOptions {
         form: form_in(matches)?,
-        lines: lines_in(matches)?,
+        budget: lines_in(matches)?,
         pivots: pivots_in(matches)?,
         workers: workers_in(matches)?,
         tree: value_in(matches, TREE),
@@ -125,7 +125,7 @@ fn sign_and_test<'a, R: Threads + Sync>(
     options: &RegularOptions<'a>,
     matrix: &Matrix,
 ) -> Result<Outcome<'a>, Memory>
-    requires lines { options.now.lines ≤ MAX_LINES }
+    requires budget { options.now.budget ≤ MAX_LINES }
     requires workers { (1 ≤ options.now.workers) × (options.now.workers ≤ 64) }
     requires binary { IsBinary matrix.now }
     ensures { IfOk result (λ outcome.
@@ -148,13 +148,13 @@ fn report_signing<'a>(
     requires signed { IsSignedTo matrix.now signing.steps signing.signed }
     requires few { length signing.steps ≤ height matrix.now * matrix.now.width }
     requires steps { AllByRecursion (IsStepIn (height matrix.now) matrix.now.width) signing.steps }
-    requires tells { Tells signing.signed (verdict_in tree.now) }
+    requires means { VerdictMeans signing.signed (verdict_in tree.now) }
     ensures { IfOk result (λ outcome. outcome_report outcome
         ≡ regular_report (regular_order_of options.now) matrix.now signing.steps signing.signed
         tree.now) }
 {
-    let told = report_tree(alloc, &verdict_options(options), &signing.signed, tree)?;
-    with_signing(alloc, options, matrix, signing, tree, told)
+    let reported = report_tree(alloc, &verdict_options(options), &signing.signed, tree)?;
+    with_signing(alloc, options, matrix, signing, tree, reported)
 }
 
 // A signed matrix, and the steps that signed it.
@@ -185,7 +185,7 @@ fn verdict_options<'a>(options: &RegularOptions<'a>) -> VerdictOptions<'a>
 {
     VerdictOptions {
         label: b"regular",
-        lines: options.lines,
+        budget: options.budget,
         pivots: options.pivots,
         workers: options.workers,
         tree: options.tree,
@@ -200,19 +200,19 @@ fn with_signing<'a>(
     matrix: &Matrix,
     signing: SignedMatrix,
     tree: &DecTree,
-    told: Outcome<'a>,
+    reported: Outcome<'a>,
 ) -> Result<Outcome<'a>, Memory>
     requires signed { IsSignedTo matrix.now signing.steps signing.signed }
     requires few { length signing.steps ≤ height matrix.now * matrix.now.width }
     requires steps { AllByRecursion (IsStepIn (height matrix.now) matrix.now.width) signing.steps }
-    requires tells { Tells signing.signed (verdict_in tree.now) }
-    requires told { outcome_report told
+    requires means { VerdictMeans signing.signed (verdict_in tree.now) }
+    requires reported { outcome_report reported
         ≡ verdict_report (regular_verdict (regular_order_of options.now)) signing.signed tree.now }
     ensures { IfOk result (λ outcome. outcome_report outcome
         ≡ regular_report (regular_order_of options.now) matrix.now signing.steps signing.signed
         tree.now) }
 {
-    let mut files = told.files;
+    let mut files = reported.files;
     push_matrix(alloc, &mut files, options.signed, &signing.signed)?;
     push_chain(
         alloc,
@@ -223,8 +223,8 @@ fn with_signing<'a>(
         &verdict(tree),
     )?;
     Ok(Outcome {
-        answer: told.answer,
-        output: told.output,
+        answer: reported.answer,
+        output: reported.output,
         files,
     })
 }

@@ -26,7 +26,7 @@ pub struct TuOptions<'a> {
     /// The form of the matrix text.
     pub form: MatrixForm,
     /// The maximum number of lines on the shorter side of a part for an exhaustive search, 0 to 24.
-    pub lines: u32,
+    pub budget: u32,
     /// The maximum number of pivots on the path to a part that nothing else decides, 0 to 100.
     pub pivots: u32,
     /// The number of workers that share the searches, 1 to 64. The answer does not depend on it.
@@ -59,7 +59,7 @@ fn options_in<'a>(matches: &ArgMatches<'a>) -> Result<TuOptions<'a>, WordsError>
 {
     Ok(TuOptions {
         form: form_in(matches)?,
-        lines: lines_in(matches)?,
+        budget: lines_in(matches)?,
         pivots: pivots_in(matches)?,
         workers: workers_in(matches)?,
         tree: value_in(matches, TREE),
@@ -105,7 +105,7 @@ fn verdict_options<'a>(options: &TuOptions<'a>) -> VerdictOptions<'a>
 {
     VerdictOptions {
         label: b"totally unimodular",
-        lines: options.lines,
+        budget: options.budget,
         pivots: options.pivots,
         workers: options.workers,
         tree: options.tree,

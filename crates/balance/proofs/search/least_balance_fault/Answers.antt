@@ -6,5 +6,5 @@ use Rattle.balance.proofs.search.least_balance_fault.Goals as goal
 
 pub returns : goal.returns
 returns g c =
-    subst (λ (m : Matrix). IfOk c.least_submatrix.result (HasSearchedFaults m c.args.limit)) c.of-both.ensures
-    (searched c.of-both.result c.rows-rows.ensures.shape c.args.limit c.least_submatrix.result c.least_submatrix.ensures)
+    subst (λ (m : Matrix). IfOk c.least_submatrix.result (HasSearchedFaults m c.args.budget)) c.of-both.ensures
+    (searched c.of-both.result c.rows-rows.ensures.shape c.args.budget c.least_submatrix.result c.least_submatrix.ensures)

@@ -6,7 +6,7 @@ use Rattle.cmr_front.specs.declared.input.Input.{Input}
 use Rattle.cmr_front.specs.declared.input.Text.{Text}
 use Rattle.cmr_front.specs.Inputs.{bytes_of, given, input_file, texts}
 use Rattle.cmr_front.specs.Unread.{AreRead, AreWithinLimits, HaveGiven, between}
-use Rattle.cmr_front.proofs.Endings.{rose_from}
+use Rattle.cmr_io.proofs.CauseLemmas.{rose_later}
 use Rattle.cmr_front.proofs.Inputs.{begun_with, one_more_begun, one_more_ended, one_more_given, stopped_at, texts_more}
 use Rattle.cmr_front.proofs.input.read_inputs.Goals as goal
 
@@ -54,7 +54,7 @@ returns-clause-ended g c =
 
 pub returns-in-Err-clause-cause : goal.returns-in-Err-clause-cause
 returns-in-Err-clause-cause g c = λ device.
-    rose_from (g.S.Shelf.faults c.args.shelf.now) (g.S.Shelf.faults c.loop-input.shelf) (g.S.Shelf.faults c.read_input.new.shelf) c.loop-input.invariant.later (c.in-Err.ensures.cause device).1
+    rose_later (g.S.Shelf.faults c.args.shelf.now) (g.S.Shelf.faults c.loop-input.shelf) (g.S.Shelf.faults c.read_input.new.shelf) c.loop-input.invariant.later (c.in-Err.ensures.cause device).1
 
 pub returns-in-Err-clause-kept : goal.returns-in-Err-clause-kept
 returns-in-Err-clause-kept g c = keeps_names_on c.loop-input.invariant.kept c.in-Err.ensures.kept

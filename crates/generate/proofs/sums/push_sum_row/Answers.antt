@@ -3,7 +3,7 @@ use Rattle.cmr_base.specs.Matrix.{Matrix, height, entry, row_of}
 use Rattle.cmr_base.proofs.SmallEntries.{entry_as_byte}
 use Rattle.generate.specs.Generated.{circulant_sum}
 use Rattle.generate.proofs.JoinedRows.{times}
-use Rattle.generate.proofs.SumRows.{begun, grown_on, brought_behind, brought_within, brought_by_one, negated_byte}
+use Rattle.generate.proofs.SumRows.{begun, grown_on, brought_after, brought_within, brought_by_one, negated_byte}
 use Rattle.generate.proofs.sums.push_sum_row.Goals as goal
 
 pub push_multiple-requires-clause-row : goal.push_multiple-requires-clause-row
@@ -26,7 +26,7 @@ loop-count-init c =
     let d = c.saturating_sub-before.result in
     let own = c.args.row - 4 * (d / 4) in
     begun c.args.cells.now.items c.push_zeros.new.cells.items c.push_multiple.new.cells.items (d / 4) c.args.row _
-    (brought_behind d c.args.row c.saturating_sub-before.ensures) (brought_within d c.args.row c.saturating_sub-before.ensures)
+    (brought_after d c.args.row c.saturating_sub-before.ensures) (brought_within d c.args.row c.saturating_sub-before.ensures)
     c.in_ok-push_zeros.ensures
     (c.in_ok-push_multiple.ensures ∙ ap (λ (m : Matrix). c.push_zeros.new.cells.items ++ times (pos 1) (row_of m own)) c.requires.part)
     (entry_as_byte c.entry-last.result c.entry-last.ensures.small ∙ c.entry-last.ensures.value ∙ ap (λ (m : Matrix). entry m own 4) c.requires.part)

@@ -17,10 +17,10 @@ use Rattle.matrix_text.proofs.sparse.write_sparse.Goals as goal
 row_first : (draft : Draft) (rows : List (List ℤ)) (row : ℕ) → row < length rows → fold with_line (fold with_line draft (map triple_line (row_triples (row + 1) 1 (get_or rows row [])))) (map triple_line (triples_from (row + 1 + 1) (drop (row + 1) rows))) ≡ fold with_line draft (map triple_line (triples_from (row + 1) (drop row rows)))
 row_first draft rows row h =
     let here = row_triples (row + 1) 1 (get_or rows row []) in
-    let behind = triples_from (row + 1 + 1) (drop (row + 1) rows) in
+    let after = triples_from (row + 1 + 1) (drop (row + 1) rows) in
     sym (ap (λ rest. fold with_line draft (map triple_line (triples_from (row + 1) rest))) (drop_more rows row [] h)
-    ∙ ap (fold with_line draft) (map-append triple_line here behind)
-    ∙ fold-append with_line draft (map triple_line here) (map triple_line behind))
+    ∙ ap (fold with_line draft) (map-append triple_line here after)
+    ∙ fold-append with_line draft (map triple_line here) (map triple_line after))
 
 pub loop-row-preserved : goal.loop-row-preserved
 loop-row-preserved c =

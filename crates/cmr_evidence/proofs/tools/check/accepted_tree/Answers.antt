@@ -1,8 +1,8 @@
 use Rattle.std.proofs.Common.{◌∙◌, length, ap, arith, subst, sym}
 use Rattle.std.proofs.lemmas.Result.{IfOk-weaker}
 use Rattle.tree_type.specs.DecompositionTrees.{tree_of}
-use Rattle.tree_laws.specs.Laws.{Tells}
-use Rattle.tree_laws.proofs.SoundTrees.{tells}
+use Rattle.tree_laws.specs.Laws.{VerdictMeans}
+use Rattle.tree_laws.proofs.SoundTrees.{verdict_means}
 use Rattle.cmr_evidence.specs.Check.{accepted, accepted_report}
 use Rattle.cmr_evidence.proofs.CheckAnswers.{root_height}
 use Rattle.cmr_evidence.proofs.tools.check.accepted_tree.Goals as goal
@@ -15,11 +15,11 @@ pub accepted-requires : goal.accepted-requires
 accepted-requires c =
     let m = c.args.matrix.now in
     let tree = c.args.tree.now in
-    subst (Tells m) (sym c.verdict-found.ensures) (tells m c.rows-rows.ensures.shape tree.rows tree.columns (tree_of tree.root) c.root-root.ensures.tree c.requires)
+    subst (VerdictMeans m) (sym c.verdict-found.ensures) (verdict_means m c.rows-rows.ensures.shape tree.rows tree.columns (tree_of tree.root) c.root-root.ensures.tree c.requires)
 
 pub returns : goal.returns
 returns c =
     let m = c.args.matrix.now in
     let tree = c.args.tree.now in
-    let told = tells m c.rows-rows.ensures.shape tree.rows tree.columns (tree_of tree.root) c.root-root.ensures.tree c.requires in
-    IfOk-weaker c.accepted.result _ _ (λ outcome e. accepted c.requires told (e ∙ ap (accepted_report m) c.verdict-found.ensures)) c.accepted.ensures
+    let means = verdict_means m c.rows-rows.ensures.shape tree.rows tree.columns (tree_of tree.root) c.root-root.ensures.tree c.requires in
+    IfOk-weaker c.accepted.result _ _ (λ outcome e. accepted c.requires means (e ∙ ap (accepted_report m) c.verdict-found.ensures)) c.accepted.ensures

@@ -16,4 +16,4 @@ returns-clause-no g c = λ e.
     let m = c.args.matrix.now in
     let tree = c.in_ok-tree.tree in
     let drawn = c.in_ok-tree.ensures in
-    undecomposed c.args.options.now.lines c.args.options.now.pivots m (tree_of tree.root) (tree_for m tree drawn.rows drawn.columns c.root-root.ensures.tree) drawn.shape (c.says_yes.ensures.no e)
+    undecomposed c.args.options.now.budget c.args.options.now.pivots m (tree_of tree.root) (tree_for m tree drawn.rows drawn.columns c.root-root.ensures.tree) drawn.shape (c.says_yes.ensures.no e)

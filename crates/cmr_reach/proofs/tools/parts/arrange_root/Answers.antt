@@ -1,7 +1,7 @@
 use Rattle.tree_type.specs.DecompositionTrees.{ThreeSum, TwoSum, tree_of, two_trees}
 use Rattle.tree_type.specs.declared.tree.Kind.TheVariants as kind
 use Rattle.tree_type.proofs.NodeTrees.{said_three_sum, said_two_sum}
-use Rattle.cmr_reach.proofs.RootSums.{sound_by_kind, three_by_kind, three_of_root, two_by_kind, two_of_root}
+use Rattle.cmr_reach.proofs.RootSums.{other_root, sound_by_kind, three_by_kind, three_of_root, two_by_kind, two_of_root}
 use Rattle.cmr_reach.proofs.tools.parts.arrange_root.Goals as goal
 
 pub arrange_two-requires : goal.arrange_two-requires
@@ -31,3 +31,6 @@ returns-in_ok-arrange_three-in-ThreeSum c =
     let both = c.in_ok-arrange_three-in-ThreeSum in
     three_by_kind c.args.matrix.now c.args.tree.now c.root.result.now c.root.ensures.root (kind.ThreeSum v.three v.one_child v.two_child) v.three _ both.field-0 v.is (said_three_sum v.three v.one_child v.two_child)
     c.rows.ensures.shape both.ensures.arranged both.ensures.round_trip
+
+pub returns-in_default : goal.returns-in_default
+returns-in_default c = other_root c.args.matrix.now c.args.tree.now c.root.result.now c.root.ensures.root c.in_default.not-TwoSum c.in_default.not-ThreeSum

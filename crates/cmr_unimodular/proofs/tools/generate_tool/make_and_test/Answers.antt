@@ -13,6 +13,6 @@ make-requires-clause-sum_size g c = sum_size_low c.args.options.now.what c.args.
 
 pub returns : goal.returns
 returns g c =
-    reported (generate_order_of c.args.options.now) c.in_ok-matrix.matrix (outcome_report c.in_ok-told.told) c.with_summary.result c.in_ok-matrix.ensures
-    (subst (λ o. Decides o c.in_ok-matrix.matrix (outcome_report c.in_ok-told.told)) c.verdict_options.ensures.order c.in_ok-told.ensures)
+    reported (generate_order_of c.args.options.now) c.in_ok-matrix.matrix (outcome_report c.in_ok-verdict.verdict) c.with_summary.result c.in_ok-matrix.ensures
+    (subst (λ o. Decides o c.in_ok-matrix.matrix (outcome_report c.in_ok-verdict.verdict)) c.verdict_options.ensures.order c.in_ok-verdict.ensures)
     c.with_summary.ensures.report c.with_summary.ensures.shape

@@ -1,5 +1,5 @@
 use Rattle.std.proofs.Common.{subst}
-use Rattle.cmr_unimodular.specs.Verdict.{IsDecomposition, IsTold, VerdictOrder, verdict_in}
+use Rattle.cmr_unimodular.specs.Verdict.{IsDecomposition, IsRightVerdict, VerdictOrder, verdict_in}
 use Rattle.cmr_unimodular.specs.Regular.{regular_order_of}
 use Rattle.cmr_unimodular.proofs.RegularAnswers.{reported}
 use Rattle.cmr_unimodular.proofs.tools.regular.sign_and_test.Goals as goal
@@ -9,6 +9,6 @@ returns g c =
     let signed = c.in_ok-signing.signing.signed in
     let tree = c.in_ok-tree.tree in
     reported (regular_order_of c.args.options.now) c.args.matrix.now signed c.in_ok-signing.signing.steps tree c.report_signing.result c.in_ok-signing.ensures.signed
-    (subst (λ (o : VerdictOrder). IsDecomposition o.lines o.pivots signed tree) c.verdict_options-asked.ensures.order c.in_ok-tree.ensures.decomposition)
-    (subst (λ (o : VerdictOrder). IsTold o.lines o.pivots signed (verdict_in tree)) c.verdict_options-asked.ensures.order c.in_ok-tree.ensures.told)
+    (subst (λ (o : VerdictOrder). IsDecomposition o.budget o.pivots signed tree) c.verdict_options-asked.ensures.order c.in_ok-tree.ensures.decomposition)
+    (subst (λ (o : VerdictOrder). IsRightVerdict o.budget o.pivots signed (verdict_in tree)) c.verdict_options-asked.ensures.order c.in_ok-tree.ensures.right)
     c.report_signing.ensures

@@ -9,16 +9,16 @@ use Rattle.tree_type.specs.declared.tree.Node.{Node}
 use Rattle.tree_type.specs.DecompositionTrees.{SizedTree, tree_of}
 use Rattle.tree_type.specs.Verdicts as verdicts
 use Rattle.tree_type.specs.Verdicts.{Verdict}
-use Rattle.tree_laws.specs.Laws.{Tells}
+use Rattle.tree_laws.specs.Laws.{VerdictMeans}
 use Rattle.cert_check.proofs.Answering.{lines_is}
-use Rattle.tree_laws.proofs.SoundTrees.{tells}
-use Rattle.cmr_unimodular.specs.Verdict.{IsDecomposition, IsTold, verdict_in}
+use Rattle.tree_laws.proofs.SoundTrees.{verdict_means}
+use Rattle.cmr_unimodular.specs.Verdict.{IsDecomposition, IsRightVerdict, verdict_in}
 use Rattle.cmr_unimodular.proofs.OpenParts.{open_part}
 
-pub told : (budget pivots : ℕ) (m : Matrix) → IsMatrix m → (tree : SizedTree) → IsDecomposition budget pivots m tree → IsTold budget pivots m (verdict_in tree)
-told budget pivots m is tree d = go (verdict_in tree) refl (tells m is tree.rows tree.columns (tree_of tree.root) d.is_tree d.sound)
+pub verdict_is_right : (budget pivots : ℕ) (m : Matrix) → IsMatrix m → (tree : SizedTree) → IsDecomposition budget pivots m tree → IsRightVerdict budget pivots m (verdict_in tree)
+verdict_is_right budget pivots m is tree d = go (verdict_in tree) refl (verdict_means m is tree.rows tree.columns (tree_of tree.root) d.is_tree d.sound)
   where
-    go : (v : Verdict) → verdict_in tree ≡ v → Tells m v → IsTold budget pivots m v
+    go : (v : Verdict) → verdict_in tree ≡ v → VerdictMeans m v → IsRightVerdict budget pivots m v
     go verdicts.Yes e right = right
     go (verdicts.No fault) e right = right
     go (verdicts.Open lines) e right = open_part budget pivots m (tree_of tree.root) lines is d.shape e

@@ -1,7 +1,7 @@
 use Rattle.std.proofs.Common.{rules, ◌≡◌, ◌≢◌, ◌≤◌, ◌<◌, ◌+◌, ◌-◌, ◌∙◌, length, get_or, w8, SFits, sym, arith, pos, neg_ℤ}
 use Rattle.std.proofs.lemmas.Int.{to_z-of_z}
 use Rattle.text_fields.proofs.EntryWords.{entry_words}
-use Rattle.text_fields.proofs.words.entry_behind.Goals as goal
+use Rattle.text_fields.proofs.words.entry_at.Goals as goal
 
 pub returns-then-digit-le49-clause-word : goal.returns-then-digit-le49-clause-word
 returns-then-digit-le49-clause-word c =
