@@ -3,7 +3,7 @@ use Rattle.std.proofs.Common.{◌≡◌, ◌<◌, ◌+◌, ◌||◌, ◌&&◌, �
 use Rattle.std.proofs.lemmas.Bool.{cases_lt}
 use Rattle.cmr_base.specs.BitSets.{Bits}
 use Rattle.cmr_base.specs.ColumnSets.{has_column, HasCommon}
-use Rattle.cmr_base.specs.Matrix.{height, IsMatrix}
+use Rattle.cmr_base.specs.Matrix.{height}
 use Rattle.cmr_base.specs.Seeds.{IsBefore}
 use Rattle.cmr_base.specs.Trees.{support}
 use Rattle.cmr_base.proofs.Booleans.{and_is, is_and, not_both, or_is, or_left, or_right}

@@ -1,5 +1,5 @@
 -- Good seeds of the concentrated form.
-use Rattle.std.proofs.Common.{ℕ, ℤ, pos, ◌+◌, ◌<◌, ◌≤◌, ◌*ℤ◌, ◌+ℤ◌, ◌-ℤ◌, Bool, true, false, List, [], ◌∷◌, ◌++◌, ◌≡◌, ◌≢◌, ◌∙◌, sym, ap, refl, arith, subst, ◌⊎◌, inl, inr, length, Option, Some, MatchOption}
+use Rattle.std.proofs.Common.{ℕ, ℤ, pos, ◌+◌, ◌<◌, ◌≤◌, ◌*ℤ◌, ◌+ℤ◌, ◌-ℤ◌, true, false, [], ◌∷◌, ◌++◌, ◌≡◌, ◌≢◌, ◌∙◌, sym, ap, refl, arith, subst, ◌⊎◌, inl, inr, Option, Some, MatchOption}
 use Rattle.std.proofs.lemmas.Bool.{cases_lt}
 use Rattle.cmr_base.specs.declared.line.Line.{Line}
 use Rattle.cmr_base.specs.declared.line.Line.TheVariants.{Row, Column}
@@ -18,7 +18,6 @@ use Rattle.cmr_base.specs.Trees.{support}
 use Rattle.cmr_base.proofs.Booleans.{false_is, not_both, true_is, zero_is}
 use Rattle.cmr_base.proofs.Integers.{sums, products}
 use Rattle.cmr_base.proofs.ListedLines.{first_lines_contain, has_line_from_line}
-use Rattle.cmr_base.proofs.RowLists.{same_or_not}
 use Rattle.cmr_base.proofs.SeedLemmas.{good_three_seed, three_separation_of_seed, form_is}
 use Rattle.cuts.specs.declared.corners.Corners.{Corners}
 use Rattle.cuts.specs.LineCuts.{AreInside}

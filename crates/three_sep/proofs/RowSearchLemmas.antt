@@ -1,6 +1,6 @@
 -- The matrix and the row of a search do not change.
-use Rattle.std.proofs.Common.{◌≡◌, ◌≢◌, ◌<◌, ◌∙◌, ◌∷◌, ℕ, ℤ, pos, List, Option, subst, sym}
-use Rattle.cmr_base.specs.Matrix.{Matrix, entry, height}
+use Rattle.std.proofs.Common.{◌∙◌, ◌∷◌, ℕ, List, Option, subst, sym}
+use Rattle.cmr_base.specs.Matrix.{Matrix}
 use Rattle.cmr_base.specs.declared.separation.Three.{Three}
 use Rattle.three_sep.specs.declared.row_search.RowSearch.{RowSearch}
 use Rattle.three_sep.specs.Concentrated.{AreCandidates}

@@ -1,5 +1,5 @@
 -- Searches whose side is the closure of the lines of a connector or of a corner.
-use Rattle.std.specs.Prelude.{◌≡◌, ◌+◌, ◌<◌, ℕ, List, ◌∷◌}
+use Rattle.std.specs.Prelude.{◌≡◌, ℕ}
 use Rattle.cmr_base.specs.Matrix.{Matrix, entry, height}
 use Rattle.cmr_base.specs.Separations.{IsTied, first_is_flat, product_at}
 use Rattle.cmr_base.specs.Seeds.{IsGrown, IsLine}

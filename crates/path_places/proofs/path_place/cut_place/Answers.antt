@@ -1,6 +1,5 @@
-use Rattle.std.proofs.Common.{inl, inr, subst}
+use Rattle.std.proofs.Common.{inl, inr}
 use Rattle.std.proofs.lemmas.Result.{IfOk-weaker}
-use Rattle.cmr_base.specs.Matrix.{Matrix}
 use Rattle.cmr_base.specs.Separations.{opposite}
 use Rattle.cmr_base.proofs.Booleans.{not_both}
 use Rattle.path_places.specs.PathPlaces.{IsFit}

@@ -1,4 +1,4 @@
-use Rattle.std.proofs.Common.{◌≡◌, ◌∙◌, [], ◌∷◌, arith}
+use Rattle.std.proofs.Common.{◌∙◌, [], ◌∷◌, arith}
 use Rattle.three_sep.proofs.CutSeedLemmas.{cut_level_ends, cut_none, cut_some, no_seed_in_one_group}
 use Rattle.three_sep.proofs.first_cuts.first_of_row.Goals as goal
 

@@ -1,4 +1,4 @@
-use Rattle.std.proofs.Common.{◌∙◌, ℕ, ap, refl}
+use Rattle.std.proofs.Common.{◌∙◌, ap}
 use Rattle.cmr_base.specs.BitSets.{Bits}
 use Rattle.cmr_base.specs.ColumnSets.{has_column}
 use Rattle.cmr_base.proofs.Booleans.{not_both}

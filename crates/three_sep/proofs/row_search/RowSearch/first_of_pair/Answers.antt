@@ -1,4 +1,4 @@
-use Rattle.std.proofs.Common.{◌≡◌, ℕ, sym, subst}
+use Rattle.std.proofs.Common.{ℕ, subst}
 use Rattle.cmr_base.specs.declared.separation.Form.TheVariants.{Concentrated}
 use Rattle.three_sep.specs.Concentrated.{HasNoneBetween}
 use Rattle.three_sep.specs.Connectors.{all_prefix}

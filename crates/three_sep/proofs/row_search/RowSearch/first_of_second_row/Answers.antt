@@ -1,4 +1,4 @@
-use Rattle.std.proofs.Common.{[], ◌∷◌, ◌≤◌, ◌+◌, ◌<◌, ◌≡◌, ◌≢◌, ◌∙◌, ◌⊎◌, ℕ, pos, true, false, ap, arith, subst, sym, inl, inr}
+use Rattle.std.proofs.Common.{[], ◌∷◌, ◌∙◌, ℕ, arith, sym, inl, inr}
 use Rattle.cmr_base.specs.Matrix.{Matrix, entry}
 use Rattle.cmr_base.specs.ColumnSets.{has_column}
 use Rattle.cmr_base.specs.Trees.{support}
@@ -9,7 +9,7 @@ use Rattle.cuts.specs.LineCuts.{AreInside}
 use Rattle.three_sep.specs.Concentrated.{AreConcentratedCorners}
 use Rattle.three_sep.proofs.SearchLemmas.{found_some, none_more, level_ends, good_inside}
 use Rattle.three_sep.proofs.ConcentratedLemmas.{no_common, none_between_seconds}
-use Rattle.three_sep.proofs.RowSearchLemmas.{found_in_row, from_row, same_row}
+use Rattle.three_sep.proofs.RowSearchLemmas.{from_row, same_row}
 use Rattle.three_sep.proofs.row_search.RowSearch.first_of_second_row.Goals as goal
 
 pub returns-then-not-meets_words-clause-found : goal.returns-then-not-meets_words-clause-found

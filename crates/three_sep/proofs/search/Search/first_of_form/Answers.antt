@@ -1,4 +1,4 @@
-use Rattle.std.proofs.Common.{◌≡◌, ◌∙◌, [], ◌∷◌, arith}
+use Rattle.std.proofs.Common.{◌∙◌, [], ◌∷◌, arith}
 use Rattle.cmr_base.specs.Seeds.{form_number}
 use Rattle.three_sep.proofs.SearchLemmas.{found_some, none_more, level_ends, good_inside}
 use Rattle.three_sep.proofs.search.Search.first_of_form.Goals as goal
