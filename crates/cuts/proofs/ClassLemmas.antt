@@ -1,9 +1,8 @@
 -- Numbers of lines when the set gets another line.
-use Rattle.std.proofs.Common.{ℕ, Bool, true, false, List, ◌≡◌, ◌∙◌, sym, ap, subst, inl, inr, get_or, length}
+use Rattle.std.proofs.Common.{ℕ, Bool, true, false, List, ◌≡◌, ◌∙◌, sym, ap, subst, inl, inr, get_or}
 use Rattle.std.specs.Int.Bits.{bit_xor}
 use Rattle.cmr_base.specs.ColumnSets.{has_column}
 use Rattle.cmr_base.specs.Matrix.{Matrix, height, transposed, IsMatrix}
-use Rattle.cmr_base.specs.Planes.{words_for}
 use Rattle.cmr_base.specs.Trees.{support}
 use Rattle.cmr_base.proofs.Booleans.{not_both, two_cases}
 use Rattle.cmr_base.proofs.Parts.{height-transposed}
@@ -51,6 +50,6 @@ of_rows m columns numbers width is long = numbers_as (support (transposed m)) (�
 pub to_rows : (m : Matrix) (columns numbers : List ℕ) (width : ℕ) → IsMatrix m → width ≡ height m → AreClassNumbers m columns numbers → AreNumbers (support (transposed m)) width columns numbers
 to_rows m columns numbers width is long = numbers_as (λ a x. support m x a) (support (transposed m)) (height m) width columns numbers (λ a x. sym (support-transposed m is x a)) (sym long)
 
--- words for the columns, as words for the rows of the transposed matrix
-pub wide_words : (m by_columns : Matrix) (words items : List ℕ) → by_columns ≡ transposed m → words ≡ items → length items ≡ words_for m.width → length words ≡ words_for (height by_columns)
-wide_words m by_columns words items e v l = ap length v ∙ l ∙ ap words_for (sym (ap height e ∙ height-transposed m))
+-- the size of a set of columns is the number of rows of the transposed matrix
+pub wide_size : (m by_columns : Matrix) (size : ℕ) → by_columns ≡ transposed m → size ≡ m.width → size ≡ height by_columns
+wide_size m by_columns size e l = l ∙ sym (ap height e ∙ height-transposed m)

@@ -1,5 +1,5 @@
 -- Properties of all cuts with given lines in side one and given lines in side two.
-use Rattle.std.proofs.Common.{ℕ, zero, suc, Bool, true, false, not, ◌≡◌, ◌≢◌, ◌<◌, ◌≤◌, ◌+◌, ◌∙◌, sym, ap, refl, arith, get_or, List, ◌⊎◌, inl, inr, nat_eq, pos, ◌*ℤ◌, ◌||◌}
+use Rattle.std.proofs.Common.{ℕ, zero, suc, Bool, true, false, not, ◌≡◌, ◌≢◌, ◌<◌, ◌≤◌, ◌+◌, ◌∙◌, sym, ap, refl, arith, get_or, List, ◌⊎◌, inl, inr, nat_eq, nat_lt, cond, subst, pos, ◌*ℤ◌, ◌||◌}
 use Rattle.cmr_base.specs.declared.line.Line.{Line}
 use Rattle.cmr_base.specs.declared.line.Line.TheVariants.{Row, Column}
 use Rattle.cmr_base.specs.Matrix.{Matrix, height, entry, transposed, IsMatrix}
@@ -14,14 +14,14 @@ use Rattle.cmr_base.proofs.TransposedLines.{support-transposed}
 use Rattle.cuts.specs.declared.groups.Groups.{Groups}
 use Rattle.cmr_base.specs.Seeds.{count}
 use Rattle.cuts.specs.LineCuts.{IsCut, name_of, HoldTogether}
-use Rattle.cuts.specs.Covers.{IsHalved, IsMet, AreOnOneSide, AreWithin, AreOutside, Covers, AddsAtMost, AreUnlike, AreAllUnlike, AreClasses, may_be_outside, AreAtMost, LeavesFew, GetName, words_set}
-use Rattle.cuts.specs.Classes.{AreClassNumbers}
-use Rattle.cuts.specs.WordSets.{is_between, is_in_heap, rows_heap, columns_heap, as_set}
-use Rattle.cuts.specs.Patterns.{HasPatterns}
+use Rattle.cuts.specs.Covers.{IsHalved, IsNonzeroOn, AreOnOneSide, AreWithin, AreOutside, Covers, AddsAtMost, AreUnlike, AreAllUnlike, AreClasses, may_be_outside, AreAtMost, LeavesFew, GetName}
+use Rattle.cuts.specs.Classes.{AreClassNumbers, is_between, is_in_heap}
+use Rattle.cuts.specs.CutSides.{HasNumbers, columns_heap, heap_of, rows_heap}
 use Rattle.cuts.specs.declared.heaps.Heaps.{Heaps}
+use Rattle.cuts.specs.declared.sides.Side.{Side}
 use Rattle.cuts.specs.declared.line_patterns.LinePatterns.{LinePatterns}
-use Rattle.cuts.specs.declared.line_words.LineWords.{LineWords}
-use Rattle.cuts.specs.declared.patterns.Patterns.{Patterns}
+use Rattle.cmr_base.specs.declared.line_mask.LineMask.{LineMask}
+use Rattle.cmr_base.specs.LineMasks.{as_set}
 use Rattle.cuts.proofs.CutLemmas.{lower_at, other_is_cut, upper_at}
 use Rattle.cuts.proofs.WordLemmas.{as_first, as_second, first_zero, second_zero}
 use Rattle.cmr_base.specs.Components.{IsLineOf}
@@ -170,12 +170,12 @@ module _ (m : Matrix) (H T : Lines) (is : IsMatrix m) (w : IsCut m T) (within : 
   ]
 
   module _ (line : ℕ → Line) (class : ℕ → ℕ) (size bound : ℕ) (low : (a : ℕ) → a < size → IsLineOf m (line a)) (classes : AreClasses m H line class) (at_most : AreAtMost H line class size bound) where
-    bounded : (name : ℕ) → ((a : ℕ) → a < size → T (line a) ≡ false → (nat_eq (class a) 0 || nat_eq (class a) name) ≡ true) → count (λ a. not (T (line a))) size ≤ bound
-    bounded name all =
-        let l = count_grows (λ a. not (T (line a))) (may_be_outside H line class name) size (λ a la e.
+    bounded : (given : ℕ) → ((a : ℕ) → a < size → T (line a) ≡ false → (nat_eq (class a) 0 || nat_eq (class a) given) ≡ true) → count (λ a. not (T (line a))) size ≤ bound
+    bounded given all =
+        let l = count_grows (λ a. not (T (line a))) (may_be_outside H line class given) size (λ a la e.
         let f = not_is (T (line a)) e in
-        is_and (not (H (line a))) (nat_eq (class a) 0 || nat_eq (class a) name) (is_not (H (line a)) (not_in (line a) (low a la) f)) (all a la f)) in
-        let b = at_most name in omega (arith, l, b)
+        is_and (not (H (line a))) (nat_eq (class a) 0 || nat_eq (class a) given) (is_not (H (line a)) (not_in (line a) (low a la) f)) (all a la f)) in
+        let b = at_most given in omega (arith, l, b)
 
     of_class : (s : ℕ) → s < size → T (line s) ≡ false → class s ≢ 0 → (a : ℕ) → a < size → T (line a) ≡ false → (nat_eq (class a) 0 || nat_eq (class a) (class s)) ≡ true
     of_class s ls es ns a la ea = elim (same_or_not (class a) 0) [
@@ -249,9 +249,9 @@ group_named m before after P e le together same named T w a b la lb is = sym (li
 -- ---- classes by numbers
 
 -- rows by their numbers for the columns of a set
-unlike_rows : (m : Matrix) (rows columns classes : List ℕ) → IsMatrix m → AreClassNumbers m columns classes → (r s : ℕ) → r < height m → s < height m → get_or classes r 0 ≢ 0 → get_or classes s 0 ≢ 0 → get_or classes r 0 ≢ get_or classes s 0
-    → AreUnlike m (words_set rows columns) (Row r) (Row s)
-unlike_rows m rows columns classes is so r s lr ls nr ns d = record {
+unlike_rows : (m : Matrix) (lines : LineMask) (classes : List ℕ) → IsMatrix m → AreClassNumbers m lines.columns.words classes → (r s : ℕ) → r < height m → s < height m → get_or classes r 0 ≢ 0 → get_or classes s 0 ≢ 0 → get_or classes r 0 ≢ get_or classes s 0
+    → AreUnlike m (as_set lines) (Row r) (Row s)
+unlike_rows m lines classes is so r s lr ls nr ns d = record {
   met_one = let (c, h, t) = so.met r lr nr in (c, column_in m r c is lr t, h, t);
   met_two = let (c, h, t) = so.met s ls ns in (c, column_in m s c is ls t, h, t);
   differ = let (c, h, n) = so.apart r s lr ls d in (c, width_of c n, h, n);
@@ -264,9 +264,9 @@ unlike_rows m rows columns classes is so r s lr ls nr ns d = record {
     ]
 
 -- columns by their numbers for the rows of a set
-unlike_columns : (m : Matrix) (rows columns classes : List ℕ) → IsMatrix m → AreClassNumbers (transposed m) rows classes → (c d : ℕ) → c < m.width → d < m.width → get_or classes c 0 ≢ 0 → get_or classes d 0 ≢ 0 → get_or classes c 0 ≢ get_or classes d 0
-    → AreUnlike m (words_set rows columns) (Column c) (Column d)
-unlike_columns m rows columns classes is so c d lc ld nc nd n = record {
+unlike_columns : (m : Matrix) (lines : LineMask) (classes : List ℕ) → IsMatrix m → AreClassNumbers (transposed m) lines.rows.words classes → (c d : ℕ) → c < m.width → d < m.width → get_or classes c 0 ≢ 0 → get_or classes d 0 ≢ 0 → get_or classes c 0 ≢ get_or classes d 0
+    → AreUnlike m (as_set lines) (Column c) (Column d)
+unlike_columns m lines classes is so c d lc ld nc nd n = record {
   met_one = met c lc nc;
   met_two = met d ld nd;
   differ = let (r, h, u) = so.apart c d (tall c lc) (tall d ld) n in (r, height_of r u, h, λ e. u (support-transposed m is r c ∙ e ∙ sym (support-transposed m is r d)));
@@ -278,7 +278,7 @@ unlike_columns m rows columns classes is so c d lc ld nc nd n = record {
     low : (x r : ℕ) → x < m.width → support (transposed m) x r ≡ true → r < height m
     low x r l t = column_in (transposed m) x r (is_matrix-transposed m is) (tall x l) t
 
-    met : (x : ℕ) → x < m.width → get_or classes x 0 ≢ 0 → IsMet m (words_set rows columns) (Column x)
+    met : (x : ℕ) → x < m.width → get_or classes x 0 ≢ 0 → IsNonzeroOn m (as_set lines) (Column x)
     met x l nx = let (r, h, t) = so.met x (tall x l) nx in (r, low x r l t, h, sym (support-transposed m is r x) ∙ t)
 
     height_of : (r : ℕ) → support (transposed m) c r ≢ support (transposed m) d r → r < height m
@@ -287,11 +287,11 @@ unlike_columns m rows columns classes is so c d lc ld nc nd n = record {
       | inr f ↦ low d r ld (true_is (support (transposed m) d r) (λ e. u (f ∙ sym e)))
     ]
 
-pub row_classes : (m : Matrix) (rows columns classes : List ℕ) → IsMatrix m → AreClassNumbers m columns classes → AreClasses m (words_set rows columns) Row (λ r. get_or classes r 0)
-row_classes m rows columns classes is so r s lr ls er es nr ns d = unlike_rows m rows columns classes is so r s lr ls nr ns d
+pub row_classes : (m : Matrix) (lines : LineMask) (classes : List ℕ) → IsMatrix m → AreClassNumbers m lines.columns.words classes → AreClasses m (as_set lines) Row (λ r. get_or classes r 0)
+row_classes m lines classes is so r s lr ls er es nr ns d = unlike_rows m lines classes is so r s lr ls nr ns d
 
-pub column_classes : (m : Matrix) (rows columns classes : List ℕ) → IsMatrix m → AreClassNumbers (transposed m) rows classes → AreClasses m (words_set rows columns) Column (λ c. get_or classes c 0)
-column_classes m rows columns classes is so c d lc ld ec ed nc nd n = unlike_columns m rows columns classes is so c d lc ld nc nd n
+pub column_classes : (m : Matrix) (lines : LineMask) (classes : List ℕ) → IsMatrix m → AreClassNumbers (transposed m) lines.rows.words classes → AreClasses m (as_set lines) Column (λ c. get_or classes c 0)
+column_classes m lines classes is so c d lc ld ec ed nc nd n = unlike_columns m lines classes is so c d lc ld nc nd n
 
 -- the classes of one heap differ from the classes of the other
 heaps_differ : (heaps : Heaps) (one other : ℕ) → is_in_heap heaps one true ≡ true → is_in_heap heaps other false ≡ true → (one ≢ 0) × (other ≢ 0) × (one ≢ other)
@@ -300,22 +300,22 @@ heaps_differ heaps one other e f =
     let b = and_is (not (nat_eq other 0)) (not (is_between heaps.low heaps.high other)) f in
     (ne_of one 0 (not_is (nat_eq one 0) a.0), ne_of other 0 (not_is (nat_eq other 0) b.0), λ same. not_both (is_between heaps.low heaps.high other) (sym (ap (is_between heaps.low heaps.high) same) ∙ a.1) (not_is (is_between heaps.low heaps.high other) b.1))
 
-pub rows_halved : (m : Matrix) (rows columns : List ℕ) (patterns : Patterns) (H1 H2 : Lines) → IsMatrix m → AreClassNumbers m columns patterns.classes.items → AddsAtMost m H1 (words_set rows columns) (rows_heap patterns true)
-    → AddsAtMost m H2 (words_set rows columns) (rows_heap patterns false) → IsHalved m (words_set rows columns) H1 H2
-rows_halved m rows columns patterns H1 H2 is so adds1 adds2 = halved_by_unlike m (words_set rows columns) (rows_heap patterns true) (rows_heap patterns false) H1 H2 is unlike adds1 adds2
+pub rows_halved : (m : Matrix) (lines : LineMask) (heaps : Heaps) (classes : List ℕ) (H1 H2 : Lines) → IsMatrix m → AreClassNumbers m lines.columns.words classes → AddsAtMost m H1 (as_set lines) (rows_heap heaps classes true)
+    → AddsAtMost m H2 (as_set lines) (rows_heap heaps classes false) → IsHalved m (as_set lines) H1 H2
+rows_halved m lines heaps classes H1 H2 is so adds1 adds2 = halved_by_unlike m (as_set lines) (rows_heap heaps classes true) (rows_heap heaps classes false) H1 H2 is unlike adds1 adds2
   where
-    unlike : AreAllUnlike m (words_set rows columns) (rows_heap patterns true) (rows_heap patterns false)
-    unlike (Row r) (Row s) lr ls hr hs = let (nr, ns, d) = heaps_differ patterns.heaps (get_or patterns.classes.items r 0) (get_or patterns.classes.items s 0) hr hs in unlike_rows m rows columns patterns.classes.items is so r s lr ls nr ns d
+    unlike : AreAllUnlike m (as_set lines) (rows_heap heaps classes true) (rows_heap heaps classes false)
+    unlike (Row r) (Row s) lr ls hr hs = let (nr, ns, d) = heaps_differ heaps (get_or classes r 0) (get_or classes s 0) hr hs in unlike_rows m lines classes is so r s lr ls nr ns d
     unlike (Row r) (Column c) lr lc hr hc = absurd (not_both false hc refl)
     unlike (Column c) (Row r) lc lr hc hr = absurd (not_both false hc refl)
     unlike (Column c) (Column d) lc ld hc hd = absurd (not_both false hc refl)
 
-pub columns_halved : (m : Matrix) (rows columns : List ℕ) (patterns : Patterns) (H1 H2 : Lines) → IsMatrix m → AreClassNumbers (transposed m) rows patterns.classes.items → AddsAtMost m H1 (words_set rows columns) (columns_heap patterns true)
-    → AddsAtMost m H2 (words_set rows columns) (columns_heap patterns false) → IsHalved m (words_set rows columns) H1 H2
-columns_halved m rows columns patterns H1 H2 is so adds1 adds2 = halved_by_unlike m (words_set rows columns) (columns_heap patterns true) (columns_heap patterns false) H1 H2 is unlike adds1 adds2
+pub columns_halved : (m : Matrix) (lines : LineMask) (heaps : Heaps) (classes : List ℕ) (H1 H2 : Lines) → IsMatrix m → AreClassNumbers (transposed m) lines.rows.words classes → AddsAtMost m H1 (as_set lines) (columns_heap heaps classes true)
+    → AddsAtMost m H2 (as_set lines) (columns_heap heaps classes false) → IsHalved m (as_set lines) H1 H2
+columns_halved m lines heaps classes H1 H2 is so adds1 adds2 = halved_by_unlike m (as_set lines) (columns_heap heaps classes true) (columns_heap heaps classes false) H1 H2 is unlike adds1 adds2
   where
-    unlike : AreAllUnlike m (words_set rows columns) (columns_heap patterns true) (columns_heap patterns false)
-    unlike (Column c) (Column d) lc ld hc hd = let (nc, nd, n) = heaps_differ patterns.heaps (get_or patterns.classes.items c 0) (get_or patterns.classes.items d 0) hc hd in unlike_columns m rows columns patterns.classes.items is so c d lc ld nc nd n
+    unlike : AreAllUnlike m (as_set lines) (columns_heap heaps classes true) (columns_heap heaps classes false)
+    unlike (Column c) (Column d) lc ld hc hd = let (nc, nd, n) = heaps_differ heaps (get_or classes c 0) (get_or classes d 0) hc hd in unlike_columns m lines classes is so c d lc ld nc nd n
     unlike (Row r) (Column c) lr lc hr hc = absurd (not_both false hr refl)
     unlike (Column c) (Row r) lc lr hc hr = absurd (not_both false hr refl)
     unlike (Row r) (Row s) lr ls hr hs = absurd (not_both false hr refl)
@@ -331,16 +331,42 @@ halved_within m H one other more_one more_other halved adds1 adds2 T cut within 
   | inr h ↦ inr (λ x l e. elim (adds2 x l e) [ inl old ↦ within x l old | inr new ↦ h x l new ])
 ]
 
--- the patterns of the lines outside a set show that few lines can be on the other side
-pub patterns_few : (m : Matrix) (lines : LineWords) (patterns : LinePatterns) → IsMatrix m → HasPatterns m lines patterns → patterns.rows.most + patterns.columns.most < 4 → LeavesFew m (as_set lines)
-patterns_few m lines patterns is has few = record {
-  rows = λ r. get_or patterns.rows.classes.items r 0;
-  columns = λ c. get_or patterns.columns.classes.items c 0;
+-- each cut has one of the two heaps in side one
+pub heaps_halved : (m : Matrix) (patterns : LinePatterns) (one other : Lines) → IsMatrix m → HasNumbers m patterns.side.now → ((x : Line) → one x ≡ true → heap_of patterns true x ≡ true) → ((x : Line) → other x ≡ true → heap_of patterns false x ≡ true)
+    → IsHalved m (as_set patterns.side.now.lines) one other
+heaps_halved m patterns one other is has in_one in_other = elim (two_cases by_columns) [
+  | inl t ↦ columns_halved m side.lines patterns.columns.heaps side.column_numbers.items one other is has.columns (λ x l e. inr (sym (ap (λ (b : Bool). heap b true x) t) ∙ in_one x e)) (λ x l e. inr (sym (ap (λ (b : Bool). heap b false x) t) ∙ in_other x e))
+  | inr f ↦ rows_halved m side.lines patterns.rows.heaps side.row_numbers.items one other is has.rows (λ x l e. inr (sym (ap (λ (b : Bool). heap b true x) f) ∙ in_one x e)) (λ x l e. inr (sym (ap (λ (b : Bool). heap b false x) f) ∙ in_other x e))
+]
+  where
+    side : Side
+    side = patterns.side.now
+
+    by_columns : Bool
+    by_columns = nat_lt patterns.rows.heaps.lighter patterns.columns.heaps.lighter
+
+    heap : Bool → Bool → Lines
+    heap b inside = cond b (columns_heap patterns.columns.heaps side.column_numbers.items inside) (rows_heap patterns.rows.heaps side.row_numbers.items inside)
+
+-- the patterns of the lines outside a side show that few lines can be on the other side
+pub patterns_few : (m : Matrix) (patterns : LinePatterns) → IsMatrix m → HasNumbers m patterns.side.now → patterns.rows.most + patterns.columns.most < 4 → LeavesFew m (as_set patterns.side.now.lines)
+patterns_few m patterns is has few = record {
+  rows = row_class;
+  columns = column_class;
   most_rows = patterns.rows.most;
   most_columns = patterns.columns.most;
-  row_classes = row_classes m lines.rows.items lines.columns.items patterns.rows.classes.items is has.rows;
-  column_classes = column_classes m lines.rows.items lines.columns.items patterns.columns.classes.items is has.columns;
-  rows_at_most = has.most_rows;
-  columns_at_most = has.most_columns;
+  row_classes = row_classes m lines patterns.side.now.row_numbers.items is has.rows;
+  column_classes = column_classes m lines patterns.side.now.column_numbers.items is has.columns;
+  rows_at_most = λ given. subst (λ (n : ℕ). count (may_be_outside (as_set lines) Row row_class given) n ≤ patterns.rows.most) has.lines.rows (patterns.most_rows given);
+  columns_at_most = λ given. subst (λ (n : ℕ). count (may_be_outside (as_set lines) Column column_class given) n ≤ patterns.columns.most) has.lines.columns (patterns.most_columns given);
   few = few;
 }
+  where
+    lines : LineMask
+    lines = patterns.side.now.lines
+
+    row_class : ℕ → ℕ
+    row_class r = get_or patterns.side.now.row_numbers.items r 0
+
+    column_class : ℕ → ℕ
+    column_class c = get_or patterns.side.now.column_numbers.items c 0

@@ -1,17 +1,17 @@
 -- Forced lines: a cut has them on one side, since each is unlike a line of the other side.
-use Rattle.std.proofs.Common.{ℕ, true, false, not, List, ◌≡◌, ◌≢◌, ap, subst, inl, inr, get_or}
+use Rattle.std.proofs.Common.{ℕ, true, false, not, List, ◌≡◌, ◌≢◌, ◌∙◌, ap, subst, inl, inr, get_or}
 use Rattle.cmr_base.specs.declared.line.Line.{Line}
 use Rattle.cmr_base.specs.declared.line.Line.TheVariants.{Row, Column}
 use Rattle.cmr_base.specs.ColumnSets.{has_column}
 use Rattle.cmr_base.specs.Matrix.{Matrix, height, IsMatrix}
 use Rattle.cmr_base.specs.Separations.{Lines, opposite}
 use Rattle.cmr_base.proofs.Booleans.{two_cases, not_both, not_is}
-use Rattle.cuts.specs.declared.line_words.LineWords.{LineWords}
+use Rattle.cmr_base.specs.declared.line_mask.LineMask.{LineMask}
+use Rattle.cmr_base.specs.LineMasks.{as_set}
 use Rattle.cuts.specs.declared.sides.Side.{Side}
 use Rattle.cuts.specs.Classes.{IsUnlikeOne}
-use Rattle.cuts.specs.Covers.{AddsAtMost, AreClasses, AreOutside, AreWithin, Covers, words_set}
+use Rattle.cuts.specs.Covers.{AddsAtMost, AreClasses, AreOutside, AreWithin, Covers}
 use Rattle.cuts.specs.LineCuts.{IsCut}
-use Rattle.cuts.specs.WordSets.{as_set}
 use Rattle.cuts.specs.CutSides.{HasNumbers, IsForced}
 use Rattle.cuts.proofs.CoverLemmas.{column_classes, one_pattern, row_classes}
 use Rattle.cuts.proofs.CutLemmas.{other_is_cut}
@@ -33,14 +33,13 @@ module _ (m : Matrix) (H K T : Lines) (is : IsMatrix m) (cut : IsCut m T) (one :
     ]
   ]
 
-unlike_at : (size size' : ℕ) (numbers numbers' far far' : List ℕ) (x : ℕ) → size ≡ size' → numbers ≡ numbers' → far ≡ far' → IsUnlikeOne size numbers far x → IsUnlikeOne size' numbers' far' x
-unlike_at size size' numbers numbers' far far' x es en ef h =
-    subst (λ (n : ℕ). IsUnlikeOne n numbers' far' x) es (subst (λ (v : List ℕ). IsUnlikeOne size v far' x) en (subst (λ (v : List ℕ). IsUnlikeOne size numbers v x) ef h))
+unlike_at : (size size' : ℕ) (numbers numbers' far : List ℕ) (x : ℕ) → size ≡ size' → numbers ≡ numbers' → IsUnlikeOne size numbers far x → IsUnlikeOne size' numbers' far x
+unlike_at size size' numbers numbers' far x es en h = subst (λ (n : ℕ). IsUnlikeOne n numbers' far x) es (subst (λ (v : List ℕ). IsUnlikeOne size v far x) en h)
 
-pub side_forced : (m : Matrix) (side more : Side) (far : LineWords) (rows columns row_numbers column_numbers far_rows far_columns : List ℕ) (height_of width_of : ℕ) → IsMatrix m → HasNumbers m side → HasNumbers m more
-    → AddsAtMost m (as_set more.lines) (as_set side.lines) (words_set rows columns) → height_of ≡ height m → width_of ≡ m.width → row_numbers ≡ side.row_numbers.items → column_numbers ≡ side.column_numbers.items → far_rows ≡ far.rows.items
-    → far_columns ≡ far.columns.items → ((x : ℕ) → has_column rows x ≡ true → IsUnlikeOne height_of row_numbers far_rows x) → ((x : ℕ) → has_column columns x ≡ true → IsUnlikeOne width_of column_numbers far_columns x) → IsForced m side far more
-side_forced m side more far rows columns row_numbers column_numbers far_rows far_columns height_of width_of is has numbers adds eh ew er ec fr fc unlike_row unlike_column = record {
+pub side_forced : (m : Matrix) (side more : Side) (lines far : LineMask) (row_size column_size : ℕ) (row_numbers column_numbers : List ℕ) → IsMatrix m → HasNumbers m side → HasNumbers m more → AddsAtMost m (as_set more.lines) (as_set side.lines) (as_set lines)
+    → row_size ≡ side.lines.rows.size → column_size ≡ side.lines.columns.size → row_numbers ≡ side.row_numbers.items → column_numbers ≡ side.column_numbers.items
+    → ((x : ℕ) → has_column lines.rows.words x ≡ true → IsUnlikeOne row_size row_numbers far.rows.words x) → ((x : ℕ) → has_column lines.columns.words x ≡ true → IsUnlikeOne column_size column_numbers far.columns.words x) → IsForced m side far more
+side_forced m side more lines far row_size column_size row_numbers column_numbers is has numbers adds eh ew er ec unlike_row unlike_column = record {
   numbers = numbers;
   forced = λ T cut one two x l e. elim (adds x l e) [
     | inl old ↦ one x l old
@@ -48,21 +47,21 @@ side_forced m side more far rows columns row_numbers column_numbers far_rows far
   ];
 }
   where
-    forced : (T : Lines) → IsCut m T → AreWithin m (as_set side.lines) T → AreOutside m (as_set far) T → AreWithin m (words_set rows columns) T
+    forced : (T : Lines) → IsCut m T → AreWithin m (as_set side.lines) T → AreOutside m (as_set far) T → AreWithin m (as_set lines) T
     forced T cut one two (Row r) l e =
-        let (nx, k, lk, hk, nk, d) = unlike_at height_of (height m) row_numbers side.row_numbers.items far_rows far.rows.items r eh er fr (unlike_row r e) in
-        forced_line m (as_set side.lines) (as_set far) T is cut one two Row (λ a. get_or side.row_numbers.items a 0) (row_classes m side.lines.rows.items side.lines.columns.items side.row_numbers.items is has.rows) r k l lk hk nx nk d
+        let (nx, k, lk, hk, nk, d) = unlike_at row_size (height m) row_numbers side.row_numbers.items far.rows.words r (eh ∙ has.lines.rows) er (unlike_row r e) in
+        forced_line m (as_set side.lines) (as_set far) T is cut one two Row (λ a. get_or side.row_numbers.items a 0) (row_classes m side.lines side.row_numbers.items is has.rows) r k l lk hk nx nk d
     forced T cut one two (Column c) l e =
-        let (nx, k, lk, hk, nk, d) = unlike_at width_of m.width column_numbers side.column_numbers.items far_columns far.columns.items c ew ec fc (unlike_column c e) in
-        forced_line m (as_set side.lines) (as_set far) T is cut one two Column (λ a. get_or side.column_numbers.items a 0) (column_classes m side.lines.rows.items side.lines.columns.items side.column_numbers.items is has.columns) c k l lk hk nx nk d
+        let (nx, k, lk, hk, nk, d) = unlike_at column_size m.width column_numbers side.column_numbers.items far.columns.words c (ew ∙ has.lines.columns) ec (unlike_column c e) in
+        forced_line m (as_set side.lines) (as_set far) T is cut one two Column (λ a. get_or side.column_numbers.items a 0) (column_classes m side.lines side.column_numbers.items is has.columns) c k l lk hk nx nk d
 
 -- ---- a cut that separates lines from a side separates them from the side with its forced lines
 
-pub covers_forced : (m : Matrix) (side more : Side) (far : LineWords) (P : Lines) → IsForced m side far more → Covers m (as_set more.lines) (as_set far) P → Covers m (as_set side.lines) (as_set far) P
+pub covers_forced : (m : Matrix) (side more : Side) (far : LineMask) (P : Lines) → IsForced m side far more → Covers m (as_set more.lines) (as_set far) P → Covers m (as_set side.lines) (as_set far) P
 covers_forced m side more far P so h T w = h T (record { cut = w.cut; one = so.forced T w.cut w.one w.two; two = w.two })
 
 -- the same for the lines of side two
-pub covers_forced_beside : (m : Matrix) (side more : Side) (far : LineWords) (P : Lines) → IsForced m side far more → Covers m (as_set far) (as_set more.lines) P → Covers m (as_set far) (as_set side.lines) P
+pub covers_forced_beside : (m : Matrix) (side more : Side) (far : LineMask) (P : Lines) → IsForced m side far more → Covers m (as_set far) (as_set more.lines) P → Covers m (as_set far) (as_set side.lines) P
 covers_forced_beside m side more far P so h T w = h T (record {
   cut = w.cut;
   one = w.one;

@@ -7,12 +7,12 @@ use Rattle.cmr_base.specs.Matrix.{Matrix, height}
 use Rattle.cmr_base.specs.Separations.{Lines}
 use Rattle.cmr_base.proofs.Booleans.{not_both}
 use Rattle.cuts.specs.declared.groups.Groups.{Groups}
-use Rattle.cuts.specs.declared.line_words.LineWords.{LineWords}
+use Rattle.cmr_base.specs.declared.line_mask.LineMask.{LineMask}
+use Rattle.cmr_base.specs.LineMasks.{as_set, IsMaskOf}
 use Rattle.cuts.specs.declared.sides.Side.{Side}
-use Rattle.cuts.specs.Covers.{AddsAtMost, AreOnOneSide, GetName, words_set}
+use Rattle.cuts.specs.Covers.{AddsAtMost, AreOnOneSide, GetName}
 use Rattle.cuts.specs.CutSearches.{HasMarked}
 use Rattle.cuts.specs.LineCuts.{HoldTogether, IsCut, name_of}
-use Rattle.cuts.specs.WordSets.{as_set}
 use Rattle.cuts.proofs.CoverLemmas.{covers_less, covers_more, group_of_covers}
 use Rattle.cmr_base.specs.Components.{IsLineOf}
 
@@ -39,14 +39,14 @@ apart_together m groups P own T p (Column c) (Row r) lc lr e =
     absurd (omega (arith, same, lr))
 
 -- the rows and the columns with a name
-pub named_lines : (m : Matrix) (groups : Groups) (name from : ℕ) (one other rows columns : List ℕ) → one ≡ groups.names.items → other ≡ groups.names.items → from ≡ height m
-    → ((x : ℕ) → has_column rows x ≡ true → get_or one (0 + x) 0 ≡ name) → ((x : ℕ) → has_column columns x ≡ true → get_or other (from + x) 0 ≡ name)
-    → (x : Line) → IsLineOf m x → words_set rows columns x ≡ true → name_of m groups x ≡ name
-named_lines m groups name from one other rows columns eo et ef hr hc (Row r) l e =
+pub named_lines : (m : Matrix) (groups : Groups) (name from : ℕ) (one other : List ℕ) (lines : LineMask) → one ≡ groups.names.items → other ≡ groups.names.items → height m ≡ from
+    → ((x : ℕ) → has_column lines.rows.words x ≡ true → get_or one (0 + x) 0 ≡ name) → ((x : ℕ) → has_column lines.columns.words x ≡ true → get_or other (from + x) 0 ≡ name)
+    → (x : Line) → as_set lines x ≡ true → name_of m groups x ≡ name
+named_lines m groups name from one other lines eo et ef hr hc (Row r) e =
     let z : r ≡ 0 + r = omega arith in
     sym (ap (λ (v : List ℕ). get_or v r 0) eo) ∙ ap (λ (k : ℕ). get_or one k 0) z ∙ hr r e
-named_lines m groups name from one other rows columns eo et ef hr hc (Column c) l e =
-    sym (ap (λ (v : List ℕ). get_or v (height m + c) 0) et) ∙ sym (ap (λ (z : ℕ). get_or other (z + c) 0) ef) ∙ hc c e
+named_lines m groups name from one other lines eo et ef hr hc (Column c) e =
+    sym (ap (λ (v : List ℕ). get_or v (height m + c) 0) et) ∙ ap (λ (z : ℕ). get_or other (z + c) 0) ef ∙ hc c e
 
 -- the lines outside a set have the name, first the rows and then the columns
 module _ (m : Matrix) (before after middle rows columns : List ℕ) (size width from value : ℕ) (es : size ≡ height m) (ew : width ≡ m.width) (ef : from ≡ height m)
@@ -62,37 +62,34 @@ module _ (m : Matrix) (before after middle rows columns : List ℕ) (size width 
       sym (ap (λ (z : ℕ). get_or after (z + c) 0) ef) ∙ columns_named c (omega (arith, l, ew))
       ∙ ap (λ (v : ℕ). cond (has_column columns c) v value) (rows_kept (from + c) (omega (arith, ef, es)) ∙ ap (λ (z : ℕ). get_or before (z + c) 0) ef)
 
-pub lines_renamed : (m : Matrix) (before after : Groups) (middle rows columns : List ℕ) (size width from value : ℕ) (line : Line) → size ≡ height m → width ≡ m.width → from ≡ height m → value ≡ name_of m before line
-    → ((x : ℕ) → x < size → get_or middle (0 + x) 0 ≡ cond (has_column rows x) (get_or before.names.items (0 + x) 0) value) → ((k : ℕ) → 0 + size ≤ k → get_or middle k 0 ≡ get_or before.names.items k 0)
-    → ((x : ℕ) → x < width → get_or after.names.items (from + x) 0 ≡ cond (has_column columns x) (get_or middle (from + x) 0) value) → ((k : ℕ) → k < from → get_or after.names.items k 0 ≡ get_or middle k 0)
-    → GetName m before after (words_set rows columns) line
-lines_renamed m before after middle rows columns size width from value line es ew ef ev a b c d = record {
+pub lines_renamed : (m : Matrix) (before after : Groups) (middle : List ℕ) (kept_lines : LineMask) (from value : ℕ) (line : Line) → IsMaskOf m kept_lines → from ≡ kept_lines.rows.size → value ≡ name_of m before line
+    → ((x : ℕ) → x < kept_lines.rows.size → get_or middle (0 + x) 0 ≡ cond (has_column kept_lines.rows.words x) (get_or before.names.items (0 + x) 0) value)
+    → ((k : ℕ) → 0 + kept_lines.rows.size ≤ k → get_or middle k 0 ≡ get_or before.names.items k 0)
+    → ((x : ℕ) → x < kept_lines.columns.size → get_or after.names.items (from + x) 0 ≡ cond (has_column kept_lines.columns.words x) (get_or middle (from + x) 0) value)
+    → ((k : ℕ) → k < from → get_or after.names.items k 0 ≡ get_or middle k 0) → GetName m before after (as_set kept_lines) line
+lines_renamed m before after middle kept_lines from value line is ef ev a b c d = record {
   renamed = renamed;
   kept = kept;
 }
   where
-    row : (r : ℕ) → r < height m → get_or after.names.items r 0 ≡ cond (has_column rows r) (get_or before.names.items r 0) value
-    row = row_named m before.names.items after.names.items middle rows columns size width from value es ew ef a b c d
+    row : (r : ℕ) → r < height m → get_or after.names.items r 0 ≡ cond (has_column kept_lines.rows.words r) (get_or before.names.items r 0) value
+    row = row_named m before.names.items after.names.items middle kept_lines.rows.words kept_lines.columns.words kept_lines.rows.size kept_lines.columns.size from value is.rows is.columns (ef ∙ is.rows) a b c d
 
-    column : (k : ℕ) → k < m.width → get_or after.names.items (height m + k) 0 ≡ cond (has_column columns k) (get_or before.names.items (height m + k) 0) value
-    column = column_named m before.names.items after.names.items middle rows columns size width from value es ew ef a b c d
+    column : (k : ℕ) → k < m.width → get_or after.names.items (height m + k) 0 ≡ cond (has_column kept_lines.columns.words k) (get_or before.names.items (height m + k) 0) value
+    column = column_named m before.names.items after.names.items middle kept_lines.rows.words kept_lines.columns.words kept_lines.rows.size kept_lines.columns.size from value is.rows is.columns (ef ∙ is.rows) a b c d
 
-    renamed : (x : Line) → IsLineOf m x → words_set rows columns x ≡ false → name_of m after x ≡ name_of m before line
+    renamed : (x : Line) → IsLineOf m x → as_set kept_lines x ≡ false → name_of m after x ≡ name_of m before line
     renamed (Row r) l f = row r l ∙ ap (λ (t : Bool). cond t (get_or before.names.items r 0) value) f ∙ ev
     renamed (Column k) l f = column k l ∙ ap (λ (t : Bool). cond t (get_or before.names.items (height m + k) 0) value) f ∙ ev
 
-    kept : (x : Line) → IsLineOf m x → words_set rows columns x ≡ true → name_of m after x ≡ name_of m before x
+    kept : (x : Line) → IsLineOf m x → as_set kept_lines x ≡ true → name_of m after x ≡ name_of m before x
     kept (Row r) l t = row r l ∙ ap (λ (b : Bool). cond b (get_or before.names.items r 0) value) t
     kept (Column k) l t = column k l ∙ ap (λ (b : Bool). cond b (get_or before.names.items (height m + k) 0) value) t
 
 -- ---- the group of a line
 
-pub none_among : (lines : LineWords) → ((r : ℕ) → has_column lines.rows.items r ≡ false) → ((c : ℕ) → has_column lines.columns.items c ≡ false) → (x : Line) → as_set lines x ≡ false
-none_among lines rows columns (Row r) = rows r
-none_among lines rows columns (Column c) = columns c
-
 -- two searches: with the lines of a name in side one, and with these lines in side two
-pub covered_group : {E : Type 0} (m : Matrix) (groups : Groups) (name : ℕ) (line : Line) (group : Lines) (nothing first second more : Side) (before between after : LineWords) (covered : Bool) (found : Result Bool E) → IsLineOf m line
+pub covered_group : {E : Type 0} (m : Matrix) (groups : Groups) (name : ℕ) (line : Line) (group : Lines) (nothing first second more : Side) (before between after : LineMask) (covered : Bool) (found : Result Bool E) → IsLineOf m line
     → HoldTogether (IsCut m) m groups → ((x : Line) → as_set nothing.lines x ≡ false) → ((x : Line) → IsLineOf m x → as_set first.lines x ≡ true → (as_set nothing.lines x ≡ true) ⊎ (x ≡ line))
     → ((x : Line) → IsLineOf m x → group x ≡ true → name_of m groups x ≡ name) → AddsAtMost m (as_set more.lines) (as_set first.lines) group → AddsAtMost m (as_set second.lines) (as_set nothing.lines) group
     → covered ≡ true → HasMarked m more nothing before between covered → IfOk found (HasMarked m first second between after) → IfOk found (λ covered. covered ≡ true → AreOnOneSide m line (as_set after))

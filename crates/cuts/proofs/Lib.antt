@@ -1,4 +1,5 @@
 pub mod WordLemmas
+pub mod MatrixMasks
 pub mod CutLemmas
 pub mod ClassLemmas
 pub mod CoverLemmas

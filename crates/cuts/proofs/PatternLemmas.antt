@@ -5,6 +5,7 @@ use Rattle.std.specs.List.Sorted.{IsNonDecreasing}
 use Rattle.std.proofs.lemmas.List.{take_all}
 use Rattle.std.proofs.lemmas.List.Sums.{sum_by_more, sum_by_push, sum_by-le-sum_by}
 use Rattle.std.proofs.lemmas.List.Sorted.{sum_by-IsPermutation}
+use Rattle.cmr_base.specs.BitSets.{Bits}
 use Rattle.cmr_base.specs.ColumnSets.{has_column}
 use Rattle.cmr_base.specs.Seeds.{count}
 use Rattle.cmr_base.proofs.SeedLemmas.{count_grows}
@@ -13,15 +14,6 @@ use Rattle.cuts.specs.declared.patterns.Runs.{Runs}
 use Rattle.cuts.specs.Patterns.{AreAtMostBeside, AreAtMostListed, AreOpen, AreRunsCounted}
 
 -- ---- lines that are not in a set
-
--- each of the first k numbers passes a test or does not
-pub count_both : (p : ℕ → Bool) (k : ℕ) → count p k + count (λ x. not (p x)) k ≡ k
-count_both p zero = refl
-count_both p (suc k) = go (p k) (count_both p k)
-  where
-    go : (t : Bool) → count p k + count (λ x. not (p x)) k ≡ k → cond t (suc (count p k)) (count p k) + cond (not t) (suc (count (λ x. not (p x)) k)) (count (λ x. not (p x)) k) ≡ suc k
-    go true h = omega (arith, h)
-    go false h = omega (arith, h)
 
 one_more : (n s : ℕ) (t : Bool) → s ≡ n → s + cond t 1 0 ≡ cond t (suc n) n
 one_more n s true e = omega (arith, e)
@@ -44,21 +36,20 @@ listed_more own classes listed after row l so f is =
     (omega (arith, e, k, l), open_more own classes listed after row so f is)
 
 -- all lines outside the set, whatever their classes
-pub most_of_others : (own classes : List ℕ) (size most : ℕ) → most ≡ count (λ a. not (has_column own a)) size → AreAtMostBeside own classes size most
-most_of_others own classes size most others name =
-    let l = count_grows (λ a. not (has_column own a) && (nat_eq (get_or classes a 0) 0 || nat_eq (get_or classes a 0) name)) (λ a. not (has_column own a)) size
-    (λ a la e. (and_is (not (has_column own a)) (nat_eq (get_or classes a 0) 0 || nat_eq (get_or classes a 0) name) e).0) in
+pub most_of_others : (own : Bits) (classes : List ℕ) (most : ℕ) → most ≡ count (λ a. not (has_column own.words a)) own.size → AreAtMostBeside own classes most
+most_of_others own classes most others given =
+    let l = count_grows (λ a. not (has_column own.words a) && (nat_eq (get_or classes a 0) 0 || nat_eq (get_or classes a 0) given)) (λ a. not (has_column own.words a)) own.size
+    (λ a la e. (and_is (not (has_column own.words a)) (nat_eq (get_or classes a 0) 0 || nat_eq (get_or classes a 0) given) e).0) in
     omega (arith, l, others)
 
 pub open_sorted : (own classes listed sorted : List ℕ) (size : ℕ) → AreOpen own classes size listed → IsPermutation listed sorted → AreOpen own classes size sorted
 open_sorted own classes listed sorted size so permuted test = sum_by-IsPermutation (λ class. cond (test class) 1 0) listed sorted permuted ∙ so test
 
-most_beside : (own classes sorted : List ℕ) (size most : ℕ) → AreOpen own classes size sorted → AreAtMostListed sorted most → AreAtMostBeside own classes size most
-most_beside own classes sorted size most so listed name = let e = so (λ class. nat_eq class 0 || nat_eq class name) in let l = listed name in omega (arith, e, l)
-
-pub most_of_sorted : (own classes items sorted listed : List ℕ) (rows size most : ℕ) → classes ≡ items → sorted ≡ listed → rows ≡ size → AreOpen own classes rows listed → AreAtMostListed sorted most → AreAtMostBeside own items size most
-most_of_sorted own classes items sorted listed rows size most ec es er so l =
-    subst (λ (v : List ℕ). AreAtMostBeside own v size most) ec (subst (λ (n : ℕ). AreAtMostBeside own classes n most) er (most_beside own classes listed rows most so (subst (λ (v : List ℕ). AreAtMostListed v most) es l)))
+pub most_of_sorted : (own : Bits) (classes sorted listed : List ℕ) (most : ℕ) → sorted ≡ listed → AreOpen own.words classes own.size listed → AreAtMostListed sorted most → AreAtMostBeside own classes most
+most_of_sorted own classes sorted listed most es so l given =
+    let e = so (λ class. nat_eq class 0 || nat_eq class given) in
+    let k = subst (λ (v : List ℕ). AreAtMostListed v most) es l given in
+    omega (arith, e, k)
 
 -- ---- an increasing list
 
@@ -71,14 +62,14 @@ none_listed sorted class (suc n) l h =
     ∙ ap (λ (z : ℕ). z + cond (nat_eq (get_or sorted n 0) class) 1 0) before ∙ ap (λ (b : Bool). 0 + cond b 1 0) (is_ne (get_or sorted n 0) class (h n (omega arith)))
 
 module _ (sorted : List ℕ) (place class : ℕ) (runs : Runs) (up : IsNonDecreasing sorted) (l : place < length sorted) (here : get_or sorted place 0 ≡ class) (so : AreRunsCounted sorted place runs) where
-  grown : (name : ℕ) → count_by (λ c. nat_eq c name) (take (place + 1) sorted) ≡ count_by (λ c. nat_eq c name) (take place sorted) + cond (nat_eq class name) 1 0
-  grown name = sum_by_more (λ c. cond (nat_eq c name) 1 0) sorted place 0 l ∙ ap (λ (z : ℕ). count_by (λ c. nat_eq c name) (take place sorted) + cond (nat_eq z name) 1 0) here
+  grown : (given : ℕ) → count_by (λ c. nat_eq c given) (take (place + 1) sorted) ≡ count_by (λ c. nat_eq c given) (take place sorted) + cond (nat_eq class given) 1 0
+  grown given = sum_by_more (λ c. cond (nat_eq c given) 1 0) sorted place 0 l ∙ ap (λ (z : ℕ). count_by (λ c. nat_eq c given) (take place sorted) + cond (nat_eq z given) 1 0) here
 
-  grown_other : (name : ℕ) → class ≢ name → count_by (λ c. nat_eq c name) (take (place + 1) sorted) ≡ count_by (λ c. nat_eq c name) (take place sorted)
-  grown_other name n = let e = grown name ∙ ap (λ (b : Bool). count_by (λ c. nat_eq c name) (take place sorted) + cond b 1 0) (is_ne class name n) in omega (arith, e)
+  grown_other : (given : ℕ) → class ≢ given → count_by (λ c. nat_eq c given) (take (place + 1) sorted) ≡ count_by (λ c. nat_eq c given) (take place sorted)
+  grown_other given n = let e = grown given ∙ ap (λ (b : Bool). count_by (λ c. nat_eq c given) (take place sorted) + cond b 1 0) (is_ne class given n) in omega (arith, e)
 
-  grown_same : (name : ℕ) → class ≡ name → count_by (λ c. nat_eq c name) (take (place + 1) sorted) ≡ count_by (λ c. nat_eq c name) (take place sorted) + 1
-  grown_same name e = grown name ∙ ap (λ (b : Bool). count_by (λ c. nat_eq c name) (take place sorted) + cond b 1 0) (is_eq class name e)
+  grown_same : (given : ℕ) → class ≡ given → count_by (λ c. nat_eq c given) (take (place + 1) sorted) ≡ count_by (λ c. nat_eq c given) (take place sorted) + 1
+  grown_same given e = grown given ∙ ap (λ (b : Bool). count_by (λ c. nat_eq c given) (take place sorted) + cond b 1 0) (is_eq class given e)
 
   next_above : (k : ℕ) → place + 1 ≤ k → k < length sorted → class ≤ get_or sorted k 0
   next_above k lk low = let r = up place k 0 (omega (arith, lk)) low in omega (arith, r, here)
@@ -89,7 +80,7 @@ module _ (sorted : List ℕ) (place class : ℕ) (runs : Runs) (up : IsNonDecrea
   pub counted_zero : (after : Runs) → class ≡ 0 → after.zeros ≡ runs.zeros + 1 → after.longest ≡ runs.longest → after.run ≡ runs.run → after.last ≡ class → AreRunsCounted sorted (place + 1) after
   counted_zero after z ez el er elast = record {
     zeros = let e = grown_same 0 z in let h = so.zeros in omega (arith, e, h, ez);
-    longest = λ name n. let e = grown_other name (λ s. n (sym s ∙ z)) in let h = so.longest name n in omega (arith, e, h, el);
+    longest = λ given n. let e = grown_other given (λ s. n (sym s ∙ z)) in let h = so.longest given n in omega (arith, e, h, el);
     run = λ n. absurd (n (elast ∙ z));
     above = λ k lk low. let h = next_above k lk low in omega (arith, h, elast);
     below = λ k lk. let h = next_below k lk in omega (arith, h, elast);
@@ -122,9 +113,9 @@ module _ (sorted : List ℕ) (place class : ℕ) (runs : Runs) (up : IsNonDecrea
       → (after.longest ≡ runs.longest) ⊎ (after.longest ≡ after.run) → after.last ≡ class → AreRunsCounted sorted (place + 1) after
   counted_class after n ez er l1 l2 either elast = record {
     zeros = let e = grown_other 0 n in let h = so.zeros in omega (arith, e, h, ez);
-    longest = λ name nn. elim (same_or_not class name) [
+    longest = λ given nn. elim (same_or_not class given) [
       | inl same ↦ let h = next_run n in subst (λ (z : ℕ). count_by (λ c. nat_eq c z) (take (place + 1) sorted) ≤ after.longest) same (omega (arith, h, er, l2))
-      | inr other ↦ let e = grown_other name other in let h = so.longest name nn in omega (arith, e, h, l1)
+      | inr other ↦ let e = grown_other given other in let h = so.longest given nn in omega (arith, e, h, l1)
     ];
     run = λ nn. let h = next_run n in subst (λ (z : ℕ). count_by (λ c. nat_eq c z) (take (place + 1) sorted) ≤ after.run) (sym elast) (omega (arith, h, er));
     above = λ k lk low. let h = next_above k lk low in omega (arith, h, elast);
@@ -142,7 +133,7 @@ module _ (sorted : List ℕ) (place class : ℕ) (runs : Runs) (up : IsNonDecrea
 pub counted_none : (sorted : List ℕ) (runs : Runs) → runs.zeros ≡ 0 → runs.longest ≡ 0 → runs.run ≡ 0 → runs.last ≡ 0 → AreRunsCounted sorted 0 runs
 counted_none sorted runs ez el er elast = record {
   zeros = omega arith;
-  longest = λ name n. omega arith;
+  longest = λ given n. omega arith;
   run = λ n. absurd (n elast);
   above = λ k lk low. omega (arith, elast);
   below = λ k lk. absurd (omega (arith, lk));
@@ -150,8 +141,8 @@ counted_none sorted runs ez el er elast = record {
 }
 
 -- the numbers that pass one test or another
-either_listed : (name : ℕ) (xs : List ℕ) → count_by (λ c. nat_eq c 0 || nat_eq c name) xs ≤ count_by (λ c. nat_eq c 0) xs + count_by (λ c. nat_eq c name) xs
-either_listed name xs = whole
+either_listed : (given : ℕ) (xs : List ℕ) → count_by (λ c. nat_eq c 0 || nat_eq c given) xs ≤ count_by (λ c. nat_eq c 0) xs + count_by (λ c. nat_eq c given) xs
+either_listed given xs = whole
   where
     bit : (a b : Bool) → cond (a || b) 1 0 ≤ cond a 1 0 + cond b 1 0
     bit true true = omega arith
@@ -159,32 +150,32 @@ either_listed name xs = whole
     bit false true = omega arith
     bit false false = omega arith
 
-    upto : (n : ℕ) → n ≤ length xs → count_by (λ c. nat_eq c 0 || nat_eq c name) (take n xs) ≤ count_by (λ c. nat_eq c 0) (take n xs) + count_by (λ c. nat_eq c name) (take n xs)
+    upto : (n : ℕ) → n ≤ length xs → count_by (λ c. nat_eq c 0 || nat_eq c given) (take n xs) ≤ count_by (λ c. nat_eq c 0) (take n xs) + count_by (λ c. nat_eq c given) (take n xs)
     upto zero l = omega arith
     upto (suc n) l =
         let next : n + 1 ≡ suc n = omega arith in
         let before = upto n (omega (arith, l)) in
         let low : n < length xs = omega (arith, l) in
-        let a = sum_by_more (λ c. cond (nat_eq c 0 || nat_eq c name) 1 0) xs n 0 low in
+        let a = sum_by_more (λ c. cond (nat_eq c 0 || nat_eq c given) 1 0) xs n 0 low in
         let b = sum_by_more (λ c. cond (nat_eq c 0) 1 0) xs n 0 low in
-        let d = sum_by_more (λ c. cond (nat_eq c name) 1 0) xs n 0 low in
-        let h = bit (nat_eq (get_or xs n 0) 0) (nat_eq (get_or xs n 0) name) in
-        subst (λ (z : ℕ). count_by (λ c. nat_eq c 0 || nat_eq c name) (take z xs) ≤ count_by (λ c. nat_eq c 0) (take z xs) + count_by (λ c. nat_eq c name) (take z xs)) next (omega (arith, before, a, b, d, h))
+        let d = sum_by_more (λ c. cond (nat_eq c given) 1 0) xs n 0 low in
+        let h = bit (nat_eq (get_or xs n 0) 0) (nat_eq (get_or xs n 0) given) in
+        subst (λ (z : ℕ). count_by (λ c. nat_eq c 0 || nat_eq c given) (take z xs) ≤ count_by (λ c. nat_eq c 0) (take z xs) + count_by (λ c. nat_eq c given) (take z xs)) next (omega (arith, before, a, b, d, h))
 
-    whole : count_by (λ c. nat_eq c 0 || nat_eq c name) xs ≤ count_by (λ c. nat_eq c 0) xs + count_by (λ c. nat_eq c name) xs
-    whole = subst (λ (v : List ℕ). count_by (λ c. nat_eq c 0 || nat_eq c name) v ≤ count_by (λ c. nat_eq c 0) v + count_by (λ c. nat_eq c name) v) (take_all (length xs) xs (omega arith)) (upto (length xs) (omega arith))
+    whole : count_by (λ c. nat_eq c 0 || nat_eq c given) xs ≤ count_by (λ c. nat_eq c 0) xs + count_by (λ c. nat_eq c given) xs
+    whole = subst (λ (v : List ℕ). count_by (λ c. nat_eq c 0 || nat_eq c given) v ≤ count_by (λ c. nat_eq c 0) v + count_by (λ c. nat_eq c given) v) (take_all (length xs) xs (omega arith)) (upto (length xs) (omega arith))
 
 pub counted_all : (sorted : List ℕ) (runs : Runs) (place : ℕ) → length sorted ≤ place → AreRunsCounted sorted place runs → AreAtMostListed sorted (runs.zeros + runs.longest)
-counted_all sorted runs place l so name = elim (same_or_not name 0) [
+counted_all sorted runs place l so given = elim (same_or_not given 0) [
   | inl z ↦
       let h = so.zeros in
-      let e = sum_by-le-sum_by (λ c. cond (nat_eq c 0 || nat_eq c name) 1 0) (λ c. cond (nat_eq c 0) 1 0) sorted (λ c. zero_only (nat_eq c 0) (nat_eq c name) (λ t. is_eq c 0 (eq_of c name t ∙ z))) in
+      let e = sum_by-le-sum_by (λ c. cond (nat_eq c 0 || nat_eq c given) 1 0) (λ c. cond (nat_eq c 0) 1 0) sorted (λ c. zero_only (nat_eq c 0) (nat_eq c given) (λ t. is_eq c 0 (eq_of c given t ∙ z))) in
       omega (arith, e, whole (λ c. nat_eq c 0), h)
   | inr n ↦
       let h = so.zeros in
-      let k = so.longest name n in
-      let e = either_listed name sorted in
-      omega (arith, e, whole (λ c. nat_eq c 0), whole (λ c. nat_eq c name), h, k)
+      let k = so.longest given n in
+      let e = either_listed given sorted in
+      omega (arith, e, whole (λ c. nat_eq c 0), whole (λ c. nat_eq c given), h, k)
 ]
   where
     whole : (test : ℕ → Bool) → count_by test (take place sorted) ≡ count_by test sorted

@@ -1,33 +1,34 @@
 -- Searches by other searches.
 use Rattle.std.proofs.Common.{Result, Ok, Err, IfOk, Bool, true, false, ◌≡◌, inl, inr, refl}
-use Rattle.cmr_base.specs.Components.{IsLineOf}
 use Rattle.cmr_base.specs.declared.line.Line.{Line}
 use Rattle.cmr_base.specs.Matrix.{Matrix}
 use Rattle.cmr_base.specs.Separations.{Lines}
 use Rattle.cmr_base.proofs.Booleans.{not_both, two_cases}
-use Rattle.cuts.specs.declared.line_words.LineWords.{LineWords}
+use Rattle.cmr_base.specs.declared.line_mask.LineMask.{LineMask}
+use Rattle.cmr_base.specs.LineMasks.{as_set, AreAlike, IsMaskOf}
+use Rattle.cmr_base.specs.Seeds.{IsLine}
 use Rattle.cuts.specs.declared.sides.Side.{Side}
-use Rattle.cuts.specs.Covers.{AreWithin, Covers}
+use Rattle.cuts.specs.Covers.{Covers}
 use Rattle.cuts.specs.CutSearches.{HasMarked}
-use Rattle.cuts.specs.WordSets.{HasWords, as_set}
 use Rattle.cuts.proofs.CoverLemmas.{covers_more}
+use Rattle.cuts.proofs.MatrixMasks.{line_in, line_of, mask_like}
 
 -- if the marked lines cover the second state, they cover the first
 abbrev pub Leads : Matrix → (from_one from_two to_one to_two : Side) → Type 0
 Leads m from_one from_two to_one to_two = (P : Lines) → Covers m (as_set from_one.lines) (as_set from_two.lines) P → Covers m (as_set to_one.lines) (as_set to_two.lines) P
 
 -- no line needs to be marked, since the lines are covered
-pub covered_at_once : (m : Matrix) (one two : Side) (separated : LineWords) → HasWords m separated → Covers m (as_set one.lines) (as_set two.lines) (as_set separated) → HasMarked m one two separated separated true
+pub covered_at_once : (m : Matrix) (one two : Side) (separated : LineMask) → IsMaskOf m separated → Covers m (as_set one.lines) (as_set two.lines) (as_set separated) → HasMarked m one two separated separated true
 covered_at_once m one two separated size covers = record { size = size; more = λ x l e. e; covers = λ e. covers }
 
 -- a search of one state replaces the search of another
-pub searched_as : {E : Type 0} (m : Matrix) (one two other_one other_two : Side) (before after : LineWords) (found : Result Bool E) → Leads m other_one other_two one two → IfOk found (HasMarked m other_one other_two before after)
+pub searched_as : {E : Type 0} (m : Matrix) (one two other_one other_two : Side) (before after : LineMask) (found : Result Bool E) → Leads m other_one other_two one two → IfOk found (HasMarked m other_one other_two before after)
     → IfOk found (HasMarked m one two before after)
 searched_as m one two other_one other_two before after (Ok covered) leads h = record { size = h.size; more = h.more; covers = λ e. leads (as_set after) (h.covers e) }
 searched_as m one two other_one other_two before after (Err e) leads h = h
 
 -- two states are searched, one after the other
-pub searched_both : {E : Type 0} (m : Matrix) (one two first_one first_two second_one second_two : Side) (before between after : LineWords) (covered : Bool) (found : Result Bool E)
+pub searched_both : {E : Type 0} (m : Matrix) (one two first_one first_two second_one second_two : Side) (before between after : LineMask) (covered : Bool) (found : Result Bool E)
     → ((P : Lines) → Covers m (as_set first_one.lines) (as_set first_two.lines) P → Covers m (as_set second_one.lines) (as_set second_two.lines) P → Covers m (as_set one.lines) (as_set two.lines) P)
     → covered ≡ true → HasMarked m first_one first_two before between covered → IfOk found (HasMarked m second_one second_two between after) → IfOk found (HasMarked m one two before after)
 searched_both m one two first_one first_two second_one second_two before between after covered (Ok last) both is h1 h2 = record {
@@ -38,18 +39,19 @@ searched_both m one two first_one first_two second_one second_two before between
 searched_both m one two first_one first_two second_one second_two before between after covered (Err e) both is h1 h2 = h2
 
 -- no cut has a line in side one and in side two
-pub covers_shared : (m : Matrix) (one two : Side) (P : Lines) → (x : Line) × IsLineOf m x × (as_set one.lines x ≡ true) × (as_set two.lines x ≡ true) → Covers m (as_set one.lines) (as_set two.lines) P
-covers_shared m one two P (x, lx, ex, tx) T w y l e = absurd (not_both (T x) (w.one x lx ex) (w.two x lx tx))
+pub covers_shared : (m : Matrix) (one two : Side) (P : Lines) → IsMaskOf m one.lines → (x : Line) × IsLine one.lines.rows.size one.lines.columns.size x × (as_set one.lines x ≡ true) × (as_set two.lines x ≡ true)
+    → Covers m (as_set one.lines) (as_set two.lines) P
+covers_shared m one two P is (x, lx, ex, tx) T w y l e = absurd (not_both (T x) (w.one x (line_of m one.lines x is lx) ex) (w.two x (line_of m one.lines x is lx) tx))
 
 -- all lines are marked except the lines of side one
-pub marked_rest : (m : Matrix) (one two : Side) (before after : LineWords) → HasWords m after → AreWithin m (as_set before) (as_set after) → ((x : Line) → IsLineOf m x → as_set one.lines x ≡ false → as_set after x ≡ true)
-    → HasMarked m one two before after true
-marked_rest m one two before after size more rest = record {
-  size = size;
-  more = more;
-  covers = λ e T w x l f. elim (two_cases (as_set one.lines x)) [ inl t ↦ absurd (not_both (T x) (w.one x l t) f) | inr g ↦ rest x l g ];
+pub marked_rest : (m : Matrix) (one two : Side) (before after : LineMask) → IsMaskOf m before → AreAlike before after → ((x : Line) → as_set before x ≡ true → as_set after x ≡ true)
+    → ((x : Line) → IsLine before.rows.size before.columns.size x → as_set one.lines x ≡ false → as_set after x ≡ true) → HasMarked m one two before after true
+marked_rest m one two before after is alike more rest = record {
+  size = mask_like m before after is alike;
+  more = λ x l e. more x e;
+  covers = λ e T w x l f. elim (two_cases (as_set one.lines x)) [ inl t ↦ absurd (not_both (T x) (w.one x l t) f) | inr g ↦ rest x (line_in m before x is l) g ];
 }
 
 -- a search gives up if a search that it began gave up
-pub gave_up : (m : Matrix) (one two other_one other_two : Side) (before after : LineWords) (covered : Bool) → HasMarked m other_one other_two before after covered → HasMarked m one two before after false
+pub gave_up : (m : Matrix) (one two other_one other_two : Side) (before after : LineMask) (covered : Bool) → HasMarked m other_one other_two before after covered → HasMarked m one two before after false
 gave_up m one two other_one other_two before after covered h = record { size = h.size; more = h.more; covers = λ e. absurd (not_both false e refl) }

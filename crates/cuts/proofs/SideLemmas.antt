@@ -1,75 +1,80 @@
 -- The numbers of a side from the numbers for its rows and for its columns.
-use Rattle.std.proofs.Common.{ℕ, Bool, List, true, false, ◌≡◌, ◌⊎◌, ◌∙◌, sym, ap, refl, subst, inl, inr, length, slice_index_or}
+use Rattle.std.proofs.Common.{ℕ, Bool, List, true, false, cond, ◌≡◌, ◌<◌, ◌≤◌, ◌⊎◌, ◌∙◌, sym, ap, refl, subst, inl, inr, length, slice_index_or}
+use Rattle.cmr_base.specs.BitSets.{Bits}
 use Rattle.cmr_base.specs.declared.line.Line.{Line}
 use Rattle.cmr_base.specs.declared.line.Line.TheVariants.{Row, Column}
+use Rattle.cmr_base.specs.declared.line_mask.LineMask.{LineMask}
 use Rattle.cmr_base.specs.ColumnSets.{has_column}
+use Rattle.cmr_base.specs.LineMasks.{as_set, IsMaskOf}
 use Rattle.cmr_base.specs.Matrix.{Matrix, height, transposed, IsMatrix}
-use Rattle.cmr_base.specs.Planes.{words_for}
 use Rattle.cmr_base.specs.Trees.{support}
-use Rattle.cmr_base.proofs.Booleans.{not_both}
+use Rattle.cmr_base.proofs.Booleans.{is_lt, is_not_lt, not_both}
 use Rattle.cmr_base.proofs.Parts.{height-transposed}
 use Rattle.cuts.specs.declared.line_patterns.LinePatterns.{LinePatterns}
-use Rattle.cuts.specs.declared.line_words.LineWords.{LineWords}
-use Rattle.cuts.specs.declared.patterns.Patterns.{Patterns}
-use Rattle.cuts.specs.declared.sides.NumberedSet.{NumberedSet}
-use Rattle.cuts.specs.declared.sides.Side.{Side}
-use Rattle.cuts.specs.Classes.{AreClassNumbers, AreNumbers}
-use Rattle.cuts.specs.Covers.{words_set}
-use Rattle.cuts.specs.WordSets.{columns_heap, is_in_heap, rows_heap, as_set}
-use Rattle.cuts.specs.Patterns.{AreAtMostBeside, HasPatterns}
-use Rattle.cuts.specs.CutSides.{HasNumbers, HasSetNumbers}
+use Rattle.cuts.specs.declared.numbered_set.NumberedSet.{NumberedSet}
+use Rattle.cuts.specs.Classes.{AreClassNumbers, AreNumbers, is_in_heap}
+use Rattle.cuts.specs.Patterns.{AreAtMostBeside}
+use Rattle.cuts.specs.CutSides.{HasSetNumbers, columns_heap, heap_of, rows_heap}
 use Rattle.cuts.proofs.ClassLemmas.{of_columns, of_rows}
 
-pub numbers_at : (m m' : Matrix) (set set' numbers numbers' : List ℕ) → m' ≡ m → set' ≡ set → numbers' ≡ numbers → AreNumbers (support m) m.width set numbers → AreNumbers (support m') m'.width set' numbers'
-numbers_at m m' set set' numbers numbers' em es en h =
-    subst (λ (z : Matrix). AreNumbers (support z) z.width set' numbers') (sym em) (subst (λ (v : List ℕ). AreNumbers (support m) m.width v numbers') (sym es) (subst (λ (v : List ℕ). AreNumbers (support m) m.width set v) (sym en) h))
+-- the numbers of a copy
+pub numbers_at : (m m' : Matrix) (numbered : NumberedSet) (set : Bits) (numbers : List ℕ) → m' ≡ m → numbered.set ≡ set → numbered.numbers.items ≡ numbers → set.size ≡ height m → length numbers ≡ m.width → AreNumbers (support m) m.width set.words numbers → HasSetNumbers m' numbered
+numbers_at m m' numbered set numbers em es en size long h = subst (λ (z : Matrix). HasSetNumbers z numbered) (sym em) (record {
+  set_size = ap (λ (s : Bits). s.size) es ∙ size;
+  size = ap length en ∙ long;
+  numbers = subst (λ (s : Bits). AreNumbers (support m) m.width s.words numbered.numbers.items) (sym es) (subst (λ (v : List ℕ). AreNumbers (support m) m.width set.words v) (sym en) h);
+})
 
-pub side_numbered : (m by_rows by_columns : Matrix) (rows columns : NumberedSet) → IsMatrix m → by_rows ≡ m → by_columns ≡ transposed m → HasSetNumbers by_rows rows → HasSetNumbers by_columns columns
-    → HasNumbers m (record { lines = record { rows = rows.set; columns = columns.set }; row_numbers = columns.numbers; column_numbers = rows.numbers })
+-- the sizes and the numbers of a side with these rows and columns
+abbrev pub AreSideNumbers : Matrix → (rows columns : NumberedSet) → Type 0
+AreSideNumbers m rows columns = IsMaskOf m (record { rows = rows.set; columns = columns.set }) × AreClassNumbers m columns.set.words columns.numbers.items × AreClassNumbers (transposed m) rows.set.words rows.numbers.items
+
+pub side_numbered : (m by_rows by_columns : Matrix) (rows columns : NumberedSet) → IsMatrix m → by_rows ≡ m → by_columns ≡ transposed m → HasSetNumbers by_rows rows → HasSetNumbers by_columns columns → AreSideNumbers m rows columns
 side_numbered m by_rows by_columns rows columns is er ec has_rows has_columns =
     let one : HasSetNumbers m rows = subst (λ (z : Matrix). HasSetNumbers z rows) er has_rows in
-    let two : HasSetNumbers (transposed m) columns = subst (λ (z : Matrix). HasSetNumbers z columns) ec has_columns in record {
-      lines = record { rows = one.set_size; columns = two.set_size ∙ ap words_for (height-transposed m) };
-      row_size = two.size;
-      column_size = one.size;
-      rows = of_rows m columns.set.items columns.numbers.items (height m) is refl two.numbers;
-      columns = of_columns m rows.set.items rows.numbers.items is one.numbers;
-    }
+    let two : HasSetNumbers (transposed m) columns = subst (λ (z : Matrix). HasSetNumbers z columns) ec has_columns in (
+      record { rows = one.set_size; columns = two.set_size ∙ height-transposed m },
+      of_rows m columns.set.words columns.numbers.items (height m) is refl two.numbers,
+      of_columns m rows.set.words rows.numbers.items is one.numbers,
+    )
 
-pub grown_lines : (before others : LineWords) (rows columns r0 r1 c0 c1 : List ℕ) → r0 ≡ before.rows.items → r1 ≡ others.rows.items → c0 ≡ before.columns.items → c1 ≡ others.columns.items
-    → ((x : ℕ) → has_column rows x ≡ true → (has_column r0 x ≡ true) ⊎ (has_column r1 x ≡ true)) → ((x : ℕ) → has_column columns x ≡ true → (has_column c0 x ≡ true) ⊎ (has_column c1 x ≡ true))
-    → (x : Line) → words_set rows columns x ≡ true → (as_set before x ≡ true) ⊎ (as_set others x ≡ true)
-grown_lines before others rows columns r0 r1 c0 c1 e0 e1 f0 f1 hr hc (Row r) t = elim (hr r t) [
-  | inl a ↦ inl (sym (ap (λ (v : List ℕ). has_column v r) e0) ∙ a)
-  | inr b ↦ inr (sym (ap (λ (v : List ℕ). has_column v r) e1) ∙ b)
-]
-grown_lines before others rows columns r0 r1 c0 c1 e0 e1 f0 f1 hr hc (Column c) t = elim (hc c t) [
-  | inl a ↦ inl (sym (ap (λ (v : List ℕ). has_column v c) f0) ∙ a)
-  | inr b ↦ inr (sym (ap (λ (v : List ℕ). has_column v c) f1) ∙ b)
-]
+-- each row of a set is in the copied set or among the further rows
+pub grown_rows : (before copied further after : Bits) → copied ≡ before → ((x : ℕ) → has_column after.words x ≡ true → (has_column copied.words x ≡ true) ⊎ (has_column further.words x ≡ true))
+    → (x : ℕ) → has_column after.words x ≡ true → (has_column before.words x ≡ true) ⊎ (has_column further.words x ≡ true)
+grown_rows before copied further after e h x t = subst (λ (s : Bits). (has_column s.words x ≡ true) ⊎ (has_column further.words x ≡ true)) e (h x t)
 
-pub heap_rows : (patterns : Patterns) (inside : Bool) (before after columns : List ℕ) → ((r : ℕ) → has_column before r ≡ false) → ((c : ℕ) → has_column columns c ≡ false)
-    → ((x : ℕ) → has_column after x ≡ true → (has_column before x ≡ true) ⊎ (is_in_heap patterns.heaps (slice_index_or patterns.classes.items x 0) inside ≡ true)) → (x : Line) → words_set after columns x ≡ true → rows_heap patterns inside x ≡ true
-heap_rows patterns inside before after columns none empty only (Row r) t = elim (only r t) [ inl old ↦ absurd (not_both (has_column before r) old (none r)) | inr h ↦ h ]
-heap_rows patterns inside before after columns none empty only (Column c) t = absurd (not_both (has_column columns c) t (empty c))
+pub grown_lines : (before further after : LineMask) → ((x : ℕ) → has_column after.rows.words x ≡ true → (has_column before.rows.words x ≡ true) ⊎ (has_column further.rows.words x ≡ true))
+    → ((x : ℕ) → has_column after.columns.words x ≡ true → (has_column before.columns.words x ≡ true) ⊎ (has_column further.columns.words x ≡ true)) → (x : Line) → as_set after x ≡ true → (as_set before x ≡ true) ⊎ (as_set further x ≡ true)
+grown_lines before further after rows columns (Row r) t = rows r t
+grown_lines before further after rows columns (Column c) t = columns c t
 
-pub heap_columns : (patterns : Patterns) (inside : Bool) (before after rows : List ℕ) → ((c : ℕ) → has_column before c ≡ false) → ((r : ℕ) → has_column rows r ≡ false)
-    → ((x : ℕ) → has_column after x ≡ true → (has_column before x ≡ true) ⊎ (is_in_heap patterns.heaps (slice_index_or patterns.classes.items x 0) inside ≡ true)) → (x : Line) → words_set rows after x ≡ true → columns_heap patterns inside x ≡ true
-heap_columns patterns inside before after rows none empty only (Column c) t = elim (only c t) [ inl old ↦ absurd (not_both (has_column before c) old (none c)) | inr h ↦ h ]
-heap_columns patterns inside before after rows none empty only (Row r) t = absurd (not_both (has_column rows r) t (empty r))
+-- ---- heaps
 
-beside : (own own' numbers numbers' : List ℕ) (size size' most : ℕ) → own ≡ own' → numbers ≡ numbers' → size ≡ size' → AreAtMostBeside own numbers size most → AreAtMostBeside own' numbers' size' most
-beside own own' numbers numbers' size size' most eo en es h =
-    subst (λ (v : List ℕ). AreAtMostBeside v numbers' size' most) eo (subst (λ (v : List ℕ). AreAtMostBeside own v size' most) en (subst (λ (n : ℕ). AreAtMostBeside own numbers n most) es h))
+-- the rows of a heap, added to no lines
+pub rows_in_heap : (patterns : LinePatterns) (inside : Bool) (before after : LineMask) (classes : List ℕ) → patterns.columns.heaps.lighter ≤ patterns.rows.heaps.lighter → classes ≡ patterns.side.now.row_numbers.items
+    → ((x : Line) → as_set before x ≡ false) → after.columns ≡ before.columns
+    → ((x : ℕ) → has_column after.rows.words x ≡ true → (has_column before.rows.words x ≡ true) ⊎ (is_in_heap patterns.rows.heaps (slice_index_or classes x 0) inside ≡ true)) → (x : Line) → as_set after x ≡ true → heap_of patterns inside x ≡ true
+rows_in_heap patterns inside before after classes by_rows ec none same only x t =
+    ap (λ (b : Bool). cond b (columns_heap patterns.columns.heaps patterns.side.now.column_numbers.items inside) (rows_heap patterns.rows.heaps patterns.side.now.row_numbers.items inside) x) (is_not_lt patterns.rows.heaps.lighter patterns.columns.heaps.lighter by_rows)
+    ∙ ap (λ (v : List ℕ). rows_heap patterns.rows.heaps v inside x) (sym ec) ∙ in_rows x t
+  where
+    in_rows : (x : Line) → as_set after x ≡ true → rows_heap patterns.rows.heaps classes inside x ≡ true
+    in_rows (Row r) t = elim (only r t) [ inl old ↦ absurd (not_both (has_column before.rows.words r) old (none (Row r))) | inr h ↦ h ]
+    in_rows (Column c) t = absurd (not_both (has_column before.columns.words c) (sym (ap (λ (s : Bits). has_column s.words c) same) ∙ t) (none (Column c)))
 
-pub line_patterns : (m : Matrix) (side : Side) (patterns : LinePatterns) (row_numbers column_numbers own_rows own_columns : List ℕ) (rows columns : ℕ) → HasNumbers m side → rows ≡ height m → columns ≡ m.width
-    → row_numbers ≡ side.row_numbers.items → column_numbers ≡ side.column_numbers.items → own_rows ≡ side.lines.rows.items → own_columns ≡ side.lines.columns.items → patterns.rows.classes.items ≡ row_numbers
-    → patterns.columns.classes.items ≡ column_numbers → AreAtMostBeside own_rows row_numbers rows patterns.rows.most → AreAtMostBeside own_columns column_numbers columns patterns.columns.most → HasPatterns m side.lines patterns
-line_patterns m side patterns row_numbers column_numbers own_rows own_columns rows columns has er ec nr nc eor eoc cr cc most_rows most_columns = record {
-  row_size = ap length (cr ∙ nr) ∙ has.row_size;
-  column_size = ap length (cc ∙ nc) ∙ has.column_size;
-  rows = subst (λ (v : List ℕ). AreClassNumbers m side.lines.columns.items v) (sym (cr ∙ nr)) has.rows;
-  columns = subst (λ (v : List ℕ). AreClassNumbers (transposed m) side.lines.rows.items v) (sym (cc ∙ nc)) has.columns;
-  most_rows = beside own_rows side.lines.rows.items row_numbers patterns.rows.classes.items rows (height m) patterns.rows.most eor (sym cr) er most_rows;
-  most_columns = beside own_columns side.lines.columns.items column_numbers patterns.columns.classes.items columns m.width patterns.columns.most eoc (sym cc) ec most_columns;
-}
+-- the columns of a heap, added to no lines
+pub columns_in_heap : (patterns : LinePatterns) (inside : Bool) (before after : LineMask) (classes : List ℕ) → patterns.rows.heaps.lighter < patterns.columns.heaps.lighter → classes ≡ patterns.side.now.column_numbers.items
+    → ((x : Line) → as_set before x ≡ false) → after.rows ≡ before.rows
+    → ((x : ℕ) → has_column after.columns.words x ≡ true → (has_column before.columns.words x ≡ true) ⊎ (is_in_heap patterns.columns.heaps (slice_index_or classes x 0) inside ≡ true)) → (x : Line) → as_set after x ≡ true → heap_of patterns inside x ≡ true
+columns_in_heap patterns inside before after classes by_columns ec none same only x t =
+    ap (λ (b : Bool). cond b (columns_heap patterns.columns.heaps patterns.side.now.column_numbers.items inside) (rows_heap patterns.rows.heaps patterns.side.now.row_numbers.items inside) x) (is_lt patterns.rows.heaps.lighter patterns.columns.heaps.lighter by_columns)
+    ∙ ap (λ (v : List ℕ). columns_heap patterns.columns.heaps v inside x) (sym ec) ∙ in_columns x t
+  where
+    in_columns : (x : Line) → as_set after x ≡ true → columns_heap patterns.columns.heaps classes inside x ≡ true
+    in_columns (Column c) t = elim (only c t) [ inl old ↦ absurd (not_both (has_column before.columns.words c) old (none (Column c))) | inr h ↦ h ]
+    in_columns (Row r) t = absurd (not_both (has_column before.rows.words r) (sym (ap (λ (s : Bits). has_column s.words r) same) ∙ t) (none (Row r)))
+
+-- ---- patterns
+
+pub beside : (own own' : Bits) (classes classes' : List ℕ) (most : ℕ) → own ≡ own' → classes ≡ classes' → AreAtMostBeside own classes most → AreAtMostBeside own' classes' most
+beside own own' classes classes' most eo ec h = subst (λ (s : Bits). AreAtMostBeside s classes' most) eo (subst (λ (v : List ℕ). AreAtMostBeside own v most) ec h)

@@ -1,8 +1,9 @@
 -- Numbers for lines that distinguish lines with different patterns on a set of lines that cross them.
-use Rattle.std.specs.Prelude.{◌≡◌, ◌≢◌, ◌<◌, ℕ, Bool, true, List, slice_index_or}
+use Rattle.std.specs.Prelude.{◌≡◌, ◌≢◌, ◌<◌, ◌&&◌, ℕ, Bool, true, false, not, nat_eq, nat_lt, List, slice_index_or}
 use Rattle.cmr_base.specs.ColumnSets.{has_column}
 use Rattle.cmr_base.specs.Matrix.{Matrix, height}
 use Rattle.cmr_base.specs.Trees.{support}
+use Rattle.cuts.specs.declared.heaps.Heaps.{Heaps}
 
 -- a line with a number other than 0 is not 0 somewhere on the set; of two lines with different numbers exactly one is 0
 -- somewhere on the set
@@ -17,3 +18,13 @@ AreClassNumbers m crossing classes = AreNumbers (λ column row. support m row co
 -- a line has a number other than 0, and one of the first `size` lines is in a set and has another number other than 0
 abbrev pub IsUnlikeOne : (size : ℕ) → (numbers far : List ℕ) → ℕ → Type 0
 IsUnlikeOne size numbers far x = (slice_index_or numbers x 0 ≢ 0) × (k : ℕ) × (k < size) × (has_column far k ≡ true) × (slice_index_or numbers k 0 ≢ 0) × (slice_index_or numbers x 0 ≢ slice_index_or numbers k 0)
+
+-- ---- heaps of classes
+
+abbrev pub is_between : (low high number : ℕ) → Bool
+is_between low high number = not (nat_lt number low) && not (nat_lt high number)
+
+-- the class is not 0, and its number is in the interval or outside
+abbrev pub is_in_heap : Heaps → ℕ → Bool → Bool
+is_in_heap heaps class true = not (nat_eq class 0) && is_between heaps.low heaps.high class
+is_in_heap heaps class false = not (nat_eq class 0) && not (is_between heaps.low heaps.high class)

@@ -1,8 +1,7 @@
 -- Cuts with given lines in side one and given lines in side two, and the lines that they separate from the lines in side one.
-use Rattle.std.specs.Prelude.{◌≡◌, ◌≢◌, ◌<◌, ◌≤◌, ◌+◌, ◌⊎◌, ℕ, Bool, true, false, not, nat_eq, ◌||◌, ◌&&◌, List}
+use Rattle.std.specs.Prelude.{◌≡◌, ◌≢◌, ◌<◌, ◌≤◌, ◌+◌, ◌⊎◌, ℕ, Bool, true, false, not, nat_eq, ◌||◌, ◌&&◌}
 use Rattle.cmr_base.specs.declared.line.Line.{Line}
 use Rattle.cmr_base.specs.declared.line.Line.TheVariants.{Row, Column}
-use Rattle.cmr_base.specs.ColumnSets.{has_column}
 use Rattle.cmr_base.specs.Matrix.{Matrix, height}
 use Rattle.cmr_base.specs.Separations.{Lines}
 use Rattle.cmr_base.specs.Trees.{support}
@@ -48,9 +47,9 @@ AreOnOneSide m e P = (T : Lines) → IsCut m T → (x : Line) → IsLineOf m x �
 
 -- ---- patterns: the positions in which a line is not 0, on the lines of a set that cross it
 
-abbrev pub IsMet : Matrix → Lines → Line → Type 0
-IsMet m H (Row r) = (c : ℕ) × (c < m.width) × (H (Column c) ≡ true) × (support m r c ≡ true)
-IsMet m H (Column c) = (r : ℕ) × (r < height m) × (H (Row r) ≡ true) × (support m r c ≡ true)
+abbrev pub IsNonzeroOn : Matrix → Lines → Line → Type 0
+IsNonzeroOn m H (Row r) = (c : ℕ) × (c < m.width) × (H (Column c) ≡ true) × (support m r c ≡ true)
+IsNonzeroOn m H (Column c) = (r : ℕ) × (r < height m) × (H (Row r) ≡ true) × (support m r c ≡ true)
 
 -- two rows, or two columns, of which exactly one is 0 somewhere on the set
 abbrev pub Differ : Matrix → Lines → Line → Line → Type 0
@@ -61,8 +60,8 @@ Differ m H (Column c) (Row s) = ⊥
 
 -- the patterns are different, and neither is 0
 pub record AreUnlike (m : Matrix) (H : Lines) (x y : Line) : Type 0 where
-  pub met_one : IsMet m H x
-  pub met_two : IsMet m H y
+  pub met_one : IsNonzeroOn m H x
+  pub met_two : IsNonzeroOn m H y
   pub differ : Differ m H x y
 
 -- each line of one set is unlike each line of the other
@@ -74,12 +73,12 @@ abbrev pub AreClasses : Matrix → Lines → (ℕ → Line) → (ℕ → ℕ) �
 AreClasses m H line class = (a b : ℕ) → IsLineOf m (line a) → IsLineOf m (line b) → H (line a) ≡ false → H (line b) ≡ false → class a ≢ 0 → class b ≢ 0 → class a ≢ class b → AreUnlike m H (line a) (line b)
 
 -- the lines outside the set with class 0 or the given class
-abbrev pub may_be_outside : Lines → (ℕ → Line) → (ℕ → ℕ) → ℕ → ℕ → Bool
-may_be_outside H line class name a = not (H (line a)) && (nat_eq (class a) 0 || nat_eq (class a) name)
+abbrev pub may_be_outside : Lines → (ℕ → Line) → (class : ℕ → ℕ) → (given : ℕ) → ℕ → Bool
+may_be_outside H line class given a = not (H (line a)) && (nat_eq (class a) 0 || nat_eq (class a) given)
 
 -- for each class, at most `bound` lines are outside the set with class 0 or this class
 abbrev pub AreAtMost : Lines → (ℕ → Line) → (ℕ → ℕ) → (size bound : ℕ) → Type 0
-AreAtMost H line class size bound = (name : ℕ) → count (may_be_outside H line class name) size ≤ bound
+AreAtMost H line class size bound = (given : ℕ) → count (may_be_outside H line class given) size ≤ bound
 
 -- a side that has none of the set, and no two unlike lines, has fewer than four lines
 pub record LeavesFew (m : Matrix) (H : Lines) : Type 0 where
@@ -92,10 +91,3 @@ pub record LeavesFew (m : Matrix) (H : Lines) : Type 0 where
   pub rows_at_most : AreAtMost H Row rows (height m) most_rows
   pub columns_at_most : AreAtMost H Column columns m.width most_columns
   pub few : most_rows + most_columns < 4
-
--- ---- sets of lines
-
--- the lines in two sets of words
-abbrev pub words_set : List ℕ → List ℕ → Lines
-words_set rows columns (Row r) = has_column rows r
-words_set rows columns (Column c) = has_column columns c

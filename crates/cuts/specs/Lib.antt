@@ -1,7 +1,6 @@
 pub mod LineCuts
 pub mod Covers
 pub mod Classes
-pub mod WordSets
 pub mod Patterns
 pub mod CutSides
 pub mod CutSearches

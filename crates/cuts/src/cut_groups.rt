@@ -1,18 +1,18 @@
 // Finds groups of lines that no cut separates, one after another.
-ghost use Rattle.std.specs.Prelude.{◌≡◌, ◌<◌, true, IfOk, OnOk, MatchOption};
+ghost use Rattle.std.specs.Prelude.{◌≡◌, true, IfOk, OnOk, MatchOption};
+ghost use Rattle.cmr_base.specs.Components.{IsLineOf};
+ghost use Rattle.cmr_base.specs.LineMasks.{as_set, IsMaskOf};
 ghost use Rattle.cmr_base.specs.declared.line.Line.{Line};
 ghost use Rattle.cuts.specs.Covers.{AreOnOneSide};
 ghost use Rattle.cuts.specs.LineCuts.{HasNames, HoldTogether, IsCut};
 ghost use Rattle.cuts.specs.Finders.{AreFound};
-ghost use Rattle.cuts.specs.WordSets.{HasWords, as_set};
-ghost use Rattle.cmr_base.specs.Components.{IsLineOf};
 
 use crate::cut_search::CutSearch;
 use crate::groups::Groups;
-use crate::line_words::LineWords;
 use crate::next_line::next_line;
+use crate::rest::add_rest;
 use crate::sides::Side;
-use cmr_base::{Line, Memory, RowsAndColumns};
+use cmr_base::{Line, LineMask, Memory, RowsAndColumns};
 use std::alloc::Global;
 
 /// The search examines at most this number of states for each line of the matrix, in total.
@@ -43,7 +43,7 @@ pub fn groups_of(alloc: Global, matrix: &RowsAndColumns<'_>) -> Result<Groups, M
 #[derive(Drop)]
 struct GroupFinder {
     groups: Groups,
-    taken: LineWords,
+    taken: LineMask,
     largest: u32,
     size: u32,
     small: u32,
@@ -56,7 +56,7 @@ impl GroupFinder {
     {
         Ok(GroupFinder {
             groups: Groups::new(alloc, matrix)?,
-            taken: LineWords::new(alloc, matrix)?,
+            taken: LineMask::new(alloc, matrix.rows(), matrix.columns())?,
             largest: 0,
             size: 0,
             small: 0,
@@ -72,7 +72,7 @@ impl GroupFinder {
         if self.small >= SMALL_GROUPS || self.states == 0 {
             return Ok(None);
         }
-        let none = LineWords::new(alloc, matrix)?;
+        let none = LineMask::new(alloc, matrix.rows(), matrix.columns())?;
         Ok(next_line(matrix, &none, &self.taken, &self.taken))
     }
 
@@ -83,34 +83,30 @@ impl GroupFinder {
         ensures { OnOk result (AreFound matrix.now self.new) }
     {
         let mut search = CutSearch {
-            separated: self.taken.copied(alloc, matrix)?,
+            separated: self.taken.copied(alloc)?,
             states: self.states,
         };
-        let name = if self.size == 0 {
-            self.groups.name(matrix, line)
-        } else {
-            self.largest
-        };
+        let own = self.groups.name(matrix.rows(), line);
+        let name = if self.size == 0 { own } else { self.largest };
         if is_covered(alloc, matrix, &self.groups, line, name, &mut search)? {
-            self.groups.rename(matrix, line, &search.separated);
-            self.taken.add_rest(matrix, &search.separated);
-            self.note(matrix, line, search.separated.count_others(matrix));
+            self.groups.rename(line, &search.separated);
+            add_rest(&mut self.taken, &search.separated);
+            self.note(own, search.separated.count_others());
         } else {
-            self.taken = self.taken.with_line(alloc, matrix, line)?;
+            self.taken.insert(line);
             self.small = self.small.saturating_add(1);
         }
         self.states = search.states;
         Ok(())
     }
 
-    // Records the size of a group.
-    fn note(&mut self, matrix: &RowsAndColumns<'_>, line: Line, size: u32)
-        requires found { AreFound matrix.now self.old }
-        requires line { IsLineOf matrix.now line }
-        ensures { AreFound matrix.now self.new }
+    // Records the name and the size of a group.
+    fn note(&mut self, name: u32, size: u32)
+        ensures groups { self.new.groups ≡ self.old.groups }
+        ensures taken { self.new.taken ≡ self.old.taken }
     {
         if size > self.size {
-            self.largest = self.groups.name(matrix, line);
+            self.largest = name;
             self.size = size;
         }
         if size < SMALL {
@@ -132,15 +128,15 @@ fn is_covered(
     requires names { HasNames matrix.now groups.now }
     requires together { HoldTogether (IsCut matrix.now) matrix.now groups.now }
     requires line { IsLineOf matrix.now line }
-    requires separated { HasWords matrix.now search.old.separated }
-    ensures size { OnOk result (HasWords matrix.now search.new.separated) }
+    requires separated { IsMaskOf matrix.now search.old.separated }
+    ensures size { OnOk result (IsMaskOf matrix.now search.new.separated) }
     ensures one_side { IfOk result (λ covered. covered ≡ true
         → AreOnOneSide matrix.now line (as_set search.new.separated)) }
 {
     let depth = matrix.rows() + matrix.columns() + 2;
     let nothing = Side::empty(alloc, matrix)?;
     let first = nothing.with_line(alloc, matrix, line)?;
-    let group = groups.lines(alloc, matrix, name)?;
+    let group = groups.lines(alloc, matrix.rows(), matrix.columns(), name)?;
     let more = first.grown(alloc, matrix, &group)?;
     if !search.search(alloc, matrix, &more, &nothing, depth)? {
         return Ok(false);

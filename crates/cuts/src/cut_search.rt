@@ -1,14 +1,13 @@
 // Searches for the lines that cuts separate from given lines of side one.
 ghost use Rattle.std.specs.Prelude.{IfOk};
 ghost use Rattle.cuts.specs.CutSearches.{CanSearch, HasMarked};
-ghost use Rattle.cuts.specs.Patterns.{HasPatterns};
-ghost use Rattle.cuts.specs.WordSets.{HasWords};
 
+use crate::LEAST_SIDE;
 use crate::line_patterns::LinePatterns;
-use crate::line_words::LineWords;
 use crate::next_line::next_line;
+use crate::rest::{add_rest, has_rest};
 use crate::sides::Side;
-use cmr_base::{Memory, RowsAndColumns};
+use cmr_base::{LineMask, Memory, RowsAndColumns};
 use std::alloc::Global;
 
 /// Class 0 has many lines if more than one line in `MANY_ZEROS` has it.
@@ -18,7 +17,7 @@ const MANY_ZEROS: u32 = 2;
 /// examine.
 #[derive(Drop)]
 pub struct CutSearch {
-    pub separated: LineWords,
+    pub separated: LineMask,
     pub states: u32,
 }
 
@@ -38,10 +37,10 @@ impl CutSearch {
         ensures { IfOk result
             (HasMarked matrix.now one.now two.now self.old.separated self.new.separated) }
     {
-        if one.lines.meets(matrix, &two.lines) {
+        if one.meets(&two.lines) {
             return Ok(true);
         }
-        if self.separated.have_all(matrix, &one.lines) {
+        if has_rest(&self.separated, &one.lines) {
             return Ok(true);
         }
         if depth == 0 || self.states == 0 {
@@ -71,19 +70,20 @@ impl CutSearch {
         ensures { IfOk result
             (HasMarked matrix.now one.now two.now self.old.separated self.new.separated) }
     {
-        let near = LinePatterns::of(alloc, matrix, one)?;
-        if near.are_few(matrix, &one.lines) {
+        let _shape = matrix.rows();
+        let near = LinePatterns::of(alloc, one)?;
+        if near.are_few() {
             return Ok(true);
         }
-        if near.have_one_class() && one.lines.are_enough(matrix) {
-            self.separated.add_rest(matrix, &one.lines);
+        if near.have_one_class() && one.lines.count() >= LEAST_SIDE {
+            add_rest(&mut self.separated, &one.lines);
             return Ok(true);
         }
-        let far = LinePatterns::of(alloc, matrix, two)?;
-        if far.are_few(matrix, &two.lines) {
+        let far = LinePatterns::of(alloc, two)?;
+        if far.are_few() {
             return Ok(true);
         }
-        self.search_halves(alloc, matrix, one, two, &near, &far, depth)
+        self.search_halves(alloc, matrix, &near, &far, depth)
     }
 
     // The same by halves of the lines outside side one, or outside side two.
@@ -92,26 +92,23 @@ impl CutSearch {
         &mut self,
         alloc: Global,
         matrix: &RowsAndColumns<'_>,
-        one: &Side,
-        two: &Side,
-        near: &LinePatterns,
-        far: &LinePatterns,
+        near: &LinePatterns<'_>,
+        far: &LinePatterns<'_>,
         depth: u32,
     ) -> Result<bool, Memory>
-        requires sides { CanSearch matrix.now self.old.separated one.now two.now }
-        requires near { HasPatterns matrix.now one.now.lines near.now }
-        requires far { HasPatterns matrix.now two.now.lines far.now }
-        ensures { IfOk result
-            (HasMarked matrix.now one.now two.now self.old.separated self.new.separated) }
+        requires { CanSearch matrix.now self.old.separated near.now.side.now far.now.side.now }
+        ensures { IfOk result (HasMarked matrix.now near.now.side.now far.now.side.now
+            self.old.separated self.new.separated) }
     {
-        let least = least_heap(matrix, one, two, near, far);
-        if let Some(halves) = near.halves(alloc, matrix, one, least)? {
+        let one = near.side;
+        let two = far.side;
+        if let Some(halves) = near.halves(alloc, matrix, least_heap(near, far))? {
             if !self.search(alloc, matrix, &halves.one, two, depth)? {
                 return Ok(false);
             }
             return self.search(alloc, matrix, &halves.other, two, depth);
         }
-        if let Some(halves) = far.halves(alloc, matrix, two, 0)? {
+        if let Some(halves) = far.halves(alloc, matrix, 0)? {
             if !self.search(alloc, matrix, one, &halves.one, depth)? {
                 return Ok(false);
             }
@@ -135,7 +132,7 @@ impl CutSearch {
             (HasMarked matrix.now one.now two.now self.old.separated self.new.separated) }
     {
         let Some(line) = next_line(matrix, &one.lines, &two.lines, &self.separated) else {
-            self.separated.add_rest(matrix, &one.lines);
+            add_rest(&mut self.separated, &one.lines);
             return Ok(true);
         };
         let more_one = one.with_line(alloc, matrix, line)?;
@@ -150,16 +147,9 @@ impl CutSearch {
 // The number of lines that the lighter heap outside side one needs to be chosen. No heap is chosen if side two has no lines and
 // many lines outside side one have class 0. In this case halves would be divided again and again, and a line in side two
 // determines lines of side one at once.
-fn least_heap(
-    matrix: &RowsAndColumns<'_>,
-    one: &Side,
-    two: &Side,
-    near: &LinePatterns,
-    far: &LinePatterns,
-) -> u32
-    requires { HasWords matrix.now one.now.lines }
-{
-    if two.lines.are_none() && near.zeros() > one.lines.count_others(matrix) / MANY_ZEROS {
+fn least_heap(near: &LinePatterns<'_>, far: &LinePatterns<'_>) -> u32 {
+    let (one, two) = (near.side, far.side);
+    if two.lines.is_empty() && near.zeros() > one.lines.count_others() / MANY_ZEROS {
         u32::MAX
     } else {
         far.lighter()

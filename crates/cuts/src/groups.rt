@@ -1,17 +1,14 @@
 // Groups of lines that cuts keep together.
-ghost use Rattle.std.specs.Prelude.{◌≡◌, ◌<◌, ◌≤◌, ◌+◌, ◌↔◌, ℕ, length, slice_index_or, true, false, cond, IsTrue, IfOk};
+ghost use Rattle.std.specs.Prelude.{◌≡◌, ◌<◌, ◌≤◌, ◌+◌, ◌-◌, ◌↔◌, ℕ, length, slice_index_or, true, cond, IsTrue, IfOk};
 ghost use Rattle.cmr_base.specs.ColumnSets.{has_column};
-ghost use Rattle.cmr_base.specs.Matrix.{height};
-ghost use Rattle.cmr_base.specs.Planes.{words_for};
+ghost use Rattle.cmr_base.specs.LineMasks.{as_set, IsMask, IsMaskOf};
+ghost use Rattle.cmr_base.specs.Matrix.{Matrix, height};
+ghost use Rattle.cmr_base.specs.Seeds.{IsLine};
 ghost use Rattle.cmr_base.specs.declared.line.Line.{Line};
 ghost use Rattle.cuts.specs.Covers.{GetName};
 ghost use Rattle.cuts.specs.LineCuts.{HasNames, name_of};
-ghost use Rattle.cuts.specs.WordSets.{HasWords, as_set};
-ghost use Rattle.cmr_base.specs.Components.{IsLineOf};
 
-use crate::line_words::LineWords;
-use cmr_base::columns::{add_column, empty_set, has_column};
-use cmr_base::{Line, MAX_ROWS, Memory, RowsAndColumns, own_labels};
+use cmr_base::{BitSet, Line, LineMask, MAX_COLUMNS, MAX_ROWS, Memory, RowsAndColumns, own_labels};
 use std::alloc::Global;
 
 /// A name for the group of each line, rows first.
@@ -56,52 +53,52 @@ impl Groups {
         true
     }
 
-    /// The name of a line's group.
-    pub fn name(&self, matrix: &RowsAndColumns<'_>, line: Line) -> u32
-        requires names { HasNames matrix.now self.now }
-        requires line { IsLineOf matrix.now line }
-        ensures { result ≡ name_of matrix.now self.now line }
+    /// The name of a line's group, in a matrix of this number of rows.
+    pub fn name(&self, rows: u32, line: Line) -> u32
+        requires rows { rows ≤ length self.now.names.items }
+        requires line { IsLine rows (length self.now.names.items - rows) line }
+        ensures { (m : Matrix) → height m ≡ rows → result ≡ name_of m self.now line }
     {
         match line {
             Line::Row(row) => self.names[row as usize],
-            Line::Column(column) => self.names[(matrix.rows() + column) as usize],
+            Line::Column(column) => self.names[rows as usize + column as usize],
         }
     }
 
-    /// The lines of a name.
+    /// The lines of a name, in a matrix with these numbers of rows and columns.
     pub fn lines(
         &self,
         alloc: Global,
-        matrix: &RowsAndColumns<'_>,
+        rows: u32,
+        columns: u32,
         name: u32,
-    ) -> Result<LineWords, Memory>
-        requires { HasNames matrix.now self.now }
-        ensures size { IfOk result (HasWords matrix.now) }
-        ensures named { IfOk result (λ lines. (x : Line) → IsLineOf matrix.now x
-            → as_set lines x ≡ true → name_of matrix.now self.now x ≡ name) }
+    ) -> Result<LineMask, Memory>
+        requires rows { rows ≤ MAX_ROWS }
+        requires columns { columns ≤ MAX_COLUMNS }
+        requires names { length self.now.names.items ≡ rows + columns }
+        ensures size { IfOk result (IsMask rows columns) }
+        ensures named { IfOk result (λ lines. (m : Matrix) → height m ≡ rows → (x : Line)
+            → as_set lines x ≡ true → name_of m self.now x ≡ name) }
     {
-        let rows = lines_named(alloc, &self.names, 0, matrix.rows(), name)?;
-        let columns = lines_named(alloc, &self.names, matrix.rows(), matrix.columns(), name)?;
-        Ok(LineWords { rows, columns })
+        Ok(LineMask {
+            rows: lines_named(alloc, &self.names, 0, rows, name)?,
+            columns: lines_named(alloc, &self.names, rows, columns, name)?,
+        })
     }
 
     /// Gives the name of a line to all lines that are not in `separated`.
-    pub fn rename(&mut self, matrix: &RowsAndColumns<'_>, line: Line, separated: &LineWords)
-        requires names { HasNames matrix.now self.old }
-        requires line { IsLineOf matrix.now line }
-        requires separated { HasWords matrix.now separated.now }
-        ensures names { HasNames matrix.now self.new }
-        ensures get { GetName matrix.now self.old self.new (as_set separated.now) line }
+    pub fn rename(&mut self, line: Line, separated: &LineMask)
+        requires names { length self.old.names.items
+            ≡ separated.now.rows.size + separated.now.columns.size }
+        requires line { IsLine separated.now.rows.size separated.now.columns.size line }
+        ensures size { length self.new.names.items ≡ length self.old.names.items }
+        ensures get { (m : Matrix) → IsMaskOf m separated.now
+            → GetName m self.old self.new (as_set separated.now) line }
     {
-        let name = self.name(matrix, line);
-        rename_others(&mut self.names, 0, matrix.rows(), &separated.rows, name);
-        rename_others(
-            &mut self.names,
-            matrix.rows(),
-            matrix.columns(),
-            &separated.columns,
-            name,
-        );
+        let rows = separated.rows.size();
+        let name = self.name(rows, line);
+        rename_others(&mut self.names, 0, &separated.rows, name);
+        rename_others(&mut self.names, rows, &separated.columns, name);
     }
 }
 
@@ -112,40 +109,38 @@ fn lines_named(
     from: u32,
     count: u32,
     name: u32,
-) -> Result<Vec<u64>, Memory>
+) -> Result<BitSet, Memory>
     requires from { from ≤ MAX_ROWS }
-    requires count { count ≤ MAX_ROWS }
+    requires count { count ≤ MAX_COLUMNS }
     requires names { from + count ≤ length names.now }
-    ensures size { IfOk result (λ lines. length lines.items ≡ words_for count) }
-    ensures named { IfOk result (λ lines. (x : ℕ) → has_column lines.items x ≡ true
+    ensures size { IfOk result (λ lines. lines.size ≡ count) }
+    ensures named { IfOk result (λ lines. (x : ℕ) → has_column lines.words x ≡ true
         → slice_index_or names.now (from + x) 0 ≡ name) }
 {
-    let mut lines = empty_set(alloc, count)?;
+    let mut lines = BitSet::new(alloc, count)?;
     for line in 0..count {
         if names[(from + line) as usize] == name {
-            add_column(&mut lines, line);
+            lines.insert(line);
         }
     }
     Ok(lines)
 }
 
-// Gives a name to the lines that are not in `kept`, among `count` lines. The name of line k is at position `from` + k.
-fn rename_others(names: &mut Vec<u32>, from: u32, count: u32, kept: &[u64], name: u32)
+// Gives a name to the lines that are not in `kept`. The name of line k is at position `from` + k.
+fn rename_others(names: &mut Vec<u32>, from: u32, kept: &BitSet, name: u32)
     requires from { from ≤ MAX_ROWS }
-    requires count { count ≤ MAX_ROWS }
-    requires names { from + count ≤ length names.old.items }
-    requires kept { length kept.now ≡ words_for count }
+    requires names { from + kept.now.size ≤ length names.old.items }
     ensures size { length names.new.items ≡ length names.old.items }
-    ensures lines { (x : ℕ) → x < count
+    ensures lines { (x : ℕ) → x < kept.now.size
         → slice_index_or names.new.items (from + x) 0
-        ≡ cond (has_column kept.now x) (slice_index_or names.old.items (from + x) 0) name }
+        ≡ cond (has_column kept.now.words x) (slice_index_or names.old.items (from + x) 0) name }
     ensures before { (k : ℕ) → k < from
         → slice_index_or names.new.items k 0 ≡ slice_index_or names.old.items k 0 }
-    ensures after { (k : ℕ) → from + count ≤ k
+    ensures after { (k : ℕ) → from + kept.now.size ≤ k
         → slice_index_or names.new.items k 0 ≡ slice_index_or names.old.items k 0 }
 {
-    for line in 0..count {
-        if !has_column(kept, line) {
+    for line in 0..kept.size() {
+        if !kept.has(line) {
             names[(from + line) as usize] = name;
         }
     }

@@ -1,4 +1,6 @@
 // Classes of lines in two heaps: the classes in an interval of numbers, and the other classes.
+ghost use Rattle.std.specs.Prelude.{◌≡◌};
+ghost use Rattle.cuts.specs.Classes.{is_in_heap};
 
 /// The classes from `low` to `high`, and the number of lines in the lighter heap. If this number is 0, there are no two heaps.
 #[derive(Clone, Copy)]
@@ -6,6 +8,15 @@ pub struct Heaps {
     pub low: u64,
     pub high: u64,
     pub lighter: u32,
+}
+
+impl Heaps {
+    /// Whether a class is in the heap of the interval, or in the other heap.
+    pub fn has(&self, class: u64, inside: bool) -> bool
+        ensures { result ≡ is_in_heap self.now class inside }
+    {
+        class != 0 && (self.low <= class && class <= self.high) == inside
+    }
 }
 
 // The number of zeros before the first class.

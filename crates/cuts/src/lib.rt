@@ -6,10 +6,12 @@ mod cut_groups;
 mod cut_search;
 mod groups;
 mod heaps;
+mod line_classes;
 mod line_patterns;
-mod line_words;
 mod next_line;
+mod numbered_set;
 mod patterns;
+mod rest;
 mod sides;
 
 pub use corners::Corners;

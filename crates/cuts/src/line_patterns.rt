@@ -1,16 +1,11 @@
 // Patterns of the rows and of the columns outside a side, and two larger sides that they give.
-ghost use Rattle.std.specs.Prelude.{◌≡◌, ◌<◌, ◌+◌, true, IfOk, MatchOption};
-ghost use Rattle.cmr_base.specs.Separations.{Lines};
-ghost use Rattle.cuts.specs.Covers.{Covers, IsHalved};
-ghost use Rattle.cuts.specs.WordSets.{HasWords, as_set};
-ghost use Rattle.cuts.specs.Patterns.{HasPatterns};
-ghost use Rattle.cuts.specs.CutSides.{AreHalves, HasNumbers};
+ghost use Rattle.std.specs.Prelude.{◌≡◌, ◌<◌, ◌+◌, true};
+ghost use Rattle.cuts.specs.Patterns.{AreAtMostBeside};
 
 use crate::LEAST_SIDE;
-use crate::line_words::LineWords;
 use crate::patterns::Patterns;
 use crate::sides::Side;
-use cmr_base::{Memory, RowsAndColumns};
+use cmr_base::{LineMask, Memory, RowsAndColumns};
 use std::alloc::Global;
 
 /// Two larger sides.
@@ -20,41 +15,43 @@ pub struct Halves {
     pub other: Side,
 }
 
-/// Patterns of the rows on the columns of a side, and of the columns on its rows.
-#[derive(Drop)]
-pub struct LinePatterns {
-    pub rows: Patterns,
-    pub columns: Patterns,
+/// Patterns of the rows outside a side on its columns, and of the columns outside on its rows.
+#[derive(Clone, Copy)]
+pub struct LinePatterns<'s> {
+    pub side: &'s Side,
+    rows: Patterns,
+    columns: Patterns,
+    ghost most_rows: { AreAtMostBeside side.now.lines.rows side.now.row_numbers.items rows.most },
+    ghost most_columns: { AreAtMostBeside side.now.lines.columns side.now.column_numbers.items columns.most },
 }
 
-impl LinePatterns {
+impl<'s> LinePatterns<'s> {
+    ghost use Rattle.std.specs.Prelude.{◌≡◌, ◌<◌, ◌+◌, true, IfOk, MatchOption};
+    ghost use Rattle.cmr_base.specs.LineMasks.{as_set, AreAlike};
+    ghost use Rattle.cmr_base.specs.Matrix.{Matrix, IsMatrix};
+    ghost use Rattle.cmr_base.specs.Separations.{Lines};
+    ghost use Rattle.cmr_base.specs.declared.line.Line.{Line};
+    ghost use Rattle.cuts.specs.Covers.{Covers};
+    ghost use Rattle.cuts.specs.CutSides.{AreHalves, HasNumbers, heap_of};
+
     /// The patterns of the lines outside a side.
-    pub fn of(
-        alloc: Global,
-        matrix: &RowsAndColumns<'_>,
-        side: &Side,
-    ) -> Result<LinePatterns, Memory>
-        requires side { HasNumbers matrix.now side.now }
-        ensures { IfOk result (HasPatterns matrix.now side.now.lines) }
+    pub fn of(alloc: Global, side: &'s Side) -> Result<LinePatterns<'s>, Memory>
+        ensures { IfOk result (λ patterns. patterns.side.now ≡ side.entry.now) }
     {
-        let lines = &side.lines;
-        let rows = Patterns::of(alloc, matrix.rows(), &side.row_numbers, &lines.rows)?;
-        let columns = Patterns::of(
-            alloc,
-            matrix.columns(),
-            &side.column_numbers,
-            &lines.columns,
-        )?;
-        Ok(LinePatterns { rows, columns })
+        Ok(LinePatterns {
+            side,
+            rows: Patterns::of(alloc, &side.rows())?,
+            columns: Patterns::of(alloc, &side.columns())?,
+        })
     }
 
-    /// Whether the other side of each cut with these lines on one side has too few lines.
-    pub fn are_few(&self, matrix: &RowsAndColumns<'_>, lines: &LineWords) -> bool
-        requires { HasPatterns matrix.now lines.now self.now }
-        ensures near { result ≡ true → (K P : Lines) → Covers matrix.now (as_set lines.now) K P }
-        ensures far { result ≡ true → (H P : Lines) → Covers matrix.now H (as_set lines.now) P }
+    /// Whether the other side of each cut with the lines of the side on one side has too few lines.
+    pub fn are_few(&self) -> bool
+        ensures near { result ≡ true → (m : Matrix) → IsMatrix m → HasNumbers m self.now.side.now
+            → (K P : Lines) → Covers m (as_set self.now.side.now.lines) K P }
+        ensures far { result ≡ true → (m : Matrix) → IsMatrix m → HasNumbers m self.now.side.now
+            → (H P : Lines) → Covers m H (as_set self.now.side.now.lines) P }
     {
-        let _shape = matrix.rows();
         are_too_few(self.rows.most, self.columns.most)
     }
 
@@ -79,78 +76,41 @@ impl LinePatterns {
         &self,
         alloc: Global,
         matrix: &RowsAndColumns<'_>,
-        side: &Side,
         least: u32,
     ) -> Result<Option<Halves>, Memory>
-        requires side { HasNumbers matrix.now side.now }
-        requires patterns { HasPatterns matrix.now side.now.lines self.now }
+        requires { HasNumbers matrix.now self.now.side.now }
         ensures { IfOk result (λ found.
-            MatchOption found (Unit {0}) (AreHalves matrix.now side.now)) }
+            MatchOption found (Unit {0}) (AreHalves matrix.now self.now.side.now)) }
     {
         if self.have_one_class() || self.lighter() < least {
             return Ok(None);
         }
+        let _shape = matrix.rows();
+        let one = self.heap(alloc, true)?;
+        let other = self.heap(alloc, false)?;
+        Ok(Some(Halves {
+            one: self.side.grown(alloc, matrix, &one)?,
+            other: self.side.grown(alloc, matrix, &other)?,
+        }))
+    }
+
+    // The lines of one heap, or of the other: the rows or the columns, whose lighter heap is heavier.
+    fn heap(&self, alloc: Global, inside: bool) -> Result<LineMask, Memory>
+        ensures size { IfOk result (AreAlike self.now.side.now.lines) }
+        ensures lines { IfOk result (λ heap. (x : Line) → as_set heap x ≡ true
+            → heap_of self.now inside x ≡ true) }
+    {
+        let lines = &self.side.lines;
+        let mut heap = LineMask::new(alloc, lines.rows.size(), lines.columns.size())?;
         if self.rows.heaps.lighter >= self.columns.heaps.lighter {
-            Ok(Some(self.halves_by_rows(alloc, matrix, side)?))
-        } else {
-            Ok(Some(self.halves_by_columns(alloc, matrix, side)?))
+            let classes = self.side.rows();
+            classes.add_heap(&mut heap.rows, &self.rows.heaps, inside);
+            return Ok(heap);
         }
+        let classes = self.side.columns();
+        classes.add_heap(&mut heap.columns, &self.columns.heaps, inside);
+        Ok(heap)
     }
-
-    fn halves_by_rows(
-        &self,
-        alloc: Global,
-        matrix: &RowsAndColumns<'_>,
-        side: &Side,
-    ) -> Result<Halves, Memory>
-        requires side { HasNumbers matrix.now side.now }
-        requires patterns { HasPatterns matrix.now side.now.lines self.now }
-        ensures { IfOk result (AreHalves matrix.now side.now) }
-    {
-        let _shape = matrix.rows();
-        let one = LineWords::of_rows(alloc, matrix, &self.rows, true)?;
-        let other = LineWords::of_rows(alloc, matrix, &self.rows, false)?;
-        grown_halves(alloc, matrix, side, &one, &other)
-    }
-
-    fn halves_by_columns(
-        &self,
-        alloc: Global,
-        matrix: &RowsAndColumns<'_>,
-        side: &Side,
-    ) -> Result<Halves, Memory>
-        requires side { HasNumbers matrix.now side.now }
-        requires patterns { HasPatterns matrix.now side.now.lines self.now }
-        ensures { IfOk result (AreHalves matrix.now side.now) }
-    {
-        let _shape = matrix.rows();
-        let one = LineWords::of_columns(alloc, matrix, &self.columns, true)?;
-        let other = LineWords::of_columns(alloc, matrix, &self.columns, false)?;
-        grown_halves(alloc, matrix, side, &one, &other)
-    }
-}
-
-// The side with each of two sets of lines. Each cut has one of the sets on this side.
-fn grown_halves(
-    alloc: Global,
-    matrix: &RowsAndColumns<'_>,
-    side: &Side,
-    one: &LineWords,
-    other: &LineWords,
-) -> Result<Halves, Memory>
-    requires side { HasNumbers matrix.now side.now }
-    requires one { HasWords matrix.now one.now }
-    requires other { HasWords matrix.now other.now }
-    requires halved { IsHalved matrix.now (as_set side.now.lines) (as_set one.now)
-        (as_set other.now) }
-    ensures { IfOk result (AreHalves matrix.now side.now) }
-{
-    let more_one = side.grown(alloc, matrix, one)?;
-    let more_other = side.grown(alloc, matrix, other)?;
-    Ok(Halves {
-        one: more_one,
-        other: more_other,
-    })
 }
 
 // Whether these are too few lines for a side of a cut.

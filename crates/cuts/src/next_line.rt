@@ -1,47 +1,46 @@
 // The next line that a search puts into side one, and then into side two.
-ghost use Rattle.std.specs.Prelude.{◌≡◌, ◌<◌, length, MatchOption};
-ghost use Rattle.cmr_base.specs.Matrix.{height};
-ghost use Rattle.cmr_base.specs.Planes.{words_for};
-ghost use Rattle.cuts.specs.WordSets.{HasWords};
+ghost use Rattle.std.specs.Prelude.{◌≡◌, MatchOption};
 ghost use Rattle.cmr_base.specs.Components.{IsLineOf};
+ghost use Rattle.cmr_base.specs.LineMasks.{IsMaskOf};
+ghost use Rattle.cmr_base.specs.Matrix.{height};
 
-use crate::line_words::LineWords;
-use cmr_base::columns::{has_column, meets};
-use cmr_base::{Line, Matrix, RowsAndColumns};
+use cmr_base::{BitSet, Line, LineMask, Matrix, RowsAndColumns, columns_of};
 
 /// A line has a greater value than lines with more nonzeros if it crosses a line of side one, and then if no cut is known to
 /// separate it.
 const CROSSING: u32 = 4096;
 
-const NOT_PARTED: u32 = 2048;
+const NOT_SEPARATED: u32 = 2048;
 
 /// The line with the greatest value among the lines on neither side. Lines that cross a line of side one come first, then lines
 /// that are not in `separated`, then lines with many nonzeros.
 pub fn next_line(
     matrix: &RowsAndColumns<'_>,
-    one: &LineWords,
-    two: &LineWords,
-    separated: &LineWords,
+    one: &LineMask,
+    two: &LineMask,
+    separated: &LineMask,
 ) -> Option<Line>
-    requires one { HasWords matrix.now one.now }
-    requires two { HasWords matrix.now two.now }
-    requires separated { HasWords matrix.now separated.now }
+    requires one { IsMaskOf matrix.now one.now }
+    requires two { IsMaskOf matrix.now two.now }
+    requires separated { IsMaskOf matrix.now separated.now }
     ensures { MatchOption result (Unit {0}) (IsLineOf matrix.now) }
 {
-    let row = next_row(
-        matrix.by_rows(),
-        &one.rows,
-        &two.rows,
-        &separated.rows,
-        &one.columns,
-    );
-    let column = next_row(
-        matrix.by_columns(),
-        &one.columns,
-        &two.columns,
-        &separated.columns,
-        &one.rows,
-    );
+    let rows = RowChoice {
+        matrix: matrix.by_rows(),
+        one: &one.rows,
+        two: &two.rows,
+        separated: &separated.rows,
+        crossing: &one.columns,
+    };
+    let columns = RowChoice {
+        matrix: matrix.by_columns(),
+        one: &one.columns,
+        two: &two.columns,
+        separated: &separated.columns,
+        crossing: &one.rows,
+    };
+    let row = rows.best();
+    let column = columns.best();
     if row.value == 0 && column.value == 0 {
         return None;
     }
@@ -61,48 +60,53 @@ struct Candidate {
     value: u32,
 }
 
-// The row with the greatest value among the rows on neither side.
-fn next_row(
-    matrix: &Matrix,
-    one: &[u64],
-    two: &[u64],
-    separated: &[u64],
-    crossing: &[u64],
-) -> Candidate
-    requires one { length one.now ≡ words_for (height matrix.now) }
-    requires two { length two.now ≡ words_for (height matrix.now) }
-    requires separated { length separated.now ≡ words_for (height matrix.now) }
-    requires crossing { length crossing.now ≡ words_for matrix.now.width }
-{
-    let mut best = Candidate { line: 0, value: 0 };
-    for row in 0..matrix.rows() {
-        if !has_column(one, row) && !has_column(two, row) {
-            let value = value_of(
-                matrix.support_words(row),
-                crossing,
-                has_column(separated, row),
-            );
-            if value > best.value {
-                best = Candidate { line: row, value };
-            }
-        }
-    }
-    best
+// The rows of a matrix, those on each side, those that some cut separates, and the columns of side one.
+#[derive(Clone, Copy)]
+struct RowChoice<'s> {
+    matrix: &'s Matrix,
+    one: &'s BitSet,
+    two: &'s BitSet,
+    separated: &'s BitSet,
+    crossing: &'s BitSet,
+    ghost one_size: { one.now.size ≡ height matrix.now },
+    ghost two_size: { two.now.size ≡ height matrix.now },
+    ghost separated_size: { separated.now.size ≡ height matrix.now },
+    ghost crossing_size: { crossing.now.size ≡ matrix.now.width },
 }
 
-// The value of a row with these words.
-fn value_of(words: &[u64], crossing: &[u64], is_parted: bool) -> u32
-    requires { length words.now ≡ length crossing.now }
-{
-    let mut value = 1u32;
-    for word in words {
-        value = value.saturating_add(word.count_ones());
+impl<'s> RowChoice<'s> {
+    ghost use Rattle.std.specs.Prelude.{◌<◌};
+    ghost use Rattle.cmr_base.specs.Matrix.{height};
+
+    // The row with the greatest value among the rows on neither side.
+    fn best(&self) -> Candidate {
+        let mut best = Candidate { line: 0, value: 0 };
+        for row in 0..self.matrix.rows() {
+            if !self.one.has(row) && !self.two.has(row) {
+                let value = self.value_of(row);
+                if value > best.value {
+                    best = Candidate { line: row, value };
+                }
+            }
+        }
+        best
     }
-    if meets(words, crossing) {
-        value = value.saturating_add(CROSSING);
+
+    // The value of a row.
+    fn value_of(&self, row: u32) -> u32
+        requires { row < height self.now.matrix.now }
+    {
+        let words = columns_of(self.matrix, row);
+        let mut value = 1u32;
+        for word in words {
+            value = value.saturating_add(word.count_ones());
+        }
+        if self.crossing.meets_words(words) {
+            value = value.saturating_add(CROSSING);
+        }
+        if !self.separated.has(row) {
+            value = value.saturating_add(NOT_SEPARATED);
+        }
+        value
     }
-    if !is_parted {
-        value = value.saturating_add(NOT_PARTED);
-    }
-    value
 }

@@ -1,49 +1,38 @@
 // Patterns of the rows outside a side, on the columns of the side.
-ghost use Rattle.std.specs.Prelude.{◌≡◌, ◌<◌, ◌≤◌, ◌+◌, ◌⊎◌, ℕ, List, length, slice_index_or, cond, nat_eq, not, IfOk};
+ghost use Rattle.std.specs.Prelude.{◌≡◌, ◌<◌, ◌≤◌, ◌+◌, ◌⊎◌, ℕ, List, length, slice_index_or, cond, nat_eq, IfOk};
 ghost use Rattle.std.specs.List.Sorted.{IsNonDecreasing};
-ghost use Rattle.cmr_base.specs.ColumnSets.{has_column};
-ghost use Rattle.cmr_base.specs.Planes.{words_for};
-ghost use Rattle.cmr_base.specs.Seeds.{count};
 ghost use Rattle.cuts.specs.Patterns.{AreAtMostBeside, AreAtMostListed, AreOpen, AreShort, AreRunsCounted};
 
 use crate::heaps::{Heaps, middle_heaps, no_heaps};
-use cmr_base::columns::{count_below, has_column};
+use crate::line_classes::LineClasses;
 use cmr_base::{MAX_ROWS, Memory};
 use std::alloc::Global;
 
-/// Classes of the rows. The other fields count rows outside a set: a bound on the rows in class 0 and one other class, the
-/// number of rows in class 0, and two heaps of their classes.
-#[derive(Drop)]
+/// Counts of the rows outside a side: a bound on the rows in class 0 and one other class, the number of rows in class 0, and two
+/// heaps of their classes.
+#[derive(Clone, Copy)]
 pub struct Patterns {
-    pub classes: Vec<u64>,
     pub most: u32,
     pub zeros: u32,
     pub heaps: Heaps,
 }
 
 impl Patterns {
-    /// The patterns of the rows that are not in `own`, with these numbers. Rows are not sorted if they all have one class.
-    pub fn of(alloc: Global, rows: u32, numbers: &[u64], own: &[u64]) -> Result<Patterns, Memory>
-        requires rows { rows ≤ MAX_ROWS }
-        requires numbers { length numbers.now ≡ rows }
-        requires own { length own.now ≡ words_for rows }
-        ensures classes { IfOk result (λ patterns. patterns.classes.items ≡ numbers.now) }
-        ensures most { IfOk result (λ patterns.
-            AreAtMostBeside own.now numbers.now rows patterns.most) }
+    /// The patterns of the rows outside a side. Rows are not sorted if they all have one class.
+    pub fn of(alloc: Global, classes: &LineClasses<'_>) -> Result<Patterns, Memory>
+        ensures { IfOk result (λ patterns. AreAtMostBeside classes.now.own.now
+            classes.now.numbers.now patterns.most) }
     {
-        let classes = Vec::from_slice(alloc, numbers)?;
-        let zeros = count_zeros(rows, numbers, own);
-        if !have_two_classes(rows, numbers, own) {
+        let zeros = count_zeros(classes);
+        if !have_two_classes(classes) {
             return Ok(Patterns {
-                classes,
-                most: count_others(own, rows),
+                most: classes.own.count_others(),
                 zeros,
                 heaps: no_heaps(),
             });
         }
-        let sorted = sorted_classes(alloc, rows, numbers, own)?;
+        let sorted = sorted_classes(alloc, classes)?;
         Ok(Patterns {
-            classes,
             most: most_alike(&sorted),
             zeros,
             heaps: middle_heaps(&sorted),
@@ -51,37 +40,23 @@ impl Patterns {
     }
 }
 
-/// The number of rows that are not in a set.
-pub fn count_others(set: &[u64], rows: u32) -> u32
-    requires { length set.now ≡ words_for rows }
-    ensures { result ≡ count (λ x. not (has_column set.now x)) rows }
-{
-    rows - count_below(set, rows)
-}
-
-// The number of rows outside `own` with class 0.
-fn count_zeros(rows: u32, numbers: &[u64], own: &[u64]) -> u32
-    requires numbers { length numbers.now ≡ rows }
-    requires own { length own.now ≡ words_for rows }
-{
+// The number of rows outside a side with class 0.
+fn count_zeros(classes: &LineClasses<'_>) -> u32 {
     let mut zeros = 0u32;
-    for row in 0..rows {
-        if numbers[row as usize] == 0 && !has_column(own, row) {
+    for row in 0..classes.own.size() {
+        if classes.numbers[row as usize] == 0 && !classes.own.has(row) {
             zeros = zeros.saturating_add(1);
         }
     }
     zeros
 }
 
-// Whether the rows outside `own` have two classes.
-fn have_two_classes(rows: u32, numbers: &[u64], own: &[u64]) -> bool
-    requires numbers { length numbers.now ≡ rows }
-    requires own { length own.now ≡ words_for rows }
-{
+// Whether the rows outside a side have two classes.
+fn have_two_classes(classes: &LineClasses<'_>) -> bool {
     let mut class = 0;
-    for row in 0..rows {
-        let number = numbers[row as usize];
-        if number != 0 && number != class && !has_column(own, row) {
+    for row in 0..classes.own.size() {
+        let number = classes.numbers[row as usize];
+        if number != 0 && number != class && !classes.own.has(row) {
             if class != 0 {
                 return true;
             }
@@ -91,37 +66,29 @@ fn have_two_classes(rows: u32, numbers: &[u64], own: &[u64]) -> bool
     false
 }
 
-// The classes of the rows outside `own`, in increasing order.
-fn sorted_classes(
-    alloc: Global,
-    rows: u32,
-    classes: &[u64],
-    own: &[u64],
-) -> Result<Vec<u64>, Memory>
-    requires rows { rows ≤ MAX_ROWS }
-    requires classes { length classes.now ≡ rows }
-    requires own { length own.now ≡ words_for rows }
+// The classes of the rows outside a side, in increasing order.
+fn sorted_classes(alloc: Global, classes: &LineClasses<'_>) -> Result<Vec<u64>, Memory>
     ensures increasing { IfOk result (λ sorted. IsNonDecreasing sorted.items) }
     ensures few { IfOk result (λ sorted. length sorted.items ≤ MAX_ROWS) }
-    ensures listed { IfOk result (λ sorted. AreOpen own.now classes.now rows sorted.items) }
+    ensures listed { IfOk result (λ sorted. AreOpen classes.now.own.now.words
+        classes.now.numbers.now classes.now.own.now.size sorted.items) }
 {
-    let mut numbers = open_classes(alloc, rows, classes, own)?;
-    numbers.sort_unstable();
-    Ok(numbers)
+    let mut sorted = open_classes(alloc, classes)?;
+    sorted.sort_unstable();
+    Ok(sorted)
 }
 
-// The classes of the rows outside `own`.
-fn open_classes(alloc: Global, rows: u32, numbers: &[u64], own: &[u64]) -> Result<Vec<u64>, Memory>
-    requires rows { rows ≤ MAX_ROWS }
-    requires numbers { length numbers.now ≡ rows }
-    requires own { length own.now ≡ words_for rows }
-    ensures few { IfOk result (λ classes. length classes.items ≤ MAX_ROWS) }
-    ensures listed { IfOk result (λ classes. AreOpen own.now numbers.now rows classes.items) }
+// The classes of the rows outside a side.
+fn open_classes(alloc: Global, classes: &LineClasses<'_>) -> Result<Vec<u64>, Memory>
+    ensures few { IfOk result (λ found. length found.items ≤ MAX_ROWS) }
+    ensures listed { IfOk result (λ found. AreOpen classes.now.own.now.words
+        classes.now.numbers.now classes.now.own.now.size found.items) }
 {
+    let rows = classes.own.size();
     let mut found = Vec::with_capacity(alloc, rows as usize)?;
     for row in 0..rows {
-        if !has_column(own, row) {
-            found.push(numbers[row as usize])?;
+        if !classes.own.has(row) {
+            found.push(classes.numbers[row as usize])?;
         }
     }
     Ok(found)

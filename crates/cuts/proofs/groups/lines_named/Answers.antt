@@ -7,14 +7,14 @@ use Rattle.cuts.proofs.groups.lines_named.Goals.{then-names-from, else-names-fro
 pub loop-line-init : goal.loop-line-init
 loop-line-init c =
     let new = c.in_ok-lines.ensures in
-    (new.size, λ x e. absurd (not_both (has_column c.in_ok-lines.lines.items x) e (new.none x)))
+    (new.size, λ x e. absurd (not_both (has_column c.in_ok-lines.lines.words x) e (new.none x)))
 
 pub loop-line-preserved : goal.loop-line-preserved
 loop-line-preserved c =
     let so = c.loop-line.invariant in
     elim c.if-names-from.branch [
       | then-names-from w ↦
-          let added = w.add_column.ensures in
+          let added = w.insert.ensures in
           rw w.lines-is (
             added.size ∙ so.0,
             λ x e. elim (added.only x e) [

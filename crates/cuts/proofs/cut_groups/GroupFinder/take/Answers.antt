@@ -1,25 +1,28 @@
-use Rattle.std.proofs.Common.{refl, subst, sym}
+use Rattle.std.proofs.Common.{◌∙◌, refl, subst, sym}
+use Rattle.cmr_base.specs.LineMasks.{as_set}
 use Rattle.cuts.specs.declared.cut_groups.GroupFinder.{GroupFinder}
 use Rattle.cuts.specs.Finders.{AreFound}
-use Rattle.cuts.specs.WordSets.{as_set}
 use Rattle.cuts.proofs.CoverLemmas.{group_named}
-use Rattle.cuts.proofs.FinderLemmas.{found_kept}
+use Rattle.cuts.proofs.FinderLemmas.{found_with}
+use Rattle.cuts.proofs.MatrixMasks.{mask_like}
 use Rattle.cuts.proofs.cut_groups.GroupFinder.take.Goals as goal
-use Rattle.cuts.proofs.cut_groups.GroupFinder.take.Goals.{then-branch, else-branch+in_ok-self}
-
-pub note-requires-clause-found : goal.note-requires-clause-found
-note-requires-clause-found c = record {
-  groups = c.rename.ensures.names;
-  taken = c.add_rest.ensures.size;
-  together = group_named c.args.matrix.now c.args.self.now.groups c.rename.new.self (as_set c.is_covered.new.search.separated) c.args.line c.requires.line c.requires.found.together (c.in_ok-is_covered.ensures.one_side c.if-branch.true) c.rename.ensures.get;
-}
+use Rattle.cuts.proofs.cut_groups.GroupFinder.take.Goals.{then-branch, else-branch}
 
 pub returns : goal.returns
 returns c =
     let m = c.args.matrix.now in
-    found_kept m c.if-branch.self _ refl refl (
-    elim c.if-branch.branch [
-      | then-branch w ↦ subst (λ (f : GroupFinder). AreFound m f) (sym w.self-is) w.note.ensures
-      | else-branch+in_ok-self w ↦ subst (λ (f : GroupFinder). AreFound m f) (sym w.self-is) (record { groups = c.requires.found.groups; taken = w.in_ok-self.ensures.size; together = c.requires.found.together })
-    ]
-    )
+    let before = c.args.self.now in
+    let found = c.requires.found in
+    let covered = c.in_ok-is_covered.ensures in
+    let separated = c.is_covered.new.search.separated in
+    let after : AreFound m c.if-branch.self = elim c.if-branch.branch [
+      | then-branch w ↦
+          let groups = w.rename.new.self in
+          let together = group_named m before.groups groups (as_set separated) c.args.line c.requires.line found.together (covered.one_side w.if-branch.true) (w.rename.ensures.get m covered.size) in
+          subst (λ (f : GroupFinder). AreFound m f) (sym w.self-is)
+          (found_with m w.note.new.self groups w.add_rest.new.set w.note.ensures.groups w.note.ensures.taken (w.rename.ensures.size ∙ found.groups) (mask_like m before.taken w.add_rest.new.set found.taken w.add_rest.ensures.size) together)
+      | else-branch w ↦
+          subst (λ (f : GroupFinder). AreFound m f) (sym w.self-is)
+          (found_with m _ before.groups w.insert.new.self refl refl found.groups (mask_like m before.taken w.insert.new.self found.taken w.insert.ensures.size) found.together)
+    ] in
+    found_with m _ c.if-branch.self.groups c.if-branch.self.taken refl refl after.groups after.taken after.together

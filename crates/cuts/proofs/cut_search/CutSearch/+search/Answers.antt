@@ -1,8 +1,9 @@
-use Rattle.std.proofs.Common.{MatchOption, Option, ◌+◌, ◌-◌, ◌*◌, ◌<◌, subst, arith}
+use Rattle.std.proofs.Common.{MatchOption, Option, ◌+◌, ◌-◌, ◌*◌, ◌<◌, subst, sym, refl, arith}
 use Rattle.cuts.specs.declared.line_patterns.Halves.{Halves}
 use Rattle.cuts.specs.declared.sides.Side.{Side}
-use Rattle.cuts.specs.CutSides.{AreHalves, IsForced}
-use Rattle.cuts.specs.WordSets.{as_set}
+use Rattle.cuts.specs.Covers.{Covers}
+use Rattle.cuts.specs.CutSides.{AreHalves, HasNumbers, IsForced}
+use Rattle.cmr_base.specs.LineMasks.{as_set}
 use Rattle.cuts.proofs.CoverLemmas.{covers_halves, covers_halves_beside, covers_line}
 use Rattle.cuts.proofs.ForcedLemmas.{covers_forced, covers_forced_beside}
 use Rattle.cuts.proofs.SearchSteps.{covered_at_once, covers_shared, gave_up, marked_rest, searched_as, searched_both}
@@ -28,19 +29,23 @@ search-returns-in-Some-2 t c =
 
 pub search_state-returns-then-are_few : goal.search_state-returns-then-are_few
 search_state-returns-then-are_few t c =
+    let m = c.args.matrix.now in
     let separated = c.args.self.now.separated in
-    covered_at_once c.args.matrix.now c.args.one.now c.args.two.now separated c.requires.size (c.are_few.ensures.near c.if-are_few.true (as_set c.args.two.now.lines) (as_set separated))
+    let one = subst (λ (side : Side). Covers m (as_set side.lines) (as_set c.args.two.now.lines) (as_set separated)) c.in_ok-near.ensures (c.are_few.ensures.near c.if-are_few.true m c.rows-shape.ensures.shape (subst (λ (side : Side). HasNumbers m side) (sym c.in_ok-near.ensures) c.requires.near) (as_set c.args.two.now.lines) (as_set separated)) in
+    covered_at_once m c.args.one.now c.args.two.now separated c.requires.size one
 
 pub search_state-returns-then-are_few-2 : goal.search_state-returns-then-are_few-2
 search_state-returns-then-are_few-2 t c =
+    let m = c.args.matrix.now in
     let separated = c.args.self.now.separated in
-    covered_at_once c.args.matrix.now c.args.one.now c.args.two.now separated c.requires.size (c.are_few-2.ensures.far c.if-are_few-2.true (as_set c.args.one.now.lines) (as_set separated))
+    let two = subst (λ (side : Side). Covers m (as_set c.args.one.now.lines) (as_set side.lines) (as_set separated)) c.in_ok-far.ensures (c.are_few-2.ensures.far c.if-are_few-2.true m c.rows-shape.ensures.shape (subst (λ (side : Side). HasNumbers m side) (sym c.in_ok-far.ensures) c.requires.far) (as_set c.args.one.now.lines) (as_set separated)) in
+    covered_at_once m c.args.one.now c.args.two.now separated c.requires.size two
 
 pub search_halves-returns-in-Some : goal.search_halves-returns-in-Some
 search_halves-returns-in-Some t c =
     let m = c.args.matrix.now in
-    let one = c.args.one.now in
-    let two = c.args.two.now in
+    let one = c.args.near.now.side.now in
+    let two = c.args.far.now.side.now in
     let halves = c.in-Some.halves in
     let found = subst (λ (v : Option Halves). MatchOption v (Unit {0}) (AreHalves m one)) c.in-Some.is c.in_ok-halves.ensures in
     searched_both m one two halves.one two halves.other two c.args.self.now.separated c.search.new.self.separated c.search-in-Some.new.self.separated _ c.search-in-Some.result
@@ -50,8 +55,8 @@ search_halves-returns-in-Some t c =
 pub search_halves-returns-in-Some-2 : goal.search_halves-returns-in-Some-2
 search_halves-returns-in-Some-2 t c =
     let m = c.args.matrix.now in
-    let one = c.args.one.now in
-    let two = c.args.two.now in
+    let one = c.args.near.now.side.now in
+    let two = c.args.far.now.side.now in
     let halves = c.in-Some-2.halves in
     let found = subst (λ (v : Option Halves). MatchOption v (Unit {0}) (AreHalves m two)) c.in-Some-2.is c.in_ok-halves-2.ensures in
     searched_both m one two one halves.one one halves.other c.args.self.now.separated c.search-in-Some-2.new.self.separated c.search-in-Some-2-2.new.self.separated _ c.search-in-Some-2-2.result
@@ -75,12 +80,12 @@ search-returns-then-meets t c =
     let one = c.args.one.now in
     let two = c.args.two.now in
     let separated = c.args.self.now.separated in
-    covered_at_once m one two separated c.requires.size (covers_shared m one two (as_set separated) (c.meets.ensures c.if-meets.true))
+    covered_at_once m one two separated c.requires.size (covers_shared m one two (as_set separated) c.requires.near.lines (c.meets.ensures c.if-meets.true))
 
-pub search-returns-then-have_all : goal.search-returns-then-have_all
-search-returns-then-have_all t c =
+pub search-returns-then-has_rest : goal.search-returns-then-has_rest
+search-returns-then-has_rest t c =
     let separated = c.args.self.now.separated in
-    marked_rest c.args.matrix.now c.args.one.now c.args.two.now separated separated c.requires.size (λ x l e. e) (c.have_all.ensures c.if-have_all.true)
+    marked_rest c.args.matrix.now c.args.one.now c.args.two.now separated separated c.requires.size (record { rows = refl; columns = refl }) (λ x e. e) (c.has_rest.ensures c.if-has_rest.true)
 
 pub search-search-requires : goal.search-search-requires
 search-search-requires t c =
@@ -102,7 +107,7 @@ search-search_state-requires t c =
 pub search_by_line-returns-in_default : goal.search_by_line-returns-in_default
 search_by_line-returns-in_default t c =
     let rest = c.add_rest.ensures in
-    marked_rest c.args.matrix.now c.args.one.now c.args.two.now c.args.self.now.separated c.add_rest.new.self rest.size rest.kept rest.rest
+    marked_rest c.args.matrix.now c.args.one.now c.args.two.now c.args.self.now.separated c.add_rest.new.set c.requires.size rest.size rest.kept rest.rest
 
 pub search_by_line-search-requires : goal.search_by_line-search-requires
 search_by_line-search-requires t c =
@@ -119,46 +124,46 @@ search_by_line-search-requires-2 t c =
 
 pub search_halves-search-requires : goal.search_halves-search-requires
 search_halves-search-requires t c =
-    let found = subst (λ (v : Option Halves). MatchOption v (Unit {0}) (AreHalves c.args.matrix.now c.args.one.now)) c.in-Some.is c.in_ok-halves.ensures in
+    let found = subst (λ (v : Option Halves). MatchOption v (Unit {0}) (AreHalves c.args.matrix.now c.args.near.now.side.now)) c.in-Some.is c.in_ok-halves.ensures in
     let falls : 4 * c.args.depth < t = omega (arith, c.decreases) in
-    (falls, record { size = c.requires.sides.size; near = found.one; far = c.requires.sides.far })
+    (falls, record { size = c.requires.size; near = found.one; far = c.requires.far })
 
 pub search_halves-returns-then-not-branch : goal.search_halves-returns-then-not-branch
-search_halves-returns-then-not-branch t c = gave_up c.args.matrix.now c.args.one.now c.args.two.now c.in-Some.halves.one c.args.two.now c.args.self.now.separated c.search.new.self.separated _ c.in_ok-search.ensures
+search_halves-returns-then-not-branch t c = gave_up c.args.matrix.now c.args.near.now.side.now c.args.far.now.side.now c.in-Some.halves.one c.args.far.now.side.now c.args.self.now.separated c.search.new.self.separated _ c.in_ok-search.ensures
 
 pub search_halves-search-requires-in-Some : goal.search_halves-search-requires-in-Some
 search_halves-search-requires-in-Some t c =
-    let found = subst (λ (v : Option Halves). MatchOption v (Unit {0}) (AreHalves c.args.matrix.now c.args.one.now)) c.in-Some.is c.in_ok-halves.ensures in
+    let found = subst (λ (v : Option Halves). MatchOption v (Unit {0}) (AreHalves c.args.matrix.now c.args.near.now.side.now)) c.in-Some.is c.in_ok-halves.ensures in
     let falls : 4 * c.args.depth < t = omega (arith, c.decreases) in
-    (falls, record { size = c.in_ok-search.ensures.size; near = found.other; far = c.requires.sides.far })
+    (falls, record { size = c.in_ok-search.ensures.size; near = found.other; far = c.requires.far })
 
 pub search_halves-search-requires-in-Some-2 : goal.search_halves-search-requires-in-Some-2
 search_halves-search-requires-in-Some-2 t c =
-    let found = subst (λ (v : Option Halves). MatchOption v (Unit {0}) (AreHalves c.args.matrix.now c.args.two.now)) c.in-Some-2.is c.in_ok-halves-2.ensures in
+    let found = subst (λ (v : Option Halves). MatchOption v (Unit {0}) (AreHalves c.args.matrix.now c.args.far.now.side.now)) c.in-Some-2.is c.in_ok-halves-2.ensures in
     let falls : 4 * c.args.depth < t = omega (arith, c.decreases) in
-    (falls, record { size = c.requires.sides.size; near = c.requires.sides.near; far = found.one })
+    (falls, record { size = c.requires.size; near = c.requires.near; far = found.one })
 
 pub search_halves-returns-then-not-branch-2 : goal.search_halves-returns-then-not-branch-2
 search_halves-returns-then-not-branch-2 t c =
-    gave_up c.args.matrix.now c.args.one.now c.args.two.now c.args.one.now c.in-Some-2.halves.one c.args.self.now.separated c.search-in-Some-2.new.self.separated _ c.in_ok-search-2.ensures
+    gave_up c.args.matrix.now c.args.near.now.side.now c.args.far.now.side.now c.args.near.now.side.now c.in-Some-2.halves.one c.args.self.now.separated c.search-in-Some-2.new.self.separated _ c.in_ok-search-2.ensures
 
 pub search_halves-search-requires-in-Some-2-2 : goal.search_halves-search-requires-in-Some-2-2
 search_halves-search-requires-in-Some-2-2 t c =
-    let found = subst (λ (v : Option Halves). MatchOption v (Unit {0}) (AreHalves c.args.matrix.now c.args.two.now)) c.in-Some-2.is c.in_ok-halves-2.ensures in
+    let found = subst (λ (v : Option Halves). MatchOption v (Unit {0}) (AreHalves c.args.matrix.now c.args.far.now.side.now)) c.in-Some-2.is c.in_ok-halves-2.ensures in
     let falls : 4 * c.args.depth < t = omega (arith, c.decreases) in
-    (falls, record { size = c.in_ok-search-2.ensures.size; near = c.requires.sides.near; far = found.other })
+    (falls, record { size = c.in_ok-search-2.ensures.size; near = c.requires.near; far = found.other })
 
 pub search_halves-search_by_line-requires : goal.search_halves-search_by_line-requires
 search_halves-search_by_line-requires t c =
     let falls : 4 * c.args.depth + 1 < t = omega (arith, c.decreases) in
-    (falls, c.requires.sides)
+    (falls, c.requires)
 
-pub search_state-returns-then-are_enough : goal.search_state-returns-then-are_enough
-search_state-returns-then-are_enough t c =
+pub search_state-returns-then-count-ge-LEAST_SIDE : goal.search_state-returns-then-count-ge-LEAST_SIDE
+search_state-returns-then-count-ge-LEAST_SIDE t c =
     let rest = c.add_rest.ensures in
-    marked_rest c.args.matrix.now c.args.one.now c.args.two.now c.args.self.now.separated c.add_rest.new.self rest.size rest.kept rest.rest
+    marked_rest c.args.matrix.now c.args.one.now c.args.two.now c.args.self.now.separated c.add_rest.new.set c.requires.size rest.size rest.kept rest.rest
 
 pub search_state-search_halves-requires : goal.search_state-search_halves-requires
 search_state-search_halves-requires t c =
     let falls : 4 * c.args.depth + 2 < t = omega (arith, c.decreases) in
-    (falls, (c.requires, (c.in_ok-near.ensures, c.in_ok-far.ensures)))
+    (falls, record { size = c.requires.size; near = subst (λ (side : Side). HasNumbers c.args.matrix.now side) (sym c.in_ok-near.ensures) c.requires.near; far = subst (λ (side : Side). HasNumbers c.args.matrix.now side) (sym c.in_ok-far.ensures) c.requires.far })

@@ -2,6 +2,5 @@ use Rattle.cuts.proofs.GroupLemmas.{named_lines}
 use Rattle.cuts.proofs.groups.Groups.lines.Goals as goal
 
 pub returns-clause-named : goal.returns-clause-named
-returns-clause-named c =
-    named_lines c.args.matrix.now c.args.self.now c.args.name c.rows-2.result c.deref.result.now c.deref-2.result.now c.in_ok-rows.rows.items c.in_ok-columns.columns.items c.deref.ensures.value c.deref-2.ensures.value c.rows-2.ensures.rows
-    c.in_ok-rows.ensures.named c.in_ok-columns.ensures.named
+returns-clause-named c = λ m tall x e.
+    named_lines m c.args.self.now c.args.name c.args.rows c.deref.result.now c.deref-2.result.now (record { rows = c.in_ok-lines_named.field-0; columns = c.in_ok-lines_named-2.field-0 }) c.deref.ensures.value c.deref-2.ensures.value tall c.in_ok-lines_named.ensures.named c.in_ok-lines_named-2.ensures.named x e

@@ -1,48 +1,48 @@
-use Rattle.std.proofs.Common.{◌∙◌, ap, length, refl, sym}
+use Rattle.std.proofs.Common.{◌∙◌, ap, refl, sym}
 use Rattle.cmr_base.specs.Matrix.{Matrix, height, transposed}
-use Rattle.cmr_base.specs.Planes.{words_for}
-use Rattle.cuts.proofs.ClassLemmas.{to_columns, to_rows, wide_words}
-use Rattle.cuts.proofs.SideLemmas.{grown_lines, numbers_at, side_numbered}
+use Rattle.cmr_base.proofs.Parts.{height-transposed}
+use Rattle.cuts.proofs.ClassLemmas.{to_columns, to_rows, wide_size}
+use Rattle.cuts.proofs.SideLemmas.{grown_lines, grown_rows, numbers_at, side_numbered}
 use Rattle.cuts.proofs.sides.Side.grown.Goals as goal
 
-pub grown_set-requires-clause-set : goal.grown_set-requires-clause-set
-grown_set-requires-clause-set c = ap length c.deref.ensures.value ∙ c.requires.numbers.lines.rows ∙ ap (λ (z : Matrix). words_for (height z)) (sym c.by_rows.ensures.matrix)
-
-pub grown_set-requires-clause-rows : goal.grown_set-requires-clause-rows
-grown_set-requires-clause-rows c = ap length c.deref-3.ensures.value ∙ c.requires.lines.rows ∙ ap (λ (z : Matrix). words_for (height z)) (sym c.by_rows.ensures.matrix)
-
-pub grown_set-requires-clause-size : goal.grown_set-requires-clause-size
-grown_set-requires-clause-size c = ap length c.deref-2.ensures.value ∙ c.requires.numbers.column_size ∙ ap (λ (z : Matrix). z.width) (sym c.by_rows.ensures.matrix)
-
-pub grown_set-requires-2-clause-size : goal.grown_set-requires-2-clause-size
-grown_set-requires-2-clause-size c = ap length c.deref-5.ensures.value ∙ c.requires.numbers.row_size ∙ ap (λ (z : Matrix). z.width) (sym c.by_columns.ensures.matrix)
-
-pub grown_set-requires-clause-numbers : goal.grown_set-requires-clause-numbers
-grown_set-requires-clause-numbers c =
+pub add-requires-clause-numbers : goal.add-requires-clause-numbers
+add-requires-clause-numbers c =
     let m = c.args.matrix.now in
     let side = c.args.self.now in
-    numbers_at m c.by_rows.result.now side.lines.rows.items c.deref.result.now side.column_numbers.items c.deref-2.result.now c.by_rows.ensures.matrix c.deref.ensures.value c.deref-2.ensures.value
-    (to_columns m side.lines.rows.items side.column_numbers.items c.by_rows.ensures.shape c.requires.numbers.columns)
+    let has = c.requires.numbers in
+    numbers_at m c.by_rows.result.now c.in_ok-rows.rows side.lines.rows side.column_numbers.items c.by_rows.ensures.matrix c.in_ok-rows.ensures.set (c.in_ok-rows.ensures.numbers ∙ c.deref.ensures.value) has.lines.rows (side.column_size ∙ has.lines.columns)
+    (to_columns m side.lines.rows.words side.column_numbers.items c.by_rows.ensures.shape has.columns)
 
-pub grown_set-requires-2-clause-set : goal.grown_set-requires-2-clause-set
-grown_set-requires-2-clause-set c = wide_words c.args.matrix.now c.by_columns.result.now c.deref-4.result.now c.args.self.now.lines.columns.items c.by_columns.ensures.matrix c.deref-4.ensures.value c.requires.numbers.lines.columns
-
-pub grown_set-requires-2-clause-rows : goal.grown_set-requires-2-clause-rows
-grown_set-requires-2-clause-rows c = wide_words c.args.matrix.now c.by_columns.result.now c.deref-6.result.now c.args.lines.now.columns.items c.by_columns.ensures.matrix c.deref-6.ensures.value c.requires.lines.columns
-
-pub grown_set-requires-2-clause-numbers : goal.grown_set-requires-2-clause-numbers
-grown_set-requires-2-clause-numbers c =
+pub add-requires-2-clause-numbers : goal.add-requires-2-clause-numbers
+add-requires-2-clause-numbers c =
     let m = c.args.matrix.now in
     let side = c.args.self.now in
-    numbers_at (transposed m) c.by_columns.result.now side.lines.columns.items c.deref-4.result.now side.row_numbers.items c.deref-5.result.now c.by_columns.ensures.matrix c.deref-4.ensures.value c.deref-5.ensures.value
-    (to_rows m side.lines.columns.items side.row_numbers.items (height m) c.by_rows.ensures.shape refl c.requires.numbers.rows)
+    let has = c.requires.numbers in
+    numbers_at (transposed m) c.by_columns.result.now c.in_ok-columns.columns side.lines.columns side.row_numbers.items c.by_columns.ensures.matrix c.in_ok-columns.ensures.set (c.in_ok-columns.ensures.numbers ∙ c.deref-2.ensures.value)
+    (has.lines.columns ∙ sym (height-transposed m)) (side.row_size ∙ has.lines.rows) (to_rows m side.lines.columns.words side.row_numbers.items (height m) c.by_rows.ensures.shape refl has.rows)
+
+pub add-requires-2-clause-rows : goal.add-requires-2-clause-rows
+add-requires-2-clause-rows c = wide_size c.args.matrix.now c.by_columns.result.now c.args.lines.now.columns.size c.by_columns.ensures.matrix (c.requires.lines.columns ∙ c.requires.numbers.lines.columns)
+
+pub invariant_of-result : goal.invariant_of-result
+invariant_of-result c =
+    let rows = c.add.ensures.numbers in
+    let columns = c.add-2.ensures.numbers in
+    let by_rows = c.by_rows.ensures.matrix in
+    let by_columns = c.by_columns.ensures.matrix in record {
+      row_size = columns.size ∙ ap (λ (z : Matrix). z.width) by_columns ∙ sym (rows.set_size ∙ ap height by_rows);
+      column_size = rows.size ∙ ap (λ (z : Matrix). z.width) by_rows ∙ sym (columns.set_size ∙ ap height by_columns ∙ height-transposed c.args.matrix.now);
+    }
 
 pub returns-clause-numbers : goal.returns-clause-numbers
 returns-clause-numbers c =
-    side_numbered c.args.matrix.now c.by_rows.result.now c.by_columns.result.now c.in_ok-rows.rows c.in_ok-columns.columns c.by_rows.ensures.shape c.by_rows.ensures.matrix c.by_columns.ensures.matrix c.in_ok-rows.ensures.numbers
-    c.in_ok-columns.ensures.numbers
+    let (lines, rows, columns) = side_numbered c.args.matrix.now c.by_rows.result.now c.by_columns.result.now c.add.new.self c.add-2.new.self c.by_rows.ensures.shape c.by_rows.ensures.matrix c.by_columns.ensures.matrix c.add.ensures.numbers
+    c.add-2.ensures.numbers in record { lines = lines; rows = rows; columns = columns }
 
 pub returns-clause-lines : goal.returns-clause-lines
 returns-clause-lines c = λ x l t.
-    grown_lines c.args.self.now.lines c.args.lines.now c.in_ok-rows.rows.set.items c.in_ok-columns.columns.set.items c.deref.result.now c.deref-3.result.now c.deref-4.result.now c.deref-6.result.now c.deref.ensures.value c.deref-3.ensures.value
-    c.deref-4.ensures.value c.deref-6.ensures.value c.in_ok-rows.ensures.only c.in_ok-columns.ensures.only x t
+    let before = c.args.self.now.lines in
+    let further = c.args.lines.now in
+    grown_lines before further (record { rows = c.add.new.self.set; columns = c.add-2.new.self.set })
+    (grown_rows before.rows c.in_ok-rows.rows.set further.rows c.add.new.self.set c.in_ok-rows.ensures.set c.add.ensures.only)
+    (grown_rows before.columns c.in_ok-columns.columns.set further.columns c.add-2.new.self.set c.in_ok-columns.ensures.set c.add-2.ensures.only) x t

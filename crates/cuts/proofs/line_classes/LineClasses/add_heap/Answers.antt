@@ -1,0 +1,27 @@
+use Rattle.std.proofs.Common.{◌≡◌, ◌∙◌, ℕ, true, inl, inr, subst, sym, get_or}
+use Rattle.cuts.specs.Classes.{is_in_heap}
+use Rattle.cuts.proofs.line_classes.LineClasses.add_heap.Goals as goal
+use Rattle.cuts.proofs.line_classes.LineClasses.add_heap.Goals.{then-has, else-has}
+
+pub loop-row-preserved : goal.loop-row-preserved
+loop-row-preserved c =
+    let classes = c.args.self.now.numbers.now in
+    let heaps = c.args.heaps.now in
+    let inside = c.args.inside in
+    let so = c.loop-row.invariant in
+    elim c.if-has.branch [
+      | then-has w ↦
+          let added = w.insert.ensures in
+          let here = sym c.has.ensures ∙ w.if-has.true in
+          rw w.set-is (
+            added.size ∙ so.0,
+            λ x e. elim (added.only x e) [
+              | inl is ↦ inr (subst (λ (z : ℕ). is_in_heap heaps (get_or classes z 0) inside ≡ true) (sym is) here)
+              | inr old ↦ so.1 x old
+            ],
+          )
+      | else-has w ↦ rw w.set-is so
+    ]
+
+pub returns-clause-only : goal.returns-clause-only
+returns-clause-only c = c.loop-row.invariant.1

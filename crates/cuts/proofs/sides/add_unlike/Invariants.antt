@@ -1,8 +1,0 @@
-use Rattle.std.proofs.Common.{◌≡◌, ◌≢◌, ◌⊎◌, ℕ, true, length, slice_index_or}
-use Rattle.cmr_base.specs.ColumnSets.{has_column}
-use Rattle.cmr_base.specs.Planes.{words_for}
-use Rattle.cuts.proofs.sides.add_unlike.Given as goal
-
-abbrev pub invariant-loop-line : goal.invariant-loop-line
-invariant-loop-line l = (length l.set.items ≡ words_for l.lines)
-    × ((x : ℕ) → has_column l.set.items x ≡ true → (has_column l.fn.set.items x ≡ true) ⊎ ((slice_index_or l.numbers x 0 ≢ 0) × (slice_index_or l.numbers x 0 ≢ l.class)))
