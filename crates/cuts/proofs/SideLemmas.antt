@@ -1,5 +1,5 @@
 -- The numbers of a side from the numbers for its rows and for its columns.
-use Rattle.std.proofs.Common.{ℕ, Bool, List, true, false, cond, ◌≡◌, ◌<◌, ◌≤◌, ◌⊎◌, ◌∙◌, sym, ap, refl, subst, inl, inr, length, slice_index_or}
+use Rattle.std.proofs.Common.{ℕ, Bool, List, true, false, cond, ◌≡◌, ◌<◌, ◌≤◌, ◌⊎◌, ◌∙◌, sym, ap, refl, subst, length, slice_index_or}
 use Rattle.cmr_base.specs.BitSets.{Bits}
 use Rattle.cmr_base.specs.declared.line.Line.{Line}
 use Rattle.cmr_base.specs.declared.line.Line.TheVariants.{Row, Column}
@@ -50,29 +50,27 @@ grown_lines before further after rows columns (Column c) t = columns c t
 
 -- ---- heaps
 
--- the rows of a heap, added to no lines
-pub rows_in_heap : (patterns : LinePatterns) (inside : Bool) (before after : LineMask) (classes : List ℕ) → patterns.columns.heaps.lighter ≤ patterns.rows.heaps.lighter → classes ≡ patterns.side.now.row_numbers.items
-    → ((x : Line) → as_set before x ≡ false) → after.columns ≡ before.columns
-    → ((x : ℕ) → has_column after.rows.words x ≡ true → (has_column before.rows.words x ≡ true) ⊎ (is_in_heap patterns.rows.heaps (slice_index_or classes x 0) inside ≡ true)) → (x : Line) → as_set after x ≡ true → heap_of patterns inside x ≡ true
-rows_in_heap patterns inside before after classes by_rows ec none same only x t =
+-- the rows of a heap, and no columns
+pub rows_in_heap : (patterns : LinePatterns) (inside : Bool) (lines : LineMask) (classes : List ℕ) → patterns.columns.heaps.lighter ≤ patterns.rows.heaps.lighter → classes ≡ patterns.side.now.row_numbers.items → ((c : ℕ) → has_column lines.columns.words c ≡ false)
+    → ((r : ℕ) → has_column lines.rows.words r ≡ true → is_in_heap patterns.rows.heaps (slice_index_or classes r 0) inside ≡ true) → (x : Line) → as_set lines x ≡ true → heap_of patterns inside x ≡ true
+rows_in_heap patterns inside lines classes by_rows ec none rows x t =
     ap (λ (b : Bool). cond b (columns_heap patterns.columns.heaps patterns.side.now.column_numbers.items inside) (rows_heap patterns.rows.heaps patterns.side.now.row_numbers.items inside) x) (is_not_lt patterns.rows.heaps.lighter patterns.columns.heaps.lighter by_rows)
     ∙ ap (λ (v : List ℕ). rows_heap patterns.rows.heaps v inside x) (sym ec) ∙ in_rows x t
   where
-    in_rows : (x : Line) → as_set after x ≡ true → rows_heap patterns.rows.heaps classes inside x ≡ true
-    in_rows (Row r) t = elim (only r t) [ inl old ↦ absurd (not_both (has_column before.rows.words r) old (none (Row r))) | inr h ↦ h ]
-    in_rows (Column c) t = absurd (not_both (has_column before.columns.words c) (sym (ap (λ (s : Bits). has_column s.words c) same) ∙ t) (none (Column c)))
+    in_rows : (x : Line) → as_set lines x ≡ true → rows_heap patterns.rows.heaps classes inside x ≡ true
+    in_rows (Row r) t = rows r t
+    in_rows (Column c) t = absurd (not_both (has_column lines.columns.words c) t (none c))
 
--- the columns of a heap, added to no lines
-pub columns_in_heap : (patterns : LinePatterns) (inside : Bool) (before after : LineMask) (classes : List ℕ) → patterns.rows.heaps.lighter < patterns.columns.heaps.lighter → classes ≡ patterns.side.now.column_numbers.items
-    → ((x : Line) → as_set before x ≡ false) → after.rows ≡ before.rows
-    → ((x : ℕ) → has_column after.columns.words x ≡ true → (has_column before.columns.words x ≡ true) ⊎ (is_in_heap patterns.columns.heaps (slice_index_or classes x 0) inside ≡ true)) → (x : Line) → as_set after x ≡ true → heap_of patterns inside x ≡ true
-columns_in_heap patterns inside before after classes by_columns ec none same only x t =
+-- the columns of a heap, and no rows
+pub columns_in_heap : (patterns : LinePatterns) (inside : Bool) (lines : LineMask) (classes : List ℕ) → patterns.rows.heaps.lighter < patterns.columns.heaps.lighter → classes ≡ patterns.side.now.column_numbers.items → ((r : ℕ) → has_column lines.rows.words r ≡ false)
+    → ((c : ℕ) → has_column lines.columns.words c ≡ true → is_in_heap patterns.columns.heaps (slice_index_or classes c 0) inside ≡ true) → (x : Line) → as_set lines x ≡ true → heap_of patterns inside x ≡ true
+columns_in_heap patterns inside lines classes by_columns ec none columns x t =
     ap (λ (b : Bool). cond b (columns_heap patterns.columns.heaps patterns.side.now.column_numbers.items inside) (rows_heap patterns.rows.heaps patterns.side.now.row_numbers.items inside) x) (is_lt patterns.rows.heaps.lighter patterns.columns.heaps.lighter by_columns)
     ∙ ap (λ (v : List ℕ). columns_heap patterns.columns.heaps v inside x) (sym ec) ∙ in_columns x t
   where
-    in_columns : (x : Line) → as_set after x ≡ true → columns_heap patterns.columns.heaps classes inside x ≡ true
-    in_columns (Column c) t = elim (only c t) [ inl old ↦ absurd (not_both (has_column before.columns.words c) old (none (Column c))) | inr h ↦ h ]
-    in_columns (Row r) t = absurd (not_both (has_column before.rows.words r) (sym (ap (λ (s : Bits). has_column s.words r) same) ∙ t) (none (Row r)))
+    in_columns : (x : Line) → as_set lines x ≡ true → columns_heap patterns.columns.heaps classes inside x ≡ true
+    in_columns (Column c) t = columns c t
+    in_columns (Row r) t = absurd (not_both (has_column lines.rows.words r) t (none r))
 
 -- ---- patterns
 

@@ -14,7 +14,7 @@ pub struct LineClasses<'s> {
 }
 
 impl<'s> LineClasses<'s> {
-    ghost use Rattle.std.specs.Prelude.{◌≢◌, ◌<◌, ◌⊎◌, ℕ, true, slice_index_or, IfOk};
+    ghost use Rattle.std.specs.Prelude.{◌≢◌, ◌<◌, ℕ, true, slice_index_or, IfOk};
     ghost use Rattle.cmr_base.specs.ColumnSets.{has_column};
     ghost use Rattle.cuts.specs.Classes.{IsUnlikeOne, is_in_heap};
 
@@ -25,12 +25,11 @@ impl<'s> LineClasses<'s> {
         ensures unlike { IfOk result (λ set. (x : ℕ) → has_column set.words x ≡ true
             → IsUnlikeOne self.now.own.now.size self.now.numbers.now far.now.words x) }
     {
-        let mut set = BitSet::new(alloc, self.own.size())?;
         let class = self.class_of(far);
-        if class != 0 {
-            self.add_unlike(&mut set, class);
+        if class == 0 {
+            return Ok(BitSet::new(alloc, self.own.size())?);
         }
-        Ok(set)
+        self.others(alloc, class)
     }
 
     // The class of one of the rows of `far`, or 0 if none has a class.
@@ -50,35 +49,35 @@ impl<'s> LineClasses<'s> {
         0
     }
 
-    // Adds the rows that are not in the side and have a class other than `class`.
-    fn add_unlike(&self, set: &mut BitSet, class: u64)
-        requires { set.old.size ≡ self.now.own.now.size }
-        ensures size { set.new.size ≡ set.old.size }
-        ensures only { (x : ℕ) → has_column set.new.words x ≡ true
-            → (has_column set.old.words x ≡ true)
-            ⊎ ((slice_index_or self.now.numbers.now x 0 ≢ 0)
+    // The rows that are not in the side and have a class other than `class`.
+    fn others(&self, alloc: Global, class: u64) -> Result<BitSet, Memory>
+        ensures size { IfOk result (λ set. set.size ≡ self.now.own.now.size) }
+        ensures others { IfOk result (λ set. (x : ℕ) → has_column set.words x ≡ true
+            → (slice_index_or self.now.numbers.now x 0 ≢ 0)
             × (slice_index_or self.now.numbers.now x 0 ≢ class)) }
     {
+        let mut set = BitSet::new(alloc, self.own.size())?;
         for row in 0..self.own.size() {
             let number = self.numbers[row as usize];
             if number != 0 && number != class && !self.own.has(row) {
                 set.insert(row);
             }
         }
+        Ok(set)
     }
 
-    /// Adds the rows of one heap of classes, or of the other.
-    pub fn add_heap(&self, set: &mut BitSet, heaps: &Heaps, inside: bool)
-        requires { set.old.size ≡ self.now.own.now.size }
-        ensures size { set.new.size ≡ set.old.size }
-        ensures only { (x : ℕ) → has_column set.new.words x ≡ true
-            → (has_column set.old.words x ≡ true)
-            ⊎ (is_in_heap heaps.now (slice_index_or self.now.numbers.now x 0) inside ≡ true) }
+    /// The rows of one heap of classes, or of the other.
+    pub fn heap(&self, alloc: Global, heaps: &Heaps, inside: bool) -> Result<BitSet, Memory>
+        ensures size { IfOk result (λ set. set.size ≡ self.now.own.now.size) }
+        ensures heap { IfOk result (λ set. (x : ℕ) → has_column set.words x ≡ true
+            → is_in_heap heaps.now (slice_index_or self.now.numbers.now x 0) inside ≡ true) }
     {
+        let mut set = BitSet::new(alloc, self.own.size())?;
         for row in 0..self.own.size() {
             if heaps.has(self.numbers[row as usize], inside) {
                 set.insert(row);
             }
         }
+        Ok(set)
     }
 }

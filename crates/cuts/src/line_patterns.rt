@@ -5,7 +5,7 @@ ghost use Rattle.cuts.specs.Patterns.{AreAtMostBeside};
 use crate::LEAST_SIDE;
 use crate::patterns::Patterns;
 use crate::sides::Side;
-use cmr_base::{LineMask, Memory, RowsAndColumns};
+use cmr_base::{BitSet, LineMask, Memory, RowsAndColumns};
 use std::alloc::Global;
 
 /// Two larger sides.
@@ -100,16 +100,17 @@ impl<'s> LinePatterns<'s> {
         ensures lines { IfOk result (λ heap. (x : Line) → as_set heap x ≡ true
             → heap_of self.now inside x ≡ true) }
     {
-        let lines = &self.side.lines;
-        let mut heap = LineMask::new(alloc, lines.rows.size(), lines.columns.size())?;
+        let (rows, columns) = (self.side.rows(), self.side.columns());
         if self.rows.heaps.lighter >= self.columns.heaps.lighter {
-            let classes = self.side.rows();
-            classes.add_heap(&mut heap.rows, &self.rows.heaps, inside);
-            return Ok(heap);
+            return Ok(LineMask {
+                rows: rows.heap(alloc, &self.rows.heaps, inside)?,
+                columns: BitSet::new(alloc, columns.own.size())?,
+            });
         }
-        let classes = self.side.columns();
-        classes.add_heap(&mut heap.columns, &self.columns.heaps, inside);
-        Ok(heap)
+        Ok(LineMask {
+            rows: BitSet::new(alloc, rows.own.size())?,
+            columns: columns.heap(alloc, &self.columns.heaps, inside)?,
+        })
     }
 }
 
