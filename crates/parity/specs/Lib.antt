@@ -2,5 +2,4 @@ pub mod Equations
 pub mod PlaneSums
 pub mod SumsView
 pub mod BasisView
-pub mod SearchView
 pub mod GivenColumns

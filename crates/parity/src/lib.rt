@@ -6,6 +6,7 @@ mod column_search;
 mod narrow;
 mod sums;
 mod violator;
+mod wide;
 mod words;
 
 pub use column_search::{ColumnSearch, first_column_set};

@@ -4,8 +4,8 @@ use Rattle.std.proofs.lemmas.Nat.{shr-shr}
 use Rattle.cmr_base.specs.LineSets.{set_numbered}
 use Rattle.cmr_base.proofs.SetNumbers.{above-append, numbered_less, numbered_more}
 use Rattle.parity.specs.Equations.{number_of}
-use Rattle.parity.proofs.column_search.columns_in.Goals as goal
-use Rattle.parity.proofs.column_search.columns_in.Goals.{then-is_set+in_ok-push, else-is_set}
+use Rattle.parity.proofs.wide.columns_in.Goals as goal
+use Rattle.parity.proofs.wide.columns_in.Goals.{then-is_set+in_ok-push, else-is_set}
 
 pub loop-column-preserved : goal.loop-column-preserved
 loop-column-preserved c =

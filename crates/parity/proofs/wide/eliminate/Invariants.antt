@@ -1,7 +1,7 @@
 use Rattle.std.proofs.Common.{◌≡◌, take}
 use Rattle.parity.specs.Equations.{IsBasis}
 use Rattle.parity.specs.PlaneSums.{equations_of}
-use Rattle.parity.proofs.column_search.eliminate.Given as goal
+use Rattle.parity.proofs.wide.eliminate.Given as goal
 
 abbrev pub invariant-loop-row : goal.invariant-loop-row
 invariant-loop-row l = record {

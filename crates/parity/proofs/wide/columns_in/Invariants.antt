@@ -1,7 +1,7 @@
 use Rattle.std.proofs.Common.{◌≡◌, ◌<◌, ◌++◌, ◌-◌, ◌/◌, ◌^◌, ℕ, length, get_or}
 use Rattle.cmr_base.specs.LineSets.{set_numbered}
 use Rattle.parity.specs.Equations.{number_of}
-use Rattle.parity.proofs.column_search.columns_in.Given as goal
+use Rattle.parity.proofs.wide.columns_in.Given as goal
 
 -- the columns so far and the remaining columns are all columns, and the columns so far are below the next one
 abbrev pub invariant-loop-column : goal.invariant-loop-column

@@ -1,6 +1,6 @@
 use Rattle.std.proofs.Common.{◌≡◌, ◌<◌, ◌^◌, take}
 use Rattle.parity.specs.PlaneSums.{AreSums}
-use Rattle.parity.proofs.column_search.sum_columns.Given as goal
+use Rattle.parity.proofs.wide.sum_columns.Given as goal
 
 abbrev pub invariant-loop-row : goal.invariant-loop-row
 invariant-loop-row l = record {

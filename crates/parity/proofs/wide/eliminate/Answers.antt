@@ -5,8 +5,8 @@ use Rattle.cmr_base.specs.Matrix.{is_nonzero}
 use Rattle.parity.proofs.PlaneLemmas.{length-row, number_of-row}
 use Rattle.parity.proofs.Elimination.{basis_push, basis_skip}
 use Rattle.parity.proofs.Systems.{equations_more, support_of-lt, without_columns_apart, without_columns_lt}
-use Rattle.parity.proofs.column_search.eliminate.Goals as goal
-use Rattle.parity.proofs.column_search.eliminate.Goals.{in-Some+in_ok-push, in_default}
+use Rattle.parity.proofs.wide.eliminate.Goals as goal
+use Rattle.parity.proofs.wide.eliminate.Goals.{in-Some+in_ok-push, in_default}
 
 pub lowest-requires : goal.lowest-requires
 lowest-requires c = omega (arith, c.requires.shape.width_in)

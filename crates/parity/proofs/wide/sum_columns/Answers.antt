@@ -5,7 +5,7 @@ use Rattle.cmr_base.specs.Matrix.{is_nonzero}
 use Rattle.cmr_base.specs.Planes.{is_minus}
 use Rattle.parity.proofs.PlaneLemmas.{length-row, number_of-row}
 use Rattle.parity.proofs.ColumnSums.{no_sums, sums_more, twos_small}
-use Rattle.parity.proofs.column_search.sum_columns.Goals as goal
+use Rattle.parity.proofs.wide.sum_columns.Goals as goal
 
 pub loop-row-init : goal.loop-row-init
 loop-row-init c =
