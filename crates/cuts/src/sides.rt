@@ -14,8 +14,8 @@ pub const LEAST_SIDE: u32 = 4;
 #[derive(Drop)]
 pub struct Side {
     pub lines: LineMask,
-    pub row_numbers: Vec<u64>,
-    pub column_numbers: Vec<u64>,
+    row_numbers: Vec<u64>,
+    column_numbers: Vec<u64>,
     ghost row_size: { length row_numbers.items ≡ lines.rows.size },
     ghost column_size: { length column_numbers.items ≡ lines.columns.size },
 }
