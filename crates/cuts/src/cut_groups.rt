@@ -83,12 +83,13 @@ impl GroupFinder {
         ensures { OnOk result (AreFound matrix.now self.new) }
     {
         let mut search = CutSearch {
+            matrix,
             separated: self.taken.copied(alloc)?,
             states: self.states,
         };
         let own = self.groups.name(matrix.rows(), line);
         let name = if self.size == 0 { own } else { self.largest };
-        if is_covered(alloc, matrix, &self.groups, line, name, &mut search)? {
+        if is_covered(alloc, &self.groups, line, name, &mut search)? {
             self.groups.rename(line, &search.separated);
             add_rest(&mut self.taken, &search.separated);
             self.note(own, search.separated.count_others());
@@ -119,28 +120,28 @@ impl GroupFinder {
 // and then into side two.
 fn is_covered(
     alloc: Global,
-    matrix: &RowsAndColumns<'_>,
     groups: &Groups,
     line: Line,
     name: u32,
-    search: &mut CutSearch,
+    search: &mut CutSearch<'_>,
 ) -> Result<bool, Memory>
-    requires names { HasNames matrix.now groups.now }
-    requires together { HoldTogether (IsCut matrix.now) matrix.now groups.now }
-    requires line { IsLineOf matrix.now line }
-    requires separated { IsMaskOf matrix.now search.old.separated }
-    ensures size { OnOk result (IsMaskOf matrix.now search.new.separated) }
+    requires names { HasNames search.old.matrix.now groups.now }
+    requires together { HoldTogether (IsCut search.old.matrix.now) search.old.matrix.now
+        groups.now }
+    requires line { IsLineOf search.old.matrix.now line }
+    ensures same { search.new.matrix ≡ search.old.matrix }
     ensures one_side { IfOk result (λ covered. covered ≡ true
-        → AreOnOneSide matrix.now line (as_set search.new.separated)) }
+        → AreOnOneSide search.old.matrix.now line (as_set search.new.separated)) }
 {
+    let matrix = search.matrix;
     let depth = matrix.rows() + matrix.columns() + 2;
     let nothing = Side::empty(alloc, matrix)?;
     let first = nothing.with_line(alloc, matrix, line)?;
     let group = groups.lines(alloc, matrix.rows(), matrix.columns(), name)?;
     let more = first.grown(alloc, matrix, &group)?;
-    if !search.search(alloc, matrix, &more, &nothing, depth)? {
+    if !search.search(alloc, &more, &nothing, depth)? {
         return Ok(false);
     }
     let second = nothing.grown(alloc, matrix, &group)?;
-    search.search(alloc, matrix, &first, &second, depth)
+    search.search(alloc, &first, &second, depth)
 }

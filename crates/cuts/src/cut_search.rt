@@ -1,6 +1,7 @@
 // Searches for the lines that cuts separate from given lines of side one.
-ghost use Rattle.std.specs.Prelude.{IfOk};
-ghost use Rattle.cuts.specs.CutSearches.{CanSearch, HasMarked};
+ghost use Rattle.std.specs.Prelude.{◌≡◌, IfOk};
+ghost use Rattle.cmr_base.specs.LineMasks.{IsMaskOf};
+ghost use Rattle.cuts.specs.CutSearches.{HaveNumbers, HasMarked};
 
 use crate::LEAST_SIDE;
 use crate::line_patterns::LinePatterns;
@@ -13,29 +14,31 @@ use std::alloc::Global;
 /// Class 0 has many lines if more than one line in `MANY_ZEROS` has it.
 const MANY_ZEROS: u32 = 2;
 
-/// The lines that cuts may separate from the first lines of the search, and the number of states that the search may still
-/// examine.
+/// A matrix, the lines that cuts may separate from the first lines of the search, and the number of states that the search may
+/// still examine.
 #[derive(Drop)]
-pub struct CutSearch {
+pub struct CutSearch<'a> {
+    pub matrix: &'a RowsAndColumns<'a>,
     pub separated: LineMask,
     pub states: u32,
+    ghost size: { IsMaskOf matrix.now separated },
 }
 
-impl CutSearch {
+impl<'a> CutSearch<'a> {
     /// Marks the lines of side two of each cut that has the lines of `one` in side one and the lines of `two` in side two.
     /// Returns `false` if it gives up, since no depth or no states are left.
     #[cycle(search)]
     pub fn search(
         &mut self,
         alloc: Global,
-        matrix: &RowsAndColumns<'_>,
         one: &Side,
         two: &Side,
         depth: u32,
     ) -> Result<bool, Memory>
-        requires { CanSearch matrix.now self.old.separated one.now two.now }
-        ensures { IfOk result
-            (HasMarked matrix.now one.now two.now self.old.separated self.new.separated) }
+        requires { HaveNumbers self.old.matrix.now one.now two.now }
+        ensures same { self.new.matrix ≡ self.old.matrix }
+        ensures marked { IfOk result (HasMarked self.old.matrix.now one.now two.now
+            self.old.separated self.new.separated) }
     {
         if one.meets(&two.lines) {
             return Ok(true);
@@ -46,14 +49,14 @@ impl CutSearch {
         if depth == 0 || self.states == 0 {
             return Ok(false);
         }
-        if let Some(more) = one.forced(alloc, matrix, &two.lines)? {
-            return self.search(alloc, matrix, &more, two, depth - 1);
+        if let Some(more) = one.forced(alloc, self.matrix, &two.lines)? {
+            return self.search(alloc, &more, two, depth - 1);
         }
-        if let Some(more) = two.forced(alloc, matrix, &one.lines)? {
-            return self.search(alloc, matrix, one, &more, depth - 1);
+        if let Some(more) = two.forced(alloc, self.matrix, &one.lines)? {
+            return self.search(alloc, one, &more, depth - 1);
         }
         self.states -= 1;
-        self.search_state(alloc, matrix, one, two, depth - 1)
+        self.search_state(alloc, one, two, depth - 1)
     }
 
     // The same for a state in which no line is forced. The searches that it begins have this depth.
@@ -61,16 +64,16 @@ impl CutSearch {
     fn search_state(
         &mut self,
         alloc: Global,
-        matrix: &RowsAndColumns<'_>,
         one: &Side,
         two: &Side,
         depth: u32,
     ) -> Result<bool, Memory>
-        requires { CanSearch matrix.now self.old.separated one.now two.now }
-        ensures { IfOk result
-            (HasMarked matrix.now one.now two.now self.old.separated self.new.separated) }
+        requires { HaveNumbers self.old.matrix.now one.now two.now }
+        ensures same { self.new.matrix ≡ self.old.matrix }
+        ensures marked { IfOk result (HasMarked self.old.matrix.now one.now two.now
+            self.old.separated self.new.separated) }
     {
-        let _shape = matrix.rows();
+        let _shape = self.matrix.rows();
         let near = LinePatterns::of(alloc, one)?;
         if near.are_few() {
             return Ok(true);
@@ -83,7 +86,7 @@ impl CutSearch {
         if far.are_few() {
             return Ok(true);
         }
-        self.search_halves(alloc, matrix, &near, &far, depth)
+        self.search_halves(alloc, &near, &far, depth)
     }
 
     // The same by halves of the lines outside side one, or outside side two.
@@ -91,30 +94,30 @@ impl CutSearch {
     fn search_halves(
         &mut self,
         alloc: Global,
-        matrix: &RowsAndColumns<'_>,
         near: &LinePatterns<'_>,
         far: &LinePatterns<'_>,
         depth: u32,
     ) -> Result<bool, Memory>
-        requires { CanSearch matrix.now self.old.separated near.now.side.now far.now.side.now }
-        ensures { IfOk result (HasMarked matrix.now near.now.side.now far.now.side.now
-            self.old.separated self.new.separated) }
+        requires { HaveNumbers self.old.matrix.now near.now.side.now far.now.side.now }
+        ensures same { self.new.matrix ≡ self.old.matrix }
+        ensures marked { IfOk result (HasMarked self.old.matrix.now near.now.side.now
+            far.now.side.now self.old.separated self.new.separated) }
     {
         let one = near.side;
         let two = far.side;
-        if let Some(halves) = near.halves(alloc, matrix, least_heap(near, far))? {
-            if !self.search(alloc, matrix, &halves.one, two, depth)? {
+        if let Some(halves) = near.halves(alloc, self.matrix, least_heap(near, far))? {
+            if !self.search(alloc, &halves.one, two, depth)? {
                 return Ok(false);
             }
-            return self.search(alloc, matrix, &halves.other, two, depth);
+            return self.search(alloc, &halves.other, two, depth);
         }
-        if let Some(halves) = far.halves(alloc, matrix, 0)? {
-            if !self.search(alloc, matrix, one, &halves.one, depth)? {
+        if let Some(halves) = far.halves(alloc, self.matrix, 0)? {
+            if !self.search(alloc, one, &halves.one, depth)? {
                 return Ok(false);
             }
-            return self.search(alloc, matrix, one, &halves.other, depth);
+            return self.search(alloc, one, &halves.other, depth);
         }
-        self.search_by_line(alloc, matrix, one, two, depth)
+        self.search_by_line(alloc, one, two, depth)
     }
 
     // The same with a line in side one, and then in side two.
@@ -122,25 +125,26 @@ impl CutSearch {
     fn search_by_line(
         &mut self,
         alloc: Global,
-        matrix: &RowsAndColumns<'_>,
         one: &Side,
         two: &Side,
         depth: u32,
     ) -> Result<bool, Memory>
-        requires { CanSearch matrix.now self.old.separated one.now two.now }
-        ensures { IfOk result
-            (HasMarked matrix.now one.now two.now self.old.separated self.new.separated) }
+        requires { HaveNumbers self.old.matrix.now one.now two.now }
+        ensures same { self.new.matrix ≡ self.old.matrix }
+        ensures marked { IfOk result (HasMarked self.old.matrix.now one.now two.now
+            self.old.separated self.new.separated) }
     {
+        let matrix = self.matrix;
         let Some(line) = next_line(matrix, &one.lines, &two.lines, &self.separated) else {
             add_rest(&mut self.separated, &one.lines);
             return Ok(true);
         };
         let more_one = one.with_line(alloc, matrix, line)?;
-        if !self.search(alloc, matrix, &more_one, two, depth)? {
+        if !self.search(alloc, &more_one, two, depth)? {
             return Ok(false);
         }
         let more_two = two.with_line(alloc, matrix, line)?;
-        self.search(alloc, matrix, one, &more_two, depth)
+        self.search(alloc, one, &more_two, depth)
     }
 }
 
