@@ -23,8 +23,8 @@ pub fn passed_rows(alloc: Global, matrix: &RowsAndColumns<'_>) -> Result<u32, Me
     rows_without_fault(alloc, matrix)
 }
 
-/// The same if the whole matrix has no tree, from a number of first rows on that have no fault. A prefix of the rows is halved
-/// until it has a tree.
+/// The same if the whole matrix has no tree, from a number of first rows on that have no fault. The prefixes of the rows that the
+/// search tests double in length until one has no tree. The first is short, so it costs little if no longer prefix has a tree.
 pub fn passed_prefix(alloc: Global, matrix: &RowsAndColumns<'_>, first: u32) -> Result<u32, Memory>
     requires { HasNoFaultBefore matrix.now first }
     ensures { IfOk result (HasNoFaultBefore matrix.now) }
@@ -32,8 +32,36 @@ pub fn passed_prefix(alloc: Global, matrix: &RowsAndColumns<'_>, first: u32) -> 
     if is_sparse(matrix) {
         return Ok(first);
     }
+    let rows = matrix.rows();
     let mut passed = first;
-    let mut end = matrix.rows();
+    let mut more = ROWS;
+    'doublings: while passed < rows && more < rows - passed {
+        let end = passed + more;
+        let found = prefix_without_fault(alloc, matrix, end)?;
+        if found > passed {
+            passed = found;
+        }
+        if found < end {
+            return passed_between(alloc, matrix, passed, end);
+        }
+        more = end;
+    }
+    passed_between(alloc, matrix, passed, rows)
+}
+
+// The same if a given number of first rows has no tree. The search halves the difference of both numbers until it is small.
+fn passed_between(
+    alloc: Global,
+    matrix: &RowsAndColumns<'_>,
+    first: u32,
+    rows: u32,
+) -> Result<u32, Memory>
+    requires passed { HasNoFaultBefore matrix.now first }
+    requires inside { rows ≤ height matrix.now }
+    ensures { IfOk result (HasNoFaultBefore matrix.now) }
+{
+    let mut passed = first;
+    let mut end = rows;
     'halves: while passed < end && end - passed > ROWS {
         let middle = passed + (end - passed) / 2;
         let found = prefix_without_fault(alloc, matrix, middle)?;

@@ -1,13 +1,12 @@
-use Rattle.std.proofs.Common.{◌≤◌, ◌-◌}
-use Rattle.cmr_base.specs.Matrix.{height}
+use Rattle.std.proofs.Common.{◌<◌, ◌-◌}
 use Rattle.network_orient.specs.FirstRows.{HasNoFaultBefore}
 use Rattle.camion_sign.proofs.network_rows.passed_prefix.Given as goal
 
-abbrev pub invariant-halves : goal.invariant-halves
-invariant-halves l = record {
+abbrev pub invariant-doublings : goal.invariant-doublings
+invariant-doublings l = record {
   passed : HasNoFaultBefore l.matrix l.passed;
-  inside : l.end ≤ height l.matrix;
+  grows : 0 < l.more;
 }
 
-abbrev pub decreases-halves : goal.decreases-halves
-decreases-halves l = l.end - l.passed
+abbrev pub decreases-doublings : goal.decreases-doublings
+decreases-doublings l = l.rows - l.passed
