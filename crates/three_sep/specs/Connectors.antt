@@ -14,6 +14,7 @@ use Rattle.line_growth.specs.declared.rule.GrowthRule.{GrowthRule}
 use Rattle.line_growth.specs.GrowingSets.{HasNone, IsClosedIn}
 use Rattle.line_growth.specs.Rules.{IsRuleOf, lower_of, upper_of}
 use Rattle.three_sep.specs.declared.connectors.Connectors.{Connectors}
+use Rattle.three_sep.specs.FirstCuts.{first_corner, second_corner}
 use Rattle.three_sep.specs.Searches.{corner_prefix, corners_of, first_at, second_at}
 
 -- the connectors with two corners and the other lines q and o
@@ -48,3 +49,7 @@ all_prefix form d = corner_prefix form (corners_of d) ++ d.first.other ∷ d.sec
 -- no set that is closed under the rule has all first lines and no second line, with four lines or more on each side
 abbrev pub HasNoneParting : Matrix → GrowthRule → (first second : List Line) → Type 0
 HasNoneParting m rule first second = (T : Lines) → IsClosedIn m (upper_of m rule) (lower_of m rule) T → HasAll T first → HasNone T second → ¬ (AreEnough (first_lines (height m)) (first_lines m.width) T 4)
+
+-- no separation by the products at the corners has the first corner in side one and the second corner in side two
+abbrev pub HasNoneAtCorners : Matrix → Corners → Type 0
+HasNoneAtCorners m c = HasNoneParting m (rule_of c) (first_corner c) (second_corner c)

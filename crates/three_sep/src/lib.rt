@@ -10,6 +10,7 @@ mod independent;
 pub mod laws;
 mod others;
 mod pulled;
+mod refused_corners;
 mod row_search;
 mod search;
 mod sides;

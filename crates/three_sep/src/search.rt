@@ -11,6 +11,7 @@ use crate::connectors::{Connectors, rule_at};
 use crate::others::{
     count_of, is_first_other, is_second_other, line_of, may_have_columns, may_have_rows,
 };
+use crate::refused_corners::RefusedCorners;
 use crate::sides::Sides;
 use cmr_base::{Connector, Form, Line, Matrix, Memory, RowsAndColumns, Three};
 use cuts::{Corners, Groups, groups_of};
@@ -48,8 +49,8 @@ pub fn three_separation_of(
 /// The number of corners that the search refuses before it computes groups, so that an early find does not pay for groups.
 const EARLY: u32 = 100;
 
-/// The state of a search: the sides of the first connector and with one more line, and groups of lines that no cut parts. The search
-/// computes groups after `EARLY` corners; before that each line is a group.
+/// The state of a search: the sides of the first connector and with one more line, groups of lines that no cut parts, and corners that were
+/// refused. The search computes groups after `EARLY` corners; before that each line is a group.
 #[derive(Drop)]
 pub struct Search<'a> {
     pub matrix: &'a RowsAndColumns<'a>,
@@ -57,7 +58,11 @@ pub struct Search<'a> {
     pub groups: Groups,
     pub tries: u32,
     asked: bool,
+    refused: RefusedCorners<'a>,
+    refused_later: RefusedCorners<'a>,
     ghost sides_fit: { sides.matrix.now ≡ matrix.now },
+    ghost refused_fit: { refused.matrix.now ≡ matrix.now },
+    ghost refused_later_fit: { refused_later.matrix.now ≡ matrix.now },
     ghost names: { HasNames matrix.now groups },
     ghost together: { HoldTogether (IsCut matrix.now) matrix.now groups },
 }
@@ -68,6 +73,7 @@ impl<'a> Search<'a> {
     ghost use Rattle.cmr_base.specs.Separations.{IsTied, first_is_flat, second_is_flat};
     ghost use Rattle.cmr_base.specs.Seeds.{IsLine, form_number};
     ghost use Rattle.cuts.specs.LineCuts.{AreInside};
+    ghost use Rattle.three_sep.specs.Connectors.{HasNoneAtCorners};
     ghost use Rattle.three_sep.specs.NumberedSeeds.{IsCrossing};
     ghost use Rattle.three_sep.specs.HeldSides.{HoldsFirst};
     ghost use Rattle.three_sep.specs.Searches.{HasCorners, HasNoGood, IsCorner, IsFoundSeparation, corner_prefix, other_line, second_at};
@@ -82,6 +88,8 @@ impl<'a> Search<'a> {
             groups: Groups::new(alloc, matrix)?,
             tries: 0,
             asked: false,
+            refused: RefusedCorners::new(alloc, matrix),
+            refused_later: RefusedCorners::new(alloc, matrix),
         })
     }
 
@@ -121,6 +129,8 @@ impl<'a> Search<'a> {
             (form_number form ∷ [])) }
     {
         let matrix = self.matrix;
+        self.refused.rewind();
+        self.refused_later.rewind();
         for i in 0..matrix.rows() {
             if let Some(three) = self.first_of_row(alloc, form, i)? {
                 return Ok(Some(three));
@@ -219,10 +229,7 @@ impl<'a> Search<'a> {
             (corner_prefix form corners.now)) }
     {
         let matrix = self.matrix;
-        let Corners { i, p, k, j } = *corners;
-        let first = [Line::Row(i), Line::Column(p)];
-        let second = [Line::Row(k), Line::Column(j)];
-        if !self.sides.may_part(rule_at(corners), &first, &second)? {
+        if !self.may_part(corners)? {
             self.tries = self.tries.saturating_add(1);
             return Ok(None);
         }
@@ -234,6 +241,34 @@ impl<'a> Search<'a> {
             }
         }
         Ok(None)
+    }
+
+    // Decides whether a separation may have the first corner in side one and the second corner in side two. The search notes corners that
+    // it refuses, for the next forms. The second form notes corners that the first form did not visit in a list of their own.
+    fn may_part(&mut self, corners: &Corners) -> Result<bool, Memory>
+        requires { AreInside self.old.matrix.now corners.now }
+        ensures matrix { self.new.matrix.now ≡ self.old.matrix.now }
+        ensures none { IfOk result (λ may. may ≡ false
+            → HasNoneAtCorners self.old.matrix.now corners.now) }
+    {
+        if self.refused.has(corners) {
+            return Ok(false);
+        }
+        if self.refused_later.has(corners) {
+            return Ok(false);
+        }
+        let Corners { i, p, k, j } = *corners;
+        let first = [Line::Row(i), Line::Column(p)];
+        let second = [Line::Row(k), Line::Column(j)];
+        if self.sides.may_part(rule_at(corners), &first, &second)? {
+            return Ok(true);
+        }
+        if self.refused.is_past() {
+            self.refused.note(corners)?;
+            return Ok(false);
+        }
+        self.refused_later.note(corners)?;
+        Ok(false)
     }
 
     // Decides whether q can be the other line of the first connector, and the closure of the first connector leaves the second corner. If so,

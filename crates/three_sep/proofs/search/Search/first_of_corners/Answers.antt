@@ -1,23 +1,15 @@
-use Rattle.std.proofs.Common.{◌≡◌, ◌∙◌, ap, arith, subst, Bool, sym, ◌∷◌, []}
-use Rattle.cmr_base.specs.declared.line.Line.TheVariants.{Column, Row}
-use Rattle.line_growth.specs.declared.rule.GrowthRule.{GrowthRule}
-use Rattle.line_growth.specs.Rules.{IsRuleOf}
-use Rattle.three_sep.specs.Connectors.{HasNoneParting}
+use Rattle.std.proofs.Common.{◌≡◌, ◌∙◌, ap, arith, subst, Bool, sym}
 use Rattle.three_sep.specs.declared.search.Search.{Search}
 use Rattle.cmr_base.specs.Separations.{first_is_flat}
 use Rattle.three_sep.specs.Searches.{corner_prefix, line_count}
 use Rattle.three_sep.proofs.SearchLemmas.{below_line, found_some, none_more, level_ends, none_below_more, first_below}
-use Rattle.three_sep.proofs.SideLemmas.{no_good_corners, rule_inside}
+use Rattle.three_sep.proofs.SideLemmas.{no_good_corners}
 use Rattle.three_sep.proofs.KeptSideLemmas.{held_at_own}
 use Rattle.three_sep.proofs.search.Search.first_of_corners.Goals as goal
 use Rattle.three_sep.proofs.search.Search.first_of_corners.Goals.{then-branch+in_ok-three+in_default, else-branch}
 
 pub returns-then-not-branch-clause-found : goal.returns-then-not-branch-clause-found
-returns-then-not-branch-clause-found c = no_good_corners c.args.self.now.matrix.now c.args.form c.requires.crossing c.args.corners.now
-    (subst (λ (r : GrowthRule). HasNoneParting c.args.self.now.matrix.now r (Row c.args.corners.now.i ∷ Column c.args.corners.now.p ∷ []) (Row c.args.corners.now.k ∷ Column c.args.corners.now.j ∷ [])) c.rule_at.ensures (rw c.args.self.now.sides_fit at (c.in_ok-may_part.ensures.none c.if-not-branch.true)))
-
-pub may_part-requires-clause-rule : goal.may_part-requires-clause-rule
-may_part-requires-clause-rule c = rw c.args.self.now.sides_fit (subst (λ (r : GrowthRule). IsRuleOf c.args.self.now.matrix.now r) (sym c.rule_at.ensures) (rule_inside c.args.self.now.matrix.now c.args.corners.now c.requires.corners.inside))
+returns-then-not-branch-clause-found c = no_good_corners c.args.self.now.matrix.now c.args.form c.requires.crossing c.args.corners.now (c.in_ok-may_part.ensures.none c.if-not-branch.true)
 
 pub hold_first-requires-clause-line : goal.hold_first-requires-clause-line
 hold_first-requires-clause-line c =

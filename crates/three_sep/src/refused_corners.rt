@@ -1,0 +1,92 @@
+// Corners that a search has refused.
+ghost use Rattle.std.specs.Prelude.{◌≡◌, true};
+ghost use Rattle.std.specs.List.{All};
+ghost use Rattle.three_sep.specs.Connectors.{HasNoneAtCorners};
+
+use cmr_base::{Memory, RowsAndColumns};
+use cuts::Corners;
+use std::alloc::Global;
+
+/// The number of corners that are kept.
+const MOST: usize = 100_000;
+
+/// Pairs of corners: no separation of the matrix has (i, p) in side one and (k, j) in side two. They are noted in lexicographic order, and
+/// later visits in this order find them one after another: those before `next` are past.
+#[derive(Drop)]
+pub struct RefusedCorners<'a> {
+    pub matrix: &'a RowsAndColumns<'a>,
+    noted: Vec<Corners>,
+    next: usize,
+    ghost none_at: { All (HasNoneAtCorners matrix.now) noted.items },
+}
+
+impl<'a> RefusedCorners<'a> {
+    ghost use Rattle.std.specs.Prelude.{◌≡◌, true};
+    ghost use Rattle.three_sep.specs.Connectors.{HasNoneAtCorners};
+
+    /// No corners of a matrix.
+    pub fn new(alloc: Global, matrix: &'a RowsAndColumns<'a>) -> RefusedCorners<'a>
+        ensures { result.matrix.now ≡ matrix.entry.now }
+    {
+        RefusedCorners {
+            matrix,
+            noted: Vec::new(alloc),
+            next: 0,
+        }
+    }
+
+    /// Begins another visit: no corners are past.
+    pub fn rewind(&mut self)
+        ensures { self.new.matrix.now ≡ self.old.matrix.now }
+    {
+        self.next = 0;
+    }
+
+    /// Decides whether these corners are the next noted ones, after those that come before them in the order. The latter are then past.
+    pub fn has(&mut self, corners: &Corners) -> bool
+        ensures matrix { self.new.matrix.now ≡ self.old.matrix.now }
+        ensures none { result ≡ true → HasNoneAtCorners self.old.matrix.now corners.now }
+    {
+        'earlier: while self.next < self.noted.len() && is_before(&self.noted[self.next], corners) {
+            self.next += 1;
+        }
+        self.next < self.noted.len() && are_same(&self.noted[self.next], corners)
+    }
+
+    /// Whether all noted corners are past.
+    pub fn is_past(&self) -> bool {
+        self.next == self.noted.len()
+    }
+
+    /// Notes corners, which are then past, if all noted corners are past and there is room.
+    pub fn note(&mut self, corners: &Corners) -> Result<(), Memory>
+        requires { HasNoneAtCorners self.old.matrix.now corners.now }
+        ensures { self.new.matrix.now ≡ self.old.matrix.now }
+    {
+        if self.is_past() && self.next < MOST {
+            self.noted.push(*corners)?;
+            self.next += 1;
+        }
+        Ok(())
+    }
+}
+
+// Whether corners come before others in the lexicographic order.
+fn is_before(one: &Corners, other: &Corners) -> bool {
+    if one.i != other.i {
+        return one.i < other.i;
+    }
+    if one.p != other.p {
+        return one.p < other.p;
+    }
+    if one.k != other.k {
+        return one.k < other.k;
+    }
+    one.j < other.j
+}
+
+fn are_same(one: &Corners, other: &Corners) -> bool
+    ensures { result ≡ true → one.now ≡ other.now }
+{
+    one.i == other.i && one.p == other.p && one.k == other.k && one.j == other.j
+}
