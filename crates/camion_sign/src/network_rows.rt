@@ -23,30 +23,22 @@ pub fn passed_rows(alloc: Global, matrix: &RowsAndColumns<'_>) -> Result<u32, Me
     rows_without_fault(alloc, matrix)
 }
 
-/// The same if the whole matrix has no tree, from a number of first rows on that have no fault. The prefixes of the rows that the
-/// search tests double in length until one has no tree. The first is short, so it costs little if no longer prefix has a tree.
+/// The same if the whole matrix has no tree, from a number of first rows on that have no fault. The search tests a few more rows
+/// first, so it costs little if no longer prefix has a tree.
 pub fn passed_prefix(alloc: Global, matrix: &RowsAndColumns<'_>, first: u32) -> Result<u32, Memory>
     requires { HasNoFaultBefore matrix.now first }
     ensures { IfOk result (HasNoFaultBefore matrix.now) }
 {
-    if is_sparse(matrix) {
+    let rows = matrix.rows();
+    if is_sparse(matrix) || first >= rows || rows - first <= ROWS {
         return Ok(first);
     }
-    let rows = matrix.rows();
-    let mut passed = first;
-    let mut more = ROWS;
-    'doublings: while passed < rows && more < rows - passed {
-        let end = passed + more;
-        let found = prefix_without_fault(alloc, matrix, end)?;
-        if found > passed {
-            passed = found;
-        }
-        if found < end {
-            return passed_between(alloc, matrix, passed, end);
-        }
-        more = end;
+    let near = first + ROWS;
+    let found = prefix_without_fault(alloc, matrix, near)?;
+    if found < near {
+        return Ok(first);
     }
-    passed_between(alloc, matrix, passed, rows)
+    passed_between(alloc, matrix, found, rows)
 }
 
 // The same if a given number of first rows has no tree. The search halves the difference of both numbers until it is small.
