@@ -26,10 +26,10 @@ impl Block {
 
 fn nothing() {}
 """
-SHARED = 20
+SHARED = 19
 PRIVATE = 0
 # The limits of the words of each kind of texts: of "where" in a thousand, and of the house words.
-WORDINGS = {"documents": (1, 0), "comments of .rt": (1, 7), "comments of .antt": (1, 9), "comments of .py": (1, 0)}
+WORDINGS = {"documents": (1, 0), "comments of .rt": (1, 3), "comments of .antt": (1, 2), "comments of .py": (1, 0)}
 WORDED = "".join(
     f'     0 of at most {wheres:4} "where" in a thousand words of {kind}\n'
     f"     0 of at most {words:4} house words of {kind}\n"
