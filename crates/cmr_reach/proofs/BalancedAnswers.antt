@@ -133,8 +133,8 @@ pub balanced_order-ranges : (words : List Text) (o : BalancedOrder) → balanced
 balanced_order-ranges words o e = go (matches_with_input balanced_app words) e
   where
     order_with : List Row → MatrixForm → ℕ → ℕ → ℕ → BalancedOrder
-    order_with rows form lines pivots workers = record { form = form; budget = budget; pivots = pivots; workers = workers; fault = fault_in rows; file = file_in rows }
+    order_with rows form budget pivots workers = record { form = form; budget = budget; pivots = pivots; workers = workers; fault = fault_in rows; file = file_in rows }
 
     go : (rows : Option (List Row)) → (rows >>= balanced_order_in) ≡ Some o → IsInRanges o × (o.pivots ≤ 100)
     go None e = cc
-    go (Some rows) e = with_numbers (λ (x : BalancedOrder). IsInRanges x × (x.pivots ≤ 100)) (order_with rows) rows o (λ form lines pivots workers few bound some. (record { lines = few; some = some.0; workers = some.1 }, bound)) e
+    go (Some rows) e = with_numbers (λ (x : BalancedOrder). IsInRanges x × (x.pivots ≤ 100)) (order_with rows) rows o (λ form budget pivots workers few bound some. (record { budget = few; some = some.0; workers = some.1 }, bound)) e

@@ -102,7 +102,7 @@ pub generate_order-ranges : (words : List Text) (o : GenerateOrder) → generate
 generate_order-ranges words o e = go (matches_in generate_app words) e
   where
     order_with : MakeKind → Option (List ℕ) → ℕ → ℕ → ℕ → ℕ → ℕ → GenerateOrder
-    order_with what output size number lines pivots workers = record { what = what; size = size; number = number; budget = budget; pivots = pivots; workers = workers; output = output }
+    order_with what output size number budget pivots workers = record { what = what; size = size; number = number; budget = budget; pivots = pivots; workers = workers; output = output }
 
     of_values : (what : MakeKind) (output : Option (List ℕ)) (size number lines pivots workers : Option ℕ)
         → ((n : ℕ) → size ≡ Some n → (1 ≤ n) × (n ≤ most_size what)) → ((n : ℕ) → number ≡ Some n → n < 2 ^ 31) → ((n : ℕ) → lines ≡ Some n → n ≤ MAX_LINES)
@@ -116,7 +116,7 @@ generate_order-ranges words o e = go (matches_in generate_app words) e
     of_values what output (Some s) (Some n) (Some l) (Some p) (Some w) of_size of_number of_lines of_pivots of_workers e =
         let same : order_with what output s n l p w ≡ o = cc in
         subst (λ (x : GenerateOrder). IsInRange x × (x.pivots ≤ 100)) same
-        (record { positive = (of_size s refl).0; size = (of_size s refl).1; number = of_number n refl; lines = of_lines l refl; workers = of_workers w refl }, of_pivots p refl)
+        (record { positive = (of_size s refl).0; size = (of_size s refl).1; number = of_number n refl; budget = of_lines l refl; workers = of_workers w refl }, of_pivots p refl)
 
     of_kind : (what : Option MakeKind) (rows : List Row)
         → (what >>= (λ k. size_in k rows >>= (λ s. number_in rows >>= (λ n. lines_in rows >>= (λ l. pivots_in rows >>= (λ p. workers_in rows >>= (λ w. Some (order_with k (first_of (codes "output") rows) s n l p w)))))))) ≡ Some o → IsInRange o × (o.pivots ≤ 100)

@@ -119,7 +119,7 @@ pub regular_order-ranges : (words : List Text) (o : RegularOrder) → regular_or
 regular_order-ranges words o e = go (matches_with_input regular_app words) e
   where
     order_with : List Row → MatrixForm → ℕ → ℕ → ℕ → RegularOrder
-    order_with rows form lines pivots workers = record {
+    order_with rows form budget pivots workers = record {
       form = form;
       budget = budget;
       pivots = pivots;
@@ -133,4 +133,4 @@ regular_order-ranges words o e = go (matches_with_input regular_app words) e
 
     go : (rows : Option (List Row)) → (rows >>= regular_order_in) ≡ Some o → (regular_tool o).InRanges × (o.pivots ≤ 100)
     go None e = cc
-    go (Some rows) e = with_numbers (λ (x : RegularOrder). (regular_tool x).InRanges × (x.pivots ≤ 100)) (order_with rows) rows o (λ form lines pivots workers few bound some. ((few, some.0, some.1), bound)) e
+    go (Some rows) e = with_numbers (λ (x : RegularOrder). (regular_tool x).InRanges × (x.pivots ≤ 100)) (order_with rows) rows o (λ form budget pivots workers few bound some. ((few, some.0, some.1), bound)) e

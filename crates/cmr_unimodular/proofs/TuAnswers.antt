@@ -29,8 +29,8 @@ pub tu_order-ranges : (words : List Text) (o : TuOrder) → tu_order words ≡ S
 tu_order-ranges words o e = go (matches_with_input tu_app words) e
   where
     order_with : List Row → MatrixForm → ℕ → ℕ → ℕ → TuOrder
-    order_with rows form lines pivots workers = record { form = form; budget = budget; pivots = pivots; workers = workers; tree = first_of (codes "tree") rows; fault = fault_in rows; file = file_in rows }
+    order_with rows form budget pivots workers = record { form = form; budget = budget; pivots = pivots; workers = workers; tree = first_of (codes "tree") rows; fault = fault_in rows; file = file_in rows }
 
     go : (rows : Option (List Row)) → (rows >>= tu_order_in) ≡ Some o → (tu_tool o).InRanges × (o.pivots ≤ 100)
     go None e = cc
-    go (Some rows) e = with_numbers (λ (x : TuOrder). (tu_tool x).InRanges × (x.pivots ≤ 100)) (order_with rows) rows o (λ form lines pivots workers few bound some. ((few, some.0, some.1), bound)) e
+    go (Some rows) e = with_numbers (λ (x : TuOrder). (tu_tool x).InRanges × (x.pivots ≤ 100)) (order_with rows) rows o (λ form budget pivots workers few bound some. ((few, some.0, some.1), bound)) e
