@@ -12,6 +12,7 @@ from collections.abc import Sequence
 from html import unescape
 from itertools import combinations
 from pathlib import Path
+from unittest import mock
 
 from cmr_matrices import BadInput, Matrix, ModelReport, model_report
 from cmr_matrices.constraints import Choice, Constraints
@@ -201,7 +202,8 @@ class Reports(ReportTest):
         self.assertEqual(report.ended["rows of load[..]"], "questions")
         self.assertIn("The limits on questions ended these steps: ", report.to_text())
         self.assertIn("A limit ended the search row by row before it found a row of load[..]", report.to_text())
-        hasty = model_report(EXAMPLES / "goods.mod", time_limit=0.01)
+        with mock.patch("cmr_matrices.reporting.asking.processor_seconds", return_value=1e9):
+            hasty = model_report(EXAMPLES / "goods.mod", time_limit=0.01)
         self.assertEqual((hasty.verdict, hasty.whole.why_open), ("undecided", "the time is over"))
         self.assertEqual(set(hasty.ended.values()), {"time"})
         for text in (hasty.to_text(), hasty.to_html()):
