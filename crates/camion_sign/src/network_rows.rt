@@ -84,7 +84,7 @@ fn prefix_without_fault(
 {
     let lines = LineSet::all(alloc, rows, matrix.columns())?;
     let prefix = matrix.by_rows().part(alloc, &lines)?;
-    let columns = matrix.columns_of(alloc, &lines)?;
+    let columns = matrix.transposed_part(alloc, &lines)?;
     let passed = rows_without_fault(alloc, &RowsAndColumns::of(&prefix, &columns))?;
     Ok(passed.min(rows))
 }

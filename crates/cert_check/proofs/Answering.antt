@@ -19,7 +19,7 @@ use Rattle.tree_type.specs.Invariant.{AreLines, AreTreesWithin, IsTreeFor}
 use Rattle.tree_type.specs.Places.{due_child, Due, AllLines, MadePivot, matrix_after, pivots_below, Place, places, places_from, lines_of_each}
 use Rattle.tree_type.specs.Soundness.{HasItsSizes, HasItsLines, Demands, MayStand, Keeps, KeepsAll, rule_number, BreaksFirst, IsFirstBroken}
 use Rattle.tree_type.proofs.PlacedLines.{lines_within}
-use Rattle.cmr_base.specs.declared.placed_pivot.PlacedPivot.{PlacedPivot}
+use Rattle.cmr_base.specs.declared.position.Position.{Position}
 use Rattle.cmr_base.specs.PlacedPivots.{pivoted_part}
 use Rattle.tree_laws.proofs.PivotedMatrices.{lines_pivoted}
 use Rattle.cert_check.specs.Answers.{Answers, AnswersOn, AnswersFrom, AnswersBelow, IsValidNode, nodes_below, place_of, IsAfter, has_pivot, IsRuleAt, IsOwnRule, due_from, due_child_of, unless, KeepsOwn}
@@ -77,7 +77,7 @@ children_valid m lines finding trees (parent, levels, are, within) = (levels - 1
 pub first_valid : (m : Matrix) (lines : LineSet) (finding : Finding) (tree : Tree) (trees : Trees) → IsValidNode m (Branch lines finding (MoreTrees tree trees)) → IsValidNode m tree
 first_valid m lines finding tree trees h = let w = children_valid m lines finding (MoreTrees tree trees) h in (lines, w.0, w.1, w.2.0)
 
-pub valid_pivoted : (m : Matrix) (lines : LineSet) (place : PlacedPivot) (tree : Tree) → IsValidNode m tree → IsValidNode (pivoted_part m lines place) tree
+pub valid_pivoted : (m : Matrix) (lines : LineSet) (place : Position) (tree : Tree) → IsValidNode m tree → IsValidNode (pivoted_part m lines place) tree
 valid_pivoted m lines place tree (parent, levels, are, within) = (parent, levels, lines_pivoted m lines place parent are, within)
 
 last_rule : (r : Rule) → rule_number r ≤ 16
@@ -269,7 +269,7 @@ whole_answer m tree (Some refusal) h = h
 pub kind_is : (node : Node) (k : Kind) (f : Finding) (trees : Trees) → node.kind ≡ k → said k ≡ (f, trees) → tree_of node ≡ Branch node.lines f trees
 kind_is node k f trees e h = tree_is node ∙ ap (λ s. Branch node.lines s.0 s.1) (ap said e ∙ h)
 
-pub pivoted_is : (node : Node) (place : PlacedPivot) (child : Box Node Global) → node.kind ≡ kind.Pivoted place child → tree_of node ≡ Branch node.lines (Pivoted place) (one_tree (tree_of child.value))
+pub pivoted_is : (node : Node) (place : Position) (child : Box Node Global) → node.kind ≡ kind.Pivoted place child → tree_of node ≡ Branch node.lines (Pivoted place) (one_tree (tree_of child.value))
 pivoted_is node place child e = kind_is node (kind.Pivoted place child) (Pivoted place) (one_tree (tree_of child.value)) e (said_pivoted place child)
 
 -- the current matrix at the children of a node, and whether a pivot is above them
@@ -277,7 +277,7 @@ abbrev pub GoesOn : Matrix → Bool → LineSet → Finding → Matrix → Bool 
 GoesOn here below_pivot lines f next below_next = (m : Matrix) (pivots : List MadePivot) → IsAfter m pivots here below_pivot → IsAfter m (pivots_below lines f pivots) next below_next
 
 -- the current matrix after the pivot
-pub goes_pivoted : (here : Matrix) (below_pivot : Bool) (lines : LineSet) (place : PlacedPivot) → GoesOn here below_pivot lines (Pivoted place) (pivoted_part here lines place) true
+pub goes_pivoted : (here : Matrix) (below_pivot : Bool) (lines : LineSet) (place : Position) → GoesOn here below_pivot lines (Pivoted place) (pivoted_part here lines place) true
 goes_pivoted here below_pivot lines place m pivots after = record { matrix = ap (λ w. pivoted_part w lines place) after.matrix; pivoted = refl }
 
 module _ (here : Matrix) (below_pivot : Bool) (path : List ℕ) (tree : Tree) (lines : LineSet) (f : Finding) (next : Matrix) (below_next : Bool) (goes : GoesOn here below_pivot lines f next below_next) where

@@ -5,7 +5,7 @@ use Rattle.std.specs.declared.alloc.Global.{Global}
 use Rattle.std.specs.declared.boxed.Box.{Box}
 use Rattle.cmr_base.specs.Matrix.{Matrix, height}
 use Rattle.cmr_base.specs.declared.line_set.LineSet.{LineSet}
-use Rattle.cmr_base.specs.declared.placed_pivot.PlacedPivot.{PlacedPivot}
+use Rattle.cmr_base.specs.declared.position.Position.{Position}
 use Rattle.cmr_base.proofs.Parts.{length-increasing}
 use Rattle.tree_type.specs.declared.refusal.Refusal.{Refusal}
 use Rattle.tree_type.specs.declared.tree.Node.{Node}
@@ -33,7 +33,7 @@ pub record AreLeft (here : Matrix) (below_pivot : Bool) (path : List ℕ) (tree 
 abbrev pub IsNoPivot : Tree → Type 0
 IsNoPivot tree = (pivots : List MadePivot) → pivots_below (lines_at_root tree) (finding_of tree) pivots ≡ pivots
 
-pub no_pivot : (node : Node) → ((place : PlacedPivot) (child : Box Node Global) → node.kind ≢ kind.Pivoted place child) → IsNoPivot (tree_of node)
+pub no_pivot : (node : Node) → ((place : Position) (child : Box Node Global) → node.kind ≢ kind.Pivoted place child) → IsNoPivot (tree_of node)
 no_pivot node other = by_kind node (λ finding. (pivots : List MadePivot) → pivots_below (lines_at_root (tree_of node)) finding pivots ≡ pivots) each
   where
     each : (case : KindCase) → roll-Kind case ≡ node.kind → (pivots : List MadePivot) → pivots_below (lines_at_root (tree_of node)) (finding_in case) pivots ≡ pivots

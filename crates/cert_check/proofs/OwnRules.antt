@@ -23,7 +23,7 @@ use Rattle.tree_type.specs.Soundness.{part, Demands, rule_number}
 use Rattle.tree_type.specs.declared.tree.Kind.TheVariants as kind
 use Rattle.tree_type.proofs.NodeTrees.{said, tree_is, said_cycle, said_two_sum, said_three_sum, said_violator}
 use Rattle.tree_type.proofs.PlacedLines.{lines_within}
-use Rattle.cmr_base.specs.declared.placed_pivot.PlacedPivot.{PlacedPivot}
+use Rattle.cmr_base.specs.declared.position.Position.{Position}
 use Rattle.cmr_base.specs.PlacedPivots.{IsPlaceIn, IsTernaryPivot}
 use Rattle.cert_check.specs.Answers.{IsValidNode, IsFirstBrokenRule, Says, IsOwnRule, unless}
 use Rattle.cert_check.proofs.Answering.{kind_is, pivoted_is, children_valid}
@@ -64,14 +64,14 @@ three_lines m node t one_child two_child e valid = go (branch_valid m node (kind
     go : IsValidNode m (Branch node.lines (ThreeSum t) (two_trees (tree_of one_child.value) (tree_of two_child.value))) → HasConnector (first_is_flat t.form) node.lines.rows node.lines.columns t.first × HasConnector (second_is_flat t.form) node.lines.rows node.lines.columns t.second
     go (parent, levels, are, within) = (within.2.1, within.2.2)
 
-pub pivot_lines : (m : Matrix) (node : Node) (place : PlacedPivot) (child : Box Node Global) → node.kind ≡ kind.Pivoted place child → IsValidNode m (tree_of node) → Contains node.lines.rows place.row × Contains node.lines.columns place.column
+pub pivot_lines : (m : Matrix) (node : Node) (place : Position) (child : Box Node Global) → node.kind ≡ kind.Pivoted place child → IsValidNode m (tree_of node) → Contains node.lines.rows place.row × Contains node.lines.columns place.column
 pivot_lines m node place child e valid = go (subst (IsValidNode m) (pivoted_is node place child e) valid)
   where
     go : IsValidNode m (Branch node.lines (Pivoted place) (one_tree (tree_of child.value))) → Contains node.lines.rows place.row × Contains node.lines.columns place.column
     go (parent, levels, are, within) = (within.2.0, within.2.1)
 
 -- a pivoted node that keeps its rule
-pub own_pivot : (m : Matrix) (node : Node) (place : PlacedPivot) (child : Box Node Global) → node.kind ≡ kind.Pivoted place child → IsValidNode m (tree_of node) → IsOwnRule m (tree_of node) None
+pub own_pivot : (m : Matrix) (node : Node) (place : Position) (child : Box Node Global) → node.kind ≡ kind.Pivoted place child → IsValidNode m (tree_of node) → IsOwnRule m (tree_of node) None
     → IsPlaceIn m node.lines place × IsTernaryPivot m node.lines place
 own_pivot m node place child e valid own = go (subst (λ tree. IsOwnRule m tree None) (pivoted_is node place child e) own)
   where
@@ -123,7 +123,7 @@ r10_says m lines whole b e is h = go b (subst IsR10 e is) (subst (λ p. IsTrue b
         before rule.CycleFault l = absurd (omega (arith, l))
         before _ l = tt
 
-pub pivot_says : (m : Matrix) (lines : LineSet) (place : PlacedPivot) (yes : Bool) → entry m place.row place.column ≢ pos 0 → IsTrue yes ↔ IsTernaryPivot m lines place → Says m lines (Pivoted place) (unless yes rule.NotPivot)
+pub pivot_says : (m : Matrix) (lines : LineSet) (place : Position) (yes : Bool) → entry m place.row place.column ≢ pos 0 → IsTrue yes ↔ IsTernaryPivot m lines place → Says m lines (Pivoted place) (unless yes rule.NotPivot)
 pivot_says m lines place true nonzero h children = kept
   where
     kept : (broken : Rule) → Demands broken m lines (Pivoted place) children

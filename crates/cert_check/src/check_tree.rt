@@ -11,7 +11,7 @@ use crate::due_lines::due_lines;
 use crate::leaf_rules::unless;
 use crate::own_rule::{own_rule, same_lines};
 use crate::pivot_rule::is_allowed;
-use cmr_base::{LineSet, Matrix, Memory, PathList, PlacedPivot};
+use cmr_base::{LineSet, Matrix, Memory, PathList, Position};
 use pivots::{PivotedPart, pivot_part};
 use std::alloc::Global;
 use tree_type::{DecTree, Kind, Node, Refusal, Rule};
@@ -109,7 +109,7 @@ fn check_pivoted(
     path: &PathList,
     child: &Node,
     parent: &Node,
-    place: PlacedPivot,
+    place: Position,
 ) -> Result<Option<Refusal>, Memory>
     requires lines { AreLines matrix.now parent.now.lines }
     requires place { IsPlaceIn matrix.now parent.now.lines place }

@@ -9,7 +9,7 @@ ghost use Rattle.tree_type.specs.Soundness.{MayStand};
 ghost use Rattle.cert_check.specs.Answers.{Says, has_pivot, is_settled};
 
 use crate::leaf_rules::unless;
-use cmr_base::{LineSet, Matrix, Memory, PlacedPivot};
+use cmr_base::{LineSet, Matrix, Memory, Position};
 use pivots::{PivotedPart, pivot_part};
 use std::alloc::Global;
 use tree_type::{Kind, Node, Rule};
@@ -19,7 +19,7 @@ pub fn pivot_rule(
     alloc: Global,
     matrix: &Matrix,
     lines: &LineSet,
-    place: PlacedPivot,
+    place: Position,
 ) -> Result<Option<Rule>, Memory>
     requires lines { AreLines matrix.now lines.now }
     requires row { Contains lines.now.rows place.row }
@@ -40,7 +40,7 @@ fn is_ternary_pivot(
     alloc: Global,
     matrix: &Matrix,
     lines: &LineSet,
-    place: PlacedPivot,
+    place: Position,
 ) -> Result<bool, Memory>
     requires lines { AreLines matrix.now lines.now }
     requires place { IsPlaceIn matrix.now lines.now place }

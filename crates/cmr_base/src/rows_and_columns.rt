@@ -48,7 +48,7 @@ impl<'a> RowsAndColumns<'a> {
     }
 
     /// The transposed submatrix on these lines. It is a submatrix of the columns, so that no matrix is transposed.
-    pub fn columns_of(&self, alloc: Global, lines: &LineSet) -> Result<Matrix, Memory>
+    pub fn transposed_part(&self, alloc: Global, lines: &LineSet) -> Result<Matrix, Memory>
         requires rows { AllBelow (height self.now) lines.now.rows }
         requires columns { AllBelow self.now.width lines.now.columns }
         ensures { IfOk result (λ columns. columns ≡ transposed (submatrix self.now lines.now.rows

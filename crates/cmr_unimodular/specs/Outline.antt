@@ -3,13 +3,13 @@ use Rattle.std.specs.Prelude.{◌≤◌, ◌+◌, ◌++◌, ℕ, List, [], lengt
 use Rattle.cmr_base.specs.declared.limits.TheConstants.{MAX_DEPTH}
 use Rattle.std.specs.Fmt.{decimal}
 use Rattle.cmr_base.specs.declared.line_set.LineSet.{LineSet}
-use Rattle.cmr_base.specs.declared.placed_pivot.PlacedPivot.{PlacedPivot}
+use Rattle.cmr_base.specs.declared.position.Position.{Position}
 use Rattle.tree_type.specs.Invariant.{IsTreeWithin, AreTreesWithin}
 use Rattle.tree_type.specs.DecompositionTrees.{Finding, Empty, Cycle, Reduced, OneSum, Network, Conetwork, R10, TwoSum, ThreeSum, Enumerated, Violator, Undecided, Pivoted, Tree, Trees, Branch, NoTrees, MoreTrees}
 use Rattle.tree_text.specs.KindWords.{kind_of, word_of_kind}
 
 -- row I column J
-abbrev pub pivot_words : PlacedPivot → List ℕ
+abbrev pub pivot_words : Position → List ℕ
 pivot_words place = codes " row " ++ decimal (place.row + 1) ++ codes " column " ++ decimal (place.column + 1)
 
 -- the position of the pivot of a node, if it is pivoted

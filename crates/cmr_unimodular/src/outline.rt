@@ -4,7 +4,7 @@ ghost use Rattle.std.specs.Fmt.{decimal};
 ghost use Rattle.cmr_unimodular.specs.Outline.{IsAtDepth, outline_from, outline_line, pivot_words, place_words, size_and_place};
 ghost use Rattle.tree_type.specs.DecompositionTrees.{tree_of, finding_of};
 
-use cmr_base::{Memory, PlacedPivot};
+use cmr_base::{Memory, Position};
 use itoa::Buffer;
 use tree_text::{kind_of, word_of};
 use tree_type::{DecTree, Kind, Node};
@@ -75,7 +75,7 @@ fn push_place(text: &mut Vec<u8>, node: &Node) -> Result<(), Memory>
     }
 }
 
-fn push_pivot(text: &mut Vec<u8>, place: PlacedPivot) -> Result<(), Memory>
+fn push_pivot(text: &mut Vec<u8>, place: Position) -> Result<(), Memory>
     ensures { OnOk result (text.new.items ≡ text.old.items ++ pivot_words place ++ codes "\n") }
 {
     let mut buffer = Buffer::new();

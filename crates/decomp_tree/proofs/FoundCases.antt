@@ -2,7 +2,7 @@
 use Rattle.std.proofs.Common.{◌≡◌, ◌≢◌, ◌+◌, ◌-◌, inl, inr, ℕ, suc, Option, Some, None, sym, subst, arith}
 use Rattle.cmr_base.specs.declared.line_set.LineSet.{LineSet}
 use Rattle.cmr_base.specs.Matrix.{Matrix, IsMatrix}
-use Rattle.cmr_base.specs.declared.placed_pivot.PlacedPivot.{PlacedPivot}
+use Rattle.cmr_base.specs.declared.position.Position.{Position}
 use Rattle.pivots.specs.declared.drawn.DrawnPlace.{DrawnPlace}
 use Rattle.pivots.specs.PivotedParts.{IsMadePart, ShowsFirstTwoIn}
 use Rattle.tree_type.specs.DecompositionTrees.{Tree, Branch, NoTrees, Violator}
@@ -42,7 +42,7 @@ module _ (limit pivots state : ℕ) (m : Matrix) (lines : LineSet) where
         found_there tree some (inr (made.ternary, found, (there.shape, there.drawn, there.refines), mapped))
 
 -- the lines are lines of the matrix after the pivot
-pub lines_made : (m : Matrix) (lines : LineSet) (place : PlacedPivot) (after : Matrix) → IsMadePart m lines place after → AreLines m lines → AreLines after lines
+pub lines_made : (m : Matrix) (lines : LineSet) (place : Position) (after : Matrix) → IsMadePart m lines place after → AreLines m lines → AreLines after lines
 lines_made m lines place after made are = subst (λ n. AreLines n lines) (sym made.is) (lines_pivoted m lines place lines are)
 
 -- a fault of a decomposition has lines of its root

@@ -4,7 +4,7 @@ use Rattle.cmr_base.specs.declared.line_set.LineSet.{LineSet}
 use Rattle.cmr_base.specs.Matrix.{Matrix, entry, IsMatrix}
 use Rattle.cmr_base.specs.Violator.{IsViolator}
 use Rattle.pivots.specs.declared.drawn.DrawnPlace.{DrawnPlace}
-use Rattle.cmr_base.specs.declared.placed_pivot.PlacedPivot.{PlacedPivot}
+use Rattle.cmr_base.specs.declared.position.Position.{Position}
 use Rattle.cmr_base.specs.PlacedPivots.{IsPlaceIn, IsTernaryPivot, pivoted_part}
 use Rattle.pivots.proofs.PartLaws.{part_pivots_take_violators_back}
 use Rattle.tree_type.specs.DecompositionTrees.{Tree, lines_at_root}
@@ -47,7 +47,7 @@ module _ (limit : ℕ) (few : limit ≤ 24) where
     abbrev n : Matrix
     n = matrix_after m made
 
-    module _ (place : PlacedPivot) (at : IsPlaceIn n lines place) (ternary : IsTernaryPivot n lines place) (next : ℕ) (after : Tree) (d : IsDrawnWith limit pivots next (pivoted_part n lines place) lines after) where
+    module _ (place : Position) (at : IsPlaceIn n lines place) (ternary : IsTernaryPivot n lines place) (next : ℕ) (after : Tree) (d : IsDrawnWith limit pivots next (pivoted_part n lines place) lines after) where
       is_after : IsMatrix (pivoted_part n lines place)
       is_after = pivoted_is_matrix n lines place is ternary
 

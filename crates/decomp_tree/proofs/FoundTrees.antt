@@ -5,7 +5,7 @@ use Rattle.cmr_base.specs.Matrix.{Matrix, IsMatrix}
 use Rattle.cmr_base.specs.LineSets.{IsRowSet, IsColumnSet}
 use Rattle.cmr_base.proofs.Lists.{all_contained}
 use Rattle.pivots.specs.declared.drawn.DrawnPlace.{DrawnPlace}
-use Rattle.cmr_base.specs.declared.placed_pivot.PlacedPivot.{PlacedPivot}
+use Rattle.cmr_base.specs.declared.position.Position.{Position}
 use Rattle.cmr_base.specs.PlacedPivots.{IsPlaceIn, IsTernaryPivot, pivoted_part}
 use Rattle.pivots.specs.PivotedParts.{AreAmong}
 use Rattle.pivots.proofs.PartLaws.{lines_before_among}
@@ -27,7 +27,7 @@ use Rattle.decomp_tree.proofs.ShapedNodes.{IsFalling, AreFalling, shape_falls, s
 
 -- ---- lines
 
-mapped_lines : (m : Matrix) (lines : LineSet) (place : PlacedPivot) (after : Tree) (v : Verdict) (tree : Tree) → IsMappedBack m lines place after v tree → lines_at_root tree ≡ lines
+mapped_lines : (m : Matrix) (lines : LineSet) (place : Position) (after : Tree) (v : Verdict) (tree : Tree) → IsMappedBack m lines place after v tree → lines_at_root tree ≡ lines
 mapped_lines m lines place after Yes tree e = ap lines_at_root e
 mapped_lines m lines place after (No fault) tree mapped = ap lines_at_root mapped.2
 mapped_lines m lines place after (Open left) tree e = ap lines_at_root e
@@ -123,7 +123,7 @@ module _ (limit : ℕ) where
       (subst (λ some. size_of some + pivots < levels) (sym root) l)
 
   module _ (pivots : ℕ) (below : IsWithin pivots) (m : Matrix) (lines parent : LineSet) (levels : ℕ) (is : IsMatrix m) (parent_are : AreLines m parent) (are : AreLinesOf lines parent) (l : size_of lines + suc pivots < levels) where
-    mapped_within : (next : ℕ) (place : PlacedPivot) (at : IsPlaceIn m lines place) (ternary : IsTernaryPivot m lines place) (after : Tree) → IsDrawnWith limit pivots next (pivoted_part m lines place) lines after → (tree : Tree) → IsMappedBack m lines place after (verdict_of after) tree → IsTreeWithin parent levels tree
+    mapped_within : (next : ℕ) (place : Position) (at : IsPlaceIn m lines place) (ternary : IsTernaryPivot m lines place) (after : Tree) → IsDrawnWith limit pivots next (pivoted_part m lines place) lines after → (tree : Tree) → IsMappedBack m lines place after (verdict_of after) tree → IsTreeWithin parent levels tree
     mapped_within next place at ternary after d tree mapped = go (verdict_of after) among mapped
       where
         after_within : IsTreeWithin lines (levels - 1) after

@@ -8,7 +8,7 @@ use Rattle.cmr_base.proofs.Booleans.{not_both, true_is_false}
 use Rattle.cmr_base.proofs.Options.{some_or}
 use Rattle.tree_laws.proofs.SoundTrees.{none_or}
 use Rattle.pivots.specs.declared.drawn.DrawnPlace.{DrawnPlace}
-use Rattle.cmr_base.specs.declared.placed_pivot.PlacedPivot.{PlacedPivot}
+use Rattle.cmr_base.specs.declared.position.Position.{Position}
 use Rattle.cmr_base.specs.PlacedPivots.{pivoted_part}
 use Rattle.tree_type.specs.DecompositionTrees.{Finding, Violator, Tree, Trees, Branch, NoTrees, MoreTrees}
 use Rattle.tree_type.specs.Verdicts.{Yes, first_in, first_among, fault_at, open_at, verdict_from, verdict_of}
@@ -129,7 +129,7 @@ or_none : {A : Type 0} (a : Option A) → option_or a None ≡ a
 or_none None = refl
 or_none (Some x) = refl
 
-mapped_keeps : (m : Matrix) (lines : LineSet) (place : PlacedPivot) (after after' : Tree) → Keeps after after' → (fault left fault' left' : Option LineSet) → first_in fault_at after ≡ fault → first_in open_at after ≡ left → first_in fault_at after' ≡ fault' → first_in open_at after' ≡ left'
+mapped_keeps : (m : Matrix) (lines : LineSet) (place : Position) (after after' : Tree) → Keeps after after' → (fault left fault' left' : Option LineSet) → first_in fault_at after ≡ fault → first_in open_at after ≡ left → first_in fault_at after' ≡ fault' → first_in open_at after' ≡ left'
     → (tree tree' : Tree) → IsMappedBack m lines place after (verdict_from fault left) tree → IsMappedBack m lines place after' (verdict_from fault' left') tree' → Keeps tree tree'
 mapped_keeps m lines place after after' k None None fault' left' e u e' u' tree tree' mapped mapped' =
     same_keeps tree tree' (mapped_same m lines place after after' (k.yes e u) Yes tree tree' mapped (subst (λ v. IsMappedBack m lines place after' v tree') yes mapped')) (ap (first_in fault_at) mapped ∙ or_none (first_in fault_at after) ∙ e)

@@ -7,7 +7,7 @@ use Rattle.cmr_base.specs.Members.{IsIn}
 use Rattle.cmr_base.proofs.Booleans.{neither, not_both, same_or_not, true_is_false}
 use Rattle.cmr_base.proofs.Places.{increasing_same}
 use Rattle.pivots.specs.declared.drawn.DrawnPlace.{DrawnPlace}
-use Rattle.cmr_base.specs.declared.placed_pivot.PlacedPivot.{PlacedPivot}
+use Rattle.cmr_base.specs.declared.position.Position.{Position}
 use Rattle.pivots.specs.PivotedParts.{ShowsFirstTwoIn}
 use Rattle.pivots.specs.ChosenLines.{two_lines}
 use Rattle.tree_type.specs.DecompositionTrees.{Finding, Empty, Cycle, Reduced, OneSum, Network, Conetwork, R10, TwoSum, ThreeSum, Enumerated, Violator, Undecided, Pivoted, Tree, Trees, Branch, NoTrees, MoreTrees}
@@ -78,7 +78,7 @@ module _ (Replaces : LineSet → Tree → Type 0) (same : (lines : LineSet) (tre
 line_set_same : (f g : LineSet) → f.rows ≡ g.rows → f.columns ≡ g.columns → f ≡ g
 line_set_same f g e h = ap₂ (λ (rows columns : List ℕ). let set : LineSet = record { rows = rows; columns = columns } in set) e h
 
-one_two : (m : Matrix) (lines : LineSet) (place : PlacedPivot) (fault other : LineSet) → ShowsFirstTwoIn m lines place fault.rows fault.columns → ShowsFirstTwoIn m lines place other.rows other.columns → fault ≡ other
+one_two : (m : Matrix) (lines : LineSet) (place : Position) (fault other : LineSet) → ShowsFirstTwoIn m lines place fault.rows fault.columns → ShowsFirstTwoIn m lines place other.rows other.columns → fault ≡ other
 one_two m lines place fault other a b =
     line_set_same fault other (a.rows_are ∙ ap (two_lines place.row) one_row ∙ sym b.rows_are) (a.columns_are ∙ ap (two_lines place.column) one_column ∙ sym b.columns_are)
   where
@@ -96,7 +96,7 @@ one_two m lines place fault other a b =
         (λ l. b.two (subst (λ i. IsEntry (pivot_entry (entry m) place.row place.column i b.other_column)) one_row (a.columns_before b.other_column b.column_in l)))
 
 -- the lines before the pivot are one set
-before_same : (m : Matrix) (place : PlacedPivot) (fault before other : LineSet) → AreBefore m place fault before → AreBefore m place fault other → before ≡ other
+before_same : (m : Matrix) (place : Position) (fault before other : LineSet) → AreBefore m place fault before → AreBefore m place fault other → before ≡ other
 before_same m place fault before other a b =
     line_set_same before other
     (increasing_same before.rows other.rows a.row_set.increasing b.row_set.increasing (λ x h. rows_in a b x h) (λ x h. rows_in b a x h))
@@ -114,7 +114,7 @@ before_same m place fault before other a b =
       | inr n ↦ (b.lines.other_columns x n).1 ((a.lines.other_columns x n).0 h)
     ]
 
-pub mapped_same : (m : Matrix) (lines : LineSet) (place : PlacedPivot) (after after' : Tree) → plain_tree after ≡ plain_tree after' → (v : Verdict) (tree tree' : Tree) → IsMappedBack m lines place after v tree → IsMappedBack m lines place after' v tree'
+pub mapped_same : (m : Matrix) (lines : LineSet) (place : Position) (after after' : Tree) → plain_tree after ≡ plain_tree after' → (v : Verdict) (tree tree' : Tree) → IsMappedBack m lines place after v tree → IsMappedBack m lines place after' v tree'
     → plain_tree tree ≡ plain_tree tree'
 mapped_same m lines place after after' same Yes tree tree' e e' = ap plain_tree e ∙ ap (λ (t : Tree). Branch lines (Pivoted place) (MoreTrees t NoTrees)) same ∙ sym (ap plain_tree e')
 mapped_same m lines place after after' same (No fault) tree tree' (before, b, e) (before', b', e') =

@@ -7,7 +7,7 @@ use Rattle.cmr_base.specs.Matrix.{Matrix}
 use Rattle.cmr_base.proofs.Lists.{all_prefix, all_back}
 use Rattle.cmr_base.proofs.Options.{some_or, some_same}
 use Rattle.pivots.specs.declared.drawn.DrawnPlace.{DrawnPlace}
-use Rattle.cmr_base.specs.declared.placed_pivot.PlacedPivot.{PlacedPivot}
+use Rattle.cmr_base.specs.declared.position.Position.{Position}
 use Rattle.tree_type.specs.DecompositionTrees.{Finding, Empty, Cycle, Reduced, OneSum, Network, Conetwork, R10, TwoSum, ThreeSum, Enumerated, Violator, Undecided, Pivoted, Tree, Trees, Branch, NoTrees, MoreTrees, lines_at_root}
 use Rattle.tree_type.specs.Invariant.{AreLines, AreLinesOf, size_of, IsTreeWithin, AreTreesWithin}
 use Rattle.tree_type.specs.Places.{Due, These, Place, places_from, places_below, due_child, lines_of_each}
@@ -74,7 +74,7 @@ or_none (Some x) = refl
 undecided_open : (lines found : LineSet) → first_in open_at (undecided lines) ≡ Some found → found ≡ lines
 undecided_open lines found e = sym (some_same lines found e)
 
-mapped_open : (m : Matrix) (lines : LineSet) (place : PlacedPivot) (after : Tree) (v : Verdict) → verdict_of after ≡ v → (tree : Tree) (found : LineSet) → IsMappedBack m lines place after v tree → first_in open_at tree ≡ Some found → found ≡ lines
+mapped_open : (m : Matrix) (lines : LineSet) (place : Position) (after : Tree) (v : Verdict) → verdict_of after ≡ v → (tree : Tree) (found : LineSet) → IsMappedBack m lines place after v tree → first_in open_at tree ≡ Some found → found ≡ lines
 mapped_open m lines place after Yes is tree found e first =
     none_is_some found (sym (says_yes after is).1 ∙ sym (or_none (first_in open_at after)) ∙ sym (ap (first_in open_at) e) ∙ first)
 mapped_open m lines place after (No fault) is tree found (before, b, e) first = none_is_some found (sym (ap (first_in open_at) e) ∙ first)

@@ -5,7 +5,7 @@ use Rattle.cmr_base.specs.declared.line_set.LineSet.{LineSet}
 use Rattle.cmr_base.specs.Matrix.{Matrix, entry}
 use Rattle.cmr_base.specs.Violator.{IsViolator}
 use Rattle.cmr_base.proofs.Lists.{all-append}
-use Rattle.cmr_base.specs.declared.placed_pivot.PlacedPivot.{PlacedPivot}
+use Rattle.cmr_base.specs.declared.position.Position.{Position}
 use Rattle.cmr_base.specs.PlacedPivots.{IsTernaryPivot}
 use Rattle.tree_type.specs.declared.refusal.Rule.{Rule}
 use Rattle.tree_type.specs.declared.refusal.Rule.TheVariants as rule
@@ -62,7 +62,7 @@ module _ (m : Matrix) (pivots : List MadePivot) (lines : LineSet) where
   violator_demanded fault v rule.NotPivot = tt
   violator_demanded fault v rule.BelowPivot = tt
 
-  pivot_demanded : (place : PlacedPivot) (children : List LineSet) → entry n place.row place.column ≢ pos 0 → IsTernaryPivot n lines place → (broken : Rule) → Demands broken n lines (Pivoted place) children
+  pivot_demanded : (place : Position) (children : List LineSet) → entry n place.row place.column ≢ pos 0 → IsTernaryPivot n lines place → (broken : Rule) → Demands broken n lines (Pivoted place) children
   pivot_demanded place children nonzero ternary rule.Size = tt
   pivot_demanded place children nonzero ternary rule.Lines = tt
   pivot_demanded place children nonzero ternary rule.NotEmpty = tt
@@ -93,7 +93,7 @@ module _ (m : Matrix) (pivots : List MadePivot) (lines : LineSet) where
     tt,
   )
 
-  pub pivot_sound : (place : PlacedPivot) (after : Tree) → entry n place.row place.column ≢ pos 0 → IsTernaryPivot n lines place → lines_at_root after ≡ lines
+  pub pivot_sound : (place : Position) (after : Tree) → entry n place.row place.column ≢ pos 0 → IsTernaryPivot n lines place → lines_at_root after ≡ lines
       → IsSoundBelow m (record { lines = lines; place = place } ∷ pivots) after → MayBelow pivots (Branch lines (Pivoted place) (one_tree after)) → IsSoundBelow m pivots (Branch lines (Pivoted place) (one_tree after))
   pivot_sound place after nonzero ternary same sound may path due sizes has = (
     keeps_all m (record { path = path; pivots = pivots; due = due; lines = lines; finding = Pivoted place; children = lines_at_root after ∷ [] }) sizes has (pivot_demanded place (lines_at_root after ∷ []) nonzero ternary)

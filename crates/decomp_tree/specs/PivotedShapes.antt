@@ -6,7 +6,7 @@ use Rattle.cmr_base.specs.Matrix.{Matrix, height}
 use Rattle.cmr_base.specs.LineSets.{IsRowSet, IsColumnSet, first_lines}
 use Rattle.ghouila.specs.PivotLaws.{AreLinesBefore}
 use Rattle.pivots.specs.declared.drawn.DrawnPlace.{DrawnPlace}
-use Rattle.cmr_base.specs.declared.placed_pivot.PlacedPivot.{PlacedPivot}
+use Rattle.cmr_base.specs.declared.position.Position.{Position}
 use Rattle.cmr_base.specs.PlacedPivots.{pivoted_part, IsTernaryPivot}
 use Rattle.pivots.specs.PivotedParts.{AreAmong, ShowsFirstTwoIn}
 use Rattle.tree_type.specs.declared.finding.Finding.{Finding as Held}
@@ -22,26 +22,26 @@ abbrev pub undecided : LineSet → Tree
 undecided lines = Branch lines Undecided NoTrees
 
 -- The pivot of the submatrix has a 2 or a -2: the node names the two rows and the two columns that show it.
-abbrev pub ShowsTwoAfterPivot : Matrix → LineSet → PlacedPivot → Tree → Type 0
+abbrev pub ShowsTwoAfterPivot : Matrix → LineSet → Position → Tree → Type 0
 ShowsTwoAfterPivot m lines place tree =
     (fault : LineSet) × ShowsFirstTwoIn m lines place fault.rows fault.columns × (tree ≡ Branch lines (Violator fault) NoTrees)
 
 -- lines of the matrix that are those of a fault before the pivot
-pub record AreBefore (m : Matrix) (place : PlacedPivot) (fault before : LineSet) : Type 0 where
+pub record AreBefore (m : Matrix) (place : Position) (fault before : LineSet) : Type 0 where
   pub row_set : IsRowSet m before.rows
   pub column_set : IsColumnSet m before.columns
   pub lines : AreLinesBefore m place.row place.column fault.rows fault.columns before.rows before.columns
 
 -- What the tree of the submatrix after a pivot says of the submatrix: for a yes a pivoted node above that tree, for a no its fault mapped
 -- back to the lines before the pivot, and otherwise an undecided node.
-abbrev pub IsMappedBack : Matrix → LineSet → PlacedPivot → Tree → Verdict → Tree → Type 0
+abbrev pub IsMappedBack : Matrix → LineSet → Position → Tree → Verdict → Tree → Type 0
 IsMappedBack m lines place after Yes tree = tree ≡ Branch lines (Pivoted place) (one_tree after)
 IsMappedBack m lines place after (No fault) tree =
     (before : LineSet) × AreBefore m place fault before × (tree ≡ Branch lines (Violator before) NoTrees)
 IsMappedBack m lines place after (Open left) tree = tree ≡ undecided lines
 
 -- What is said of the lines before a pivot if the tree after it has this verdict: nothing if the verdict is a yes.
-abbrev pub SaysBeforePivot : Matrix → PlacedPivot → Verdict → Option Held → Type 0
+abbrev pub SaysBeforePivot : Matrix → Position → Verdict → Option Held → Type 0
 SaysBeforePivot m place Yes said = said ≡ None
 SaysBeforePivot m place (No fault) said = (before : LineSet) × AreBefore m place fault before × (said ≡ Some (held.Violator before))
 SaysBeforePivot m place (Open left) said = said ≡ Some held.Undecided

@@ -106,7 +106,7 @@ pub fn late_fault(
         return Ok(None);
     }
     let part = matrix.by_rows().part(alloc, lines)?;
-    let columns = matrix.columns_of(alloc, lines)?;
+    let columns = matrix.transposed_part(alloc, lines)?;
     fault_of(alloc, matrix, lines, &RowsAndColumns::of(&part, &columns))
 }
 

@@ -50,7 +50,7 @@ pub fn look<R: Threads + Sync>(
     if part.rows() == 0 && part.columns() == 0 {
         return Ok(leaf(alloc, Finding::Empty));
     }
-    let columns = matrix.columns_of(alloc, lines)?;
+    let columns = matrix.transposed_part(alloc, lines)?;
     let submatrix = RowsAndColumns::of(&part, &columns);
     let node = SearchedNode {
         matrix: whole,

@@ -7,7 +7,7 @@ ghost use Rattle.tree_type.specs.Findings.{finding_shown};
 ghost use Rattle.tree_type.specs.Verdicts.{verdict_of};
 ghost use Rattle.decomp_tree.specs.PivotedShapes.{HasFaultAmong, IsMappedBack, SaysBeforePivot};
 
-use cmr_base::{LineSet, Matrix, Memory, PlacedPivot};
+use cmr_base::{LineSet, Matrix, Memory, Position};
 use pivots::violator_before_part;
 use std::alloc::Global;
 use tree_type::{Finding, Node, VerdictOf, copy_of, join_node, verdict_at};
@@ -18,7 +18,7 @@ pub fn pulled_back(
     alloc: Global,
     matrix: &Matrix,
     lines: &LineSet,
-    place: PlacedPivot,
+    place: Position,
     after: Node,
 ) -> Result<Node, Memory>
     requires lines { AreLines matrix.now lines.now }
@@ -38,7 +38,7 @@ fn finding_before(
     alloc: Global,
     matrix: &Matrix,
     lines: &LineSet,
-    place: PlacedPivot,
+    place: Position,
     after: &Node,
 ) -> Result<Option<Finding>, Memory>
     requires lines { AreLines matrix.now lines.now }
@@ -58,7 +58,7 @@ fn finding_before(
 }
 
 // The pivoted node above a tree.
-fn above(alloc: Global, lines: &LineSet, place: PlacedPivot, after: Node) -> Result<Node, Memory>
+fn above(alloc: Global, lines: &LineSet, place: Position, after: Node) -> Result<Node, Memory>
     ensures { IfOk result (λ node. tree_of node
         ≡ Branch lines.now (Pivoted place) (one_tree (tree_of after))) }
 {

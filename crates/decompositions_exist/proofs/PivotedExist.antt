@@ -1,7 +1,7 @@
 -- A matrix has a decomposition that makes pivots.
 use Rattle.std.proofs.Common.{◌≡◌, ◌<◌, ◌+◌, ◌-◌, ◌⊎◌, inl, inr, ℕ, zero, suc, Bool, true, false, [], Contains, Option, Some, None, refl, sym, subst, arith}
 use Rattle.cmr_base.specs.declared.line_set.LineSet.{LineSet}
-use Rattle.cmr_base.specs.declared.placed_pivot.PlacedPivot.{PlacedPivot}
+use Rattle.cmr_base.specs.declared.position.Position.{Position}
 use Rattle.cmr_base.specs.Matrix.{Matrix, height, IsMatrix}
 use Rattle.cmr_base.specs.Members.{IsIn}
 use Rattle.cmr_base.specs.PlacedPivots.{IsPlaceIn, pivoted_part}
@@ -76,7 +76,7 @@ module _ (limit : ℕ) where
       λ x h. contained_below m.width lines.columns x are.columns.in_range (all_contained (Contains lines.columns) fault.columns x among.columns (contains_from_in fault.columns x h)),
     )
 
-    decided : (place : PlacedPivot) → IsPlaceIn m lines place → (after : Tree) (verdict : Verdict) → HasFaultAmong lines verdict → NotExcluded ((tree : Tree) × IsMappedBack m lines place after verdict tree)
+    decided : (place : Position) → IsPlaceIn m lines place → (after : Tree) (verdict : Verdict) → HasFaultAmong lines verdict → NotExcluded ((tree : Tree) × IsMappedBack m lines place after verdict tree)
     decided place at after Yes among none = none (Branch lines (Pivoted place) (one_tree after), refl)
     decided place at after (No fault) among none =
         let low = fault_low fault among in

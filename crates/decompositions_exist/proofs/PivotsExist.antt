@@ -1,7 +1,7 @@
 -- Positions of pivots, the first 2 or -2 after a pivot, and the lines of a fault before it.
 use Rattle.std.proofs.Common.{◌≡◌, ◌≢◌, ◌<◌, ◌⊎◌, ◌↔◌, inl, inr, ℕ, ℤ, List, [], ◌∷◌, length, Contains, Option, Some, None, refl, arith}
 use Rattle.cmr_base.specs.declared.line_set.LineSet.{LineSet}
-use Rattle.cmr_base.specs.declared.placed_pivot.PlacedPivot.{PlacedPivot}
+use Rattle.cmr_base.specs.declared.position.Position.{Position}
 use Rattle.cmr_base.specs.Matrix.{Matrix, height, entry, IsEntry, IsMatrix}
 use Rattle.cmr_base.specs.Members.{IsIn}
 use Rattle.cmr_base.specs.PlacedPivots.{IsPlaceIn, IsTernaryPivot, pivot_entry}
@@ -26,12 +26,12 @@ use Rattle.decompositions_exist.proofs.CollectedLines.{collected}
 -- ---- the next position
 
 pub next_exists : (m : Matrix) (lines : LineSet) (state : ℕ) → NotExcluded ((chosen : Option DrawnPlace) × IsNextPlace m lines state chosen)
-next_exists m lines state none = one_of_two ((place : PlacedPivot) × IsSeparatingPlace m lines place) (λ either. elim either [
+next_exists m lines state none = one_of_two ((place : Position) × IsSeparatingPlace m lines place) (λ either. elim either [
   | inl found ↦ none (Some (record { place = found.0; state = state }), inl (found.1, refl))
   | inr without ↦ drawn (drawn_place m lines state) refl (λ place at. without (place, at))
 ])
   where
-    drawn : (drawn : Option DrawnPlace) → drawn_place m lines state ≡ drawn → ((place : PlacedPivot) → ¬ (IsSeparatingPlace m lines place)) → ⊥
+    drawn : (drawn : Option DrawnPlace) → drawn_place m lines state ≡ drawn → ((place : Position) → ¬ (IsSeparatingPlace m lines place)) → ⊥
     drawn None e out = none (None, (out, e))
     drawn (Some chosen) e out = none (Some chosen, inr (out, e))
 
@@ -58,7 +58,7 @@ two_numbers : (s : Spot) → length (spot_key s) ≡ 2
 unfolding spot_key
 two_numbers s = refl
 
-module _ (m : Matrix) (lines : LineSet) (place : PlacedPivot) (is : IsMatrix m) (are : AreLines m lines) (place_in : IsPlaceIn m lines place) where
+module _ (m : Matrix) (lines : LineSet) (place : Position) (is : IsMatrix m) (are : AreLines m lines) (place_in : IsPlaceIn m lines place) where
   -- the pivot has a 2 or a -2 at a position
   record HasTwo (s : Spot) : Type 0 where
     row_in : Contains lines.rows s.row

@@ -6,7 +6,7 @@ use Rattle.cmr_base.proofs.Integers.{products, sums}
 use Rattle.cmr_base.proofs.Parts.{entry-transposed}
 use Rattle.cmr_base.proofs.SmallEntries.{entry_as_byte}
 use Rattle.line_growth.specs.declared.rule.Block.TheVariants.{Product, Spread}
-use Rattle.line_growth.specs.declared.rule.Place.{Place}
+use Rattle.cmr_base.specs.declared.position.Position.{Position}
 use Rattle.line_growth.specs.declared.rule.SpreadLines.{SpreadLines}
 use Rattle.line_growth.specs.Rules.{IsSpreadOf, block_entry}
 
@@ -21,10 +21,10 @@ along_column a b e = simp products
 pub zero_times : (f x : ℤ) → f ≡ pos 0 → f *ℤ x ≡ pos 0
 zero_times f x e = rw e (simp products)
 
-pub product_row : (m : Matrix) (place : Place) (row column : ℕ) (factor : ℤ) → factor ≡ entry m row place.column *ℤ entry m place.row place.column → factor *ℤ entry m place.row column ≡ block_entry (entry m) (Product place) row column
+pub product_row : (m : Matrix) (place : Position) (row column : ℕ) (factor : ℤ) → factor ≡ entry m row place.column *ℤ entry m place.row place.column → factor *ℤ entry m place.row column ≡ block_entry (entry m) (Product place) row column
 product_row m place row column factor f = ap (λ (x : ℤ). x *ℤ entry m place.row column) f ∙ along_row (entry m row place.column) (entry m place.row column) (entry m place.row place.column)
 
-pub product_column : (m : Matrix) → IsMatrix m → (place : Place) (column row : ℕ) (factor : ℤ) → factor ≡ entry m place.row column *ℤ entry m place.row place.column
+pub product_column : (m : Matrix) → IsMatrix m → (place : Position) (column row : ℕ) (factor : ℤ) → factor ≡ entry m place.row column *ℤ entry m place.row place.column
     → factor *ℤ entry (transposed m) place.column row ≡ block_entry (entry m) (Product place) row column
 product_column m is place column row factor f =
     ap₂ (λ (x y : ℤ). x *ℤ y) f (entry-transposed m row place.column is) ∙ along_column (entry m row place.column) (entry m place.row column) (entry m place.row place.column)

@@ -7,4 +7,4 @@ mod growing_set;
 mod rule;
 
 pub use growing_set::{GrowingSet, line_at};
-pub use rule::{Block, GrowthRule, Place, SpreadLines, Sum};
+pub use rule::{Block, GrowthRule, SpreadLines, Sum};

@@ -5,14 +5,7 @@ ghost use Rattle.cmr_base.specs.Matrix.{Matrix, height, entry, transposed, IsEnt
 ghost use Rattle.line_growth.specs.declared.rule.Block.TheVariants.{Spread};
 ghost use Rattle.line_growth.specs.Rules.{IsBlockOf, IsSumMultiple, IsSpreadOf, IsSumOf, block_entry, exchanged, sum_at};
 
-use cmr_base::{Core, Factors, Matrix, RowsAndColumns, product};
-
-/// A row and a column.
-#[derive(Clone, Copy, Debug)]
-pub struct Place {
-    pub row: u32,
-    pub column: u32,
-}
+use cmr_base::{Core, Factors, Matrix, Position, RowsAndColumns, product};
 
 /// Two rows and two columns, with the entries in which they cross and the determinant of these entries.
 #[derive(Clone, Copy, Debug)]
@@ -25,12 +18,12 @@ pub struct SpreadLines {
     pub determinant: i8,
 }
 
-/// A block that is 0, the product of the column and the row of a place, times the entry there, or the sum of products that two
+/// A block that is 0, the product of the column and the row of a position, times the entry there, or the sum of products that two
 /// columns and two rows make.
 #[derive(Clone, Copy, Debug)]
 pub enum Block {
     Zero,
-    Product(Place),
+    Product(Position),
     Spread(SpreadLines),
 }
 
@@ -126,18 +119,16 @@ impl SpreadLines {
     }
 }
 
-impl Place {
-    // The factor of a line that crosses the place's row or column in this entry.
-    fn factor(self, matrix: &RowsAndColumns<'_>, crossing: i8) -> i8
-        requires row { self.row < height matrix.now }
-        requires column { self.column < matrix.now.width }
-        requires crossing { IsEntry crossing }
-        ensures value { result ≡ crossing *ℤ entry matrix.now self.row self.column }
-        ensures small { IsEntry result }
-    {
-        let corner = matrix.entry(self.row, self.column);
-        product(crossing, corner)
-    }
+// The factor of a line that crosses the row or the column of a position in this entry.
+fn factor_at(place: Position, matrix: &RowsAndColumns<'_>, crossing: i8) -> i8
+    requires row { place.row < height matrix.now }
+    requires column { place.column < matrix.now.width }
+    requires crossing { IsEntry crossing }
+    ensures value { result ≡ crossing *ℤ entry matrix.now place.row place.column }
+    ensures small { IsEntry result }
+{
+    let corner = matrix.entry(place.row, place.column);
+    product(crossing, corner)
 }
 
 impl Multiple {
@@ -223,7 +214,7 @@ impl Block {
             }
             .alone(),
             Block::Product(place) => Multiple {
-                factor: place.factor(matrix, matrix.entry(row, place.column)),
+                factor: factor_at(place, matrix, matrix.entry(row, place.column)),
                 model: place.row,
             }
             .alone(),
@@ -247,7 +238,7 @@ impl Block {
             }
             .alone(),
             Block::Product(place) => Multiple {
-                factor: place.factor(matrix, matrix.entry(place.row, column)),
+                factor: factor_at(place, matrix, matrix.entry(place.row, column)),
                 model: place.column,
             }
             .alone(),

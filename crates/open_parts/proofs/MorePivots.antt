@@ -8,7 +8,7 @@ use Rattle.cmr_base.specs.Violator.{IsViolator}
 use Rattle.cmr_base.proofs.Booleans.{true_is_false}
 use Rattle.cmr_base.proofs.Lists.{all_prefix, all_back}
 use Rattle.cmr_base.proofs.Options.{some_or}
-use Rattle.cmr_base.specs.declared.placed_pivot.PlacedPivot.{PlacedPivot}
+use Rattle.cmr_base.specs.declared.position.Position.{Position}
 use Rattle.pivots.specs.declared.drawn.DrawnPlace.{DrawnPlace}
 use Rattle.tree_type.specs.DecompositionTrees.{Finding, Undecided, Violator, Tree, Trees, Branch, NoTrees, MoreTrees, lines_at_root}
 use Rattle.tree_type.specs.Invariant.{AreLines, AreLinesOf, size_of, IsTreeWithin, AreTreesWithin}
@@ -54,7 +54,7 @@ or_none : {A : Type 0} (a : Option A) → option_or a None ≡ a
 or_none None = refl
 or_none (Some x) = refl
 
-mapped_form : (m : Matrix) (lines : LineSet) (place : PlacedPivot) (after : Tree) (v : Verdict) → verdict_of after ≡ v → (tree : Tree) → IsMappedBack m lines place after v tree → FoundForm lines tree
+mapped_form : (m : Matrix) (lines : LineSet) (place : Position) (after : Tree) (v : Verdict) → verdict_of after ≡ v → (tree : Tree) → IsMappedBack m lines place after v tree → FoundForm lines tree
 mapped_form m lines place after Yes is tree e =
     let says = says_yes after is in
     is_yes (ap (first_in fault_at) e ∙ or_none (first_in fault_at after) ∙ says.0, ap (first_in open_at) e ∙ or_none (first_in open_at after) ∙ says.1)

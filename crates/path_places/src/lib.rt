@@ -6,6 +6,6 @@ mod path_place;
 mod side;
 mod submatrix;
 
-pub use cmr_base::PlacedPivot;
+pub use cmr_base::Position;
 pub use path_place::cut_place;
 pub use side::Side;

@@ -10,7 +10,7 @@ ghost use Rattle.path_places.specs.SideMasks.{IsSideOf, side_of};
 
 use crate::side::Side;
 use crate::submatrix::Submatrix;
-use cmr_base::{BitSet, LineSet, Matrix, Memory, PlacedPivot};
+use cmr_base::{BitSet, LineSet, Matrix, Memory, Position};
 use std::alloc::Global;
 
 /// The position of the pivot of the cut with these lines in side one: the first edge of a shortest path in side one, or in side two if
@@ -19,7 +19,7 @@ pub fn cut_place(
     alloc: Global,
     matrix: &Matrix,
     lines: &LineSet,
-) -> Result<Option<PlacedPivot>, Memory>
+) -> Result<Option<Position>, Memory>
     requires rows { AllBelow (height matrix.now) lines.now.rows }
     requires columns { AllBelow matrix.now.width lines.now.columns }
     ensures { IfOk result (λ found. MatchOption found
@@ -40,7 +40,7 @@ pub fn cut_place(
 impl Side<'_> {
     /// The first edge of a shortest path from an end row to an end column through inner lines, the first by rows and then by columns;
     /// `None` if there is no such path.
-    pub fn path_place(&self, alloc: Global) -> Result<Option<PlacedPivot>, Memory>
+    pub fn path_place(&self, alloc: Global) -> Result<Option<Position>, Memory>
         ensures { IfOk result (λ found. (lines : Lines) → IsSideOf lines self.now
             → MatchOption found
             (HasNoPath self.now.matrix.now lines)

@@ -2,7 +2,7 @@
 ghost use Rattle.std.specs.Prelude.{◌≡◌};
 ghost use Rattle.cmr_base.specs.Matrix.{height, IsMatrix};
 
-use cmr_base::{BitSet, Matrix, Memory, PlacedPivot, columns_of};
+use cmr_base::{BitSet, Matrix, Memory, Position, columns_of};
 use std::alloc::Global;
 
 /// Some rows and some columns of a matrix.
@@ -66,14 +66,14 @@ impl<'a> Submatrix<'a> {
     }
 
     /// The first nonzero, by rows and then by columns.
-    pub fn first_nonzero(&self) -> Option<PlacedPivot>
+    pub fn first_nonzero(&self) -> Option<Position>
         ensures { MatchOption result
             ((i j : ℕ) → ¬ (IsNonzeroAmong (view_of self.now) i j))
             (λ place. IsFirstNonzero (view_of self.now) place.row place.column) }
     {
         for row in 0..self.matrix.rows() {
             if let Some(column) = self.first_in_row(row) {
-                return Some(PlacedPivot { row, column });
+                return Some(Position { row, column });
             }
         }
         None

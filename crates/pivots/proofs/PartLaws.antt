@@ -32,7 +32,7 @@ use Rattle.ghouila.specs.PivotLaws.{pivot_at, IsPivotPlace, AreLinesBefore}
 use Rattle.ghouila.proofs.PivotLaws.{twice, pivot_entry_same, pivots_take_violators_back}
 use Rattle.ghouila.proofs.ViolatedLines.{ViolatedIn, FreeIn}
 use Rattle.ghouila.proofs.WholePivots.{all_fewer, entry_there, whole_before}
-use Rattle.cmr_base.specs.declared.placed_pivot.PlacedPivot.{PlacedPivot}
+use Rattle.cmr_base.specs.declared.position.Position.{Position}
 use Rattle.pivots.specs.PartLaws.{HasNoViolatorAmong, PartPivotsTakeViolatorsBack, PartPivotsKeepViolators, PartPivotsStayMatrices}
 use Rattle.pivots.specs.PivotedParts.{AreAmong}
 
@@ -80,7 +80,7 @@ module _ (high wide : ℕ) (M N : ℕ → ℕ → ℤ) (r c : ℕ) (rows columns
 
 -- ---- the entries of the submatrix
 
-module _ (m : Matrix) (lines : LineSet) (place : PlacedPivot) (is_rows : IsRowSet m lines.rows) (is_columns : IsColumnSet m lines.columns) where
+module _ (m : Matrix) (lines : LineSet) (place : Position) (is_rows : IsRowSet m lines.rows) (is_columns : IsColumnSet m lines.columns) where
   pub entry_among : (i j : ℕ) → Contains lines.rows i → Contains lines.columns j → entry (pivoted_part m lines place) i j ≡ pivot_entry (entry m) place.row place.column i j
   entry_among i j hi hj =
       entry-filled (height m) m.width (replaced_entry m lines place) i j (contained_below (height m) lines.rows i is_rows.in_range hi) (contained_below m.width lines.columns j is_columns.in_range hj)
@@ -140,7 +140,7 @@ stay lines line xs made there all others = all_of_members (Contains lines) made 
   | inr apart ↦ all_in (Contains lines) xs all x ((others x apart).0 h)
 ])
 
-pub lines_before_among : (m : Matrix) (lines : LineSet) (place : PlacedPivot) (P D R C : List ℕ) → IsPlaceIn m lines place → AreAmong lines P D → AreLinesBefore m place.row place.column P D R C → AreAmong lines R C
+pub lines_before_among : (m : Matrix) (lines : LineSet) (place : Position) (P D R C : List ℕ) → IsPlaceIn m lines place → AreAmong lines P D → AreLinesBefore m place.row place.column P D R C → AreAmong lines R C
 lines_before_among m lines place P D R C place_in among before = record {
   rows = stay lines.rows place.row P R place_in.row among.rows before.other_rows;
   columns = stay lines.columns place.column D C place_in.column among.columns before.other_columns;
@@ -164,7 +164,7 @@ part_pivots_keep_violators m lines place small is_rows is_columns place_in = (
       (free_from_none_among (pivoted_part m lines place) lines (subst (λ n. AllBelow n lines.rows) (sym (height-filled (height m) m.width (replaced_entry m lines place))) is_rows.in_range) is_columns.in_range none)),
 )
 
-pub replaced_is_small : (m : Matrix) (lines : LineSet) (place : PlacedPivot) → HasTernaryEntries m → IsTernaryPivot m lines place → (i j : ℕ) → IsEntry (replaced_entry m lines place i j)
+pub replaced_is_small : (m : Matrix) (lines : LineSet) (place : Position) → HasTernaryEntries m → IsTernaryPivot m lines place → (i j : ℕ) → IsEntry (replaced_entry m lines place i j)
 replaced_is_small m lines place small ternary i j = go (listed lines.rows lines.columns (Row i)) (listed lines.rows lines.columns (Column j)) refl refl
   where
     go : (s t : Bool) → listed lines.rows lines.columns (Row i) ≡ s → listed lines.rows lines.columns (Column j) ≡ t → IsEntry (cond (s && t) (pivot_entry (entry m) place.row place.column i j) (entry m i j))

@@ -16,7 +16,7 @@ use Rattle.cmr_base.proofs.SignEntries.{zero_is_entry, sign_of_entry}
 use Rattle.cmr_base.specs.PlacedPivots.{pivot_entry, replaced_entry, pivoted_part, IsPlaceIn, IsTernaryPivot}
 use Rattle.ghouila.specs.PivotLaws.{pivot_at, IsPivotPlace}
 use Rattle.ghouila.proofs.PivotLaws.{filled_again, pivot_entry_same, pivots_decide}
-use Rattle.cmr_base.specs.declared.placed_pivot.PlacedPivot.{PlacedPivot}
+use Rattle.cmr_base.specs.declared.position.Position.{Position}
 use Rattle.pivots.specs.PartLaws.{numbered_place, PartPivotsArePivots, PartPivotsDecide}
 use Rattle.pivots.proofs.PartLaws.{entry_among, replaced_is_small}
 
@@ -58,7 +58,7 @@ module _ (m : Matrix) (lines : LineSet) (is_rows : IsRowSet m lines.rows) (is_co
       (part_rectangular (pivoted_part m lines place)) (part_height (pivoted_part m lines place) ∙ sym (part_height m)) refl
       (λ i j hi hj. same i j (let e = part_height m in omega (arith, e, hi)) hj)
     where
-      place : PlacedPivot
+      place : Position
       place = numbered_place lines row column
 
       same : (i j : ℕ) → i < length lines.rows → j < length lines.columns → entry (part_of (pivoted_part m lines (numbered_place lines row column))) i j ≡ pivot_entry (entry (part_of m)) row column i j
@@ -73,7 +73,7 @@ module _ (m : Matrix) (lines : LineSet) (is_rows : IsRowSet m lines.rows) (is_co
 
   -- ---- total unimodularity
 
-  module _ (small : HasTernaryEntries m) (place : PlacedPivot) (place_in : IsPlaceIn m lines place) where
+  module _ (small : HasTernaryEntries m) (place : Position) (place_in : IsPlaceIn m lines place) where
     abbrev after : Matrix
     after = pivoted_part m lines place
 
@@ -100,10 +100,10 @@ module _ (m : Matrix) (lines : LineSet) (is_rows : IsRowSet m lines.rows) (is_co
         )
           where
             here : numbered_place lines k l ≡ place
-            here = ap₂ (λ (r c : ℕ). let made : PlacedPivot = record { row = r; column = c } in made) e f
+            here = ap₂ (λ (r c : ℕ). let made : Position = record { row = r; column = c } in made) e f
 
             same : part_of (pivoted_part m lines place) ≡ pivot_at (part_of m) k l
-            same = ap (λ (p : PlacedPivot). part_of (pivoted_part m lines p)) (sym here) ∙ pivot_of_part k l row_in column_in
+            same = ap (λ (p : Position). part_of (pivoted_part m lines p)) (sym here) ∙ pivot_of_part k l row_in column_in
 
             is_place : IsPivotPlace (part_of m) k l
             is_place = record {

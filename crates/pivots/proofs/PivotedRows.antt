@@ -19,7 +19,7 @@ use Rattle.cmr_base.proofs.Places.{contained_below, each_more, placed_before}
 use Rattle.cmr_base.proofs.IncreasingLists.{IncreasesIn, increasing_row_set, increasing_column_set}
 use Rattle.cmr_base.specs.PlacedPivots.{pivot_entry, replaced_entry, IsPlaceIn}
 use Rattle.ghouila.proofs.PivotLaws.{filled_again}
-use Rattle.cmr_base.specs.declared.placed_pivot.PlacedPivot.{PlacedPivot}
+use Rattle.cmr_base.specs.declared.position.Position.{Position}
 use Rattle.pivots.specs.ChosenLines.{two_lines}
 use Rattle.pivots.specs.PivotedParts.{IsMadePart, ShowsFirstTwoIn}
 use Rattle.pivots.specs.PivotedRows.{IsPivotedRow, IsFirstTwoOfRow}
@@ -33,7 +33,7 @@ each_contained P xs k whole each x (p, l, e) = subst P (get_or_default xs p 0 x 
 -- ---- one row
 
 -- the row has the entries of the pivot in the first of these columns
-pub record IsRowPivotedTo (m before now : Matrix) (columns : List ℕ) (place : PlacedPivot) (row k : ℕ) : Type 0 where
+pub record IsRowPivotedTo (m before now : Matrix) (columns : List ℕ) (place : Position) (row k : ℕ) : Type 0 where
   pub shape : IsMatrix now
   pub same_height : height now ≡ height before
   pub same_width : now.width ≡ before.width
@@ -41,7 +41,7 @@ pub record IsRowPivotedTo (m before now : Matrix) (columns : List ℕ) (place : 
   pub small : (p : ℕ) → p < k → IsEntry (pivot_entry (entry m) place.row place.column row (get_or columns p 0))
   pub others : (i j : ℕ) → (i ≢ row) ⊎ (¬ (Contains columns j)) → entry now i j ≡ entry before i j
 
-module _ (m before : Matrix) (columns : List ℕ) (place : PlacedPivot) (row : ℕ) where
+module _ (m before : Matrix) (columns : List ℕ) (place : Position) (row : ℕ) where
   pub row_begun : IsMatrix before → IsRowPivotedTo m before before columns place row 0
   row_begun is = record { shape = is; same_height = refl; same_width = refl; entries = λ p h. absurd (omega arith); small = λ p h. absurd (omega arith); others = λ i j h. refl }
 
@@ -103,7 +103,7 @@ module _ (m before : Matrix) (columns : List ℕ) (place : PlacedPivot) (row : �
 -- ---- row by row
 
 -- the first rows of the submatrix have the entries of the pivot, and all other entries are unchanged
-pub record ArePivotedTo (m now : Matrix) (lines : LineSet) (place : PlacedPivot) (k : ℕ) : Type 0 where
+pub record ArePivotedTo (m now : Matrix) (lines : LineSet) (place : Position) (k : ℕ) : Type 0 where
   pub within : k ≤ length lines.rows
   pub shape : IsMatrix now
   pub same_height : height now ≡ height m
@@ -112,7 +112,7 @@ pub record ArePivotedTo (m now : Matrix) (lines : LineSet) (place : PlacedPivot)
   pub small : (p : ℕ) → p < k → (j : ℕ) → Contains lines.columns j → IsEntry (pivot_entry (entry m) place.row place.column (get_or lines.rows p 0) j)
   pub others : (i j : ℕ) → ((p : ℕ) → p < k → get_or lines.rows p 0 ≢ i) ⊎ (¬ (Contains lines.columns j)) → entry now i j ≡ entry m i j
 
-module _ (m : Matrix) (lines : LineSet) (place : PlacedPivot) where
+module _ (m : Matrix) (lines : LineSet) (place : Position) where
   pub rows_begun : (now : Matrix) → now ≡ m → IsMatrix m → ArePivotedTo m now lines place 0
   rows_begun now e is = subst (λ x. ArePivotedTo m x lines place 0) (sym e) (record {
     within = omega arith;
@@ -165,7 +165,7 @@ module _ (m : Matrix) (lines : LineSet) (place : PlacedPivot) where
       replaced i j false t e f = h.others i j (inl (λ p lt q. true_is_false (sym (listed_from_has_line lines.rows lines.columns (Row i) (row_there i p (let w = h.within in omega arith) q)) ∙ e)))
 
 -- the same for the lists of the submatrix
-pub first_two_of : (m : Matrix) (lines : LineSet) (place : PlacedPivot) (rows columns : List ℕ) (k column : ℕ) → rows ≡ lines.rows → columns ≡ lines.columns
+pub first_two_of : (m : Matrix) (lines : LineSet) (place : Position) (rows columns : List ℕ) (k column : ℕ) → rows ≡ lines.rows → columns ≡ lines.columns
     → IsFirstTwoOfRow m columns place (get_or rows k 0) column → IsFirstTwoOfRow m lines.columns place (get_or lines.rows k 0) column
 first_two_of m lines place rows columns k column e f first =
     subst (λ (xs : List ℕ). IsFirstTwoOfRow m xs place (get_or lines.rows k 0) column) f (subst (λ (xs : List ℕ). IsFirstTwoOfRow m columns place (get_or xs k 0) column) e first)
@@ -178,7 +178,7 @@ two_among lines one other there there' = elim (cases_lt one other) [
   | inr ge ↦ ((let e : other ≡ min one other = omega arith in subst (Contains lines) e there'), ((let e : one ≡ max one other = omega arith in subst (Contains lines) e there), tt))
 ]
 
-module _ (m : Matrix) (lines : LineSet) (place : PlacedPivot) (is : IsMatrix m) (is_rows : IsRowSet m lines.rows) (is_columns : IsColumnSet m lines.columns) (place_in : IsPlaceIn m lines place) where
+module _ (m : Matrix) (lines : LineSet) (place : Position) (is : IsMatrix m) (is_rows : IsRowSet m lines.rows) (is_columns : IsColumnSet m lines.columns) (place_in : IsPlaceIn m lines place) where
   below : (x : ℕ) → Contains lines.rows x → x < height m
   below x h = contained_below (height m) lines.rows x is_rows.in_range h
 

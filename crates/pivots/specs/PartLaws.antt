@@ -6,7 +6,7 @@ use Rattle.cmr_base.specs.LineSets.{IsRowSet, IsColumnSet, submatrix}
 use Rattle.cmr_base.specs.Signing.{IsTotallyUnimodular}
 use Rattle.cmr_base.specs.Violator.{IsViolator}
 use Rattle.ghouila.specs.PivotLaws.{pivot_at, AreLinesBefore}
-use Rattle.cmr_base.specs.declared.placed_pivot.PlacedPivot.{PlacedPivot}
+use Rattle.cmr_base.specs.declared.position.Position.{Position}
 use Rattle.cmr_base.specs.PlacedPivots.{pivoted_part, IsPlaceIn, IsTernaryPivot}
 use Rattle.pivots.specs.PivotedParts.{AreAmong}
 
@@ -17,22 +17,22 @@ HasNoViolatorAmong m lines = (rows columns : List ℕ) → IsRowSet m rows → I
 -- The lines to which lines of the submatrix are mapped back are lines of the submatrix. If they were a violator after the pivot, they are
 -- one before it.
 abbrev pub PartPivotsTakeViolatorsBack : Type 0
-PartPivotsTakeViolatorsBack = (m : Matrix) (lines : LineSet) (place : PlacedPivot) (after_rows after_columns rows columns : List ℕ) → HasTernaryEntries m
+PartPivotsTakeViolatorsBack = (m : Matrix) (lines : LineSet) (place : Position) (after_rows after_columns rows columns : List ℕ) → HasTernaryEntries m
     → IsRowSet m lines.rows → IsColumnSet m lines.columns → IsPlaceIn m lines place → IsRowSet m after_rows → IsColumnSet m after_columns → AreAmong lines after_rows after_columns
     → IsRowSet m rows → IsColumnSet m columns → AreLinesBefore m place.row place.column after_rows after_columns rows columns
     → AreAmong lines rows columns × (IsViolator (entry (pivoted_part m lines place)) after_rows after_columns → IsViolator (entry m) rows columns)
 
 -- no violator is among the lines of the submatrix if and only if none is among them after the pivot, whatever entries the pivot has
 abbrev pub PartPivotsKeepViolators : Type 0
-PartPivotsKeepViolators = (m : Matrix) (lines : LineSet) (place : PlacedPivot) → HasTernaryEntries m → IsRowSet m lines.rows → IsColumnSet m lines.columns → IsPlaceIn m lines place
+PartPivotsKeepViolators = (m : Matrix) (lines : LineSet) (place : Position) → HasTernaryEntries m → IsRowSet m lines.rows → IsColumnSet m lines.columns → IsPlaceIn m lines place
     → HasNoViolatorAmong m lines ↔ HasNoViolatorAmong (pivoted_part m lines place) lines
 
 -- the matrix after the pivot is within the limits if the entries of the pivot are -1, 0 and 1
 abbrev pub PartPivotsStayMatrices : Type 0
-PartPivotsStayMatrices = (m : Matrix) (lines : LineSet) (place : PlacedPivot) → IsMatrix m → IsTernaryPivot m lines place → IsMatrix (pivoted_part m lines place)
+PartPivotsStayMatrices = (m : Matrix) (lines : LineSet) (place : Position) → IsMatrix m → IsTernaryPivot m lines place → IsMatrix (pivoted_part m lines place)
 
 -- the position in the matrix of the entry with these numbers in the submatrix
-abbrev pub numbered_place : LineSet → ℕ → ℕ → PlacedPivot
+abbrev pub numbered_place : LineSet → ℕ → ℕ → Position
 numbered_place lines row column = record { row = slice_index lines.rows row; column = slice_index lines.columns column }
 
 -- on these lines the matrix after the pivot is the pivot of the submatrix as a matrix of its own
@@ -42,6 +42,6 @@ PartPivotsArePivots = (m : Matrix) (lines : LineSet) (row column : ℕ) → IsRo
 
 -- the submatrix is totally unimodular if and only if the entries of its pivot are -1, 0 and 1 and the pivot is totally unimodular
 abbrev pub PartPivotsDecide : Type 0
-PartPivotsDecide = (m : Matrix) (lines : LineSet) (place : PlacedPivot) → HasTernaryEntries m → IsRowSet m lines.rows → IsColumnSet m lines.columns → IsPlaceIn m lines place
+PartPivotsDecide = (m : Matrix) (lines : LineSet) (place : Position) → HasTernaryEntries m → IsRowSet m lines.rows → IsColumnSet m lines.columns → IsPlaceIn m lines place
     → IsTotallyUnimodular (submatrix m lines.rows lines.columns)
     ↔ (IsTernaryPivot m lines place × IsTotallyUnimodular (submatrix (pivoted_part m lines place) lines.rows lines.columns))

@@ -8,7 +8,7 @@ use Rattle.cmr_base.specs.Violator.{IsViolator}
 use Rattle.cmr_base.specs.PlacedPivots.{pivot_entry, pivoted_part, IsTernaryPivot}
 use Rattle.pivots.specs.declared.part_pivot.PivotedPart.{PivotedPart}
 use Rattle.pivots.specs.declared.part_pivot.PivotedPart.TheVariants.{Ternary, Violated}
-use Rattle.cmr_base.specs.declared.placed_pivot.PlacedPivot.{PlacedPivot}
+use Rattle.cmr_base.specs.declared.position.Position.{Position}
 use Rattle.pivots.specs.ChosenLines.{two_lines}
 
 -- rows and columns among some lines
@@ -18,7 +18,7 @@ pub record AreAmong (lines : LineSet) (chosen_rows chosen_columns : List ℕ) : 
 
 -- The first entry of the pivot of the submatrix, by the submatrix's rows and then by its columns, that is not -1, 0 or 1. Its lines and
 -- those of the pivot are a violator of the matrix.
-pub record ShowsFirstTwoIn (m : Matrix) (lines : LineSet) (place : PlacedPivot) (rows columns : List ℕ) : Type 0 where
+pub record ShowsFirstTwoIn (m : Matrix) (lines : LineSet) (place : Position) (rows columns : List ℕ) : Type 0 where
   pub other_row : ℕ
   pub other_column : ℕ
   pub row_in : Contains lines.rows other_row
@@ -34,12 +34,12 @@ pub record ShowsFirstTwoIn (m : Matrix) (lines : LineSet) (place : PlacedPivot) 
   pub violator : IsViolator (entry m) rows columns
 
 -- the matrix has the pivot in the place of the submatrix
-pub record IsMadePart (m : Matrix) (lines : LineSet) (place : PlacedPivot) (after : Matrix) : Type 0 where
+pub record IsMadePart (m : Matrix) (lines : LineSet) (place : Position) (after : Matrix) : Type 0 where
   pub ternary : IsTernaryPivot m lines place
   pub is : after ≡ pivoted_part m lines place
   pub shape : IsMatrix after
 
 -- the answer is correct
-abbrev pub IsPivotedPart : Matrix → LineSet → PlacedPivot → PivotedPart → Type 0
+abbrev pub IsPivotedPart : Matrix → LineSet → Position → PivotedPart → Type 0
 IsPivotedPart m lines place (Ternary after) = IsMadePart m lines place after
 IsPivotedPart m lines place (Violated found) = ShowsFirstTwoIn m lines place found.rows found.columns

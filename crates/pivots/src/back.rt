@@ -10,7 +10,7 @@ ghost use Rattle.pivots.specs.ChosenLines.{with_or_without};
 ghost use Rattle.cmr_base.specs.PlacedPivots.{pivoted_part, IsPlaceIn};
 ghost use Rattle.pivots.specs.PivotedParts.{AreAmong};
 
-use cmr_base::{Indices, LineSet, MAX_COLUMNS, MAX_ROWS, Matrix, Memory, PlacedPivot};
+use cmr_base::{Indices, LineSet, MAX_COLUMNS, MAX_ROWS, Matrix, Memory, Position};
 use std::alloc::Global;
 
 /// Maps a violator of the pivot at a nonzero back to a violator of the matrix. The two have the same lines, except the row and
@@ -54,7 +54,7 @@ pub fn violator_before_part(
     alloc: Global,
     matrix: &Matrix,
     _lines: &LineSet,
-    place: PlacedPivot,
+    place: Position,
     fault: &LineSet,
 ) -> Result<LineSet, Memory>
     requires rows { IsRowSet matrix.now _lines.now.rows }

@@ -5,12 +5,12 @@ ghost use Rattle.cmr_base.specs.Matrix.{height, entry};
 ghost use Rattle.pivots.specs.DrawnPlaces.{row_places, places_on, drawn_place};
 ghost use Rattle.cmr_base.specs.PlacedPivots.{IsPlaceIn};
 
-use cmr_base::{LineSet, MAX_COLUMNS, MAX_ROWS, Matrix, PlacedPivot, draw_below};
+use cmr_base::{LineSet, MAX_COLUMNS, MAX_ROWS, Matrix, Position, draw_below};
 
 /// The position of a pivot, and the state after it.
 #[derive(Clone, Copy, Debug, PartialEq, Eq)]
 pub struct DrawnPlace {
-    pub place: PlacedPivot,
+    pub place: Position,
     pub state: u32,
 }
 
@@ -74,12 +74,7 @@ fn count_in_row(matrix: &Matrix, row: u32, columns: &[u32]) -> u32
 }
 
 // The nonzero with this number.
-fn place_numbered(
-    matrix: &Matrix,
-    rows: &[u32],
-    columns: &[u32],
-    number: u32,
-) -> Option<PlacedPivot>
+fn place_numbered(matrix: &Matrix, rows: &[u32], columns: &[u32], number: u32) -> Option<Position>
     requires rows { AllBelow (height matrix.now) rows.now }
     requires columns { AllBelow matrix.now.width columns.now }
     requires few { length columns.now ≤ MAX_COLUMNS }
@@ -96,7 +91,7 @@ fn place_numbered(
     None
 }
 
-fn place_in_row(matrix: &Matrix, row: u32, columns: &[u32], number: u32) -> Option<PlacedPivot>
+fn place_in_row(matrix: &Matrix, row: u32, columns: &[u32], number: u32) -> Option<Position>
     requires row { row < height matrix.now }
     requires columns { AllBelow matrix.now.width columns.now }
     ensures { result ≡ slice_get (row_places matrix.now columns.now row) number }
@@ -105,7 +100,7 @@ fn place_in_row(matrix: &Matrix, row: u32, columns: &[u32], number: u32) -> Opti
     for column in columns {
         if matrix.entry(row, *column) != 0 {
             if left == 0 {
-                return Some(PlacedPivot {
+                return Some(Position {
                     row,
                     column: *column,
                 });

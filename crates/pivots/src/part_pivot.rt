@@ -7,7 +7,7 @@ ghost use Rattle.pivots.specs.PivotedParts.{IsPivotedPart};
 ghost use Rattle.pivots.specs.PivotedRows.{IsPivotedRow, IsFirstTwoOfRow};
 
 use crate::matrix_pivot::two_lines;
-use cmr_base::{LineSet, Matrix, Memory, PlacedPivot, product};
+use cmr_base::{LineSet, Matrix, Memory, Position, product};
 use std::alloc::Global;
 
 /// The matrix after the pivot of a submatrix, or a violator of the matrix.
@@ -26,7 +26,7 @@ pub fn pivot_part(
     alloc: Global,
     matrix: &Matrix,
     lines: &LineSet,
-    place: PlacedPivot,
+    place: Position,
 ) -> Result<PivotedPart, Memory>
     requires rows { IsRowSet matrix.now lines.now.rows }
     requires columns { IsColumnSet matrix.now lines.now.columns }
@@ -51,7 +51,7 @@ fn pivot_row(
     matrix: &Matrix,
     work: &mut Matrix,
     columns: &[u32],
-    place: PlacedPivot,
+    place: Position,
     row: u32,
 ) -> Option<u32>
     requires columns { IsColumnSet matrix.now columns.now }
@@ -75,7 +75,7 @@ fn pivot_row(
 }
 
 // An entry of the pivot.
-fn entry_after(matrix: &Matrix, place: PlacedPivot, row: u32, column: u32) -> i8
+fn entry_after(matrix: &Matrix, place: Position, row: u32, column: u32) -> i8
     requires place_row { place.row < height matrix.now }
     requires place_column { place.column < matrix.now.width }
     requires row { row < height matrix.now }

@@ -3,7 +3,7 @@ use Rattle.std.proofs.Common.{◌≡◌, ◌≢◌, ◌<◌, ◌∙◌, inl, inr
 use Rattle.std.proofs.lemmas.List.{length-map}
 use Rattle.cmr_base.specs.declared.line.Line.{Line}
 use Rattle.cmr_base.specs.declared.line_set.LineSet.{LineSet}
-use Rattle.cmr_base.specs.declared.placed_pivot.PlacedPivot.{PlacedPivot}
+use Rattle.cmr_base.specs.declared.position.Position.{Position}
 use Rattle.cmr_base.specs.LineSets.{submatrix}
 use Rattle.cmr_base.specs.Matrix.{Matrix, entry, height}
 use Rattle.cmr_base.specs.PlacedPivots.{IsPlaceIn}
@@ -38,28 +38,28 @@ one_first_cut m s t x y =
 
 -- ---- one position
 
-place_same : (p q : PlacedPivot) → p.row ≡ q.row → p.column ≡ q.column → p ≡ q
+place_same : (p q : Position) → p.row ≡ q.row → p.column ≡ q.column → p ≡ q
 place_same p q row column =
-    ap (λ (r : ℕ). let place : PlacedPivot = record { row = r; column = p.column } in place) row
-    ∙ ap (λ (c : ℕ). let place : PlacedPivot = record { row = q.row; column = c } in place) column
+    ap (λ (r : ℕ). let place : Position = record { row = r; column = p.column } in place) row
+    ∙ ap (λ (c : ℕ). let place : Position = record { row = q.row; column = c } in place) column
 
 drawn_same : (p q : DrawnPlace) → p.place ≡ q.place → p.state ≡ q.state → p ≡ q
 drawn_same p q place state =
-    ap (λ (x : PlacedPivot). let drawn : DrawnPlace = record { place = x; state = p.state } in drawn) place
+    ap (λ (x : Position). let drawn : DrawnPlace = record { place = x; state = p.state } in drawn) place
     ∙ ap (λ (n : ℕ). let drawn : DrawnPlace = record { place = q.place; state = n } in drawn) state
 
-one_place_for : (m : Matrix) (p q : PlacedPivot) → IsPlaceFor m p → IsPlaceFor m q → p ≡ q
+one_place_for : (m : Matrix) (p q : Position) → IsPlaceFor m p → IsPlaceFor m q → p ≡ q
 one_place_for m p q x y =
     let same = one_first_cut m x.side y.side x.first y.first in
     let both = cut_place_is_one m (side_of y.side) p.row p.column q.row q.column (subst (λ (s : LineSet). IsCutPlace m (side_of s) p.row p.column) same x.at) y.at in
     place_same p q both.0 both.1
 
-one_separating_place : (m : Matrix) (lines : LineSet) (p q : PlacedPivot) → IsSeparatingPlace m lines p → IsSeparatingPlace m lines q → p ≡ q
+one_separating_place : (m : Matrix) (lines : LineSet) (p q : Position) → IsSeparatingPlace m lines p → IsSeparatingPlace m lines q → p ≡ q
 one_separating_place m lines p q x y =
     let same = one_place_for (submatrix m lines.rows lines.columns) x.inside y.inside x.at y.at in
     place_same p q
-    (x.row ∙ ap (λ (inside : PlacedPivot). get_or lines.rows inside.row 0) same ∙ sym y.row)
-    (x.column ∙ ap (λ (inside : PlacedPivot). get_or lines.columns inside.column 0) same ∙ sym y.column)
+    (x.row ∙ ap (λ (inside : Position). get_or lines.rows inside.row 0) same ∙ sym y.row)
+    (x.column ∙ ap (λ (inside : Position). get_or lines.columns inside.column 0) same ∙ sym y.column)
 
 -- a submatrix and a state have one answer
 pub one_choice : (m : Matrix) (lines : LineSet) (state : ℕ) (found other : Option DrawnPlace) → IsNextPlace m lines state found → IsNextPlace m lines state other → found ≡ other
@@ -76,19 +76,19 @@ one_choice m lines state (Some p) (Some q) (inr (none, e)) (inr (none', e')) = s
 -- ---- a nonzero
 
 -- a nonzero of a matrix
-record IsNonzero (m : Matrix) (place : PlacedPivot) : Type 0 where
+record IsNonzero (m : Matrix) (place : Position) : Type 0 where
   pub row : place.row < height m
   pub column : place.column < m.width
   pub nonzero : entry m place.row place.column ≢ pos 0
 
-path_nonzero : (m : Matrix) (side : Lines) (place : PlacedPivot) → IsPathPlace m side place.row place.column → IsNonzero m place
+path_nonzero : (m : Matrix) (side : Lines) (place : Position) → IsPathPlace m side place.row place.column → IsNonzero m place
 path_nonzero m side place x = record {
   row = x.edge.end.on.0;
   column = x.edge.inner.0.0;
   nonzero = x.edge.nonzero;
 }
 
-place_nonzero : (m : Matrix) (place : PlacedPivot) → IsPlaceFor m place → IsNonzero m place
+place_nonzero : (m : Matrix) (place : Position) → IsPlaceFor m place → IsNonzero m place
 place_nonzero m place x = go x.at
   where
     go : IsCutPlace m (side_of x.side) place.row place.column → IsNonzero m place
@@ -96,7 +96,7 @@ place_nonzero m place x = go x.at
     go (inr (fit, unfit, path)) = path_nonzero m (opposite (side_of x.side)) place path
 
 -- the position of the first cut is a nonzero of the submatrix
-pub separating_place_in : (m : Matrix) (lines : LineSet) (place : PlacedPivot) → IsSeparatingPlace m lines place → IsPlaceIn m lines place
+pub separating_place_in : (m : Matrix) (lines : LineSet) (place : Position) → IsSeparatingPlace m lines place → IsPlaceIn m lines place
 separating_place_in m lines place x = record {
   row = subst (Contains lines.rows) (sym x.row) (contains_from_in lines.rows (get_or lines.rows x.inside.row 0) (in-get_or lines.rows x.inside.row row));
   column = subst (Contains lines.columns) (sym x.column) (contains_from_in lines.columns (get_or lines.columns x.inside.column 0) (in-get_or lines.columns x.inside.column inside.column));
@@ -117,7 +117,7 @@ chosen_place_in m lines state chosen (inr (none, e)) = subst (λ o. IfSome o (λ
 -- ---- answers
 
 -- what the search along paths says of the first cut
-pub cut_answer : (m : Matrix) (side : LineSet) → IsFirstCutOn m side.rows side.columns → (found : Option PlacedPivot) → MatchOption found (HasNoCutPlace m (side_of side)) (λ place. IsCutPlace m (side_of side) place.row place.column)
+pub cut_answer : (m : Matrix) (side : LineSet) → IsFirstCutOn m side.rows side.columns → (found : Option Position) → MatchOption found (HasNoCutPlace m (side_of side)) (λ place. IsCutPlace m (side_of side) place.row place.column)
     → MatchOption found (HasNoPlaceFor m) (IsPlaceFor m)
 cut_answer m side first None none =
     λ place x. none place.row place.column (subst (λ (s : LineSet). IsCutPlace m (side_of s) place.row place.column) (one_first_cut m x.side side x.first first) x.at)
@@ -131,5 +131,5 @@ no_place_without_cut m none place x = none (side_of x.side) x.first.cut
 pub no_separating_place : (m : Matrix) (lines : LineSet) → HasNoPlaceFor (submatrix m lines.rows lines.columns) → HasNoSeparatingPlace m lines
 no_separating_place m lines none place x = none x.inside x.at
 
-pub named_place : (m : Matrix) (lines : LineSet) (inside place : PlacedPivot) → IsPlaceFor (submatrix m lines.rows lines.columns) inside → place.row ≡ get_or lines.rows inside.row 0 → place.column ≡ get_or lines.columns inside.column 0 → IsSeparatingPlace m lines place
+pub named_place : (m : Matrix) (lines : LineSet) (inside place : Position) → IsPlaceFor (submatrix m lines.rows lines.columns) inside → place.row ≡ get_or lines.rows inside.row 0 → place.column ≡ get_or lines.columns inside.column 0 → IsSeparatingPlace m lines place
 named_place m lines inside place at row column = record { inside = inside; at = at; row = row; column = column }

@@ -5,30 +5,30 @@ use Rattle.cmr_base.specs.LineSets.{submatrix}
 use Rattle.cmr_base.specs.Matrix.{Matrix}
 use Rattle.path_places.specs.PathPlaces.{IsCutPlace}
 use Rattle.path_places.specs.SideMasks.{side_of}
-use Rattle.cmr_base.specs.declared.placed_pivot.PlacedPivot.{PlacedPivot}
+use Rattle.cmr_base.specs.declared.position.Position.{Position}
 use Rattle.pivots.specs.declared.drawn.DrawnPlace.{DrawnPlace}
 use Rattle.pivots.specs.DrawnPlaces.{drawn_place}
 use Rattle.three_sep.specs.FirstCuts.{IsFirstCutOn}
 
 -- the position of the first cut of a matrix, by side one of the cut
-pub record IsPlaceFor (m : Matrix) (place : PlacedPivot) : Type 0 where
+pub record IsPlaceFor (m : Matrix) (place : Position) : Type 0 where
   pub side : LineSet
   pub first : IsFirstCutOn m side.rows side.columns
   pub at : IsCutPlace m (side_of side) place.row place.column
 
 -- the matrix has no cut, or both sides of its first cut are fit, or the side that is not fit has no path
 abbrev pub HasNoPlaceFor : Matrix → Type 0
-HasNoPlaceFor m = (place : PlacedPivot) → ¬ (IsPlaceFor m place)
+HasNoPlaceFor m = (place : Position) → ¬ (IsPlaceFor m place)
 
 -- the position of the first cut of the submatrix on some lines, by the line numbers of the whole matrix
-pub record IsSeparatingPlace (m : Matrix) (lines : LineSet) (place : PlacedPivot) : Type 0 where
-  pub inside : PlacedPivot
+pub record IsSeparatingPlace (m : Matrix) (lines : LineSet) (place : Position) : Type 0 where
+  pub inside : Position
   pub at : IsPlaceFor (submatrix m lines.rows lines.columns) inside
   pub row : place.row ≡ slice_index_or lines.rows inside.row 0
   pub column : place.column ≡ slice_index_or lines.columns inside.column 0
 
 abbrev pub HasNoSeparatingPlace : Matrix → LineSet → Type 0
-HasNoSeparatingPlace m lines = (place : PlacedPivot) → ¬ (IsSeparatingPlace m lines place)
+HasNoSeparatingPlace m lines = (place : Position) → ¬ (IsSeparatingPlace m lines place)
 
 -- The position of the next pivot and the state after it: the position of the first cut with the same state, or the position that is drawn
 -- from the state if the first cut has none.

@@ -4,7 +4,7 @@ ghost use Rattle.cmr_base.specs.LineSets.{IsColumnSet, IsRowSet};
 ghost use Rattle.cmr_base.specs.PlacedPivots.{IsPlaceIn};
 ghost use Rattle.separating_places.specs.SeparatingPlaces.{HasNoPlaceFor, HasNoSeparatingPlace, IsNextPlace, IsPlaceFor, IsSeparatingPlace};
 
-use cmr_base::{LineSet, Matrix, Memory, PlacedPivot, RowsAndColumns};
+use cmr_base::{LineSet, Matrix, Memory, Position, RowsAndColumns};
 use path_places::cut_place;
 use pivots::{DrawnPlace, drawn_place};
 use std::alloc::Global;
@@ -37,7 +37,7 @@ fn separating_place(
     alloc: Global,
     matrix: &Matrix,
     lines: &LineSet,
-) -> Result<Option<PlacedPivot>, Memory>
+) -> Result<Option<Position>, Memory>
     requires rows { IsRowSet matrix.now lines.now.rows }
     requires columns { IsColumnSet matrix.now lines.now.columns }
     ensures place { IfOk result (λ found. MatchOption found
@@ -50,14 +50,14 @@ fn separating_place(
     let Some(place) = place_for(alloc, &RowsAndColumns::of(&submatrix, &columns))? else {
         return Ok(None);
     };
-    Ok(Some(PlacedPivot {
+    Ok(Some(Position {
         row: *lines.rows.get(place.row as usize),
         column: *lines.columns.get(place.column as usize),
     }))
 }
 
 // The position of the first cut.
-fn place_for(alloc: Global, matrix: &RowsAndColumns<'_>) -> Result<Option<PlacedPivot>, Memory>
+fn place_for(alloc: Global, matrix: &RowsAndColumns<'_>) -> Result<Option<Position>, Memory>
     ensures { IfOk result (λ found. MatchOption found (HasNoPlaceFor matrix.now)
         (IsPlaceFor matrix.now)) }
 {

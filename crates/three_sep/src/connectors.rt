@@ -5,9 +5,9 @@ ghost use Rattle.cmr_base.specs.Separations.{spread_at, zeros};
 ghost use Rattle.line_growth.specs.Rules.{IsRuleOf, lower_of, upper_of};
 ghost use Rattle.three_sep.specs.Connectors.{ArePlaced, connectors_at, rule_of};
 
-use cmr_base::{Connector, RowsAndColumns};
+use cmr_base::{Connector, Position, RowsAndColumns};
 use cuts::Corners;
-use line_growth::{Block, GrowthRule, Place, SpreadLines};
+use line_growth::{Block, GrowthRule, SpreadLines};
 
 /// The connectors of side one and of side two.
 #[derive(Clone, Copy)]
@@ -59,7 +59,7 @@ pub fn rule_at(corners: &Corners) -> GrowthRule
 {
     let Corners { i, p, k, j } = *corners;
     GrowthRule {
-        upper: Block::Product(Place { row: i, column: j }),
-        lower: Block::Product(Place { row: k, column: p }),
+        upper: Block::Product(Position { row: i, column: j }),
+        lower: Block::Product(Position { row: k, column: p }),
     }
 }

@@ -16,7 +16,7 @@ use Rattle.cmr_base.specs.declared.network.Pair.{Pair}
 use Rattle.cmr_base.specs.declared.separation.Connector.{Connector}
 use Rattle.cmr_base.specs.declared.separation.Two.{Two}
 use Rattle.cmr_base.specs.declared.separation.Three.{Three}
-use Rattle.cmr_base.specs.declared.placed_pivot.PlacedPivot.{PlacedPivot}
+use Rattle.cmr_base.specs.declared.position.Position.{Position}
 use Rattle.cmr_base.specs.declared.separation.Form.TheVariants.{Delta, YForm, Mixed, Concentrated}
 use Rattle.cmr_base.specs.LineSets.{AllBelow}
 use Rattle.cmr_base.specs.Reductions.{HasLine}
@@ -130,7 +130,7 @@ module _ (sizes : Sizes) (few_rows : sizes.rows ≤ 1000) (few_columns : sizes.c
       let second = again_bind (field Short (line_of sizes.columns lines.columns)) _ (number_of_line t.column ∷ []) (set_words t.side) t.column t (column_again t.column column) last in
       again_bind (field Short (line_of sizes.rows lines.rows)) _ (number_of_line t.row ∷ []) (number_of_line t.column ∷ set_words t.side) t.row t (row_again t.row row) second
 
-  place_again : (place : PlacedPivot) → Contains lines.rows place.row → Contains lines.columns place.column → Again (pivot_place sizes lines) (number_of_line place.row ∷ number_of_line place.column ∷ []) place
+  place_again : (place : Position) → Contains lines.rows place.row → Contains lines.columns place.column → Again (pivot_place sizes lines) (number_of_line place.row ∷ number_of_line place.column ∷ []) place
   place_again place row column =
       let last = again_wrap (field Short (line_of sizes.columns lines.columns)) (λ (column : ℕ). record { row = place.row; column = column }) (number_of_line place.column ∷ []) place.column (column_again place.column column) in
       again_bind (field Short (line_of sizes.rows lines.rows)) _ (number_of_line place.row ∷ []) (number_of_line place.column ∷ []) place.row place (row_again place.row row) last
@@ -183,7 +183,7 @@ module _ (sizes : Sizes) (few_rows : sizes.rows ≤ 1000) (few_columns : sizes.c
   own_again (Violator fault) trees fits e = counted (own_part sizes lines kind.Violator) (set_words fault) (Violator fault) 0 (count_trees trees) e (again_wrap (line_set sizes (Some lines)) (λ (f : LineSet). (Violator f, 0)) (set_words fault) fault (part_again fault fits))
   own_again Undecided trees fits e = counted (own_part sizes lines kind.Undecided) [] Undecided 0 (count_trees trees) e (again_done (Undecided, 0))
   own_again (Pivoted place) trees fits e =
-      counted (own_part sizes lines kind.Pivoted) (own_words (Pivoted place) trees) (Pivoted place) 1 (count_trees trees) e (again_wrap (pivot_place sizes lines) (λ (p : PlacedPivot). (Pivoted p, 1)) (own_words (Pivoted place) trees) place (place_again place fits.0 fits.1))
+      counted (own_part sizes lines kind.Pivoted) (own_words (Pivoted place) trees) (Pivoted place) 1 (count_trees trees) e (again_wrap (pivot_place sizes lines) (λ (p : Position). (Pivoted p, 1)) (own_words (Pivoted place) trees) place (place_again place fits.0 fits.1))
 
 -- each kind has a word
 word_among : (k : KindWord) → kind_among kind_words (word_of_kind k) ≡ Ok k

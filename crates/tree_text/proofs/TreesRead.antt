@@ -11,7 +11,7 @@ use Rattle.cmr_base.specs.declared.network.Pair.{Pair}
 use Rattle.cmr_base.specs.declared.separation.Connector.{Connector}
 use Rattle.cmr_base.specs.declared.separation.Two.{Two}
 use Rattle.cmr_base.specs.declared.separation.Three.{Three}
-use Rattle.cmr_base.specs.declared.placed_pivot.PlacedPivot.{PlacedPivot}
+use Rattle.cmr_base.specs.declared.position.Position.{Position}
 use Rattle.cmr_base.specs.declared.separation.Form.{Form}
 use Rattle.cmr_base.specs.LineSets.{AllBelow}
 use Rattle.cmr_base.specs.Reductions.{HasLine}
@@ -152,13 +152,13 @@ module _ (sizes : Sizes) (lines : LineSet) where
       let e = ap (λ (p : Two × Text). p.0) (ok_same (made, side.0.1) found side.2) in
       subst (λ two. FitsLines lines (TwoSum two) trees) e (set_ok column.0.1 side.0 side.1, row_ok text row.0 row.1, column_ok row.0.1 column.0 column.1)
 
-  place_ok : (text : Text) (found : PlacedPivot × Text) → pivot_place sizes lines text ≡ Ok found → Contains lines.rows found.0.row × Contains lines.columns found.0.column
+  place_ok : (text : Text) (found : Position × Text) → pivot_place sizes lines text ≡ Ok found → Contains lines.rows found.0.row × Contains lines.columns found.0.column
   place_ok text found h =
       let row = bind_ok (field Short (line_of sizes.rows lines.rows) text) (λ (row : ℕ × Text). field Short (line_of sizes.columns lines.columns) row.1 >>= λ (column : ℕ × Text). Ok (record { row = row.0; column = column.0 }, column.1)) found h in
       let column = bind_ok (field Short (line_of sizes.columns lines.columns) row.0.1) (λ (column : ℕ × Text). Ok (record { row = row.0.0; column = column.0 }, column.1)) found row.2 in
-      let made : PlacedPivot = record { row = row.0.0; column = column.0.0 } in
-      let e = ap (λ (p : PlacedPivot × Text). p.0) (ok_same (made, column.0.1) found column.2) in
-      subst (λ (place : PlacedPivot). Contains lines.rows place.row × Contains lines.columns place.column) e (row_ok text row.0 row.1, column_ok row.0.1 column.0 column.1)
+      let made : Position = record { row = row.0.0; column = column.0.0 } in
+      let e = ap (λ (p : Position × Text). p.0) (ok_same (made, column.0.1) found column.2) in
+      subst (λ (place : Position). Contains lines.rows place.row × Contains lines.columns place.column) e (row_ok text row.0 row.1, column_ok row.0.1 column.0 column.1)
 
   three_ok : (form : Form) (text : Text) (found : Three × Text) → three sizes lines form text ≡ Ok found → (trees : Trees) → FitsLines lines (ThreeSum found.0) trees
   three_ok form text found h trees =
@@ -214,7 +214,7 @@ module _ (sizes : Sizes) (lines : LineSet) where
       fitting_from (Violator fault.0.0, 0) fault.0.1 found fault.2 (λ trees e. (set_ok text fault.0 fault.1, e))
   own_part_ok kind.Undecided text found h = fitting_from (Undecided, 0) text found h (λ trees e. (tt, e))
   own_part_ok kind.Pivoted text found h =
-      let place = bind_ok (pivot_place sizes lines text) (λ (found : PlacedPivot × Text). Ok ((Pivoted found.0, 1), found.1)) found h in
+      let place = bind_ok (pivot_place sizes lines text) (λ (found : Position × Text). Ok ((Pivoted found.0, 1), found.1)) found h in
       fitting_from (Pivoted place.0.0, 1) place.0.1 found place.2 (λ trees e. (place_ok text place.0 place.1, e))
 
 -- the opening of a node that was read

@@ -8,7 +8,7 @@ use Rattle.cmr_base.specs.declared.separation.Connector.{Connector}
 use Rattle.cmr_base.specs.declared.separation.Two.{Two}
 use Rattle.cmr_base.specs.declared.separation.Three.{Three}
 use Rattle.cmr_base.specs.declared.separation.Form.{Form}
-use Rattle.cmr_base.specs.declared.placed_pivot.PlacedPivot.{PlacedPivot}
+use Rattle.cmr_base.specs.declared.position.Position.{Position}
 use Rattle.cmr_base.specs.Separations.{first_is_flat, second_is_flat}
 use Rattle.text_fields.specs.TextWords.{Text}
 use Rattle.text_fields.specs.Result.{◌>>=◌}
@@ -84,7 +84,7 @@ three sizes lines form text = do
   Ok (record { form = form; side = side.0; first = first.0; second = second.0 }, side.1)
 
 -- a row and a column of a node
-abbrev pub pivot_place : Sizes → LineSet → Reader PlacedPivot
+abbrev pub pivot_place : Sizes → LineSet → Reader Position
 pivot_place sizes lines text = do
   row ← field Short (line_of sizes.rows lines.rows) text
   column ← field Short (line_of sizes.columns lines.columns) row.1

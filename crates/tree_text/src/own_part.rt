@@ -15,7 +15,7 @@ use crate::value::Sizes;
 use crate::{TreeError, field};
 use cmr_base::{
     Connector, Form, Indices, Line, LineList, LineSet, MAX_COLUMNS, MAX_ROWS, Network, Pair,
-    PairList, PlacedPivot, Three, Two,
+    PairList, Position, Three, Two,
 };
 use std::alloc::Global;
 use text_fields::Words;
@@ -183,16 +183,12 @@ fn read_three(
     })
 }
 
-fn read_place(
-    words: &mut Words<'_>,
-    sizes: Sizes,
-    lines: &LineSet,
-) -> Result<PlacedPivot, TreeError>
+fn read_place(words: &mut Words<'_>, sizes: Sizes, lines: &LineSet) -> Result<Position, TreeError>
     ensures { Reads (λ x. x) words.new result (pivot_place sizes lines.now words.old) }
 {
     let row = field::line_of(words, sizes.rows, &lines.rows)?;
     let column = field::line_of(words, sizes.columns, &lines.columns)?;
-    Ok(PlacedPivot { row, column })
+    Ok(Position { row, column })
 }
 
 /// The finding of a node of this kind, and the number of its children.

@@ -12,7 +12,7 @@ ghost use Rattle.tree_text.specs.CanonicalTrees.{number_of_line, line_name, set_
 
 use crate::header::{title_of, title_word, version_of, version_word};
 use crate::kind_word::{kind_of, word_of};
-use cmr_base::{Connector, Line, LineSet, Memory, Network, Pair, PlacedPivot, Three, Two};
+use cmr_base::{Connector, Line, LineSet, Memory, Network, Pair, Position, Three, Two};
 use itoa::Buffer;
 use std::alloc::Global;
 use text_fields::{Writer, push_line_name};
@@ -138,7 +138,7 @@ fn write_two(text: &mut Writer, two: &Two) -> Result<(), Memory>
     text.end_line()
 }
 
-fn write_place(text: &mut Writer, place: PlacedPivot) -> Result<(), Memory>
+fn write_place(text: &mut Writer, place: Position) -> Result<(), Memory>
     requires { text.old.is_begun ≡ false }
     ensures { OnOk result (text.new ≡ with_line text.old (number_of_line place.row
         ∷ number_of_line place.column ∷ [])) }

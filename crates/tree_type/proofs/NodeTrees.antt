@@ -7,7 +7,7 @@ use Rattle.cmr_base.specs.declared.line.Line.{Line}
 use Rattle.cmr_base.specs.declared.line_set.LineSet.{LineSet}
 use Rattle.cmr_base.specs.declared.separation.Two.{Two}
 use Rattle.cmr_base.specs.declared.separation.Three.{Three}
-use Rattle.cmr_base.specs.declared.placed_pivot.PlacedPivot.{PlacedPivot}
+use Rattle.cmr_base.specs.declared.position.Position.{Position}
 use Rattle.tree_type.specs.declared.tree.Node.{Node, fold_out-Node}
 use Rattle.tree_type.specs.declared.tree.NodeList.{NodeList}
 use Rattle.tree_type.specs.declared.tree.Kind.{Kind}
@@ -35,7 +35,7 @@ said_violator fault = ap said (sym (kind.rolls-Violator fault)) ∙ fold-roll-Ki
 pub said_reduced : (steps : ItemList Line) (child : Box Node Global) → said (kind.Reduced steps child) ≡ (Reduced steps, one_tree (tree_of child.value))
 said_reduced steps child = ap said (sym (kind.rolls-Reduced steps child)) ∙ fold-roll-Kind (Finding × Trees) Tree Trees kind_step node_step list_step (open'.Reduced steps child)
 
-pub said_pivoted : (place : PlacedPivot) (child : Box Node Global) → said (kind.Pivoted place child) ≡ (Pivoted place, one_tree (tree_of child.value))
+pub said_pivoted : (place : Position) (child : Box Node Global) → said (kind.Pivoted place child) ≡ (Pivoted place, one_tree (tree_of child.value))
 said_pivoted place child = ap said (sym (kind.rolls-Pivoted place child)) ∙ fold-roll-Kind (Finding × Trees) Tree Trees kind_step node_step list_step (open'.Pivoted place child)
 
 pub said_one_sum : (children : NodeList) → said (kind.OneSum children) ≡ (OneSum, trees_of children)

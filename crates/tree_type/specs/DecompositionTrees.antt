@@ -5,7 +5,7 @@ use Rattle.cmr_base.specs.declared.line_set.LineSet.{LineSet}
 use Rattle.cmr_base.specs.declared.network.Network as net
 use Rattle.cmr_base.specs.declared.separation.Two.{Two}
 use Rattle.cmr_base.specs.declared.separation.Three.{Three}
-use Rattle.cmr_base.specs.declared.placed_pivot.PlacedPivot.{PlacedPivot}
+use Rattle.cmr_base.specs.declared.position.Position.{Position}
 use Rattle.tree_type.specs.declared.tree.Node.{Node}
 use Rattle.tree_type.specs.declared.tree.Kind.TheOpen as open'
 use Rattle.tree_type.specs.declared.tree.Kind.TheFolds.{fold-Node, fold-NodeList}
@@ -25,7 +25,7 @@ pub data Finding : Type 0 where
   Enumerated : Finding
   Violator : LineSet → Finding
   Undecided : Finding
-  Pivoted : PlacedPivot → Finding
+  Pivoted : Position → Finding
 
 mutual
   -- a node: its lines, its finding, and its children

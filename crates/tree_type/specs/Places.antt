@@ -4,7 +4,7 @@ use Rattle.cmr_base.specs.declared.line.Line.{Line}
 use Rattle.cmr_base.specs.declared.line_set.LineSet.{LineSet}
 use Rattle.cmr_base.specs.Matrix.{Matrix}
 use Rattle.cmr_base.specs.Reductions.{rows_without, columns_without}
-use Rattle.cmr_base.specs.declared.placed_pivot.PlacedPivot.{PlacedPivot}
+use Rattle.cmr_base.specs.declared.position.Position.{Position}
 use Rattle.cmr_base.specs.PlacedPivots.{pivoted_part}
 use Rattle.tree_type.specs.Sides.{two_one, two_two, three_one, three_two}
 use Rattle.tree_type.specs.DecompositionTrees.{Finding, Reduced, TwoSum, ThreeSum, Pivoted, Tree, Trees, Branch, NoTrees, MoreTrees, lines_at_root}
@@ -19,7 +19,7 @@ pub data Due : Type 0 where
 -- a pivot of the submatrix on some lines
 pub record MadePivot : Type 0 where
   pub lines : LineSet
-  pub place : PlacedPivot
+  pub place : Position
 
 -- the matrix after a list of pivots, the last of which is the first of the list
 abbrev pub matrix_after : Matrix → List MadePivot → Matrix

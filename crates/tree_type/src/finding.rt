@@ -5,7 +5,7 @@ ghost use Rattle.tree_type.specs.Invariant.{HasChildren};
 ghost use Rattle.tree_type.specs.Findings.{finding_shown};
 
 use crate::{Kind, Node, NodeList};
-use cmr_base::{LineList, LineSet, Memory, Network, PlacedPivot, Three, Two};
+use cmr_base::{LineList, LineSet, Memory, Network, Position, Three, Two};
 use std::alloc::Global;
 
 /// The finding of a node about the submatrix on its lines.
@@ -23,7 +23,7 @@ pub enum Finding {
     Enumerated,
     Violator(LineSet),
     Undecided,
-    Pivoted(PlacedPivot),
+    Pivoted(Position),
 }
 
 /// The node with these lines, this finding and these children. The number of children is the number that the finding requires.

@@ -3,7 +3,7 @@ ghost use Rattle.std.specs.Prelude.{◌≡◌, ◌<◌, ◌+◌, ◌++◌, [], �
 ghost use Rattle.tree_type.specs.DecompositionTrees.{children_of, nodes_in, tree_of, trees_of, trees_from};
 ghost use Rattle.tree_type.specs.NodeCounts.{node_count};
 
-use cmr_base::{LineList, LineSet, Memory, Network, PlacedPivot, Three, Two};
+use cmr_base::{LineList, LineSet, Memory, Network, Position, Three, Two};
 use std::alloc::Global;
 
 /// A node: some lines of the matrix, and facts about the submatrix on these lines.
@@ -53,7 +53,7 @@ pub enum Kind {
     Undecided,
     /// The child describes the matrix after the pivot of the submatrix at this place.
     Pivoted {
-        place: PlacedPivot,
+        place: Position,
         child: Box<Node>,
     },
 }

@@ -4,8 +4,8 @@ ghost use Rattle.cmr_base.specs.Matrix.{height, entry};
 ghost use Rattle.line_growth.specs.GrowingSets.{IsSizedFor, set_of};
 ghost use Rattle.two_sep.specs.FirstSeeds.{HasNoGoodSeed, IsFirstGoodSide};
 
-use cmr_base::{Line, Memory, RowsAndColumns};
-use line_growth::{Block, GrowingSet, GrowthRule, Place, line_at};
+use cmr_base::{Line, Memory, Position, RowsAndColumns};
+use line_growth::{Block, GrowingSet, GrowthRule, line_at};
 use std::alloc::Global;
 
 /// The side to which the first good seed at a nonzero grows, and `None` if no seed there is good. If a seed is not good, no
@@ -26,7 +26,7 @@ pub fn first_good_side(
     let rows = matrix.rows();
     let rule = GrowthRule {
         upper: Block::Zero,
-        lower: Block::Product(Place { row, column }),
+        lower: Block::Product(Position { row, column }),
     };
     let mut side = GrowingSet::new(alloc, matrix)?;
     let mut bad = GrowingSet::new(alloc, matrix)?;

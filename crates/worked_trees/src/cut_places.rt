@@ -1,13 +1,13 @@
 // Positions of pivots on shortest paths inside the sides of cuts.
 use crate::compared::is_text;
-use cmr_base::PlacedPivot;
+use cmr_base::Position;
 use path_places::{Side, cut_place};
 use std::alloc::Global;
 use std::test::Fail;
 use worked_given::{Lines, line_set, matrix, row_text};
 
 // A word and the position, where there is one.
-fn place_text(alloc: Global, word: &str, found: Option<PlacedPivot>) -> Result<Vec<u8>, Fail> {
+fn place_text(alloc: Global, word: &str, found: Option<Position>) -> Result<Vec<u8>, Fail> {
     match found {
         Some(place) => row_text(alloc, word, &[place.row, place.column]),
         None => row_text(alloc, word, &[]),

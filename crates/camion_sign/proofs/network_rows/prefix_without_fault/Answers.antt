@@ -13,11 +13,11 @@ pub part-requires-clause-columns : goal.part-requires-clause-columns
 part-requires-clause-columns c =
     first_below c.columns.result c.by_rows.result.now.width c.in_ok-lines.lines.columns c.in_ok-lines.ensures.columns (let e = ap (λ (m : Matrix). m.width) c.by_rows.ensures.matrix in let f = c.columns.ensures.columns in omega arith)
 
-pub columns_of-requires-clause-rows : goal.columns_of-requires-clause-rows
-columns_of-requires-clause-rows c = first_below c.args.rows (height c.args.matrix.now) c.in_ok-lines.lines.rows c.in_ok-lines.ensures.rows c.requires
+pub transposed_part-requires-clause-rows : goal.transposed_part-requires-clause-rows
+transposed_part-requires-clause-rows c = first_below c.args.rows (height c.args.matrix.now) c.in_ok-lines.lines.rows c.in_ok-lines.ensures.rows c.requires
 
-pub columns_of-requires-clause-columns : goal.columns_of-requires-clause-columns
-columns_of-requires-clause-columns c =
+pub transposed_part-requires-clause-columns : goal.transposed_part-requires-clause-columns
+transposed_part-requires-clause-columns c =
     first_below c.columns.result c.args.matrix.now.width c.in_ok-lines.lines.columns c.in_ok-lines.ensures.columns (let f = c.columns.ensures.columns in omega arith)
 
 pub returns-clause-passed : goal.returns-clause-passed

@@ -3,7 +3,7 @@ use Rattle.std.proofs.lemmas.List.{append-nil}
 use Rattle.std.specs.Prelude.{codes}
 use Rattle.std.specs.declared.alloc.Global.{Global}
 use Rattle.std.specs.declared.boxed.Box.{Box}
-use Rattle.cmr_base.specs.declared.placed_pivot.PlacedPivot.{PlacedPivot}
+use Rattle.cmr_base.specs.declared.position.Position.{Position}
 use Rattle.tree_type.specs.declared.tree.Node.{Node}
 use Rattle.tree_type.specs.declared.tree.Kind.TheOpen as open'
 use Rattle.tree_type.specs.declared.tree.Kind.TheVariants as kind
@@ -13,7 +13,7 @@ use Rattle.tree_type.proofs.OtherKinds.{KindCase, by_kind, finding_in}
 use Rattle.cmr_unimodular.specs.Outline.{place_words}
 use Rattle.cmr_unimodular.proofs.outline.push_place.Goals as goal
 
-no_pivot : (node : Node) → ((place : PlacedPivot) (child : Box Node Global) → node.kind ≢ kind.Pivoted place child) → place_words (finding_of (tree_of node)) ≡ []
+no_pivot : (node : Node) → ((place : Position) (child : Box Node Global) → node.kind ≢ kind.Pivoted place child) → place_words (finding_of (tree_of node)) ≡ []
 no_pivot node other = by_kind node (λ finding. place_words finding ≡ []) each
   where
     each : (case : KindCase) → roll-Kind case ≡ node.kind → place_words (finding_in case) ≡ []

@@ -3,7 +3,7 @@ use Rattle.std.proofs.lemmas.Result.{IfOk-weaker}
 use Rattle.cmr_base.specs.declared.line_set.LineSet.{LineSet}
 use Rattle.cmr_base.specs.Matrix.{Matrix}
 use Rattle.cmr_base.proofs.Options.{some_same}
-use Rattle.cmr_base.specs.declared.placed_pivot.PlacedPivot.{PlacedPivot}
+use Rattle.cmr_base.specs.declared.position.Position.{Position}
 use Rattle.tree_type.specs.declared.finding.Finding.{Finding as Held}
 use Rattle.tree_type.specs.declared.finding.Finding.TheVariants as held
 use Rattle.tree_type.specs.DecompositionTrees.{Tree, Branch, NoTrees, Pivoted, one_tree, tree_of}
@@ -20,13 +20,13 @@ some_said : {finding : Held} → Some finding ≡ None → ⊥
 some_said e = cc
 
 -- a node above the tree, where nothing else is said
-mapped_above : (m : Matrix) (lines : LineSet) (place : PlacedPivot) (after tree : Tree) (verdict : Verdict) → SaysBeforePivot m place verdict None → tree ≡ Branch lines (Pivoted place) (one_tree after) → IsMappedBack m lines place after verdict tree
+mapped_above : (m : Matrix) (lines : LineSet) (place : Position) (after tree : Tree) (verdict : Verdict) → SaysBeforePivot m place verdict None → tree ≡ Branch lines (Pivoted place) (one_tree after) → IsMappedBack m lines place after verdict tree
 mapped_above m lines place after tree Yes says e = e
 mapped_above m lines place after tree (No fault) says e = absurd (none_said says.2)
 mapped_above m lines place after tree (Open left) says e = absurd (none_said says)
 
 -- a leaf that says what is said
-told_by_leaf : (m : Matrix) (lines : LineSet) (place : PlacedPivot) (after tree : Tree) (verdict : Verdict) (finding : Held) → SaysBeforePivot m place verdict (Some finding) → tree ≡ Branch lines (finding_shown finding) NoTrees
+told_by_leaf : (m : Matrix) (lines : LineSet) (place : Position) (after tree : Tree) (verdict : Verdict) (finding : Held) → SaysBeforePivot m place verdict (Some finding) → tree ≡ Branch lines (finding_shown finding) NoTrees
     → IsMappedBack m lines place after verdict tree
 told_by_leaf m lines place after tree Yes finding says e = absurd (some_said says)
 told_by_leaf m lines place after tree (No fault) finding says e =
@@ -34,7 +34,7 @@ told_by_leaf m lines place after tree (No fault) finding says e =
 told_by_leaf m lines place after tree (Open left) finding says e = e ∙ ap (λ (f : Held). Branch lines (finding_shown f) NoTrees) (some_same finding held.Undecided says)
 
 -- what is said is a leaf's
-said_by_leaf : (m : Matrix) (place : PlacedPivot) (verdict : Verdict) (finding : Held) → SaysBeforePivot m place verdict (Some finding) → HasChildren (finding_shown finding) 0
+said_by_leaf : (m : Matrix) (place : Position) (verdict : Verdict) (finding : Held) → SaysBeforePivot m place verdict (Some finding) → HasChildren (finding_shown finding) 0
 said_by_leaf m place Yes finding says = absurd (some_said says)
 said_by_leaf m place (No fault) finding says = subst (λ (f : Held). HasChildren (finding_shown f) 0) (sym (some_same finding (held.Violator says.0) says.2)) refl
 said_by_leaf m place (Open left) finding says = subst (λ (f : Held). HasChildren (finding_shown f) 0) (sym (some_same finding held.Undecided says)) refl

@@ -5,7 +5,7 @@ use Rattle.cmr_base.specs.LineSets.{AllBelow}
 use Rattle.cmr_base.specs.Matrix.{Matrix, height}
 use Rattle.path_places.specs.PathPlaces.{HasNoCutPlace, IsCutPlace}
 use Rattle.path_places.specs.SideMasks.{side_of}
-use Rattle.cmr_base.specs.declared.placed_pivot.PlacedPivot.{PlacedPivot}
+use Rattle.cmr_base.specs.declared.position.Position.{Position}
 use Rattle.three_sep.specs.FirstCuts.{HasNoCut, IsFirstCutOn}
 use Rattle.separating_places.proofs.ChosenPlaces.{cut_answer, no_place_without_cut}
 use Rattle.separating_places.proofs.place.place_for.Goals as goal
@@ -13,7 +13,7 @@ use Rattle.separating_places.proofs.place.place_for.Goals as goal
 abbrev IsFoundCut : Matrix → Option LineSet → Type 0
 IsFoundCut m found = MatchOption found (HasNoCut m) (λ lines. IsFirstCutOn m lines.rows lines.columns)
 
-abbrev IsFoundPlace : LineSet → Matrix → Option PlacedPivot → Type 0
+abbrev IsFoundPlace : LineSet → Matrix → Option Position → Type 0
 IsFoundPlace side m found = MatchOption found (HasNoCutPlace m (side_of side)) (λ place. IsCutPlace m (side_of side) place.row place.column)
 
 pub cut_place-requires-clause-rows : goal.cut_place-requires-clause-rows

@@ -1,7 +1,7 @@
 use Rattle.std.proofs.Common.{◌≡◌, ◌≢◌, ◌∙◌, false, refl, sym}
 use Rattle.std.specs.declared.alloc.Global.{Global}
 use Rattle.std.specs.declared.boxed.Box.{Box}
-use Rattle.cmr_base.specs.declared.placed_pivot.PlacedPivot.{PlacedPivot}
+use Rattle.cmr_base.specs.declared.position.Position.{Position}
 use Rattle.tree_type.specs.declared.tree.Node.{Node}
 use Rattle.tree_type.specs.declared.tree.Kind.TheOpen as open'
 use Rattle.tree_type.specs.declared.tree.Kind.TheVariants as kind
@@ -12,7 +12,7 @@ use Rattle.tree_type.proofs.OtherKinds.{KindCase, by_kind, finding_in}
 use Rattle.tree_text.specs.CanonicalTrees.{is_pivot, has_pivot, have_pivot}
 use Rattle.tree_text.proofs.header.+has_pivot.Goals as goal
 
-no_pivot : (node : Node) → ((place : PlacedPivot) (child : Box Node Global) → node.kind ≢ kind.Pivoted place child) → is_pivot (finding_of (tree_of node)) ≡ false
+no_pivot : (node : Node) → ((place : Position) (child : Box Node Global) → node.kind ≢ kind.Pivoted place child) → is_pivot (finding_of (tree_of node)) ≡ false
 no_pivot node other = by_kind node (λ finding. is_pivot finding ≡ false) each
   where
     each : (case : KindCase) → roll-Kind case ≡ node.kind → is_pivot (finding_in case) ≡ false

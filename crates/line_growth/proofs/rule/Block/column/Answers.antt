@@ -21,7 +21,7 @@ pub returns-in-Product-clause-value : goal.returns-in-Product-clause-value
 returns-in-Product-clause-value c = λ row.
     let m = c.args.matrix.now in
     (c.alone-in-Product.ensures (transposed m) (let h = height-transposed m in let l = (subst (IsBlockOf m) c.in-Product.is c.requires.block).1 in omega arith)).1 row
-    ∙ product_column m c.rows-rows.ensures.shape c.in-Product.place c.args.column row _ (factor_is c.factor.result c.entry.result _ _ c.factor.ensures.small c.entry.ensures.small c.factor.ensures.value c.entry.ensures.value)
+    ∙ product_column m c.rows-rows.ensures.shape c.in-Product.place c.args.column row _ (factor_is c.factor_at.result c.entry.result _ _ c.factor_at.ensures.small c.entry.ensures.small c.factor_at.ensures.value c.entry.ensures.value)
     ∙ ap (λ (b : Block). block_entry (entry m) b row c.args.column) (sym c.in-Product.is)
 
 pub returns-in-Spread-clause-value : goal.returns-in-Spread-clause-value

@@ -12,7 +12,7 @@ pub returns-in-Product-clause-value : goal.returns-in-Product-clause-value
 returns-in-Product-clause-value c = λ column.
     let m = c.args.matrix.now in
     (c.alone-in-Product.ensures m (subst (IsBlockOf m) c.in-Product.is c.requires.block).0).1 column
-    ∙ product_row m c.in-Product.place c.args.row column _ (factor_is c.factor.result c.entry.result _ _ c.factor.ensures.small c.entry.ensures.small c.factor.ensures.value c.entry.ensures.value)
+    ∙ product_row m c.in-Product.place c.args.row column _ (factor_is c.factor_at.result c.entry.result _ _ c.factor_at.ensures.small c.entry.ensures.small c.factor_at.ensures.value c.entry.ensures.value)
     ∙ ap (λ (b : Block). block_entry (entry m) b c.args.row column) (sym c.in-Product.is)
 
 pub returns-in-Spread-clause-value : goal.returns-in-Spread-clause-value

@@ -6,7 +6,7 @@ use Rattle.cmr_base.proofs.Parts.{height-transposed}
 use Rattle.std.proofs.lemmas.Result.{IfOk-weaker}
 use Rattle.cmr_base.proofs.TransposedParts.{transposed-submatrix}
 use Rattle.cmr_base.proofs.WholeMatrices.{is_ternary}
-use Rattle.cmr_base.proofs.rows_and_columns.RowsAndColumns.columns_of.Goals as goal
+use Rattle.cmr_base.proofs.rows_and_columns.RowsAndColumns.transposed_part.Goals as goal
 
 pub part_on-requires-clause-rows : goal.part_on-requires-clause-rows
 part_on-requires-clause-rows c =
