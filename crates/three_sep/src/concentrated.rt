@@ -15,10 +15,11 @@ ghost use Rattle.three_sep.specs.Concentrated.{AreConcentratedCorners, HasNoneBe
 ghost use Rattle.three_sep.specs.RowSearches.{IsRowSearchOf};
 
 use crate::connectors::Connectors;
-use crate::independent::columns_of;
 use crate::row_search::RowSearch;
 use crate::sides::Sides;
-use cmr_base::{BitSet, Connector, Core, Form, Line, MAX_COLUMNS, Memory, RowsAndColumns, Three};
+use cmr_base::{
+    BitSet, Connector, Core, Form, Line, MAX_COLUMNS, Memory, RowsAndColumns, Three, columns_of,
+};
 use cuts::Corners;
 use std::alloc::Global;
 
@@ -90,7 +91,10 @@ impl RowSearch<'_> {
         ensures found { IfOk result (IsFoundSeparation self.old.matrix.now
             (form_number Concentrated ∷ self.old.row ∷ p ∷ k ∷ [])) }
     {
-        if !self.candidates.meets_words(columns_of(self.matrix, k)) {
+        if !self
+            .candidates
+            .meets_words(columns_of(self.matrix.by_rows(), k))
+        {
             return Ok(None);
         }
         let i = self.row;
@@ -116,7 +120,7 @@ impl RowSearch<'_> {
             ⊎ (has_column self.now.candidates.words j ≡ false)) }
     {
         let mut columns = BitSet::new(alloc, self.matrix.columns())?;
-        columns.add_common_words(&self.candidates, columns_of(self.matrix, k));
+        columns.add_common_words(&self.candidates, columns_of(self.matrix.by_rows(), k));
         Ok(columns)
     }
 

@@ -1,8 +1,8 @@
 // Columns that each good seed of the concentrated form with a given row in side one has in side one.
 ghost use Rattle.std.specs.Prelude.{◌≡◌};
 
-use crate::independent::{columns_of, new_row};
-use cmr_base::{BitSet, Memory, RowsAndColumns};
+use crate::independent::new_row;
+use cmr_base::{BitSet, Memory, RowsAndColumns, columns_of};
 use std::alloc::Global;
 
 /// Columns that a row forces into side one, and two buffers for columns.
@@ -52,7 +52,7 @@ impl<'a> ForcedColumns<'a> {
             (has_column forced.columns.words)) }
     {
         let mut columns = BitSet::new(alloc, matrix.columns())?;
-        columns.add_words(columns_of(matrix, i));
+        columns.add_words(columns_of(matrix.by_rows(), i));
         let left = BitSet::new(alloc, matrix.columns())?;
         let last = BitSet::new(alloc, matrix.columns())?;
         Ok(ForcedColumns {
@@ -95,13 +95,13 @@ impl<'a> ForcedColumns<'a> {
         };
         self.left.clear();
         self.left
-            .add_outside_words(&self.columns, columns_of(self.matrix, one));
+            .add_outside_words(&self.columns, columns_of(self.matrix.by_rows(), one));
         let Some(two) = new_row(self.matrix, &self.left, j, one + 1) else {
             return false;
         };
         self.last.clear();
         self.last
-            .add_outside_words(&self.left, columns_of(self.matrix, two));
+            .add_outside_words(&self.left, columns_of(self.matrix.by_rows(), two));
         match new_row(self.matrix, &self.last, j, two + 1) {
             Some(_three) => true,
             None => false,

@@ -1,12 +1,9 @@
 // Rows among the rows in which a column is not 0.
-ghost use Rattle.std.specs.Prelude.{◌≡◌, ◌<◌, ◌≤◌, ℕ, IfSome, MatchOption};
-ghost use Rattle.cmr_base.specs.BitSets.{AreWordsOf};
+ghost use Rattle.std.specs.Prelude.{◌≡◌, ◌<◌, ◌≤◌, IfSome, MatchOption};
 ghost use Rattle.cmr_base.specs.ColumnSets.{has_column};
-ghost use Rattle.cmr_base.specs.Matrix.{height};
-ghost use Rattle.cmr_base.specs.Trees.{support};
 ghost use Rattle.three_sep.specs.Independent.{IsNewRow};
 
-use cmr_base::{BitSet, MAX_ROWS, RowsAndColumns};
+use cmr_base::{BitSet, MAX_ROWS, RowsAndColumns, columns_of};
 
 /// The first row that is not 0 in column j and in some column of a set, from a given row on.
 pub fn new_row(matrix: &RowsAndColumns<'_>, set: &BitSet, j: u32, from: u32) -> Option<u32>
@@ -18,19 +15,10 @@ pub fn new_row(matrix: &RowsAndColumns<'_>, set: &BitSet, j: u32, from: u32) -> 
 {
     let mut next = from;
     while let Some(row) = matrix.by_columns().next_nonzero(j, next) {
-        if set.meets_words(columns_of(matrix, row)) {
+        if set.meets_words(columns_of(matrix.by_rows(), row)) {
             return Some(row);
         }
         next = row + 1;
     }
     None
-}
-
-/// The columns in which a row is not 0.
-pub fn columns_of<'b>(matrix: &'b RowsAndColumns<'_>, row: u32) -> &'b [u64]
-    requires { row < height matrix.now }
-    ensures columns { (column : ℕ) → has_column result.now column ≡ support matrix.now row column }
-    ensures whole { AreWordsOf matrix.now.width result.now }
-{
-    cmr_base::columns_of(matrix.by_rows(), row)
 }

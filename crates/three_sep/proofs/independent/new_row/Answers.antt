@@ -6,7 +6,7 @@ pub next_nonzero-requires-clause-row : goal.next_nonzero-requires-clause-row
 next_nonzero-requires-clause-row c = transposed_inside c.args.matrix.now c.by_columns.result.now c.by_columns.ensures.matrix c.args.j c.requires.column
 
 pub columns_of-requires : goal.columns_of-requires
-columns_of-requires c = transposed_row c.args.matrix.now c.by_columns.result.now c.by_columns.ensures.matrix c.in-Some.row c.in-Some.ensures.first.1
+columns_of-requires c = rw c.by_rows.ensures.matrix (transposed_row c.args.matrix.now c.by_columns.result.now c.by_columns.ensures.matrix c.in-Some.row c.in-Some.ensures.first.1)
 
 pub returns-then-meets_words-clause-new : goal.returns-then-meets_words-clause-new
 returns-then-meets_words-clause-new c =
@@ -20,5 +20,5 @@ returns-then-meets_words-clause-new c =
       nonzero = sym (transposed_support m n columns_are row c.args.j c.by_columns.ensures.shape) ∙ c.in-Some.ensures.first.2;
       column = column;
       among = among;
-      here = sym (c.columns_of.ensures.columns column) ∙ here;
+      here = sym ((rw c.by_rows.ensures.matrix at c.columns_of.ensures.columns) column) ∙ here;
     }

@@ -21,9 +21,9 @@ returns-in-Some-new_row-2-clause-independent c = λ e.
     let two = c.in-Some-new_row.two in
     let three = c.in-Some-new_row-2._three in
     let left : (column : ℕ) → has_column c.add_outside_words.new.self.words column ≡ outside_one m set one column =
-    λ column. c.add_outside_words.ensures.columns column ∙ or_none _ _ (c.clear.ensures.none column) ∙ both_same _ _ _ _ refl (c.columns_of.ensures.columns column) in
+    λ column. c.add_outside_words.ensures.columns column ∙ or_none _ _ (c.clear.ensures.none column) ∙ both_same _ _ _ _ refl ((rw c.by_rows.ensures.matrix at c.columns_of.ensures.columns) column) in
     let last : (column : ℕ) → has_column c.add_outside_words-2.new.self.words column ≡ outside_two m set one two column =
-    λ column. c.add_outside_words-2.ensures.columns column ∙ or_none _ _ (c.clear-2.ensures.none column) ∙ both_same _ _ _ _ (left column) (c.columns_of-2.ensures.columns column) in
+    λ column. c.add_outside_words-2.ensures.columns column ∙ or_none _ _ (c.clear-2.ensures.none column) ∙ both_same _ _ _ _ (left column) ((rw c.by_rows-2.ensures.matrix at c.columns_of-2.ensures.columns) column) in
     record {
       one = one;
       two = two;

@@ -18,7 +18,7 @@ returns-then-not-meets_words-clause-found c =
     let m = self.matrix.now in
     no_common m self.row c.args.p c.args.k self.candidates self.are_candidates (λ x. elim (two_cases (support m c.args.k x)) [
       | inl row ↦ inr (false_is (has_column self.candidates.words x) (λ h. not_both c.meets_words.result
-          (c.meets_words.ensures.1 (x, h, c.columns_of.ensures.columns x ∙ row)) c.if-not-meets_words.true))
+          (c.meets_words.ensures.1 (x, h, (rw c.by_rows.ensures.matrix at c.columns_of.ensures.columns) x ∙ row)) c.if-not-meets_words.true))
       | inr none ↦ inl none
     ])
 
