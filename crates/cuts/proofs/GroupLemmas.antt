@@ -1,5 +1,5 @@
 -- Groups during the search.
-use Rattle.std.proofs.Common.{Result, Ok, Err, IfOk, ℕ, ◌+◌, Bool, true, false, cond, List, ◌≡◌, ◌<◌, ◌≤◌, ◌∙◌, sym, ap, arith, ◌⊎◌, inl, inr, get_or}
+use Rattle.std.proofs.Common.{Result, Ok, Err, IfOk, ℕ, ◌+◌, Bool, true, false, cond, List, ◌≡◌, ◌<◌, ◌≤◌, ◌∙◌, sym, ap, ap₂, subst, arith, ◌⊎◌, inl, inr, get_or, length}
 use Rattle.cmr_base.specs.declared.line.Line.{Line}
 use Rattle.cmr_base.specs.declared.line.Line.TheVariants.{Row, Column}
 use Rattle.cmr_base.specs.ColumnSets.{has_column}
@@ -12,31 +12,39 @@ use Rattle.cmr_base.specs.LineMasks.{as_set, IsMaskOf}
 use Rattle.cuts.specs.declared.sides.Side.{Side}
 use Rattle.cuts.specs.Covers.{AddsAtMost, AreOnOneSide, GetName}
 use Rattle.cuts.specs.CutSearches.{HasMarked}
-use Rattle.cuts.specs.LineCuts.{HoldTogether, IsCut, name_of}
+use Rattle.cuts.specs.LineCuts.{HasNames, HoldTogether, IsCut, name_of}
 use Rattle.cuts.proofs.CoverLemmas.{covers_less, covers_more, group_of_covers}
 use Rattle.cmr_base.specs.Components.{IsLineOf}
 
 -- ---- names
 
 -- if each line has its own name
-pub apart_together : (m : Matrix) (groups : Groups) (P : Lines → Type 0) → ((k : ℕ) → k < height m + m.width → get_or groups.names.items k 0 ≡ k) → HoldTogether P m groups
-apart_together m groups P own T p (Row r) (Row s) lr ls e = let a = own r (omega (arith, lr)) in let b = own s (omega (arith, ls)) in ap (λ (z : ℕ). T (Row z)) (sym a ∙ e ∙ b)
-apart_together m groups P own T p (Column c) (Column d) lc ld e =
+own_together : (m : Matrix) (groups : Groups) (P : Lines → Type 0) → ((k : ℕ) → k < height m + m.width → get_or groups.names.items k 0 ≡ k) → HoldTogether P m groups
+own_together m groups P own T p (Row r) (Row s) lr ls e = let a = own r (omega (arith, lr)) in let b = own s (omega (arith, ls)) in ap (λ (z : ℕ). T (Row z)) (sym a ∙ e ∙ b)
+own_together m groups P own T p (Column c) (Column d) lc ld e =
     let a = own (height m + c) (omega (arith, lc)) in
     let b = own (height m + d) (omega (arith, ld)) in
     let same : height m + c ≡ height m + d = sym a ∙ e ∙ b in
     let last : c ≡ d = omega (arith, same) in
     ap (λ (z : ℕ). T (Column z)) last
-apart_together m groups P own T p (Row r) (Column c) lr lc e =
+own_together m groups P own T p (Row r) (Column c) lr lc e =
     let a = own r (omega (arith, lr)) in
     let b = own (height m + c) (omega (arith, lc)) in
     let same : r ≡ height m + c = sym a ∙ e ∙ b in
     absurd (omega (arith, same, lr))
-apart_together m groups P own T p (Column c) (Row r) lc lr e =
+own_together m groups P own T p (Column c) (Row r) lc lr e =
     let a = own r (omega (arith, lr)) in
     let b = own (height m + c) (omega (arith, lc)) in
     let same : height m + c ≡ r = sym b ∙ e ∙ a in
     absurd (omega (arith, same, lr))
+
+-- names for these numbers of rows and columns
+module _ (m : Matrix) (rows columns : ℕ) (groups : Groups) (er : rows ≡ height m) (ec : columns ≡ m.width) where
+  pub names_of : length groups.names.items ≡ rows + columns → HasNames m groups
+  names_of e = e ∙ ap₂ (λ (a b : ℕ). a + b) er ec
+
+  pub apart_together : (P : Lines → Type 0) → ((k : ℕ) → k < rows + columns → get_or groups.names.items k 0 ≡ k) → HoldTogether P m groups
+  apart_together P own = own_together m groups P (λ k l. own k (subst (λ (n : ℕ). k < n) (sym (ap₂ (λ (a b : ℕ). a + b) er ec)) l))
 
 -- the rows and the columns with a name
 pub named_lines : (m : Matrix) (groups : Groups) (name from : ℕ) (one other : List ℕ) (lines : LineMask) → one ≡ groups.names.items → other ≡ groups.names.items → height m ≡ from

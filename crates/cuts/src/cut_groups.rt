@@ -54,13 +54,15 @@ impl GroupFinder {
     fn new(alloc: Global, matrix: &RowsAndColumns<'_>) -> Result<GroupFinder, Memory>
         ensures { IfOk result (AreFound matrix.now) }
     {
+        let rows = matrix.rows();
+        let columns = matrix.columns();
         Ok(GroupFinder {
-            groups: Groups::new(alloc, matrix)?,
-            taken: LineMask::new(alloc, matrix.rows(), matrix.columns())?,
+            groups: Groups::new(alloc, rows, columns)?,
+            taken: LineMask::new(alloc, rows, columns)?,
             largest: 0,
             size: 0,
             small: 0,
-            states: STATES_OF_A_LINE * (matrix.rows() + matrix.columns()),
+            states: STATES_OF_A_LINE * (rows + columns),
         })
     }
 

@@ -6,9 +6,9 @@ ghost use Rattle.cmr_base.specs.Matrix.{Matrix, height};
 ghost use Rattle.cmr_base.specs.Seeds.{IsLine};
 ghost use Rattle.cmr_base.specs.declared.line.Line.{Line};
 ghost use Rattle.cuts.specs.Covers.{GetName};
-ghost use Rattle.cuts.specs.LineCuts.{HasNames, name_of};
+ghost use Rattle.cuts.specs.LineCuts.{name_of};
 
-use cmr_base::{BitSet, Line, LineMask, MAX_COLUMNS, MAX_ROWS, Memory, RowsAndColumns, own_labels};
+use cmr_base::{BitSet, Line, LineMask, MAX_COLUMNS, MAX_ROWS, Memory, own_labels};
 use std::alloc::Global;
 
 /// A name for the group of each line, rows first.
@@ -18,13 +18,15 @@ pub struct Groups {
 }
 
 impl Groups {
-    /// Each line is a group.
-    pub fn new(alloc: Global, matrix: &RowsAndColumns<'_>) -> Result<Groups, Memory>
-        ensures names { IfOk result (HasNames matrix.now) }
-        ensures apart { IfOk result (λ groups. (k : ℕ) → k < height matrix.now + matrix.now.width
+    /// Each line of a matrix with these numbers of rows and columns is a group.
+    pub fn new(alloc: Global, rows: u32, columns: u32) -> Result<Groups, Memory>
+        requires rows { rows ≤ MAX_ROWS }
+        requires columns { columns ≤ MAX_COLUMNS }
+        ensures names { IfOk result (λ groups. length groups.names.items ≡ rows + columns) }
+        ensures apart { IfOk result (λ groups. (k : ℕ) → k < rows + columns
             → slice_index_or groups.names.items k 0 ≡ k) }
     {
-        let names = own_labels(alloc, matrix.rows() + matrix.columns())?;
+        let names = own_labels(alloc, rows + columns)?;
         Ok(Groups { names })
     }
 

@@ -82,10 +82,12 @@ impl<'a> Search<'a> {
     pub fn new(alloc: Global, matrix: &'a RowsAndColumns<'a>) -> Result<Search<'a>, Memory>
         ensures { IfOk result (λ search. search.matrix.now ≡ matrix.entry.now) }
     {
+        let rows = matrix.rows();
+        let columns = matrix.columns();
         Ok(Search {
             matrix,
             sides: Sides::new(alloc, matrix)?,
-            groups: Groups::new(alloc, matrix)?,
+            groups: Groups::new(alloc, rows, columns)?,
             tries: 0,
             asked: false,
             refused: RefusedCorners::new(alloc, matrix),
