@@ -8,6 +8,7 @@ use Rattle.cmr_base.specs.Trees.{support}
 use Rattle.cmr_base.proofs.ListsWithout.{place_of, IsPlaceOf, place_is}
 use Rattle.cmr_base.proofs.Places.{each_more, found_at}
 use Rattle.bridge_split.specs.PartNumbers.{number_at, ArePartNumbers, HasPartRoom, IsSearching}
+use Rattle.bridge_split.specs.declared.part_walk.PartWalk.{PartWalk}
 use Rattle.bridge_split.proofs.NumberedParts.{linked_number}
 use Rattle.bridge_split.proofs.PartWalks.{same_number}
 
@@ -61,16 +62,16 @@ module _ (M : ℕ → ℕ → Bool) (S : List ℕ) (increases : IsStrictlyIncrea
       go q = none (place_of row S) (let m = q.in_range in omega arith) (subst (Splits M S) (sym q.there) s)
 
 module _ (m : Matrix) (S : List ℕ) (increases : IsStrictlyIncreasing S) where
-  pub searching_on : (p count : ℕ) (part part' : List (Option ℕ)) (seen seen' : List ℕ) → IsSearching m S p part seen → p < length S → HasPartRoom m part' seen' → ArePartNumbers (support m) S (get_or S p 0) (number_at part') count → count < 2
-      → IsSearching m S (p + 1) part' seen'
-  searching_on p count part part' seen seen' w l room n few = record {
+  pub searching_on : (p count : ℕ) (walk walk' : PartWalk) → IsSearching m S p walk → p < length S → HasPartRoom m walk' → ArePartNumbers (support m) S (get_or S p 0) (number_at walk'.part.items) count → count < 2
+      → IsSearching m S (p + 1) walk'
+  searching_on p count walk walk' w l room n few = record {
     room = room;
-    none = each_more (λ (q : ℕ). ¬ (Splits (support m) S (get_or S q 0))) p w.none (splits_none (support m) S increases (get_or S p 0) part' count n few);
+    none = each_more (λ (q : ℕ). ¬ (Splits (support m) S (get_or S q 0))) p w.none (splits_none (support m) S increases (get_or S p 0) walk'.part.items count n few);
   }
 
   -- a row that is known not to split
-  pub searching_past : (p : ℕ) (part : List (Option ℕ)) (seen : List ℕ) → IsSearching m S p part seen → ¬ (Splits (support m) S (get_or S p 0)) → IsSearching m S (p + 1) part seen
-  searching_past p part seen w whole = record {
+  pub searching_past : (p : ℕ) (walk : PartWalk) → IsSearching m S p walk → ¬ (Splits (support m) S (get_or S p 0)) → IsSearching m S (p + 1) walk
+  searching_past p walk w whole = record {
     room = w.room;
     none = each_more (λ (q : ℕ). ¬ (Splits (support m) S (get_or S q 0))) p w.none whole;
   }

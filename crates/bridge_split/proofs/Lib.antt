@@ -1,5 +1,6 @@
 pub mod ThreeNonzeros
 pub mod Links
+pub mod ZeroSets
 pub mod PartWalks
 pub mod GrowingLists
 pub mod NumberSteps

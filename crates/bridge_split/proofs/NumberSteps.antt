@@ -7,48 +7,49 @@ use Rattle.cmr_base.specs.Members.{IsIn}
 use Rattle.cmr_base.specs.Trees.{support}
 use Rattle.cmr_base.proofs.Places.{more_placed}
 use Rattle.cmr_base.specs.ColumnSets.{has_column}
-use Rattle.bridge_split.specs.PartNumbers.{number_at, HasPartRoom, KeepsParts, IsLeft, IsTouched, IsBetween, ArePassedRows, IsMeeting, IsWalkingFrom}
+use Rattle.bridge_split.specs.PartNumbers.{number_at, HasPartRoom, IsWalkAt, KeepsParts, IsLeft, IsTouched, IsBetween, ArePassedRows, IsMeeting, IsWalkingFrom}
+use Rattle.bridge_split.specs.declared.part_walk.PartWalk.{PartWalk}
 use Rattle.bridge_split.proofs.PartWalks.{kept, meets, one_less_left, starts}
 
-module _ (m : Matrix) (S : List ℕ) (i number x : ℕ) (part part' : List (Option ℕ)) (reached reached' : List ℕ) (hx : IsIn x S) (low : x < height m) (left : IsLeft i (number_at part) x)
-    (room : HasPartRoom m part reached) (set_is : part' ≡ set part x (Some number)) where
-  now : number_at part' x ≡ Some number
-  now = ap (λ (v : List (Option ℕ)). number_at v x) set_is ∙ get_or-set_same part x (Some number) None (let e = room.numbers in omega arith)
+module _ (m : Matrix) (S : List ℕ) (i number x : ℕ) (from to : PartWalk) (hx : IsIn x S) (low : x < height m) (left : IsLeft i (number_at from.part.items) x)
+    (room : HasPartRoom m from) (set_is : to.part.items ≡ set from.part.items x (Some number)) where
+  now : number_at to.part.items x ≡ Some number
+  now = ap (λ (v : List (Option ℕ)). number_at v x) set_is ∙ get_or-set_same from.part.items x (Some number) None (let e = room.numbers in omega arith)
 
-  same : (z : ℕ) → z ≢ x → number_at part' z ≡ number_at part z
-  same z n = ap (λ (v : List (Option ℕ)). number_at v z) set_is ∙ get_or-set_other part x z (Some number) None n
+  same : (z : ℕ) → z ≢ x → number_at to.part.items z ≡ number_at from.part.items z
+  same z n = ap (λ (v : List (Option ℕ)). number_at v z) set_is ∙ get_or-set_other from.part.items x z (Some number) None n
 
-  pub meets_one : (before : List (Option ℕ)) (met place : ℕ) → IsMeeting m S i number before part reached met place → HasPartRoom m part' reached' → (column : ℕ) → has_column reached column ≡ true → support m x column ≡ true
-      → ((c : ℕ) → has_column reached' c ≡ (has_column reached c || (support m x c && not (support m i c)))) → IsMeeting m S i number before part' reached' (met + 1) (place + 1)
+  pub meets_one : (before : PartWalk) (met place : ℕ) → IsMeeting m S i number before from met place → IsWalkAt m i to → (column : ℕ) → has_column from.reached.words column ≡ true → support m x column ≡ true
+      → ((c : ℕ) → has_column to.reached.words c ≡ (has_column from.reached.words c || (support m x c && not (support m i c)))) → IsMeeting m S i number before to (met + 1) (place + 1)
   meets_one before met place w room' column here meet more = record {
     room = room';
-    walk = meets (support m) S i (number_at part) number x (number_at part') hx left.0 left.1 now same (has_column reached) (has_column reached') w.walk column here meet more;
-    keeps = λ k a e. kept (support m) S i (number_at part) number x (number_at part') hx left.0 left.1 now same k a (w.keeps k a e);
-    fewer = let l = one_less_left (number_at part) (number_at part') (kept (support m) S i (number_at part) number x (number_at part') hx left.0 left.1 now same) S x number hx left.1 now in
+    walk = meets (support m) S i (number_at from.part.items) number x (number_at to.part.items) hx left.0 left.1 now same (has_column from.reached.words) (has_column to.reached.words) w.walk column here meet more;
+    keeps = λ k a e. kept (support m) S i (number_at from.part.items) number x (number_at to.part.items) hx left.0 left.1 now same k a (w.keeps k a e);
+    fewer = let l = one_less_left (number_at from.part.items) (number_at to.part.items) (kept (support m) S i (number_at from.part.items) number x (number_at to.part.items) hx left.0 left.1 now same) S x number hx left.1 now in
         let f = w.fewer in omega arith;
     none = λ e. absurd (omega arith);
     few = let f = w.few in omega arith;
   }
 
-  pub starts_from : (place : ℕ) → IsStrictlyIncreasing S → IsBetween (support m) S i (number_at part) number → place < length S → x ≡ get_or S place 0 → ArePassedRows (support m) S i (number_at part) place → number < 1000
-      → HasPartRoom m part' reached' → ((c : ℕ) → has_column reached' c ≡ (support m x c && not (support m i c))) → IsWalkingFrom m S i number x part part' reached' 1
+  pub starts_from : (place : ℕ) → IsStrictlyIncreasing S → IsBetween (support m) S i (number_at from.part.items) number → place < length S → x ≡ get_or S place 0 → ArePassedRows (support m) S i (number_at from.part.items) place → number < 1000
+      → IsWalkAt m i to → ((c : ℕ) → has_column to.reached.words c ≡ (support m x c && not (support m i c))) → IsWalkingFrom m S i number x from to 1
   starts_from place increases b inside at before few room' more = record {
     room = room';
-    walk = starts (support m) S i (number_at part) number x (number_at part') hx left.0 left.1 now same (has_column reached') increases b place inside at before few more;
-    keeps = kept (support m) S i (number_at part) number x (number_at part') hx left.0 left.1 now same;
+    walk = starts (support m) S i (number_at from.part.items) number x (number_at to.part.items) hx left.0 left.1 now same (has_column to.reached.words) increases b place inside at before few more;
+    keeps = kept (support m) S i (number_at from.part.items) number x (number_at to.part.items) hx left.0 left.1 now same;
     first_in = now;
     none = λ e. absurd (omega arith);
   }
 
 -- a row that is not touched
-pub passes_one : (m : Matrix) (S : List ℕ) (i number : ℕ) (before part : List (Option ℕ)) (reached : List ℕ) (met place : ℕ) → IsMeeting m S i number before part reached met place
-    → ¬ (IsTouched (support m) i (number_at part) (has_column reached) (get_or S place 0)) → IsMeeting m S i number before part reached met (place + 1)
-passes_one m S i number before part reached met place w free = record {
+pub passes_one : (m : Matrix) (S : List ℕ) (i number : ℕ) (before now : PartWalk) (met place : ℕ) → IsMeeting m S i number before now met place
+    → ¬ (IsTouched (support m) i (number_at now.part.items) (has_column now.reached.words) (get_or S place 0)) → IsMeeting m S i number before now met (place + 1)
+passes_one m S i number before now met place w free = record {
   room = w.room;
   walk = w.walk;
   keeps = w.keeps;
   fewer = w.fewer;
-  none = λ e. more_placed (λ x. ¬ (IsTouched (support m) i (number_at part) (has_column reached) x)) S place (w.none e) free;
+  none = λ e. more_placed (λ x. ¬ (IsTouched (support m) i (number_at now.part.items) (has_column now.reached.words) x)) S place (w.none e) free;
   few = let f = w.few in omega arith;
 }
 

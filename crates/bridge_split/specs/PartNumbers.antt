@@ -3,11 +3,12 @@ use Rattle.std.specs.Prelude.{◌≡◌, ◌≢◌, ◌<◌, ◌≤◌, ◌+◌,
 use Rattle.cmr_base.specs.LineSets.{first_lines}
 use Rattle.cmr_base.specs.Matrix.{Matrix, height, IsMatrix}
 use Rattle.cmr_base.specs.Members.{IsIn}
-use Rattle.cmr_base.specs.Planes.{words_for}
 use Rattle.cmr_base.specs.Splits.{AreJoined, AreLinked, Splits}
 use Rattle.cmr_base.specs.Trees.{support}
 use Rattle.cmr_base.specs.ColumnSets.{has_column}
 use Rattle.cmr_base.specs.declared.limits.TheConstants.{MAX_ROWS}
+use Rattle.bridge_split.specs.declared.part_walk.PartWalk.{PartWalk}
+use Rattle.bridge_split.specs.ZeroColumns.{AreZeros}
 
 -- the number of a row's part, if it has one
 abbrev pub number_at : List (Option ℕ) → ℕ → Option ℕ
@@ -28,11 +29,16 @@ numbered_rows numbers S number = filter (λ row. is_number number (number_at num
 abbrev pub numbered_parts : List (Option ℕ) → List ℕ → ℕ → List (List ℕ)
 numbered_parts numbers S count = map (numbered_rows numbers S) (first_lines count)
 
--- room for the numbers of all rows and for a set of columns
-pub record HasPartRoom (m : Matrix) (part : List (Option ℕ)) (reached : List ℕ) : Type 0 where
+-- room for the numbers of all rows and for sets of columns
+pub record HasPartRoom (m : Matrix) (walk : PartWalk) : Type 0 where
   pub matrix : IsMatrix m
-  pub numbers : length part ≡ height m
-  pub columns : length reached ≡ words_for m.width
+  pub numbers : length walk.part.items ≡ height m
+  pub columns : walk.reached.size ≡ m.width
+
+-- such room, for the parts of the rows except row i
+pub record IsWalkAt (m : Matrix) (i : ℕ) (walk : PartWalk) : Type 0 where
+  pub room : HasPartRoom m walk
+  pub zeros : AreZeros m i walk.zeros
 
 -- numbers that are assigned stay assigned
 abbrev pub KeepsParts : (ℕ → Option ℕ) → (ℕ → Option ℕ) → Type 0
@@ -95,30 +101,30 @@ module _ (M : ℕ → ℕ → Bool) (S : List ℕ) (i : ℕ) where
       pub passed : (p : ℕ) → p < place → (slice_index S p ≡ i) ⊎ ((a : ℕ) × (part (slice_index S p) ≡ Some a))
 
 -- within a pass over the rows, which has met `met` rows: if it has met none, the rows before `place` are not touched
-pub record IsMeeting (m : Matrix) (S : List ℕ) (i number : ℕ) (before part : List (Option ℕ)) (reached : List ℕ) (met place : ℕ) : Type 0 where
-  pub room : HasPartRoom m part reached
-  pub walk : IsWalkingPart (support m) S i (number_at part) number (has_column reached)
-  pub keeps : KeepsParts (number_at before) (number_at part)
-  pub fewer : left_in S (number_at part) + met ≤ left_in S (number_at before)
-  pub none : met ≡ 0 → (p : ℕ) → p < place → ¬ (IsTouched (support m) i (number_at part) (has_column reached) (slice_index S p))
+pub record IsMeeting (m : Matrix) (S : List ℕ) (i number : ℕ) (before now : PartWalk) (met place : ℕ) : Type 0 where
+  pub room : IsWalkAt m i now
+  pub walk : IsWalkingPart (support m) S i (number_at now.part.items) number (has_column now.reached.words)
+  pub keeps : KeepsParts (number_at before.part.items) (number_at now.part.items)
+  pub fewer : left_in S (number_at now.part.items) + met ≤ left_in S (number_at before.part.items)
+  pub none : met ≡ 0 → (p : ℕ) → p < place → ¬ (IsTouched (support m) i (number_at now.part.items) (has_column now.reached.words) (slice_index S p))
   pub few : met ≤ place
 
 -- within a part whose first row has a number: if the last pass has met no row, no row is touched
-pub record IsWalkingFrom (m : Matrix) (S : List ℕ) (i number first : ℕ) (before part : List (Option ℕ)) (reached : List ℕ) (met : ℕ) : Type 0 where
-  pub room : HasPartRoom m part reached
-  pub walk : IsWalkingPart (support m) S i (number_at part) number (has_column reached)
-  pub keeps : KeepsParts (number_at before) (number_at part)
-  pub first_in : number_at part first ≡ Some number
-  pub none : met ≡ 0 → (x : ℕ) → IsIn x S → ¬ (IsTouched (support m) i (number_at part) (has_column reached) x)
+pub record IsWalkingFrom (m : Matrix) (S : List ℕ) (i number first : ℕ) (before now : PartWalk) (met : ℕ) : Type 0 where
+  pub room : IsWalkAt m i now
+  pub walk : IsWalkingPart (support m) S i (number_at now.part.items) number (has_column now.reached.words)
+  pub keeps : KeepsParts (number_at before.part.items) (number_at now.part.items)
+  pub first_in : number_at now.part.items first ≡ Some number
+  pub none : met ≡ 0 → (x : ℕ) → IsIn x S → ¬ (IsTouched (support m) i (number_at now.part.items) (has_column now.reached.words) x)
 
 -- between two parts
-pub record IsBetweenParts (m : Matrix) (S : List ℕ) (i count place : ℕ) (part : List (Option ℕ)) (reached : List ℕ) : Type 0 where
-  pub room : HasPartRoom m part reached
-  pub between : IsBetween (support m) S i (number_at part) count
-  pub before : ArePassedRows (support m) S i (number_at part) place
+pub record IsBetweenParts (m : Matrix) (S : List ℕ) (i count place : ℕ) (walk : PartWalk) : Type 0 where
+  pub room : IsWalkAt m i walk
+  pub between : IsBetween (support m) S i (number_at walk.part.items) count
+  pub before : ArePassedRows (support m) S i (number_at walk.part.items) place
   pub fewer : count ≤ place
 
 -- the rows of S before `place` do not split
-pub record IsSearching (m : Matrix) (S : List ℕ) (place : ℕ) (part : List (Option ℕ)) (reached : List ℕ) : Type 0 where
-  pub room : HasPartRoom m part reached
+pub record IsSearching (m : Matrix) (S : List ℕ) (place : ℕ) (walk : PartWalk) : Type 0 where
+  pub room : HasPartRoom m walk
   pub none : (p : ℕ) → p < place → ¬ (Splits (support m) S (slice_index S p))

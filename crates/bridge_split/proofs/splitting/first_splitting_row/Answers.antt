@@ -33,12 +33,12 @@ loop-row-preserved c =
     let walk = c.loop-row.walk in
     elim c.if-row-untested.branch [
       | then-row-untested+else-count-ge-SPLIT_PARTS w ↦
-          subst (λ (v : PartWalk). IsSearching m S (p + 1) v.part.items v.reached.items) (sym w.walk-is)
-          (searching_on m S c.requires.increasing p w.number_parts-count.result walk.part.items w.number_parts-count.new.self.part.items walk.reached.items w.number_parts-count.new.self.reached.items
+          subst (λ (v : PartWalk). IsSearching m S (p + 1) v) (sym w.walk-is)
+          (searching_on m S c.requires.increasing p w.number_parts-count.result walk w.number_parts-count.new.self
           c.loop-row.invariant c.loop-row-test.true w.number_parts-count.ensures.room w.number_parts-count.ensures.parts w.if-count-ge-SPLIT_PARTS.false)
       | else-row-untested w ↦
-          subst (λ (v : PartWalk). IsSearching m S (p + 1) v.part.items v.reached.items) (sym w.walk-is)
-          (searching_past m S c.requires.increasing p walk.part.items walk.reached.items c.loop-row.invariant (c.requires.tested (get_or S p 0) (let k = w.if-row-untested.false in omega arith)))
+          subst (λ (v : PartWalk). IsSearching m S (p + 1) v) (sym w.walk-is)
+          (searching_past m S c.requires.increasing p walk c.loop-row.invariant (c.requires.tested (get_or S p 0) (let k = w.if-row-untested.false in omega arith)))
     ]
 
 pub returns : goal.returns

@@ -10,6 +10,9 @@ use Rattle.bridge_split.proofs.NumberSteps.{passed_more}
 use Rattle.bridge_split.proofs.part_walk.PartWalk.number_parts.Goals as goal
 use Rattle.bridge_split.proofs.part_walk.PartWalk.number_parts.Goals.{then-is_left, else-is_left}
 
+pub set_zeros-requires-clause-row : goal.set_zeros-requires-clause-row
+set_zeros-requires-clause-row c = members_below (height c.args.matrix.now) c.args.rows.now c.requires.rows c.args.row c.requires.row
+
 pub walk_from-requires-clause-row : goal.walk_from-requires-clause-row
 walk_from-requires-clause-row c = members_below (height c.args.matrix.now) c.args.rows.now c.requires.rows c.args.row c.requires.row
 
@@ -21,10 +24,10 @@ loop-place-preserved c =
     let p = c.loop-place.place in
     let so = c.loop-place.invariant in
     let s = c.loop-place.self in
-    let at : (v : PartWalk) (count : ℕ) → c.if-is_left.self ≡ v → c.if-is_left.count ≡ count → IsBetweenParts m S i count (p + 1) v.part.items v.reached.items
-    → IsBetweenParts m S i c.if-is_left.count (p + 1) c.if-is_left.self.part.items c.if-is_left.self.reached.items =
-    λ v count e f h. subst (λ (u : PartWalk). IsBetweenParts m S i c.if-is_left.count (p + 1) u.part.items u.reached.items) (sym e)
-    (subst (λ (k : ℕ). IsBetweenParts m S i k (p + 1) v.part.items v.reached.items) (sym f) h) in
+    let at : (v : PartWalk) (count : ℕ) → c.if-is_left.self ≡ v → c.if-is_left.count ≡ count → IsBetweenParts m S i count (p + 1) v
+    → IsBetweenParts m S i c.if-is_left.count (p + 1) c.if-is_left.self =
+    λ v count e f h. subst (λ (u : PartWalk). IsBetweenParts m S i c.if-is_left.count (p + 1) u) (sym e)
+    (subst (λ (k : ℕ). IsBetweenParts m S i k (p + 1) v) (sym f) h) in
     elim c.if-is_left.branch [
       | then-is_left w ↦
           at w.walk_from.new.self (c.loop-place.count + 1) w.self-is w.count-is (record {

@@ -19,10 +19,10 @@ loop-met-init c =
     let s = c.args.self.now in
     let few : c.args.number < 1000 =
     let g = length-increasing S (height m) c.requires.increasing c.requires.rows in
-    let h = c.requires.numbering.room.matrix.height_in in
+    let h = c.requires.numbering.room.room.matrix.height_in in
     let f = c.requires.numbering.fewer in
     let l = c.requires.place in omega (arith, g, h, f, l) in
-    starts_from m S i c.args.number x s.part.items c.meet.new.self.part.items s.reached.items c.meet.new.self.reached.items (in_at S place c.requires.place) (c.requires.rows place c.requires.place) c.requires.left c.requires.numbering.room
+    starts_from m S i c.args.number x s c.meet.new.self (in_at S place c.requires.place) (c.requires.rows place c.requires.place) c.requires.left c.requires.numbering.room.room
     (c.meet.ensures.part ∙ ap (λ (v : List (Option ℕ)). set v x (Some c.args.number)) c.forget.ensures.part)
     place c.requires.increasing c.requires.numbering.between c.requires.place refl c.requires.numbering.before few c.meet.ensures.room
     (λ column. c.meet.ensures.reached column ∙ ap (λ t. t || (support m x column && not (support m i column))) (c.forget.ensures.none column))
@@ -30,7 +30,7 @@ loop-met-init c =
 pub meet_touched-met-requires-clause-few : goal.meet_touched-met-requires-clause-few
 meet_touched-met-requires-clause-few c =
     let g = length-increasing c.args.rows.now (height c.args.matrix.now) c.requires.increasing c.requires.rows in
-    let h = c.requires.numbering.room.matrix.height_in in omega (arith, g, h)
+    let h = c.requires.numbering.room.room.matrix.height_in in omega (arith, g, h)
 
 pub loop-met-preserved : goal.loop-met-preserved
 loop-met-preserved c =
@@ -48,4 +48,4 @@ returns-clause-between c =
     let s = c.loop-met.self in
     let so = c.loop-met.invariant in
     subst (IsBetween (support c.args.matrix.now) c.args.rows.now c.args.row (number_at s.part.items)) (sym (add-one c.args.number))
-    (part_done (support c.args.matrix.now) c.args.rows.now c.args.row (number_at s.part.items) c.args.number (has_column s.reached.items) so.walk (so.none (let l = c.loop-met-test.false in omega arith)))
+    (part_done (support c.args.matrix.now) c.args.rows.now c.args.row (number_at s.part.items) c.args.number (has_column s.reached.words) so.walk (so.none (let l = c.loop-met-test.false in omega arith)))
