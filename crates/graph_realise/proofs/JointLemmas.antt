@@ -1,5 +1,5 @@
 -- The parts of rows and of columns.
-use Rattle.std.proofs.Common.{true, ◌≡◌, ◌≢◌, ◌<◌, ◌≤◌, ◌+◌, ◌++◌, ◌∙◌, ◌↔◌, ℕ, ◌&&◌, ◌||◌, not, refl, Bool, false, List, [], ◌∷◌, length, get_or, sym, ap, subst, arith, ◌⊎◌, inl, inr, Option, Some, None}
+use Rattle.std.proofs.Common.{true, ◌≡◌, ◌≢◌, ◌<◌, ◌≤◌, ◌+◌, ◌++◌, ◌∙◌, ◌↔◌, ℕ, ◌&&◌, ◌||◌, not, refl, Bool, false, List, [], ◌∷◌, length, get_or, sym, ap, ap₂, subst, arith, ◌⊎◌, inl, inr, Option, Some, None}
 use Rattle.std.specs.Prelude.{slice_index_or}
 use Rattle.std.proofs.lemmas.Bool.{cases_lt}
 use Rattle.std.proofs.lemmas.List.{get_or_past}
@@ -9,35 +9,42 @@ use Rattle.bridge_split.proofs.PartWalks.{no_number, same_number}
 use Rattle.cmr_base.proofs.Booleans.{and_is, not_is, or_is, or_true}
 use Rattle.cmr_base.proofs.Members.{in-append, in_at}
 use Rattle.cmr_base.proofs.RowLists.{not_both, in_or_not, is_eq, is_ne, same_or_not}
-use Rattle.graph_realise.specs.Joints.{ArePartMarks, AreNumbered, AreOfRows, IsPartNumber, IsPartTouched, is_part, number_at}
+use Rattle.graph_realise.specs.Joints.{ArePartMarks, AreColumnsOf, AreNumbered, AreOfRows, IsPartNumber, IsPartTouched, is_part, number_at}
 use Rattle.graph_realise.specs.BitTables.{Grid, cell, IsCellSet}
 use Rattle.graph_realise.specs.RowNumbers.{AreDisjoint}
 use Rattle.cmr_base.proofs.Places.{found_at}
 
 -- ---- the columns of the rows of a part
 
-module _ (M : ℕ → ℕ → Bool) (i : ℕ) where
-  pub of_no_rows : (rows : List ℕ) (columns : ℕ → Bool) → ((c : ℕ) → columns c ≡ false) → AreOfRows M i rows 0 columns
-  of_no_rows rows columns none = record {
+module _ (M : ℕ → ℕ → Bool) (rows : List ℕ) where
+  pub columns_of_none : (columns : ℕ → Bool) → ((c : ℕ) → columns c ≡ false) → AreColumnsOf M rows 0 columns
+  columns_of_none columns none = record {
     into = λ c e. absurd (not_both (columns c) e (none c));
     from = λ p c l. absurd (omega arith);
   }
 
-  pub of_rows_more : (rows : List ℕ) (place : ℕ) (columns columns' : ℕ → Bool) → AreOfRows M i rows place columns
-      → ((c : ℕ) → columns' c ≡ (columns c || (M (get_or rows place 0) c && not (M i c)))) → AreOfRows M i rows (place + 1) columns'
-  of_rows_more rows place columns columns' so more = record {
-    into = λ c e. elim (or_is (columns c) (M (get_or rows place 0) c && not (M i c)) (sym (more c) ∙ e)) [
-      | inl f ↦ let q = so.into c f in let l = q.1.1 in (q.0, (q.1.0, omega arith, q.1.2))
-      | inr f ↦ let g = and_is (M (get_or rows place 0) c) (not (M i c)) f in (not_is (M i c) g.1, (place, omega arith, g.0))
+  pub columns_of_more : (place : ℕ) (columns columns' : ℕ → Bool) → AreColumnsOf M rows place columns → ((c : ℕ) → columns' c ≡ (columns c || M (get_or rows place 0) c)) → AreColumnsOf M rows (place + 1) columns'
+  columns_of_more place columns columns' so more = record {
+    into = λ c e. elim (or_is (columns c) (M (get_or rows place 0) c) (sym (more c) ∙ e)) [
+      | inl f ↦ let q = so.into c f in let l = q.1 in (q.0, omega arith, q.2)
+      | inr f ↦ (place, omega arith, f)
     ];
-    from = λ p c l off on. more c ∙ from p c l off on (cases_lt p place);
+    from = λ p c l on. more c ∙ from p c l on (cases_lt p place);
   }
     where
-      from : (p c : ℕ) → p < place + 1 → M i c ≡ false → M (get_or rows p 0) c ≡ true → (p < place) ⊎ (place ≤ p) → (columns c || (M (get_or rows place 0) c && not (M i c))) ≡ true
-      from p c l off on (inl k) = ap (λ t. t || (M (get_or rows place 0) c && not (M i c))) (so.from p c k off on)
-      from p c l off on (inr k) =
+      from : (p c : ℕ) → p < place + 1 → M (get_or rows p 0) c ≡ true → (p < place) ⊎ (place ≤ p) → (columns c || M (get_or rows place 0) c) ≡ true
+      from p c l on (inl k) = ap (λ t. t || M (get_or rows place 0) c) (so.from p c k on)
+      from p c l on (inr k) =
           let e : p ≡ place = omega arith in
-          ap (λ t. columns c || (t && not (M i c))) (ap (λ (z : ℕ). M (get_or rows z 0) c) (sym e) ∙ on) ∙ ap (λ t. columns c || not t) off ∙ or_true (columns c)
+          ap (λ t. columns c || t) (ap (λ (z : ℕ). M (get_or rows z 0) c) (sym e) ∙ on) ∙ or_true (columns c)
+
+module _ (M : ℕ → ℕ → Bool) (i : ℕ) where
+  -- those in which row i is 0
+  pub of_rows : (rows : List ℕ) (place : ℕ) (met columns : ℕ → Bool) → AreColumnsOf M rows place met → ((c : ℕ) → columns c ≡ (met c && not (M i c))) → AreOfRows M i rows place columns
+  of_rows rows place met columns are is = record {
+    into = λ c e. let g = and_is (met c) (not (M i c)) (sym (is c) ∙ e) in (not_is (M i c) g.1, are.into c g.0);
+    from = λ p c l off on. is c ∙ ap₂ (λ s t. s && not t) (are.from p c l on) off;
+  }
 
   -- ---- the parts of columns
 

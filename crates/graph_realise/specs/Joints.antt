@@ -52,6 +52,11 @@ IsPartNumber M i parts count column found =
     (((a r : ℕ) → a < count → IsIn r (slice_index_or parts a []) → M i column ≡ false → M r column ≡ false) × (found ≡ None))
     ⊎ ((a : ℕ) × (r : ℕ) × (a < count) × IsIn r (slice_index_or parts a []) × (M i column ≡ false) × (M r column ≡ true) × (found ≡ Some a))
 
+-- the columns of the rows before `place`
+pub record AreColumnsOf (M : ℕ → ℕ → Bool) (rows : List ℕ) (place : ℕ) (columns : ℕ → Bool) : Type 0 where
+  pub into : (column : ℕ) → columns column ≡ true → (p : ℕ) × (p < place) × (M (slice_index rows p) column ≡ true)
+  pub from : (p column : ℕ) → p < place → M (slice_index rows p) column ≡ true → columns column ≡ true
+
 -- the columns of the rows before `place` in which row i is 0
 pub record AreOfRows (M : ℕ → ℕ → Bool) (i : ℕ) (rows : List ℕ) (place : ℕ) (columns : ℕ → Bool) : Type 0 where
   pub into : (column : ℕ) → columns column ≡ true → (M i column ≡ false) × ((p : ℕ) × (p < place) × (M (slice_index rows p) column ≡ true))

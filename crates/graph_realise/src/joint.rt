@@ -4,17 +4,17 @@ ghost use Rattle.cmr_base.specs.LineSets.{AllBelow};
 ghost use Rattle.std.specs.List.Sorted.{IsStrictlyIncreasing};
 ghost use Rattle.cmr_base.specs.Matrix.{height, IsMatrix};
 ghost use Rattle.cmr_base.specs.Members.{IsIn};
-ghost use Rattle.cmr_base.specs.Planes.{words_for};
 ghost use Rattle.cmr_base.specs.Trees.{support};
 ghost use Rattle.cmr_base.specs.ColumnSets.{has_column};
-ghost use Rattle.graph_realise.specs.Joints.{AreInRows, ArePartMarks, AreNumbered, AreOfRows, IsJointOf, IsPartNumber, number_at};
+ghost use Rattle.graph_realise.specs.Joints.{AreInRows, ArePartMarks, AreNumbered, AreColumnsOf, IsJointOf, IsPartNumber, number_at};
 ghost use Rattle.graph_realise.specs.RowNumbers.{AreDisjoint};
 ghost use Rattle.graph_realise.specs.BitTables.{AreChunksOf};
 
 use crate::branches::{Branch, branches_at};
 use crate::table::Table;
-use cmr_base::columns::{add_outside, clear_set, empty_set, next_column};
-use cmr_base::{Indices, MAX_ROWS, Matrix, Memory, PartList, SideList, words_for};
+use cmr_base::{
+    BitSet, Indices, MAX_ROWS, Matrix, Memory, PartList, SideList, columns_of, words_for,
+};
 use std::alloc::Global;
 
 /// A row and the parts of the other rows: the part of each row, the branch of each part, and for each column in which the row
@@ -140,10 +140,13 @@ fn parts_with_columns(
         (number_at numbers.items column)) }
 {
     let mut numbers = no_numbers(alloc, matrix.columns())?;
-    let mut columns = empty_set(alloc, matrix.columns())?;
+    let mut met = BitSet::new(alloc, matrix.columns())?;
+    let mut columns = BitSet::new(alloc, matrix.columns())?;
     for place in 0..parts.len() {
-        set_columns_of_part(matrix, row, parts.get(place), &mut columns);
-        number_columns(columns.as_slice(), Some(place), &mut numbers);
+        set_columns_of_part(matrix, parts.get(place), &mut met);
+        columns.clear();
+        columns.add_outside_words(&met, columns_of(matrix, row));
+        number_columns(&columns, Some(place), &mut numbers);
     }
     Ok(numbers)
 }
@@ -170,39 +173,32 @@ fn no_numbers(alloc: Global, columns: u32) -> Result<Vec<Option<usize>>, Memory>
     Ok(vec![in alloc; None; columns as usize]?)
 }
 
-// Sets the columns of the rows of a part in which `row` is 0.
-fn set_columns_of_part(matrix: &Matrix, row: u32, part: &Indices, columns: &mut Vec<u64>)
-    requires shape { IsMatrix matrix.now }
-    requires row { row < height matrix.now }
+// Sets the columns of the rows of a part.
+fn set_columns_of_part(matrix: &Matrix, part: &Indices, columns: &mut BitSet)
     requires rows { AllBelow (height matrix.now) part.now }
-    requires size { length columns.old.items ≡ words_for matrix.now.width }
-    ensures size { length columns.new.items ≡ words_for matrix.now.width }
-    ensures columns { AreOfRows (support matrix.now) row part.now (length part.now)
-        (has_column columns.new.items) }
+    requires size { columns.old.size ≡ matrix.now.width }
+    ensures size { columns.new.size ≡ matrix.now.width }
+    ensures columns { AreColumnsOf (support matrix.now) part.now (length part.now)
+        (has_column columns.new.words) }
 {
-    clear_set(columns);
-    for other in part.as_slice() {
-        add_outside(
-            columns,
-            matrix.support_words(*other),
-            matrix.support_words(row),
-        );
+    columns.clear();
+    for row in part.as_slice() {
+        columns.add_words(columns_of(matrix, *row));
     }
 }
 
 // Gives the columns of a set one number.
-fn number_columns(columns: &[u64], number: Option<usize>, numbers: &mut Vec<Option<usize>>)
-    requires few { length columns.now ≤ 16 }
-    requires inside { (column : ℕ) → has_column columns.now column ≡ true
-        → column < length numbers.old.items }
+fn number_columns(columns: &BitSet, number: Option<usize>, numbers: &mut Vec<Option<usize>>)
+    requires { columns.now.size ≡ length numbers.old.items }
     ensures size { length numbers.new.items ≡ length numbers.old.items }
-    ensures inside { (column : ℕ) → has_column columns.now column ≡ true
+    ensures inside { (column : ℕ) → has_column columns.now.words column ≡ true
         → number_at numbers.new.items column ≡ number }
-    ensures outside { (column : ℕ) → has_column columns.now column ≡ false
+    ensures outside { (column : ℕ) → has_column columns.now.words column ≡ false
         → number_at numbers.new.items column ≡ number_at numbers.old.items column }
 {
+    let _size = columns.size();
     let mut from = 0;
-    while let Some(column) = next_column(columns, from) {
+    while let Some(column) = columns.next(from) {
         numbers[column as usize] = number;
         from = column + 1;
     }

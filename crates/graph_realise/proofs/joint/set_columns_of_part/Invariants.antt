@@ -1,12 +1,11 @@
-use Rattle.std.proofs.Common.{◌≡◌, length}
+use Rattle.std.proofs.Common.{◌≡◌}
 use Rattle.cmr_base.specs.ColumnSets.{has_column}
-use Rattle.cmr_base.specs.Planes.{words_for}
 use Rattle.cmr_base.specs.Trees.{support}
-use Rattle.graph_realise.specs.Joints.{AreOfRows}
+use Rattle.graph_realise.specs.Joints.{AreColumnsOf}
 use Rattle.graph_realise.proofs.joint.set_columns_of_part.Given as goal
 
-abbrev pub invariant-loop-other : goal.invariant-loop-other
-invariant-loop-other l = record {
-  size : length l.columns.items ≡ words_for l.matrix.width;
-  columns : AreOfRows (support l.matrix) l.row l.part l.other-index (has_column l.columns.items);
+abbrev pub invariant-loop-row : goal.invariant-loop-row
+invariant-loop-row l = record {
+  size : l.columns.size ≡ l.matrix.width;
+  columns : AreColumnsOf (support l.matrix) l.part l.row-index (has_column l.columns.words);
 }
