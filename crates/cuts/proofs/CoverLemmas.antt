@@ -30,24 +30,24 @@ use Rattle.cmr_base.specs.Components.{IsLineOf}
 
 -- two lines of one side that are not 0 on lines of the other side have equal patterns there
 module _ (m : Matrix) (is : IsMatrix m) (T : Lines) (w : IsCut m T) where
-  lower : (r c : ℕ) → r < height m → c < m.width → T (Row r) ≡ false → T (Column c) ≡ true → entry m r c ≡ entry m r w.corners.p *ℤ (entry m w.corners.k c *ℤ entry m w.corners.k w.corners.p)
+  lower : (r c : ℕ) → r < height m → c < m.width → T (Row r) ≡ false → T (Column c) ≡ true → entry m r c ≡ entry m r w.corners.one.column *ℤ (entry m w.corners.two.row c *ℤ entry m w.corners.two.row w.corners.one.column)
   lower r c lr lc er ec = lower_at m w.cut.closed r c lr lc er ec
 
-  upper : (r c : ℕ) → r < height m → c < m.width → T (Row r) ≡ true → T (Column c) ≡ false → entry m r c ≡ entry m r w.corners.j *ℤ (entry m w.corners.i c *ℤ entry m w.corners.i w.corners.j)
+  upper : (r c : ℕ) → r < height m → c < m.width → T (Row r) ≡ true → T (Column c) ≡ false → entry m r c ≡ entry m r w.corners.two.column *ℤ (entry m w.corners.one.row c *ℤ entry m w.corners.one.row w.corners.two.column)
   upper r c lr lc er ec = upper_at m w.cut.closed r c lr lc er ec
 
-  row_like : (r met c : ℕ) → r < height m → T (Row r) ≡ false → met < m.width → T (Column met) ≡ true → support m r met ≡ true → c < m.width → T (Column c) ≡ true → support m r c ≡ support m w.corners.k c
+  row_like : (r met c : ℕ) → r < height m → T (Row r) ≡ false → met < m.width → T (Column met) ≡ true → support m r met ≡ true → c < m.width → T (Column c) ≡ true → support m r c ≡ support m w.corners.two.row c
   row_like r met c lr er lm em s lc ec =
-      let factor : entry m r w.corners.p ≢ pos 0 = λ z.
-      nonzero_is (entry m r met) s (lower r met lr lm er em ∙ first_zero (entry m r w.corners.p) (entry m w.corners.k met) (entry m w.corners.k w.corners.p) z) in
-      as_second (entry m r c) (entry m r w.corners.p) (entry m w.corners.k c) (entry m w.corners.k w.corners.p) (is.small r w.corners.p) (is.small w.corners.k c) (is.small w.corners.k w.corners.p)
+      let factor : entry m r w.corners.one.column ≢ pos 0 = λ z.
+      nonzero_is (entry m r met) s (lower r met lr lm er em ∙ first_zero (entry m r w.corners.one.column) (entry m w.corners.two.row met) (entry m w.corners.two.row w.corners.one.column) z) in
+      as_second (entry m r c) (entry m r w.corners.one.column) (entry m w.corners.two.row c) (entry m w.corners.two.row w.corners.one.column) (is.small r w.corners.one.column) (is.small w.corners.two.row c) (is.small w.corners.two.row w.corners.one.column)
       factor w.lower (lower r c lr lc er ec)
 
-  column_like : (c met r : ℕ) → c < m.width → T (Column c) ≡ false → met < height m → T (Row met) ≡ true → support m met c ≡ true → r < height m → T (Row r) ≡ true → support m r c ≡ support m r w.corners.j
+  column_like : (c met r : ℕ) → c < m.width → T (Column c) ≡ false → met < height m → T (Row met) ≡ true → support m met c ≡ true → r < height m → T (Row r) ≡ true → support m r c ≡ support m r w.corners.two.column
   column_like c met r lc ec lm em s lr er =
-      let factor : entry m w.corners.i c ≢ pos 0 = λ z.
-      nonzero_is (entry m met c) s (upper met c lm lc em ec ∙ second_zero (entry m met w.corners.j) (entry m w.corners.i c) (entry m w.corners.i w.corners.j) z) in
-      as_first (entry m r c) (entry m r w.corners.j) (entry m w.corners.i c) (entry m w.corners.i w.corners.j) (is.small r w.corners.j) (is.small w.corners.i c) (is.small w.corners.i w.corners.j)
+      let factor : entry m w.corners.one.row c ≢ pos 0 = λ z.
+      nonzero_is (entry m met c) s (upper met c lm lc em ec ∙ second_zero (entry m met w.corners.two.column) (entry m w.corners.one.row c) (entry m w.corners.one.row w.corners.two.column) z) in
+      as_first (entry m r c) (entry m r w.corners.two.column) (entry m w.corners.one.row c) (entry m w.corners.one.row w.corners.two.column) (is.small r w.corners.two.column) (is.small w.corners.one.row c) (is.small w.corners.one.row w.corners.two.column)
       factor w.upper (upper r c lr lc er ec)
 
 -- two unlike lines are not both in side two

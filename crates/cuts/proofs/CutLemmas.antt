@@ -40,7 +40,7 @@ other_enough m T least enough = record { one = enough.two; two = let a = twice i
         omega arith
 
 abbrev exchanged : Corners → Corners
-exchanged c = record { i = c.k; p = c.j; k = c.i; j = c.p }
+exchanged c = record { one = c.two; two = c.one }
 
 pub other_is_cut : (m : Matrix) (T : Lines) → IsCut m T → IsCut m (opposite T)
 other_is_cut m T w = record {

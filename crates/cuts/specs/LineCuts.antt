@@ -12,26 +12,26 @@ use Rattle.cuts.specs.declared.groups.Groups.{Groups}
 
 -- the corners are in the matrix
 pub record AreInside (m : Matrix) (c : Corners) : Type 0 where
-  pub row_one : c.i < height m
-  pub column_one : c.p < m.width
-  pub row_two : c.k < height m
-  pub column_two : c.j < m.width
+  pub row_one : c.one.row < height m
+  pub column_one : c.one.column < m.width
+  pub row_two : c.two.row < height m
+  pub column_two : c.two.column < m.width
 
 -- side one is T and has row i and column p, side two has row k and column j; the blocks are the products that these make
 pub record IsCutAt (m : Matrix) (c : Corners) (T : Lines) : Type 0 where
-  pub closed : IsClosed (height m) m.width (entry m) (product_at (entry m) c.i c.j) (product_at (entry m) c.k c.p) T
-  pub row_one : T (Row c.i) ≡ true
-  pub column_one : T (Column c.p) ≡ true
-  pub row_two : T (Row c.k) ≡ false
-  pub column_two : T (Column c.j) ≡ false
+  pub closed : IsClosed (height m) m.width (entry m) (product_at (entry m) c.one.row c.two.column) (product_at (entry m) c.two.row c.one.column) T
+  pub row_one : T (Row c.one.row) ≡ true
+  pub column_one : T (Column c.one.column) ≡ true
+  pub row_two : T (Row c.two.row) ≡ false
+  pub column_two : T (Column c.two.column) ≡ false
   pub enough : AreEnough (first_lines (height m)) (first_lines m.width) T 4
 
 -- a cut at some corners, with a nonzero in each block
 pub record IsCut (m : Matrix) (T : Lines) : Type 0 where
   pub corners : Corners
   pub are_inside : AreInside m corners
-  pub upper : entry m corners.i corners.j ≢ pos 0
-  pub lower : entry m corners.k corners.p ≢ pos 0
+  pub upper : entry m corners.one.row corners.two.column ≢ pos 0
+  pub lower : entry m corners.two.row corners.one.column ≢ pos 0
   pub cut : IsCutAt m corners T
 
 -- ---- groups

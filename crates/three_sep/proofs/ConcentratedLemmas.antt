@@ -168,17 +168,17 @@ module _ (m : Matrix) where
       elim refused [
         | inl l ↦ let r = g.0.values.tied.columns_increase in absurd (omega arith)
         | inr (inl e) ↦ g.0.values.tied.first_other e
-        | inr (inr (ep, eq)) ↦ zero_determinant (entry m c.k c.p) (entry m c.k q) (entry m s.pair.second.other c.p) (entry m s.pair.second.other q) ep eq g.0.values.tied.determinant
+        | inr (inr (ep, eq)) ↦ zero_determinant (entry m c.two.row c.one.column) (entry m c.two.row q) (entry m s.pair.second.other c.one.column) (entry m s.pair.second.other q) ep eq g.0.values.tied.determinant
       ]
 
   -- columns up to p, and columns in which row i is 0
-  pub none_to_first : (c : Corners) → HasNoneBelow m (corner_prefix Concentrated c) (c.p + 1)
+  pub none_to_first : (c : Corners) → HasNoneBelow m (corner_prefix Concentrated c) (c.one.column + 1)
   none_to_first c b l = no_column c b (inl (omega arith))
 
-  pub none_over_zeros : (c : Corners) (from q : ℕ) → HasNoneBelow m (corner_prefix Concentrated c) from → ((column : ℕ) → from ≤ column → column < q → support m c.i column ≡ false) → HasNoneBelow m (corner_prefix Concentrated c) q
+  pub none_over_zeros : (c : Corners) (from q : ℕ) → HasNoneBelow m (corner_prefix Concentrated c) from → ((column : ℕ) → from ≤ column → column < q → support m c.one.row column ≡ false) → HasNoneBelow m (corner_prefix Concentrated c) q
   none_over_zeros c from q before zeros b l = elim (cases_lt b from) [
     | inl low ↦ before b low
-    | inr high ↦ no_column c b (inr (inl (zero_is (entry m c.i b) (zeros b high l))))
+    | inr high ↦ no_column c b (inr (inl (zero_is (entry m c.one.row b) (zeros b high l))))
   ]
 
   pub no_row : (c : Corners) (q o : ℕ) → ¬ (IsOtherRow (entry m) c q o) → HasNoGood m (corner_prefix Concentrated c ++ q ∷ o ∷ [])
@@ -188,13 +188,13 @@ module _ (m : Matrix) where
       refused (record { increases = tied.rows_increase; nonzero = tied.second_other; determinant = tied.determinant })
 
   -- rows up to k, and rows in which column j is 0
-  pub none_to_second : (c : Corners) (q : ℕ) → HasNoneBelow m (corner_prefix Concentrated c ++ q ∷ []) (c.k + 1)
+  pub none_to_second : (c : Corners) (q : ℕ) → HasNoneBelow m (corner_prefix Concentrated c ++ q ∷ []) (c.two.row + 1)
   none_to_second c q b l = no_row c q b (λ other. let r = other.increases in omega arith)
 
-  pub none_over_zero_rows : (c : Corners) (q from o : ℕ) → HasNoneBelow m (corner_prefix Concentrated c ++ q ∷ []) from → ((row : ℕ) → from ≤ row → row < o → support m row c.j ≡ false) → HasNoneBelow m (corner_prefix Concentrated c ++ q ∷ []) o
+  pub none_over_zero_rows : (c : Corners) (q from o : ℕ) → HasNoneBelow m (corner_prefix Concentrated c ++ q ∷ []) from → ((row : ℕ) → from ≤ row → row < o → support m row c.two.column ≡ false) → HasNoneBelow m (corner_prefix Concentrated c ++ q ∷ []) o
   none_over_zero_rows c q from o before zeros b l = elim (cases_lt b from) [
     | inl low ↦ before b low
-    | inr high ↦ no_row c q b (λ other. other.nonzero (zero_is (entry m b c.j) (zeros b high l)))
+    | inr high ↦ no_row c q b (λ other. other.nonzero (zero_is (entry m b c.two.column) (zeros b high l)))
   ]
 
 -- connectors that were found, and their rule
@@ -257,5 +257,5 @@ module _ (m : Matrix) (c : Corners) (d : Connectors) (is : IsFirstPair m c d) wh
       subst (λ (z : Corners). IsFirstOf m (corner_prefix Concentrated z ++ d.first.other ∷ d.second.other ∷ []) three) is.corners (subst (λ (z : Option Three). MatchOption z (HasNoneBetween m d.first.row d.second.column) (IsFirstOf m (all_prefix Concentrated d))) e h) in
       level_found m (corner_prefix Concentrated c) d.first.other three (omega arith) is.columns (level_found m (corner_prefix Concentrated c ++ d.first.other ∷ []) d.second.other three (omega arith) is.rows here)
 
-  pub none_at_pair : HasNoneBetween m d.first.row d.second.column → HasNoneBetween m c.i c.j
-  none_at_pair none = subst (λ (z : Corners). HasNoneBetween m z.i z.j) is.corners none
+  pub none_at_pair : HasNoneBetween m d.first.row d.second.column → HasNoneBetween m c.one.row c.two.column
+  none_at_pair none = subst (λ (z : Corners). HasNoneBetween m z.one.row z.two.column) is.corners none

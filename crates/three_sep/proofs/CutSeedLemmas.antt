@@ -42,8 +42,8 @@ module _ (m : Matrix) (s : CutSeed) (S : Lines) (good : IsGoodCut m s S) where
 
   enough_sides : AreEnough (first_lines (height m)) (first_lines m.width) S 4
   enough_sides =
-      enough_lines (height m) m.width 4 (entry m) (product_at (entry m) s.corners.i s.corners.j) (product_at (entry m) s.corners.k s.corners.p) (s.third ∷ first_corner s.corners) (second_corner s.corners)
-      in_range second_in_range (good.not_first, ((row_not_column s.corners.i s.corners.p, tt), (tt, tt))) refl s.fourth S good.good
+      enough_lines (height m) m.width 4 (entry m) (product_at (entry m) s.corners.one.row s.corners.two.column) (product_at (entry m) s.corners.two.row s.corners.one.column) (s.third ∷ first_corner s.corners) (second_corner s.corners)
+      in_range second_in_range (good.not_first, ((row_not_column s.corners.one.row s.corners.one.column, tt), (tt, tt))) refl s.fourth S good.good
 
   pub seed_is_cut_at : IsCutAt m s.corners S
   seed_is_cut_at = record {
@@ -66,8 +66,8 @@ seed_of_cut m T w =
     let inside = w.are_inside in
     let (x, lx, ex, beside) = one_beside (height m) m.width (first_corner c) T (let a = inside_is (height m) m.width T in let b = w.cut.enough.one in omega arith) in
     let (y, S, good) =
-    good_seed (height m) m.width 4 (entry m) (product_at (entry m) c.i c.j) (product_at (entry m) c.k c.p) (x ∷ first_corner c) (second_corner c) (lx, (inside.row_one, (inside.column_one, tt)))
-    (inside.row_two, (inside.column_two, tt)) (beside, ((row_not_column c.i c.p, tt), (tt, tt))) refl T w.cut.closed (ex, (w.cut.row_one, (w.cut.column_one, tt))) (w.cut.row_two, (w.cut.column_two, tt)) w.cut.enough in (
+    good_seed (height m) m.width 4 (entry m) (product_at (entry m) c.one.row c.two.column) (product_at (entry m) c.two.row c.one.column) (x ∷ first_corner c) (second_corner c) (lx, (inside.row_one, (inside.column_one, tt)))
+    (inside.row_two, (inside.column_two, tt)) (beside, ((row_not_column c.one.row c.one.column, tt), (tt, tt))) refl T w.cut.closed (ex, (w.cut.row_one, (w.cut.column_one, tt))) (w.cut.row_two, (w.cut.column_two, tt)) w.cut.enough in (
       record { corners = c; third = x; fourth = y },
       S,
       record { inside = inside; upper = w.upper; lower = w.lower; third = lx; not_first = beside; good = good },
@@ -120,20 +120,20 @@ cut_none m prefix a o before e h = no_cut_below_more m prefix a before (MatchOpt
 abbrev pub cut_seed_at : Corners → Line → Line → CutSeed
 cut_seed_at c x y = record { corners = c; third = x; fourth = y }
 
-cut_seed_is : (s : CutSeed) (i p k j : ℕ) (x y : Line) → i ≡ s.corners.i → p ≡ s.corners.p → k ≡ s.corners.k → j ≡ s.corners.j → x ≡ s.third → y ≡ s.fourth → s ≡ record { corners = record { i = i; p = p; k = k; j = j }; third = x; fourth = y }
+cut_seed_is : (s : CutSeed) (i p k j : ℕ) (x y : Line) → i ≡ s.corners.one.row → p ≡ s.corners.one.column → k ≡ s.corners.two.row → j ≡ s.corners.two.column → x ≡ s.third → y ≡ s.fourth → s ≡ record { corners = record { one = record { row = i; column = p }; two = record { row = k; column = j } }; third = x; fourth = y }
 cut_seed_is s i p k j x y e1 e2 e3 e4 e5 e6 = rw (e1, e2, e3, e4, e5, e6) refl
 
 pub cut_seed_from_corners : (m : Matrix) (c : Corners) (s : CutSeed) → BeginsWith (cut_prefix c) (cut_key m s) → s ≡ cut_seed_at c s.third s.fourth
-cut_seed_from_corners m c s h = cut_seed_is s c.i c.p c.k c.j s.third s.fourth h.0 h.1.0 h.1.1.0 h.1.1.1.0 refl refl
+cut_seed_from_corners m c s h = cut_seed_is s c.one.row c.one.column c.two.row c.two.column s.third s.fourth h.0 h.1.0 h.1.1.0 h.1.1.1.0 refl refl
 
 pub cut_seed_from_third : (m : Matrix) (c : Corners) (place : ℕ) (x : Line) (s : CutSeed) → IsLine (height m) m.width x → IsLine (height m) m.width s.third → line_number (height m) x ≡ place
     → BeginsWith (cut_prefix c ++ place ∷ []) (cut_key m s) → s ≡ cut_seed_at c x s.fourth
-cut_seed_from_third m c place x s lx ls e h = cut_seed_is s c.i c.p c.k c.j x s.fourth h.0 h.1.0 h.1.1.0 h.1.1.1.0 (line_is (height m) m.width x s.third lx ls (e ∙ h.1.1.1.1.0)) refl
+cut_seed_from_third m c place x s lx ls e h = cut_seed_is s c.one.row c.one.column c.two.row c.two.column x s.fourth h.0 h.1.0 h.1.1.0 h.1.1.1.0 (line_is (height m) m.width x s.third lx ls (e ∙ h.1.1.1.1.0)) refl
 
 pub cut_seed_from_fourth : (m : Matrix) (c : Corners) (third fourth : ℕ) (x y : Line) (s : CutSeed) → IsLine (height m) m.width x → IsLine (height m) m.width y → IsLine (height m) m.width s.third → IsLine (height m) m.width s.fourth
     → line_number (height m) x ≡ third → line_number (height m) y ≡ fourth → BeginsWith (cut_prefix c ++ third ∷ fourth ∷ []) (cut_key m s) → s ≡ cut_seed_at c x y
 cut_seed_from_fourth m c third fourth x y s lx ly ls lt ex ey h =
-    cut_seed_is s c.i c.p c.k c.j x y h.0 h.1.0 h.1.1.0 h.1.1.1.0 (line_is (height m) m.width x s.third lx ls (ex ∙ h.1.1.1.1.0)) (line_is (height m) m.width y s.fourth ly lt (ey ∙ h.1.1.1.1.1.0))
+    cut_seed_is s c.one.row c.one.column c.two.row c.two.column x y h.0 h.1.0 h.1.1.0 h.1.1.1.0 (line_is (height m) m.width x s.third lx ls (ex ∙ h.1.1.1.1.0)) (line_is (height m) m.width y s.fourth ly lt (ey ∙ h.1.1.1.1.1.0))
 
 -- ---- what is passed over
 
@@ -149,18 +149,18 @@ module _ (m : Matrix) (groups : Groups) (hold : HoldTogether (IsCut m) m groups)
 
   pub no_seed_in_one_group : (i : ℕ) → HasNames m groups → ((k l : ℕ) → k < length groups.names.items → l < length groups.names.items → get_or groups.names.items k 0 ≡ get_or groups.names.items l 0) → HasNoCutSeed m (i ∷ [])
   no_seed_in_one_group i names one s S h g =
-      let li : s.corners.i < length groups.names.items = let l = g.inside.row_one in omega (arith, names, l) in
-      let lk : s.corners.k < length groups.names.items = let l = g.inside.row_two in omega (arith, names, l) in
+      let li : s.corners.one.row < length groups.names.items = let l = g.inside.row_one in omega (arith, names, l) in
+      let lk : s.corners.two.row < length groups.names.items = let l = g.inside.row_two in omega (arith, names, l) in
       let at = seed_is_cut_at m s S g in
-      parted s S g (Row s.corners.i) (Row s.corners.k) g.inside.row_one g.inside.row_two at.row_one at.row_two (one s.corners.i s.corners.k li lk)
+      parted s S g (Row s.corners.one.row) (Row s.corners.two.row) g.inside.row_one g.inside.row_two at.row_one at.row_two (one s.corners.one.row s.corners.two.row li lk)
 
   pub no_seed_with_row : (i p k : ℕ) → IsNoCutRow m groups i p k → HasNoCutSeed m (i ∷ p ∷ k ∷ [])
   no_seed_with_row i p k refused s S h g =
       let at = seed_is_cut_at m s S g in
       elim refused [
         | inl e ↦ g.lower (rw (sym h.1.0, sym h.1.1.0) e)
-        | inr (inl e) ↦ parted s S g (Row s.corners.i) (Row s.corners.k) g.inside.row_one g.inside.row_two at.row_one at.row_two (rw (sym h.0, sym h.1.1.0) e)
-        | inr (inr e) ↦ parted s S g (Column s.corners.p) (Row s.corners.k) g.inside.column_one g.inside.row_two at.column_one at.row_two (rw (sym h.1.0, sym h.1.1.0) e)
+        | inr (inl e) ↦ parted s S g (Row s.corners.one.row) (Row s.corners.two.row) g.inside.row_one g.inside.row_two at.row_one at.row_two (rw (sym h.0, sym h.1.1.0) e)
+        | inr (inr e) ↦ parted s S g (Column s.corners.one.column) (Row s.corners.two.row) g.inside.column_one g.inside.row_two at.column_one at.row_two (rw (sym h.1.0, sym h.1.1.0) e)
       ]
 
   pub no_seed_with_column : (i p k j : ℕ) → IsNoCutColumn m groups i p j → HasNoCutSeed m (i ∷ p ∷ k ∷ j ∷ [])
@@ -168,8 +168,8 @@ module _ (m : Matrix) (groups : Groups) (hold : HoldTogether (IsCut m) m groups)
       let at = seed_is_cut_at m s S g in
       elim refused [
         | inl e ↦ g.upper (rw (sym h.0, sym h.1.1.1.0) e)
-        | inr (inl e) ↦ parted s S g (Row s.corners.i) (Column s.corners.j) g.inside.row_one g.inside.column_two at.row_one at.column_two (rw (sym h.0, sym h.1.1.1.0) e)
-        | inr (inr e) ↦ parted s S g (Column s.corners.p) (Column s.corners.j) g.inside.column_one g.inside.column_two at.column_one at.column_two (rw (sym h.1.0, sym h.1.1.1.0) e)
+        | inr (inl e) ↦ parted s S g (Row s.corners.one.row) (Column s.corners.two.column) g.inside.row_one g.inside.column_two at.row_one at.column_two (rw (sym h.0, sym h.1.1.1.0) e)
+        | inr (inr e) ↦ parted s S g (Column s.corners.one.column) (Column s.corners.two.column) g.inside.column_one g.inside.column_two at.column_one at.column_two (rw (sym h.1.0, sym h.1.1.1.0) e)
       ]
 
   pub no_seed_with_third : (c : Corners) (place : ℕ) → IsNoThird m groups c place → HasNoCutSeed m (cut_prefix c ++ place ∷ [])
@@ -180,10 +180,10 @@ module _ (m : Matrix) (groups : Groups) (hold : HoldTogether (IsCut m) m groups)
       let named = ap (λ (z : ℕ). get_or groups.names.items z 0) number ∙ sym (name_at m groups x) in
       let in_side = g.good.grown.has.1.0 in
       elim refused [
-        | inl e ↦ g.not_first.0 (line_is (height m) m.width x (Row s.corners.i) g.third g.inside.row_one (sym number ∙ e ∙ h.0))
-        | inr (inl e) ↦ g.not_first.1.0 (line_is (height m) m.width x (Column s.corners.p) g.third g.inside.column_one (sym number ∙ e ∙ ap (λ (z : ℕ). height m + z) h.1.0))
-        | inr (inr (inl e)) ↦ parted s S g x (Row s.corners.k) g.third g.inside.row_two in_side at.row_two (sym (ap (λ (z : ℕ). name_of m groups (Row z)) (sym h.1.1.0) ∙ e ∙ named))
-        | inr (inr (inr e)) ↦ parted s S g x (Column s.corners.j) g.third g.inside.column_two in_side at.column_two (sym (ap (λ (z : ℕ). name_of m groups (Column z)) (sym h.1.1.1.0) ∙ e ∙ named))
+        | inl e ↦ g.not_first.0 (line_is (height m) m.width x (Row s.corners.one.row) g.third g.inside.row_one (sym number ∙ e ∙ h.0))
+        | inr (inl e) ↦ g.not_first.1.0 (line_is (height m) m.width x (Column s.corners.one.column) g.third g.inside.column_one (sym number ∙ e ∙ ap (λ (z : ℕ). height m + z) h.1.0))
+        | inr (inr (inl e)) ↦ parted s S g x (Row s.corners.two.row) g.third g.inside.row_two in_side at.row_two (sym (ap (λ (z : ℕ). name_of m groups (Row z)) (sym h.1.1.0) ∙ e ∙ named))
+        | inr (inr (inr e)) ↦ parted s S g x (Column s.corners.two.column) g.third g.inside.column_two in_side at.column_two (sym (ap (λ (z : ℕ). name_of m groups (Column z)) (sym h.1.1.1.0) ∙ e ∙ named))
       ]
 
 module _ (m : Matrix) (c : Corners) where
@@ -207,14 +207,14 @@ module _ (m : Matrix) (c : Corners) where
         refused S g.good.grown.closed g.good.grown.has (record { none = g.good.two; enough = g.good.enough })
 
     -- the fourth line is the third one, or in the first corner
-    pub no_fourth : (fourth ≡ third) ⊎ (fourth ≡ c.i) ⊎ (fourth ≡ height m + c.p) → HasNoCutSeed m (cut_prefix c ++ third ∷ fourth ∷ [])
+    pub no_fourth : (fourth ≡ third) ⊎ (fourth ≡ c.one.row) ⊎ (fourth ≡ height m + c.one.column) → HasNoCutSeed m (cut_prefix c ++ third ∷ fourth ∷ [])
     no_fourth named s S h g0 =
         let g = subst (λ (z : CutSeed). IsGoodCut m z S) (seed_here s S g0 h) g0 in
         let other = g.good.not_first in
         elim named [
           | inl e ↦ other.0 (line_is (height m) m.width y x ly lx (ey ∙ e ∙ sym ex))
-          | inr (inl e) ↦ other.1.0 (line_is (height m) m.width y (Row c.i) ly g.inside.row_one (ey ∙ e))
-          | inr (inr e) ↦ other.1.1.0 (line_is (height m) m.width y (Column c.p) ly g.inside.column_one (ey ∙ e))
+          | inr (inl e) ↦ other.1.0 (line_is (height m) m.width y (Row c.one.row) ly g.inside.row_one (ey ∙ e))
+          | inr (inr e) ↦ other.1.1.0 (line_is (height m) m.width y (Column c.one.column) ly g.inside.column_one (ey ∙ e))
         ]
 
     module _ (corners : HasBlockCorners m c) (third_other : IsOtherNumber m c third) (fourth_other : IsOtherNumber m c fourth) (different : fourth ≢ third) (S : Lines)
@@ -237,10 +237,10 @@ module _ (m : Matrix) (c : Corners) where
         upper = corners.upper;
         lower = corners.lower;
         third = lx;
-        not_first = (unlike third x (Row c.i) ex third_other.row, (unlike third x (Column c.p) ex third_other.column, tt));
+        not_first = (unlike third x (Row c.one.row) ex third_other.row, (unlike third x (Column c.one.column) ex third_other.column, tt));
         good = record {
           line = ly;
-          not_first = (unlike fourth y x ey (λ e. different (e ∙ ex)), (unlike fourth y (Row c.i) ey fourth_other.row, (unlike fourth y (Column c.p) ey fourth_other.column, tt)));
+          not_first = (unlike fourth y x ey (λ e. different (e ∙ ex)), (unlike fourth y (Row c.one.row) ey fourth_other.row, (unlike fourth y (Column c.one.column) ey fourth_other.column, tt)));
           not_second = not_second;
           grown = leaving.grown;
           two = out;

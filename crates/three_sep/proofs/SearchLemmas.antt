@@ -132,10 +132,10 @@ seed_is : (s : Seed) (kind : Form) (i p k j q o : ℕ) (x : Line) → kind ≡ s
 seed_is s kind i p k j q o x e1 e2 e3 e4 e5 e6 e7 e8 = rw (e1, e2, e3, e4, e5, e6, e7, e8) refl
 
 pub seed_from_corners : (m : Matrix) (form : Form) (c : Corners) (s : Seed) → BeginsWith (corner_prefix form c) (seed_key m s) → s ≡ seed_at form (connectors_at c s.pair.first.other s.pair.second.other) s.line
-seed_from_corners m form c s h = seed_is s form c.i c.p c.k c.j s.pair.first.other s.pair.second.other s.line (form_is form s.form h.0) h.1.0 h.1.1.0 h.1.1.1.0 h.1.1.1.1.0 refl refl refl
+seed_from_corners m form c s h = seed_is s form c.one.row c.one.column c.two.row c.two.column s.pair.first.other s.pair.second.other s.line (form_is form s.form h.0) h.1.0 h.1.1.0 h.1.1.1.0 h.1.1.1.1.0 refl refl refl
 
 pub seed_from_first : (m : Matrix) (form : Form) (c : Corners) (q : ℕ) (s : Seed) → BeginsWith (corner_prefix form c ++ q ∷ []) (seed_key m s) → s ≡ seed_at form (connectors_at c q s.pair.second.other) s.line
-seed_from_first m form c q s h = seed_is s form c.i c.p c.k c.j q s.pair.second.other s.line (form_is form s.form h.0) h.1.0 h.1.1.0 h.1.1.1.0 h.1.1.1.1.0 h.1.1.1.1.1.0 refl refl
+seed_from_first m form c q s h = seed_is s form c.one.row c.one.column c.two.row c.two.column q s.pair.second.other s.line (form_is form s.form h.0) h.1.0 h.1.1.0 h.1.1.1.0 h.1.1.1.1.0 h.1.1.1.1.1.0 refl refl
 
 pub seed_from_second : (m : Matrix) (form : Form) (d : Connectors) (s : Seed) → BeginsWith (all_prefix form d) (seed_key m s) → s ≡ seed_at form d s.line
 seed_from_second m form d s h = seed_is s form d.first.row d.first.column d.second.row d.second.column d.first.other d.second.other s.line (form_is form s.form h.0) h.1.0 h.1.1.0 h.1.1.1.0 h.1.1.1.1.0 h.1.1.1.1.1.0 h.1.1.1.1.1.1.0 refl
@@ -256,7 +256,7 @@ module _ (m : Matrix) (form : Form) (crossing : IsCrossing form) where
         | inr (inr (inr e)) ↦ not_both (S (Column s.pair.first.column)) column_one (T (Column s.pair.first.column) (Column s.pair.second.column) within.column_one within.column_two (rw (sym h.1.1.0, sym h.1.1.1.1.0) e) ∙ column_two)
       ]
 
-  pub no_good_first : (c : Corners) (q : ℕ) → ¬ (IsTied (entry m) (first_is_flat form) (first_at c q) c.k c.j) → HasNoGood m (corner_prefix form c ++ q ∷ [])
+  pub no_good_first : (c : Corners) (q : ℕ) → ¬ (IsTied (entry m) (first_is_flat form) (first_at c q) c.two.row c.two.column) → HasNoGood m (corner_prefix form c ++ q ∷ [])
   no_good_first c q none s S h g = none (subst (λ (z : Seed). IsTied (entry m) (first_is_flat z.form) z.pair.first z.pair.second.row z.pair.second.column) (seed_from_first m form c q s h) (ties s S h.0 g).first_tied)
 
   pub no_good_second : (d : Connectors) → ¬ (IsTied (entry m) (second_is_flat form) d.second d.first.row d.first.column) → HasNoGood m (all_prefix form d)

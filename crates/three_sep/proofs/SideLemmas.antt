@@ -92,30 +92,30 @@ rule_inside m c inside = record { upper = (inside.row_one, inside.column_two); l
 
 module _ (m : Matrix) (form : Form) (crossing : IsCrossing form) (c : Corners) where
   module _ (q o : ℕ) (x : Line) (S : Lines) (good : IsGoodSeed m (seed_at form (connectors_at c q o) x) S) where
-    crossing_closed : IsClosedIn m (product_at (entry m) c.i c.j) (product_at (entry m) c.k c.p) S
+    crossing_closed : IsClosedIn m (product_at (entry m) c.one.row c.two.column) (product_at (entry m) c.two.row c.one.column) S
     crossing_closed = closed_crossing (entry m) (first_at c q) (second_at c o) (height m) m.width S form crossing good.1.grown.closed
 
-    corners_has : HasAll S (Row c.i ∷ Column c.p ∷ [])
+    corners_has : HasAll S (Row c.one.row ∷ Column c.one.column ∷ [])
     corners_has = let has = first_has m (seed_at form (connectors_at c q o) x) S good in (has.0, (has.1, tt))
 
-    corners_none : HasNone S (Row c.k ∷ Column c.j ∷ [])
+    corners_none : HasNone S (Row c.two.row ∷ Column c.two.column ∷ [])
     corners_none = let none = second_out m (seed_at form (connectors_at c q o) x) S good in (none.0, (none.1, tt))
 
-  pub no_good_corners : HasNoneParting m (rule_of c) (Row c.i ∷ Column c.p ∷ []) (Row c.k ∷ Column c.j ∷ []) → HasNoGood m (corner_prefix form c)
+  pub no_good_corners : HasNoneParting m (rule_of c) (Row c.one.row ∷ Column c.one.column ∷ []) (Row c.two.row ∷ Column c.two.column ∷ []) → HasNoGood m (corner_prefix form c)
   no_good_corners refused s S h g0 =
       let q = s.pair.first.other in
       let o = s.pair.second.other in
       let g = subst (λ (z : Seed). IsGoodSeed m z S) (seed_from_corners m form c s h) g0 in
       refused S (crossing_closed q o s.line S g) (corners_has q o s.line S g) (corners_none q o s.line S g) (three_separation_of_seed (height m) m.width (entry m) form (first_at c q) (second_at c o) s.line S g).enough
 
-  pub no_good_side : (q : ℕ) → HasNoLeaving m (rule_of c) (held_lines form c q) (Row c.k ∷ Column c.j ∷ []) 4 → HasNoGood m (corner_prefix form c ++ q ∷ [])
+  pub no_good_side : (q : ℕ) → HasNoLeaving m (rule_of c) (held_lines form c q) (Row c.two.row ∷ Column c.two.column ∷ []) 4 → HasNoGood m (corner_prefix form c ++ q ∷ [])
   no_good_side q refused s S h g0 =
       let o = s.pair.second.other in
       let g = subst (λ (z : Seed). IsGoodSeed m z S) (seed_from_first m form c q s h) g0 in
       refused S (crossing_closed q o s.line S g) g.1.grown.has.1 (record { none = corners_none q o s.line S g; enough = g.1.enough })
 
   -- the closure of the first connector has the other line of the second connector
-  pub no_good_held : (q o : ℕ) (L : Lines) → IsGrown (height m) m.width (entry m) (product_at (entry m) c.i c.j) (product_at (entry m) c.k c.p) (held_lines form c q) L → IsLine (height m) m.width (other_line (second_is_flat form) o)
+  pub no_good_held : (q o : ℕ) (L : Lines) → IsGrown (height m) m.width (entry m) (product_at (entry m) c.one.row c.two.column) (product_at (entry m) c.two.row c.one.column) (held_lines form c q) L → IsLine (height m) m.width (other_line (second_is_flat form) o)
       → L (other_line (second_is_flat form) o) ≡ true → HasNoGood m (corner_prefix form c ++ q ∷ o ∷ [])
   no_good_held q o L least line held s S h g0 =
       let d = connectors_at c q o in
@@ -123,7 +123,7 @@ module _ (m : Matrix) (form : Form) (crossing : IsCrossing form) (c : Corners) w
       not_both (S (other_line (second_is_flat form) o)) (least.least S (crossing_closed q o s.line S g) g.1.grown.has.1 (other_line (second_is_flat form) o) line held) (second_out m (seed_at form d s.line) S g).2
 
   -- two connectors with their rule
-  pub crossing_connectors : (q o : ℕ) → HasCorners m c → IsTied (entry m) (first_is_flat form) (first_at c q) c.k c.j → IsTied (entry m) (second_is_flat form) (second_at c o) c.i c.p → IsLine (height m) m.width (other_line (first_is_flat form) q)
+  pub crossing_connectors : (q o : ℕ) → HasCorners m c → IsTied (entry m) (first_is_flat form) (first_at c q) c.two.row c.two.column → IsTied (entry m) (second_is_flat form) (second_at c o) c.one.row c.one.column → IsLine (height m) m.width (other_line (first_is_flat form) q)
       → IsLine (height m) m.width (other_line (second_is_flat form) o) → AreConnectorsOf m form (rule_of c) (connectors_at c q o)
   crossing_connectors q o are first second line_first line_second = record {
     pair = record {

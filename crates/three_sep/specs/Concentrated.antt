@@ -18,22 +18,22 @@ use Rattle.three_sep.specs.Searches.{HasNoneBelow, corner_prefix, corners_of, fi
 
 -- the two corners are not 0
 pub record AreConcentratedCorners (M : ℕ → ℕ → ℤ) (c : Corners) : Type 0 where
-  pub first : M c.i c.p ≢ pos 0
-  pub second : M c.k c.j ≢ pos 0
+  pub first : M c.one.row c.one.column ≢ pos 0
+  pub second : M c.two.row c.two.column ≢ pos 0
 
 -- q can be the other column of the first connector, and o the other row of the second connector
 pub record IsOtherColumn (M : ℕ → ℕ → ℤ) (c : Corners) (q : ℕ) : Type 0 where
-  pub increases : c.p < q
-  pub nonzero : M c.i q ≢ pos 0
+  pub increases : c.one.column < q
+  pub nonzero : M c.one.row q ≢ pos 0
 
 pub record IsOtherRow (M : ℕ → ℕ → ℤ) (c : Corners) (q o : ℕ) : Type 0 where
-  pub increases : c.k < o
-  pub nonzero : M o c.j ≢ pos 0
+  pub increases : c.two.row < o
+  pub nonzero : M o c.two.column ≢ pos 0
   pub determinant : IsSign (core_determinant M (first_at c q) (second_at c o))
 
 -- q is not right of p, or row i is 0 in column q, or row k is 0 in both columns
 abbrev pub IsNoOtherColumn : (ℕ → ℕ → ℤ) → Corners → ℕ → Type 0
-IsNoOtherColumn M c q = (q ≤ c.p) ⊎ (M c.i q ≡ pos 0) ⊎ ((M c.k c.p ≡ pos 0) × (M c.k q ≡ pos 0))
+IsNoOtherColumn M c q = (q ≤ c.one.column) ⊎ (M c.one.row q ≡ pos 0) ⊎ ((M c.two.row c.one.column ≡ pos 0) × (M c.two.row q ≡ pos 0))
 
 -- ---- first connectors
 

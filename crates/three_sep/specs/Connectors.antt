@@ -29,7 +29,7 @@ seconds form d = connector_lines (second_is_flat form) d.second
 
 -- the rule whose blocks are the products at (i, j) and (k, p)
 abbrev pub rule_of : Corners → GrowthRule
-rule_of c = record { upper = Product (record { row = c.i; column = c.j }); lower = Product (record { row = c.k; column = c.p }) }
+rule_of c = record { upper = Product (record { row = c.one.row; column = c.two.column }); lower = Product (record { row = c.two.row; column = c.one.column }) }
 
 -- the lines of two connectors of the concentrated form are in the matrix
 pub record ArePlaced (m : Matrix) (d : Connectors) : Type 0 where

@@ -39,13 +39,13 @@ abbrev pub IsFoundCut : Matrix → List ℕ → Option LineSet → Type 0
 IsFoundCut m prefix found = MatchOption found (HasNoCutSeed m prefix) (IsFirstCutWith m prefix)
 
 abbrev pub cut_prefix : Corners → List ℕ
-cut_prefix c = c.i ∷ c.p ∷ c.k ∷ c.j ∷ []
+cut_prefix c = c.one.row ∷ c.one.column ∷ c.two.row ∷ c.two.column ∷ []
 
 -- the corners are in the matrix, and neither block is 0 at them
 pub record HasBlockCorners (m : Matrix) (c : Corners) : Type 0 where
   pub inside : AreInside m c
-  pub upper : entry m c.i c.j ≢ pos 0
-  pub lower : entry m c.k c.p ≢ pos 0
+  pub upper : entry m c.one.row c.two.column ≢ pos 0
+  pub lower : entry m c.two.row c.one.column ≢ pos 0
 
 -- row k is 0 in column p, or is in a group with row i or column p
 abbrev pub IsNoCutRow : Matrix → Groups → ℕ → ℕ → ℕ → Type 0
@@ -57,14 +57,14 @@ IsNoCutColumn m groups i p j = (entry m i j ≡ pos 0) ⊎ (name_of m groups (Ro
 
 -- the line with this number is not in the first corner
 pub record IsOtherNumber (m : Matrix) (c : Corners) (number : ℕ) : Type 0 where
-  pub row : number ≢ c.i
-  pub column : number ≢ height m + c.p
+  pub row : number ≢ c.one.row
+  pub column : number ≢ height m + c.one.column
 
 -- the line with this number is in the first corner, or is in a group with a line of the second corner
 abbrev pub IsNoThird : Matrix → Groups → Corners → ℕ → Type 0
 IsNoThird m groups c number =
-    (number ≡ c.i) ⊎ (number ≡ height m + c.p)
-    ⊎ (name_of m groups (Row c.k) ≡ slice_index_or groups.names.items number 0) ⊎ (name_of m groups (Column c.j) ≡ slice_index_or groups.names.items number 0)
+    (number ≡ c.one.row) ⊎ (number ≡ height m + c.one.column)
+    ⊎ (name_of m groups (Row c.two.row) ≡ slice_index_or groups.names.items number 0) ⊎ (name_of m groups (Column c.two.column) ≡ slice_index_or groups.names.items number 0)
 
 -- the side of the search is the closed one of the first corner and the line with this number
 pub record HoldsThird (m : Matrix) (c : Corners) (third : ℕ) (search : Search) : Type 0 where

@@ -25,25 +25,25 @@ pub record CutSeed : Type 0 where
 
 -- the lines of the corners in side one, and those in side two
 abbrev pub first_corner : Corners → List Line
-first_corner c = Row c.i ∷ Column c.p ∷ []
+first_corner c = Row c.one.row ∷ Column c.one.column ∷ []
 
 abbrev pub second_corner : Corners → List Line
-second_corner c = Row c.k ∷ Column c.j ∷ []
+second_corner c = Row c.two.row ∷ Column c.two.column ∷ []
 
 -- The four lines of side one are different. The side is the least set with these lines that is closed under the products at (i, j) and
 -- (k, p). It has no line of the second corner, and leaves four lines.
 pub record IsGoodCut (m : Matrix) (s : CutSeed) (side : Lines) : Type 0 where
   pub inside : AreInside m s.corners
-  pub upper : entry m s.corners.i s.corners.j ≢ pos 0
-  pub lower : entry m s.corners.k s.corners.p ≢ pos 0
+  pub upper : entry m s.corners.one.row s.corners.two.column ≢ pos 0
+  pub lower : entry m s.corners.two.row s.corners.one.column ≢ pos 0
   pub third : IsLine (height m) m.width s.third
   pub not_first : AllByRecursion (λ line. s.third ≢ line) (first_corner s.corners)
-  pub good : IsGood (height m) m.width 4 (entry m) (product_at (entry m) s.corners.i s.corners.j) (product_at (entry m) s.corners.k s.corners.p)
+  pub good : IsGood (height m) m.width 4 (entry m) (product_at (entry m) s.corners.one.row s.corners.two.column) (product_at (entry m) s.corners.two.row s.corners.one.column)
       (s.third ∷ first_corner s.corners) (second_corner s.corners) s.fourth side
 
 -- by the corners, then by the two lines
 abbrev pub cut_key : Matrix → CutSeed → List ℕ
-cut_key m s = s.corners.i ∷ s.corners.p ∷ s.corners.k ∷ s.corners.j ∷ line_number (height m) s.third ∷ line_number (height m) s.fourth ∷ []
+cut_key m s = s.corners.one.row ∷ s.corners.one.column ∷ s.corners.two.row ∷ s.corners.two.column ∷ line_number (height m) s.third ∷ line_number (height m) s.fourth ∷ []
 
 -- the side of the first good seed
 pub record IsFirstCut (m : Matrix) (side : Lines) : Type 0 where

@@ -13,6 +13,6 @@ use Rattle.three_sep.specs.Searches.{first_at, held_lines, other_line}
 pub record HoldsFirst (m : Matrix) (form : Form) (c : Corners) (q : ℕ) (search : Search) : Type 0 where
   pub matrix : search.matrix.now ≡ m
   pub line : IsLine (height m) m.width (other_line (first_is_flat form) q)
-  pub tied : IsTied (entry m) (first_is_flat form) (first_at c q) c.k c.j
-  pub growing : IsGrowing m (product_at (entry m) c.i c.j) (product_at (entry m) c.k c.p) (held_lines form c q) search.sides.side
-  pub least : IsGrown (height m) m.width (entry m) (product_at (entry m) c.i c.j) (product_at (entry m) c.k c.p) (held_lines form c q) (set_of search.sides.side)
+  pub tied : IsTied (entry m) (first_is_flat form) (first_at c q) c.two.row c.two.column
+  pub growing : IsGrowing m (product_at (entry m) c.one.row c.two.column) (product_at (entry m) c.two.row c.one.column) (held_lines form c q) search.sides.side
+  pub least : IsGrown (height m) m.width (entry m) (product_at (entry m) c.one.row c.two.column) (product_at (entry m) c.two.row c.one.column) (held_lines form c q) (set_of search.sides.side)

@@ -43,16 +43,16 @@ HasNoneBelow m prefix bound = (b : ℕ) → b < bound → HasNoGood m (prefix ++
 
 -- the corners of two connectors, and the connectors with two corners and the other lines q and o
 abbrev pub corners_of : Connectors → Corners
-corners_of d = record { i = d.first.row; p = d.first.column; k = d.second.row; j = d.second.column }
+corners_of d = record { one = record { row = d.first.row; column = d.first.column }; two = record { row = d.second.row; column = d.second.column } }
 
 abbrev pub first_at : Corners → ℕ → Connector
-first_at c q = record { row = c.i; column = c.p; other = q }
+first_at c q = record { row = c.one.row; column = c.one.column; other = q }
 
 abbrev pub second_at : Corners → ℕ → Connector
-second_at c o = record { row = c.k; column = c.j; other = o }
+second_at c o = record { row = c.two.row; column = c.two.column; other = o }
 
 abbrev pub corner_prefix : Form → Corners → List ℕ
-corner_prefix form c = form_number form ∷ c.i ∷ c.p ∷ c.k ∷ c.j ∷ []
+corner_prefix form c = form_number form ∷ c.one.row ∷ c.one.column ∷ c.two.row ∷ c.two.column ∷ []
 
 -- the other line of a connector: a column if the connector is flat
 abbrev pub other_line : Bool → ℕ → Line
@@ -73,10 +73,10 @@ pub record IsCorner (m : Matrix) (r c : ℕ) : Type 0 where
 -- the corners are in the matrix, and the four entries where they cross are not 0
 pub record HasCorners (m : Matrix) (c : Corners) : Type 0 where
   pub inside : AreInside m c
-  pub first : entry m c.i c.p ≢ pos 0
-  pub second : entry m c.k c.j ≢ pos 0
-  pub upper : entry m c.i c.j ≢ pos 0
-  pub lower : entry m c.k c.p ≢ pos 0
+  pub first : entry m c.one.row c.one.column ≢ pos 0
+  pub second : entry m c.two.row c.two.column ≢ pos 0
+  pub upper : entry m c.one.row c.two.column ≢ pos 0
+  pub lower : entry m c.two.row c.one.column ≢ pos 0
 
 -- the lines of the first connector with the other line q
 abbrev pub held_lines : Form → Corners → ℕ → List Line

@@ -18,7 +18,8 @@ use crate::connectors::Connectors;
 use crate::row_search::RowSearch;
 use crate::sides::Sides;
 use cmr_base::{
-    BitSet, Connector, Core, Form, Line, MAX_COLUMNS, Memory, RowsAndColumns, Three, columns_of,
+    BitSet, Connector, Core, Form, Line, MAX_COLUMNS, Memory, Position, RowsAndColumns, Three,
+    columns_of,
 };
 use cuts::Corners;
 use std::alloc::Global;
@@ -101,7 +102,11 @@ impl RowSearch<'_> {
         let columns = self.second_columns(alloc, k)?;
         let mut from = 0;
         while let Some(j) = columns.next(from) {
-            if let Some(three) = self.first_of_corners(alloc, &Corners { i, p, k, j })? {
+            let corners = Corners {
+                one: Position { row: i, column: p },
+                two: Position { row: k, column: j },
+            };
+            if let Some(three) = self.first_of_corners(alloc, &corners)? {
                 return Ok(Some(three));
             }
             from = j + 1;
@@ -132,7 +137,7 @@ impl RowSearch<'_> {
         alloc: Global,
         corners: &Corners,
     ) -> Result<Option<Three>, Memory>
-        requires row { corners.now.i ≡ self.old.row }
+        requires row { corners.now.one.row ≡ self.old.row }
         requires inside { AreInside self.old.matrix.now corners.now }
         requires corners { AreConcentratedCorners (entry self.old.matrix.now) corners.now }
         ensures row { IsRowSearchOf self.old.matrix.now self.old.row self.new }
@@ -145,7 +150,7 @@ impl RowSearch<'_> {
         if let Some(three) = self.first_of_pair(alloc, &connectors)? {
             return Ok(Some(three));
         }
-        self.candidates.remove(corners.j);
+        self.candidates.remove(corners.two.column);
         Ok(None)
     }
 
@@ -175,8 +180,8 @@ fn first_connectors(matrix: &RowsAndColumns<'_>, corners: &Corners) -> Option<Co
         (IsFirstPair matrix.now corners.now) }
 {
     let _columns = matrix.columns();
-    let mut from = corners.p + 1;
-    while let Some(q) = next_nonzero(matrix, corners.i, from) {
+    let mut from = corners.one.column + 1;
+    while let Some(q) = next_nonzero(matrix, corners.one.row, from) {
         if is_right_column(matrix, corners, q) {
             if let Some(o) = first_other_row(matrix, corners, q) {
                 return Some(Connectors::at(corners, q, o));
@@ -196,8 +201,8 @@ fn first_other_row(matrix: &RowsAndColumns<'_>, corners: &Corners, q: u32) -> Op
         (IsFirstRow matrix.now corners.now q) }
 {
     let _rows = matrix.rows();
-    let mut from = corners.k + 1;
-    while let Some(o) = matrix.by_columns().next_nonzero(corners.j, from) {
+    let mut from = corners.two.row + 1;
+    while let Some(o) = matrix.by_columns().next_nonzero(corners.two.column, from) {
         if has_sign(matrix, corners, q, o) {
             return Some(o);
         }
@@ -256,10 +261,10 @@ fn is_right_column(matrix: &RowsAndColumns<'_>, corners: &Corners, q: u32) -> bo
     ensures yes { result ≡ true → IsOtherColumn (entry matrix.now) corners.now q }
     ensures no { result ≡ false → IsNoOtherColumn (entry matrix.now) corners.now q }
 {
-    if q <= corners.p || !matrix.is_nonzero(corners.i, q) {
+    if q <= corners.one.column || !matrix.is_nonzero(corners.one.row, q) {
         return false;
     }
-    matrix.is_nonzero(corners.k, corners.p) || matrix.is_nonzero(corners.k, q)
+    matrix.is_nonzero(corners.two.row, corners.one.column) || matrix.is_nonzero(corners.two.row, q)
 }
 
 // Decides whether the determinant of rows k and o and columns p and q is 1 or -1.
@@ -271,7 +276,7 @@ fn has_sign(matrix: &RowsAndColumns<'_>, corners: &Corners, q: u32, o: u32) -> b
         ↔ IsSign (core_determinant (entry matrix.now) (first_at corners.now q)
         (second_at corners.now o)) }
 {
-    let core = Core::at(matrix.by_rows(), corners.k, o, corners.p, q);
+    let core = Core::at(matrix.by_rows(), corners.two.row, o, corners.one.column, q);
     is_sign(core.determinant())
 }
 

@@ -21,16 +21,16 @@ impl Connectors {
     pub fn at(corners: &Corners, q: u32, o: u32) -> Connectors
         ensures { result ≡ connectors_at corners.now q o }
     {
-        let Corners { i, p, k, j } = *corners;
+        let Corners { one, two } = *corners;
         Connectors {
             first: Connector {
-                row: i,
-                column: p,
+                row: one.row,
+                column: one.column,
                 other: q,
             },
             second: Connector {
-                row: k,
-                column: j,
+                row: two.row,
+                column: two.column,
                 other: o,
             },
         }
@@ -57,9 +57,15 @@ impl Connectors {
 pub fn rule_at(corners: &Corners) -> GrowthRule
     ensures { result ≡ rule_of corners.now }
 {
-    let Corners { i, p, k, j } = *corners;
+    let Corners { one, two } = *corners;
     GrowthRule {
-        upper: Block::Product(Position { row: i, column: j }),
-        lower: Block::Product(Position { row: k, column: p }),
+        upper: Block::Product(Position {
+            row: one.row,
+            column: two.column,
+        }),
+        lower: Block::Product(Position {
+            row: two.row,
+            column: one.column,
+        }),
     }
 }

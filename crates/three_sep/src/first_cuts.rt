@@ -7,7 +7,7 @@ ghost use Rattle.three_sep.specs.FirstCuts.{HasNoCut, IsFirstCutOn};
 
 use crate::connectors::rule_at;
 use crate::search::Search;
-use cmr_base::{Line, LineSet, Memory, RowsAndColumns};
+use cmr_base::{Line, LineSet, Memory, Position, RowsAndColumns};
 use cuts::{Corners, Groups};
 use line_growth::line_at;
 use std::alloc::Global;
@@ -87,7 +87,10 @@ fn first_of_second_row(
     search.ask(alloc)?;
     for j in 0..matrix.columns() {
         if is_cut_column(matrix, &search.groups, i, p, j) {
-            let corners = Corners { i, p, k, j };
+            let corners = Corners {
+                one: Position { row: i, column: p },
+                two: Position { row: k, column: j },
+            };
             if let Some(lines) = first_of_corners(alloc, search, &corners)? {
                 return Ok(Some(lines));
             }
@@ -106,9 +109,9 @@ fn first_of_corners(
     ensures matrix { search.new.matrix.now ≡ search.old.matrix.now }
     ensures found { IfOk result (IsFoundCut search.old.matrix.now (cut_prefix corners.now)) }
 {
-    let Corners { i, p, k, j } = *corners;
-    let first = [Line::Row(i), Line::Column(p)];
-    let second = [Line::Row(k), Line::Column(j)];
+    let Corners { one, two } = *corners;
+    let first = [Line::Row(one.row), Line::Column(one.column)];
+    let second = [Line::Row(two.row), Line::Column(two.column)];
     let matrix = search.matrix;
     search.tries = search.tries.saturating_add(1);
     if !search.sides.may_part(rule_at(corners), &first, &second)? {
@@ -138,9 +141,13 @@ fn first_of_third(
     ensures found { IfOk result (IsFoundCut search.old.matrix.now
         (cut_prefix corners.now ++ third ∷ [])) }
 {
-    let Corners { i, p, k, j } = *corners;
-    let first = [line_at(search.matrix, third), Line::Row(i), Line::Column(p)];
-    let second = [Line::Row(k), Line::Column(j)];
+    let Corners { one, two } = *corners;
+    let first = [
+        line_at(search.matrix, third),
+        Line::Row(one.row),
+        Line::Column(one.column),
+    ];
+    let second = [Line::Row(two.row), Line::Column(two.column)];
     if !search.sides.hold(rule_at(corners), &first, &second)? {
         return Ok(None);
     }
@@ -161,7 +168,7 @@ fn first_of_held(
     ensures found { IfOk result (IsFoundCut search.old.matrix.now
         (cut_prefix corners.now ++ third ∷ [])) }
 {
-    let second = [Line::Row(corners.k), Line::Column(corners.j)];
+    let second = [Line::Row(corners.two.row), Line::Column(corners.two.column)];
     let rule = rule_at(corners);
     let matrix = search.matrix;
     for fourth in 0..matrix.rows() + matrix.columns() {
@@ -217,8 +224,8 @@ fn may_be_third(matrix: &RowsAndColumns<'_>, groups: &Groups, corners: &Corners,
     if !is_other(matrix, corners, line) {
         return false;
     }
-    let column = matrix.rows() + corners.j;
-    !groups.are_one(corners.k, line) && !groups.are_one(column, line)
+    let column = matrix.rows() + corners.two.column;
+    !groups.are_one(corners.two.row, line) && !groups.are_one(column, line)
 }
 
 // Whether the line with a number can be the fourth one: it is neither the third one nor in the first corner.
@@ -227,7 +234,8 @@ fn is_fourth(matrix: &RowsAndColumns<'_>, corners: &Corners, third: u32, line: u
     ensures other { result ≡ true → IsOtherNumber matrix.now corners.now line }
     ensures different { result ≡ true → line ≢ third }
     ensures no { result ≡ false
-        → (line ≡ third) ⊎ (line ≡ corners.now.i) ⊎ (line ≡ height matrix.now + corners.now.p) }
+        → (line ≡ third) ⊎ (line ≡ corners.now.one.row)
+        ⊎ (line ≡ height matrix.now + corners.now.one.column) }
 {
     line != third && is_other(matrix, corners, line)
 }
@@ -237,7 +245,7 @@ fn is_other(matrix: &RowsAndColumns<'_>, corners: &Corners, line: u32) -> bool
     requires corners { HasBlockCorners matrix.now corners.now }
     ensures yes { result ≡ true → IsOtherNumber matrix.now corners.now line }
     ensures no { result ≡ false
-        → (line ≡ corners.now.i) ⊎ (line ≡ height matrix.now + corners.now.p) }
+        → (line ≡ corners.now.one.row) ⊎ (line ≡ height matrix.now + corners.now.one.column) }
 {
-    line != corners.i && line != matrix.rows() + corners.p
+    line != corners.one.row && line != matrix.rows() + corners.one.column
 }

@@ -42,15 +42,15 @@ pub fn is_first_other(matrix: &RowsAndColumns<'_>, form: Form, corners: &Corners
         (other_line (first_is_flat form) q) }
     ensures yes { result ≡ true
         → IsTied (entry matrix.now) (first_is_flat form) (first_at corners.now q)
-        corners.now.k corners.now.j }
+        corners.now.two.row corners.now.two.column }
     ensures no { result ≡ false
         → ¬ (IsTied (entry matrix.now) (first_is_flat form) (first_at corners.now q)
-        corners.now.k corners.now.j) }
+        corners.now.two.row corners.now.two.column) }
 {
     if form.first_is_flat() {
-        is_flat_other(matrix, corners.i, corners.k, q)
+        is_flat_other(matrix, corners.one.row, corners.two.row, q)
     } else {
-        is_tall_other(matrix, corners.p, corners.j, q)
+        is_tall_other(matrix, corners.one.column, corners.two.column, q)
     }
 }
 
@@ -61,15 +61,15 @@ pub fn is_second_other(matrix: &RowsAndColumns<'_>, form: Form, corners: &Corner
         (other_line (second_is_flat form) o) }
     ensures yes { result ≡ true
         → IsTied (entry matrix.now) (second_is_flat form) (second_at corners.now o)
-        corners.now.i corners.now.p }
+        corners.now.one.row corners.now.one.column }
     ensures no { result ≡ false
         → ¬ (IsTied (entry matrix.now) (second_is_flat form) (second_at corners.now o)
-        corners.now.i corners.now.p) }
+        corners.now.one.row corners.now.one.column) }
 {
     if form.second_is_flat() {
-        is_flat_other(matrix, corners.k, corners.i, o)
+        is_flat_other(matrix, corners.two.row, corners.one.row, o)
     } else {
-        is_tall_other(matrix, corners.j, corners.p, o)
+        is_tall_other(matrix, corners.two.column, corners.one.column, o)
     }
 }
 

@@ -3,7 +3,7 @@ ghost use Rattle.std.specs.Prelude.{◌≡◌, true};
 ghost use Rattle.std.specs.List.{All};
 ghost use Rattle.three_sep.specs.Connectors.{HasNoneAtCorners};
 
-use cmr_base::{Memory, RowsAndColumns};
+use cmr_base::{Memory, Position, RowsAndColumns};
 use cuts::Corners;
 use std::alloc::Global;
 
@@ -72,21 +72,22 @@ impl<'a> RefusedCorners<'a> {
 }
 
 // Whether corners come before others in the lexicographic order.
-fn is_before(one: &Corners, other: &Corners) -> bool {
-    if one.i != other.i {
-        return one.i < other.i;
+fn is_before(corners: &Corners, other: &Corners) -> bool {
+    if corners.one != other.one {
+        return is_position_before(corners.one, other.one);
     }
-    if one.p != other.p {
-        return one.p < other.p;
-    }
-    if one.k != other.k {
-        return one.k < other.k;
-    }
-    one.j < other.j
+    is_position_before(corners.two, other.two)
 }
 
-fn are_same(one: &Corners, other: &Corners) -> bool
-    ensures { result ≡ true → one.now ≡ other.now }
+fn is_position_before(position: Position, other: Position) -> bool {
+    if position.row != other.row {
+        return position.row < other.row;
+    }
+    position.column < other.column
+}
+
+fn are_same(corners: &Corners, other: &Corners) -> bool
+    ensures { result ≡ true → corners.now ≡ other.now }
 {
-    one.i == other.i && one.p == other.p && one.k == other.k && one.j == other.j
+    corners.one == other.one && corners.two == other.two
 }

@@ -13,7 +13,7 @@ use crate::others::{
 };
 use crate::refused_corners::RefusedCorners;
 use crate::sides::Sides;
-use cmr_base::{Connector, Form, Line, Matrix, Memory, RowsAndColumns, Three};
+use cmr_base::{Connector, Form, Line, Matrix, Memory, Position, RowsAndColumns, Three};
 use cuts::{Corners, Groups, groups_of};
 use std::alloc::Global;
 use std::thread::Threads;
@@ -208,7 +208,10 @@ impl<'a> Search<'a> {
         self.ask(alloc)?;
         for j in 0..matrix.columns() {
             if is_second_column(matrix, &self.groups, form, i, p, k, j) {
-                let corners = Corners { i, p, k, j };
+                let corners = Corners {
+                    one: Position { row: i, column: p },
+                    two: Position { row: k, column: j },
+                };
                 if let Some(three) = self.first_of_corners(alloc, form, &corners)? {
                     return Ok(Some(three));
                 }
@@ -259,9 +262,9 @@ impl<'a> Search<'a> {
         if self.refused_later.has(corners) {
             return Ok(false);
         }
-        let Corners { i, p, k, j } = *corners;
-        let first = [Line::Row(i), Line::Column(p)];
-        let second = [Line::Row(k), Line::Column(j)];
+        let Corners { one, two } = *corners;
+        let first = [Line::Row(one.row), Line::Column(one.column)];
+        let second = [Line::Row(two.row), Line::Column(two.column)];
         if self.sides.may_part(rule_at(corners), &first, &second)? {
             return Ok(true);
         }
@@ -289,14 +292,14 @@ impl<'a> Search<'a> {
         if !is_first_other(self.matrix, form, corners, q) {
             return Ok(false);
         }
-        let Corners { i, p, k, j } = *corners;
+        let Corners { one, two } = *corners;
         let connector = Connector {
-            row: i,
-            column: p,
+            row: one.row,
+            column: one.column,
             other: q,
         };
         let first = connector.lines(form.first_is_flat());
-        let second = [Line::Row(k), Line::Column(j)];
+        let second = [Line::Row(two.row), Line::Column(two.column)];
         let held = self.sides.hold(rule_at(corners), &first, &second)?;
         Ok(held)
     }
@@ -365,7 +368,7 @@ impl<'a> Search<'a> {
         requires corners { HasCorners self.old.matrix.now corners.now }
         requires held { HoldsFirst self.old.matrix.now form corners.now q self.old }
         requires tied { IsTied (entry self.old.matrix.now) (second_is_flat form)
-            (second_at corners.now o) corners.now.i corners.now.p }
+            (second_at corners.now o) corners.now.one.row corners.now.one.column }
         requires line { IsLine (height self.old.matrix.now) self.old.matrix.now.width
             (other_line (second_is_flat form) o) }
         ensures held { HoldsFirst self.old.matrix.now form corners.now q self.new }

@@ -9,7 +9,7 @@ use Rattle.three_sep.proofs.ConcentratedLemmas.{no_row, none_over_zero_rows, non
 use Rattle.three_sep.proofs.concentrated.first_other_row.Goals as goal
 
 pub next_nonzero-requires-clause-row : goal.next_nonzero-requires-clause-row
-next_nonzero-requires-clause-row c = transposed_inside c.args.matrix.now c.by_columns.result.now c.by_columns.ensures.matrix c.args.corners.now.j c.requires.inside.column_two
+next_nonzero-requires-clause-row c = transposed_inside c.args.matrix.now c.by_columns.result.now c.by_columns.ensures.matrix c.args.corners.now.two.column c.requires.inside.column_two
 
 pub loop-o-init : goal.loop-o-init
 loop-o-init c = (none_to_second c.args.matrix.now c.args.corners.now c.args.q, omega arith, let l = c.requires.inside.row_two in let h = c.rows-rows.ensures.shape.height_in in omega arith)
@@ -29,10 +29,10 @@ returns-then-has_sign c =
       inside = transposed_row m n columns_are o c.in-Some.ensures.first.1;
       row = record {
         increases = let f = c.in-Some.ensures.first.0 in let i = c.loop-o.invariant.1 in omega arith;
-        nonzero = nonzero_is (entry m o corners.j) (sym (transposed_support m n columns_are o corners.j is) ∙ c.in-Some.ensures.first.2);
+        nonzero = nonzero_is (entry m o corners.two.column) (sym (transposed_support m n columns_are o corners.two.column is) ∙ c.in-Some.ensures.first.2);
         determinant = c.has_sign.ensures.0 c.if-has_sign.true;
       };
-      rows = none_over_zero_rows m corners c.args.q c.loop-o.from o c.loop-o.invariant.0 (λ row a l. sym (transposed_support m n columns_are row corners.j is) ∙ c.in-Some.ensures.first.3 row a l);
+      rows = none_over_zero_rows m corners c.args.q c.loop-o.from o c.loop-o.invariant.0 (λ row a l. sym (transposed_support m n columns_are row corners.two.column is) ∙ c.in-Some.ensures.first.3 row a l);
     }
 
 pub loop-o-preserved : goal.loop-o-preserved
@@ -44,7 +44,7 @@ loop-o-preserved c =
     let q = c.args.q in
     let o = c.in-Some.o in (
       none_below_more m (corner_prefix Concentrated corners ++ q ∷ []) o
-          (none_over_zero_rows m corners q c.loop-o.from o c.loop-o.invariant.0 (λ row a l. sym (transposed_support m n columns_are row corners.j c.by_columns.ensures.shape) ∙ c.in-Some.ensures.first.3 row a l))
+          (none_over_zero_rows m corners q c.loop-o.from o c.loop-o.invariant.0 (λ row a l. sym (transposed_support m n columns_are row corners.two.column c.by_columns.ensures.shape) ∙ c.in-Some.ensures.first.3 row a l))
           (no_row m corners q o (λ other. not_both c.has_sign.result (c.has_sign.ensures.1 other.determinant) c.if-has_sign.false)),
       let f = c.in-Some.ensures.first.0 in let i = c.loop-o.invariant.1 in omega arith,
       let l = c.in-Some.ensures.small in omega arith,
@@ -57,5 +57,5 @@ returns c =
     let corners = c.args.corners.now in
     level_ends m (corner_prefix Concentrated corners ++ c.args.q ∷ []) (height m) (omega arith)
     (none_over_zero_rows m corners c.args.q c.loop-o.from (height m) c.loop-o.invariant.0
-    (λ row a l. sym (transposed_support m n c.by_columns.ensures.matrix row corners.j c.by_columns.ensures.shape) ∙ c.in_default.ensures.first row a))
+    (λ row a l. sym (transposed_support m n c.by_columns.ensures.matrix row corners.two.column c.by_columns.ensures.shape) ∙ c.in_default.ensures.first row a))
     (second_below m Concentrated corners c.args.q)

@@ -14,7 +14,7 @@ returns c =
     let q = c.args.q in
     let o = c.args.o in
     let core = c.at-core.result in
-    let place : IsCoreAt (entry m) d.k o d.p q core = subst (λ (n : Matrix). IsCoreAt (entry n) d.k o d.p q core) c.by_rows.ensures.matrix c.at-core.ensures.place in
+    let place : IsCoreAt (entry m) d.two.row o d.one.column q core = subst (λ (n : Matrix). IsCoreAt (entry n) d.two.row o d.one.column q core) c.by_rows.ensures.matrix c.at-core.ensures.place in
     let value : c.determinant.result ≡ core_determinant (entry m) (first_at d q) (second_at d o) =
     c.determinant.ensures.value ∙ ap₂ (λ (x y : ℤ). x -ℤ y) (ap₂ (λ (x y : ℤ). x *ℤ y) place.x place.w) (ap₂ (λ (x y : ℤ). x *ℤ y) place.y place.z) in
     let is = small_as_byte 2 c.determinant.result (omega arith) c.determinant.ensures.small ∙ value in (

@@ -28,14 +28,14 @@ first_of_corners-requires-clause-row c = sym c.loop-j.invariant.1.row_is
 pub first_of_corners-requires-clause-inside : goal.first_of_corners-requires-clause-inside
 first_of_corners-requires-clause-inside c =
     let self = c.args.self.now in
-    let corners : Corners = record { i = self.row; p = c.args.p; k = c.args.k; j = c.in-Some.j } in
+    let corners : Corners = record { one = record { row = self.row; column = c.args.p }; two = record { row = c.args.k; column = c.in-Some.j } } in
     from_row _ _ c.loop-j.self c.loop-j.invariant.1 (λ (n : Matrix) (x : ℕ). AreInside n corners)
     (record { row_one = self.row_in; column_one = c.requires.column; row_two = c.requires.second_row; column_two = omega (arith, c.in-Some.ensures.inside, c.in_ok-columns.ensures.size) })
 
 pub first_of_corners-requires-clause-corners : goal.first_of_corners-requires-clause-corners
 first_of_corners-requires-clause-corners c =
     let self = c.args.self.now in
-    let corners : Corners = record { i = self.row; p = c.args.p; k = c.args.k; j = c.in-Some.j } in
+    let corners : Corners = record { one = record { row = self.row; column = c.args.p }; two = record { row = c.args.k; column = c.in-Some.j } } in
     from_row _ _ c.loop-j.self c.loop-j.invariant.1 (λ (n : Matrix) (x : ℕ). AreConcentratedCorners (entry n) corners)
     (record { first = c.requires.nonzero; second = nonzero_is (entry self.matrix.now c.args.k c.in-Some.j) (c.in_ok-columns.ensures.yes c.in-Some.j c.in-Some.ensures.member) })
 

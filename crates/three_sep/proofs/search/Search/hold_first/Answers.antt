@@ -23,7 +23,7 @@ pub hold-requires-clause-rule : goal.hold-requires-clause-rule
 hold-requires-clause-rule c = rw c.args.self.now.sides_fit (subst (λ (r : GrowthRule). IsRuleOf c.args.self.now.matrix.now r) (sym c.rule_at.ensures) (rule_inside c.args.self.now.matrix.now c.args.corners.now c.requires.inside))
 
 module _ (m : Matrix) (form : Form) (d : Corners) (q : ℕ) (rule : GrowthRule) (lines : List Line) (same : rule ≡ rule_of d) (are : lines ≡ held_lines form d q) where
-  growing_as : (side : GrowingSet) → IsGrowing m (upper_of m rule) (lower_of m rule) lines side → IsGrowing m (product_at (entry m) d.i d.j) (product_at (entry m) d.k d.p) (held_lines form d q) side
+  growing_as : (side : GrowingSet) → IsGrowing m (upper_of m rule) (lower_of m rule) lines side → IsGrowing m (product_at (entry m) d.one.row d.two.column) (product_at (entry m) d.two.row d.one.column) (held_lines form d q) side
   growing_as side g = subst (λ (r : GrowthRule). IsGrowing m (upper_of m r) (lower_of m r) (held_lines form d q) side) same (subst (λ (xs : List Line). IsGrowing m (upper_of m rule) (lower_of m rule) xs side) are g)
 
   decided_as : (out : List Line) (answer : Bool) (S : Lines) → DecidesLeaving m rule lines out 4 answer S → DecidesLeaving m (rule_of d) (held_lines form d q) out 4 answer S
@@ -43,7 +43,7 @@ returns-clause-held c =
       line = c.requires.line;
       tied = c.is_first_other.ensures.yes c.if-not-is_first_other.false;
       growing = growing_as m form d q c.rule_at.result _ c.rule_at.ensures are side (rw fit at c.in_ok-held.ensures.growing);
-      least = (decided_yes m (rule_of d) (held_lines form d q) (Row d.k ∷ Column d.j ∷ []) 4 c.in_ok-held.held (set_of side) (decided_as m form d q c.rule_at.result _ c.rule_at.ensures are (Row d.k ∷ Column d.j ∷ []) c.in_ok-held.held (set_of side) (rw fit at c.in_ok-held.ensures.decided)) t).grown;
+      least = (decided_yes m (rule_of d) (held_lines form d q) (Row d.two.row ∷ Column d.two.column ∷ []) 4 c.in_ok-held.held (set_of side) (decided_as m form d q c.rule_at.result _ c.rule_at.ensures are (Row d.two.row ∷ Column d.two.column ∷ []) c.in_ok-held.held (set_of side) (rw fit at c.in_ok-held.ensures.decided)) t).grown;
     }
 
 pub returns-clause-no : goal.returns-clause-no
@@ -55,5 +55,5 @@ returns-clause-no c =
     let are = c.lines-first.ensures ∙ ap (λ (z : Bool). connector_lines z (first_at d q)) c.first_is_flat.ensures in
     let side = c.hold.new.self.side in
     let fit = c.args.self.now.sides_fit in
-    λ t. no_good_side m form c.requires.crossing d q (decided_no m (rule_of d) (held_lines form d q) (Row d.k ∷ Column d.j ∷ []) 4 c.in_ok-held.held (set_of side)
-    (decided_as m form d q c.rule_at.result _ c.rule_at.ensures are (Row d.k ∷ Column d.j ∷ []) c.in_ok-held.held (set_of side) (rw fit at c.in_ok-held.ensures.decided)) t)
+    λ t. no_good_side m form c.requires.crossing d q (decided_no m (rule_of d) (held_lines form d q) (Row d.two.row ∷ Column d.two.column ∷ []) 4 c.in_ok-held.held (set_of side)
+    (decided_as m form d q c.rule_at.result _ c.rule_at.ensures are (Row d.two.row ∷ Column d.two.column ∷ []) c.in_ok-held.held (set_of side) (rw fit at c.in_ok-held.ensures.decided)) t)
