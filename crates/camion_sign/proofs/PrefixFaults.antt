@@ -1,54 +1,19 @@
 -- Faults of the first rows, and of the matrix of these rows.
 use Rattle.std.specs.Prelude.{IfOk}
-use Rattle.std.proofs.Common.{Option, Some, None, MatchOption, Result, Ok, Err, ◌≡◌, ◌<◌, ◌≤◌, ◌∙◌, ℕ, ℤ, pos, List, [], ◌∷◌, length, map, get_or, inl, inr, sym, ap, ap₂, subst, arith}
-use Rattle.std.specs.List.{AllByRecursion}
+use Rattle.std.proofs.Common.{Option, Some, None, MatchOption, Result, Ok, Err, ◌≡◌, ◌<◌, ◌≤◌, ◌∙◌, ℕ, pos, List, [], length, map, get_or, inl, inr, sym, ap, ap₂, subst, arith}
 use Rattle.std.proofs.lemmas.Bool.{cases_lt}
 use Rattle.std.proofs.lemmas.List.{get_or-map, get_or_past, length-map}
 use Rattle.std.proofs.lemmas.List.FromFn.{length-range_with_len}
 use Rattle.cmr_base.specs.Matrix.{Matrix, height, entry, row_of, IsMatrix}
 use Rattle.cmr_base.specs.LineSets.{AllBelow, first_lines, submatrix}
-use Rattle.cmr_base.specs.CyclePlaces.{HasNoCycleFault, IsPath, IsFaultAt, cycle_rows, cycle_columns, path_rows}
-use Rattle.cmr_base.specs.Sums.{sum_over, IsTwoModFour}
+use Rattle.cmr_base.specs.CyclePlaces.{HasNoCycleFault}
 use Rattle.cmr_base.proofs.FilledMatrices.{line_at}
-use Rattle.cmr_base.proofs.Lists.{all_of}
 use Rattle.cmr_base.proofs.Parts.{entry-submatrix}
-use Rattle.cmr_base.proofs.SumLaws.{sum_over_same}
 use Rattle.ghouila.proofs.SignsUnique.{row_in}
 use Rattle.camion_sign.specs.FaultLines.{IsFirstFault}
 use Rattle.camion_sign.specs.declared.fault.Fault.{Fault}
 use Rattle.network_orient.specs.FirstRows.{HasNoFaultBefore}
-
--- paths through the first rows of two matrices with the same first rows
-path_in : (M N : ℕ → ℕ → ℤ) (k : ℕ) → ((i j : ℕ) → i < k → M i j ≡ N i j) → (t c d : ℕ) (path : List ℕ) → t < k → IsPath M t c d path → IsPath N t c d path
-path_in M N k same t c d [] low h = absurd h
-path_in M N k same t c d (r ∷ []) low h = let early = h.0 in (early, (λ z. h.1 (same r c (omega arith) ∙ z)), (λ z. h.2 (same r d (omega arith) ∙ z)))
-path_in M N k same t c d (r ∷ j ∷ rest) low h =
-    let early = h.0 in (early, (λ z. h.1 (same r c (omega arith) ∙ z)), (λ z. h.2 (same r j (omega arith) ∙ z)), sym (same t j low) ∙ h.3, path_in M N k same t j d rest low h.4)
-
--- all rows of a path are among the first rows
-rows_in : (M : ℕ → ℕ → ℤ) (k : ℕ) (P : ℕ → Type 0) → ((i : ℕ) → i < k → P i) → (t c d : ℕ) (path : List ℕ) → t < k → IsPath M t c d path → AllByRecursion P (path_rows path)
-rows_in M k P all t c d [] low h = tt
-rows_in M k P all t c d (r ∷ []) low h = let early = h.0 in (all r (omega arith), tt)
-rows_in M k P all t c d (r ∷ j ∷ rest) low h = let early = h.0 in (all r (omega arith), rows_in M k P all t j d rest low h.4)
-
-pub fault_in : (M N : ℕ → ℕ → ℤ) (k : ℕ) → ((i j : ℕ) → i < k → M i j ≡ N i j) → (t c d : ℕ) (path : List ℕ) → t < k → IsFaultAt M t c d path → IsFaultAt N t c d path
-fault_in M N k same t c d path low fault = record {
-  place = record {
-    order = fault.place.order;
-    first = λ z. fault.place.first (same t c low ∙ z);
-    last = λ z. fault.place.last (same t d low ∙ z);
-    is_path = path_in M N k same t c d path low fault.place.is_path;
-    least = λ other h. fault.place.least other (path_in N M k (λ i j l. sym (same i j l)) t c d other low h);
-  };
-  two_mod_four = subst IsTwoModFour
-      (sum_over_same (cycle_rows t path) (λ i. sum_over (cycle_columns c d path) (M i)) (λ i. sum_over (cycle_columns c d path) (N i)) (row t low, rows_in M k P row t c d path low fault.place.is_path)) fault.two_mod_four;
-}
-  where
-    P : ℕ → Type 0
-    P i = sum_over (cycle_columns c d path) (M i) ≡ sum_over (cycle_columns c d path) (N i)
-
-    row : (i : ℕ) → i < k → P i
-    row i l = sum_over_same (cycle_columns c d path) (M i) (N i) (all_of (λ j. M i j ≡ N i j) (λ j. same i j l) (cycle_columns c d path))
+use Rattle.network_orient.proofs.FirstRows.{fault_on}
 
 -- the first lines are below their number
 pub first_below : (count bound : ℕ) (lines : List ℕ) → lines ≡ first_lines count → count ≤ bound → AllBelow bound lines
@@ -75,7 +40,7 @@ module _ (m : Matrix) (is : IsMatrix m) (count : ℕ) (few : count ≤ height m)
 
   -- the rows without fault of the first rows have none in the matrix
   pub passed_in : (passed least : ℕ) → HasNoFaultBefore prefix passed → least ≤ passed → least ≤ count → HasNoFaultBefore m least
-  passed_in passed least none le within t c d path early fault = none t c d path (omega arith) (fault_in (entry m) (entry prefix) count same_entry t c d path (omega arith) fault)
+  passed_in passed least none le within t c d path early fault = none t c d path (omega arith) (fault_on (entry m) (entry prefix) count same_entry t c d path (omega arith) fault)
 
 -- ---- the search in the first rows, and in the rows after them
 

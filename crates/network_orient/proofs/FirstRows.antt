@@ -49,7 +49,7 @@ module _ (M N : ℕ → ℕ → ℤ) (count : ℕ) (agree : (r x : ℕ) → r < 
   sums_on columns [] low = tt
   sums_on columns (r ∷ rows) (l, low) = (sum_over_same columns (M r) (N r) (all_of (λ x. M r x ≡ N r x) (λ x. agree r x l) columns), sums_on columns rows low)
 
-fault_on : (M N : ℕ → ℕ → ℤ) (count : ℕ) → ((r x : ℕ) → r < count → M r x ≡ N r x) → (t c d : ℕ) (path : List ℕ) → t < count → IsFaultAt M t c d path → IsFaultAt N t c d path
+pub fault_on : (M N : ℕ → ℕ → ℤ) (count : ℕ) → ((r x : ℕ) → r < count → M r x ≡ N r x) → (t c d : ℕ) (path : List ℕ) → t < count → IsFaultAt M t c d path → IsFaultAt N t c d path
 fault_on M N count agree t c d path l f =
     let back : (r x : ℕ) → r < count → N r x ≡ M r x = λ r x k. sym (agree r x k) in
     let columns = cycle_columns c d path in
