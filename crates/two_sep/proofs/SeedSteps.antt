@@ -11,7 +11,7 @@ use Rattle.cmr_base.proofs.SeedLemmas.{line_is}
 use Rattle.cmr_base.proofs.Booleans.{not_false, not_is}
 use Rattle.line_growth.specs.declared.growing_set.GrowingSet.{GrowingSet}
 use Rattle.line_growth.specs.GrowingSets.{HasNoLeaving, IsClosedIn, IsGrowing, IsLeaving, set_of}
-use Rattle.two_sep.specs.FirstSeeds.{HasNoGoodSeed, IsFirstGoodSide, rule_of}
+use Rattle.two_sep.specs.FirstSeeds.{HasNoGoodSeed, IsFirstGoodSide, seed_rule}
 use Rattle.two_sep.proofs.LineNumbers.{number_in}
 
 module _ (m : Matrix) (i j : ℕ) (row : i < height m) (column : j < m.width) (nonzero : entry m i j ≢ pos 0) where
@@ -30,7 +30,7 @@ module _ (m : Matrix) (i j : ℕ) (row : i < height m) (column : j < m.width) (n
 
   module _ (place : ℕ) (seed : Line) (seed_in : IsLine (height m) m.width seed) (number : line_number (height m) seed ≡ place) where
     -- a set that leaves the row and two lines outside is the side of a good seed
-    good_side : place ≢ i → place ≢ h + j → (S : Lines) → IsLeaving m (rule_of i j) (seed ∷ Column j ∷ []) (Row i ∷ []) 2 S → IsGoodTwo h m.width (entry m) i j seed S
+    good_side : place ≢ i → place ≢ h + j → (S : Lines) → IsLeaving m (seed_rule i j) (seed ∷ Column j ∷ []) (Row i ∷ []) 2 S → IsGoodTwo h m.width (entry m) i j seed S
     good_side not_row not_column S is = (
       record { row = row; column = column; nonzero = nonzero },
       record {
@@ -44,11 +44,11 @@ module _ (m : Matrix) (i j : ℕ) (row : i < height m) (column : j < m.width) (n
     )
 
     -- otherwise the seed is not good
-    pub not_good : HasNoLeaving m (rule_of i j) (seed ∷ Column j ∷ []) (Row i ∷ []) 2 → NotGood seed
+    pub not_good : HasNoLeaving m (seed_rule i j) (seed ∷ Column j ∷ []) (Row i ∷ []) 2 → NotGood seed
     not_good none side g = none side g.1.grown.closed g.1.grown.has (record { none = g.1.two; enough = g.1.enough })
 
     -- no line that pulls the seed in is good
-    pub bad_backwards : HasNoLeaving m (rule_of i j) (seed ∷ Column j ∷ []) (Row i ∷ []) 2 → (bad : GrowingSet) → IsGrowing m (product_at (entry m) i j) zeros (seed ∷ []) bad → (y : Line) → IsLine h m.width y → set_of bad y ≡ true → NotGood y
+    pub bad_backwards : HasNoLeaving m (seed_rule i j) (seed ∷ Column j ∷ []) (Row i ∷ []) 2 → (bad : GrowingSet) → IsGrowing m (product_at (entry m) i j) zeros (seed ∷ []) bad → (y : Line) → IsLine h m.width y → set_of bad y ≡ true → NotGood y
     bad_backwards none bad grows y y_in e side g = elim (two_cases (side seed)) [
       | inl t ↦ none side g.1.grown.closed (t, g.1.grown.has.1) (record { none = g.1.two; enough = g.1.enough })
       | inr f ↦ false≢true (sym (not_is (side y) (grows.least (opposite side) (other_closed y side g) (ap not f, tt) y y_in e)) ∙ g.1.grown.has.0)
@@ -68,7 +68,7 @@ module _ (m : Matrix) (i j : ℕ) (row : i < height m) (column : j < m.width) (n
     pub column_not_good : place ≡ h + j → NotGood seed
     column_not_good e side g = g.1.not_first.0 (line_is h m.width seed (Column j) seed_in column (number ∙ e))
 
-    pub first_found : ((other : Line) → IsLine h m.width other → line_number h other < place → NotGood other) → place ≢ i → place ≢ h + j → (S : Lines) → IsLeaving m (rule_of i j) (seed ∷ Column j ∷ []) (Row i ∷ []) 2 S → IsFirstGoodSide m i j S
+    pub first_found : ((other : Line) → IsLine h m.width other → line_number h other < place → NotGood other) → place ≢ i → place ≢ h + j → (S : Lines) → IsLeaving m (seed_rule i j) (seed ∷ Column j ∷ []) (Row i ∷ []) 2 S → IsFirstGoodSide m i j S
     first_found before not_row not_column S is = record {
       seed = seed;
       good = good_side not_row not_column S is;

@@ -19,8 +19,8 @@ pub record IsFirstTwoSeparation (m : Matrix) (two : Two) : Type 0 where
 
 -- ---- at one nonzero
 
-abbrev pub rule_of : ℕ → ℕ → GrowthRule
-rule_of i j = record { upper = Zero; lower = Product (record { row = i; column = j }) }
+abbrev pub seed_rule : ℕ → ℕ → GrowthRule
+seed_rule i j = record { upper = Zero; lower = Product (record { row = i; column = j }) }
 
 abbrev pub HasNoGoodSeed : Matrix → ℕ → ℕ → Type 0
 HasNoGoodSeed m i j = (seed : Line) (side : Lines) → ¬ (IsGoodTwo (height m) m.width (entry m) i j seed side)
@@ -41,12 +41,12 @@ abbrev pub AreTogether : Matrix → ℕ → ℕ → Type 0
 AreTogether m x y = (i j : ℕ) (side : Lines) → TwoSeparates m side i j → side (line_at_number (height m) x) ≡ side (line_at_number (height m) y)
 
 -- lines of one label are together
-pub record AreLinked (m : Matrix) (labels : List ℕ) : Type 0 where
+pub record AreLabelled (m : Matrix) (labels : List ℕ) : Type 0 where
   pub count : length labels ≡ height m + m.width
   pub labelled : (x y : ℕ) → x < height m + m.width → y < height m + m.width → slice_index_or labels x 0 ≡ slice_index_or labels y 0 → AreTogether m x y
 
 -- lines of one label are together, and so are the lines of each nonzero before (row, column)
 pub record ArePassed (m : Matrix) (row column : ℕ) (labels : List ℕ) : Type 0 where
   pub matrix : IsMatrix m
-  pub linked : AreLinked m labels
+  pub linked : AreLabelled m labels
   pub before : (i j : ℕ) → i < height m → j < m.width → (i < row) ⊎ ((i ≡ row) × (j < column)) → entry m i j ≢ pos 0 → AreTogether m i (height m + j)

@@ -2,7 +2,7 @@
 ghost use Rattle.std.specs.Prelude.{◌≡◌, ◌≢◌, ◌<◌, ◌+◌, pos, true, length, IfOk, OnOk};
 ghost use Rattle.cmr_base.specs.Matrix.{height, entry};
 ghost use Rattle.line_growth.specs.GrowingSets.{HasSameSizes, IsSizedFor};
-ghost use Rattle.two_sep.specs.FirstSeeds.{AreLinked, HasNoGoodSeed};
+ghost use Rattle.two_sep.specs.FirstSeeds.{AreLabelled, HasNoGoodSeed};
 ghost use Rattle.two_sep.specs.LinkedLines.{AreSizedFor, GrowsFromLabel};
 
 use crate::seeds::rule_at;
@@ -39,7 +39,7 @@ impl LinkedLines {
         column: u32,
     ) -> Result<bool, Memory>
         requires size { AreSizedFor matrix.now self.old }
-        requires linked { AreLinked matrix.now labels.now }
+        requires linked { AreLabelled matrix.now labels.now }
         requires row { row < height matrix.now }
         requires column { column < matrix.now.width }
         requires nonzero { entry matrix.now row column ≢ pos 0 }

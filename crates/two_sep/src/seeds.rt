@@ -2,7 +2,7 @@
 ghost use Rattle.std.specs.Prelude.{◌≡◌, ◌≢◌, ◌<◌, pos, IfOk, MatchOption};
 ghost use Rattle.cmr_base.specs.Matrix.{height, entry};
 ghost use Rattle.line_growth.specs.GrowingSets.{IsSizedFor, set_of};
-ghost use Rattle.two_sep.specs.FirstSeeds.{HasNoGoodSeed, IsFirstGoodSide, rule_of};
+ghost use Rattle.two_sep.specs.FirstSeeds.{HasNoGoodSeed, IsFirstGoodSide, seed_rule};
 
 use cmr_base::{Line, Memory, Position, RowsAndColumns};
 use line_growth::{Block, GrowingSet, GrowthRule, line_at};
@@ -43,7 +43,7 @@ pub fn first_good_side(
 
 /// The rule of side one of the separations with this reference.
 pub fn rule_at(row: u32, column: u32) -> GrowthRule
-    ensures { result ≡ rule_of row column }
+    ensures { result ≡ seed_rule row column }
 {
     GrowthRule {
         upper: Block::Zero,

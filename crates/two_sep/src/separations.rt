@@ -3,7 +3,7 @@ ghost use Rattle.std.specs.Prelude.{◌≢◌, ◌<◌, ◌+◌, pos, IfOk, Matc
 ghost use Rattle.cmr_base.specs.Matrix.{height, entry};
 ghost use Rattle.cmr_base.specs.Separations.{HasNoTwoSeparation};
 ghost use Rattle.line_growth.specs.GrowingSets.{IsSizedFor, set_of};
-ghost use Rattle.two_sep.specs.FirstSeeds.{AreLinked, ArePassed, HasNoGoodSeed, IsFirstGoodSide, IsFirstTwoSeparation};
+ghost use Rattle.two_sep.specs.FirstSeeds.{AreLabelled, ArePassed, HasNoGoodSeed, IsFirstGoodSide, IsFirstTwoSeparation};
 ghost use Rattle.two_sep.specs.LinkedLines.{AreSizedFor};
 
 use crate::linked_lines::LinkedLines;
@@ -84,7 +84,7 @@ fn good_side(
     linked: &mut LinkedLines,
 ) -> Result<Option<GrowingSet>, Memory>
     requires size { AreSizedFor matrix.now linked.old }
-    requires linked { AreLinked matrix.now labels.now }
+    requires linked { AreLabelled matrix.now labels.now }
     requires row { row < height matrix.now }
     requires column { column < matrix.now.width }
     requires nonzero { entry matrix.now row column ≢ pos 0 }
