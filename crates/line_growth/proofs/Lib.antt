@@ -1,3 +1,4 @@
 pub mod LineSteps
 pub mod Sums
 pub mod SetSteps
+pub mod Sweeps

@@ -6,16 +6,17 @@ use Rattle.std.proofs.lemmas.Bool.Decides.{Decides-int_eq}
 use Rattle.cmr_base.specs.BitSets.{Bits}
 use Rattle.cmr_base.specs.ColumnSets.{has_column}
 use Rattle.cmr_base.specs.Differences.{differ, differs_at}
-use Rattle.cmr_base.specs.Matrix.{Matrix, entry}
+use Rattle.cmr_base.specs.Matrix.{Matrix, entry, height, IsMatrix}
 use Rattle.cmr_base.specs.Members.{IsIn}
 use Rattle.cmr_base.specs.Planes.{has_bit}
 use Rattle.cmr_base.specs.Seeds.{count as number_of_lines}
 use Rattle.cmr_base.proofs.ColumnWords.{column_at}
+use Rattle.cmr_base.proofs.DifferenceWords.{difference_in}
 use Rattle.cmr_base.proofs.LineCounts.{count_more, count_same, less}
 use Rattle.cmr_base.proofs.Members.{in-append}
 use Rattle.cmr_base.proofs.RowLists.{two_cases}
 use Rattle.cmr_base.proofs.Booleans.{false_is, is_ne, not_both, same_test, self_eq}
-use Rattle.line_growth.specs.GrowingLines.{Growth, is_inside, count_left, IsGrowth, HasGrown, HasAdded, HasTaken}
+use Rattle.line_growth.specs.GrowingLines.{DecidesUnlike, Growth, is_inside, count_left, IsGrowth, HasGrown, HasAdded, HasTaken}
 
 -- ---- lists of waiting lines
 
@@ -220,4 +221,26 @@ module _ (m : Matrix) (row : ℕ) (factor : ℤ) (model : ℕ) where
           | inl s ↦ not_both (is_inside after x) (kept x (subst (λ (z : ℕ). is_inside lines z ≡ true) at s)) e
           | inr b ↦ not_both (is_inside after x) (subst (λ (z : ℕ). is_inside after z ≡ true) at (taken (x % 64) (omega arith) b)) e
         ])
+      ]
+
+  -- a line of a chunk that is inside and differs
+  pub chunk_unlike : IsMatrix m → row < height m → model < height m → (chunk : ℕ) (lines : Growth) → m.width ≡ lines.inside.size → (k : ℕ) × (k < 64) × (differs_at m row factor model (64 * chunk + k) ≡ true) × (is_inside lines (64 * chunk + k) ≡ true)
+      → DecidesUnlike true IsMultipleAt lines
+  chunk_unlike shape row_in model_in chunk lines width (k, s, d, e) =
+      let low = difference_in m row factor model (64 * chunk + k) shape row_in model_in d in
+      (64 * chunk + k, omega arith, e, differing (64 * chunk + k) d)
+
+  -- no line of a chunk is inside and differs
+  pub chunk_alike : (chunk : ℕ) (lines : Growth) → ((x : ℕ) → x < 64 * chunk → is_inside lines x ≡ true → IsMultipleAt x)
+      → ¬ ((k : ℕ) × (k < 64) × (differs_at m row factor model (64 * chunk + k) ≡ true) × (is_inside lines (64 * chunk + k) ≡ true))
+      → (x : ℕ) → x < 64 * (chunk + 1) → is_inside lines x ≡ true → IsMultipleAt x
+  chunk_alike chunk lines done none x l e = elim (cases_lt x (64 * chunk)) [
+    | inl h ↦ done x h e
+    | inr h ↦ there (omega arith)
+  ]
+    where
+      there : 64 * chunk + x % 64 ≡ x → IsMultipleAt x
+      there at = elim (two_cases (differs_at m row factor model (64 * chunk + x % 64))) [
+        | inr d ↦ subst (λ (z : ℕ). IsMultipleAt z) at (differs_not (entry m row (64 * chunk + x % 64)) (factor *ℤ entry m model (64 * chunk + x % 64)) d)
+        | inl d ↦ absurd (none (x % 64, omega arith, d, subst (λ (z : ℕ). is_inside lines z ≡ true) (sym at) e))
       ]

@@ -58,3 +58,8 @@ pub record HasTaken (line : ℕ) (before after : Growth) : Type 0 where
   pub line_in : line < before.inside.size
   pub others : (other : ℕ) → IsIn other before.fresh → (other ≡ line) ⊎ IsIn other after.fresh
   pub room_less : room after + 1 ≡ room before
+
+-- some line of the set fails a test, or none does
+abbrev pub DecidesUnlike : Bool → (agrees : ℕ → Type 0) → Growth → Type 0
+DecidesUnlike true agrees lines = (line : ℕ) × (line < lines.inside.size) × (is_inside lines line ≡ true) × ¬ (agrees line)
+DecidesUnlike false agrees lines = (line : ℕ) → is_inside lines line ≡ true → agrees line

@@ -10,7 +10,7 @@ use Rattle.cmr_base.specs.Separations.{Lines, count_lines_in, opposite}
 use Rattle.cmr_base.specs.Seeds.{HasAll, IsClosed, IsGrown, IsLine}
 use Rattle.line_growth.specs.declared.growing_set.GrowingSet.{GrowingSet}
 use Rattle.line_growth.specs.declared.rule.GrowthRule.{GrowthRule}
-use Rattle.line_growth.specs.GrowingLines.{is_inside, room}
+use Rattle.line_growth.specs.GrowingLines.{HasGrown, is_inside, room}
 use Rattle.line_growth.specs.Rules.{lower_of, upper_of}
 
 -- the lines of the set
@@ -53,6 +53,28 @@ pub record IsGrowing (m : Matrix) (upper_entry lower_entry : ℕ → ℕ → ℤ
 -- a set that is growing from a start before is growing from it after
 abbrev pub KeepsGrowing : Matrix → (upper lower : ℕ → ℕ → ℤ) → GrowingSet → GrowingSet → Type 0
 KeepsGrowing m upper lower before after = (start : List Line) → IsGrowing m upper lower start before → IsGrowing m upper lower start after
+
+-- ---- lines outside that break a rule with a line inside
+
+-- the row breaks the lower rule with a column of the set
+abbrev pub PullsRow : Matrix → (lower : ℕ → ℕ → ℤ) → GrowingSet → ℕ → Type 0
+PullsRow m lower set row = (column : ℕ) × (column < m.width) × (set_of set (Column column) ≡ true) × ¬ (entry m row column ≡ lower row column)
+
+-- the column breaks the upper rule with a row of the set
+abbrev pub PullsColumn : Matrix → (upper : ℕ → ℕ → ℤ) → GrowingSet → ℕ → Type 0
+PullsColumn m upper set column = (row : ℕ) × (row < height m) × (set_of set (Row row) ≡ true) × ¬ (entry m row column ≡ upper row column)
+
+-- of the first `most` rows, those that break the lower rule with a column of the set are added
+pub record HasSweptRows (m : Matrix) (lower : ℕ → ℕ → ℤ) (most : ℕ) (before after : GrowingSet) : Type 0 where
+  pub columns : after.columns ≡ before.columns
+  pub grown : HasGrown (PullsRow m lower before) before.rows after.rows
+  pub agree : (row column : ℕ) → row < most → set_of after (Row row) ≡ false → set_of before (Column column) ≡ true → entry m row column ≡ lower row column
+
+-- of the first `most` columns, those that break the upper rule with a row of the set are added
+pub record HasSweptColumns (m : Matrix) (upper : ℕ → ℕ → ℤ) (most : ℕ) (before after : GrowingSet) : Type 0 where
+  pub rows : after.rows ≡ before.rows
+  pub grown : HasGrown (PullsColumn m upper before) before.columns after.columns
+  pub agree : (row column : ℕ) → column < most → set_of before (Row row) ≡ true → set_of after (Column column) ≡ false → entry m row column ≡ upper row column
 
 -- ---- the lines outside a set
 

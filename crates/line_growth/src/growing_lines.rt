@@ -1,11 +1,11 @@
 // The rows, or the columns, of a growing set of lines.
-ghost use Rattle.std.specs.Prelude.{◌≡◌, ◌<◌, ◌≤◌, ◌+◌, ◌*◌, ◌*ℤ◌, ◌&&◌, ◌⊎◌, not, ℕ, true, false, length, IfOk, OnOk, MatchOption};
+ghost use Rattle.std.specs.Prelude.{◌≡◌, ◌<◌, ◌≤◌, ◌+◌, ◌*◌, ◌*ℤ◌, ◌&&◌, ◌⊎◌, ◌↔◌, not, ℕ, true, false, length, IfOk, OnOk, IsTrue, MatchOption};
 ghost use Rattle.cmr_base.specs.Differences.{differs_at};
 ghost use Rattle.cmr_base.specs.Planes.{has_bit, words_for};
 ghost use Rattle.cmr_base.specs.Matrix.{height, entry, IsEntry};
 ghost use Rattle.cmr_base.specs.Trees.{support};
 ghost use Rattle.line_growth.specs.Rules.{IsSumOf, sum_at};
-ghost use Rattle.line_growth.specs.GrowingLines.{HasAdded, HasGrown, HasPulled, HasTaken, IsBitOf, count_left, is_inside};
+ghost use Rattle.line_growth.specs.GrowingLines.{DecidesUnlike, HasAdded, HasGrown, HasPulled, HasTaken, IsBitOf, count_left, is_inside};
 
 use crate::rule::{Multiple, Sum};
 use cmr_base::columns::{next_column, outside};
@@ -151,6 +151,81 @@ impl GrowingLines {
         Ok(())
     }
 
+    /// Counts the pulls of all lines inside as followed.
+    pub fn forget_waiting(&mut self)
+        ensures inside { self.new.inside ≡ self.old.inside }
+        ensures none { length self.new.fresh ≡ 0 }
+    {
+        self.fresh.clear();
+    }
+
+    /// Whether the entry of a row differs from the entry of a sum in some line inside. The lines are the columns of the matrix.
+    pub fn has_unlike(&self, matrix: &Matrix, row: u32, sum: Sum) -> bool
+        requires width { matrix.now.width ≡ self.now.inside.size }
+        requires row { row < height matrix.now }
+        requires sum { IsSumOf matrix.now sum }
+        ensures { DecidesUnlike result
+            (λ line. entry matrix.now row line ≡ sum_at matrix.now sum line) self.now }
+    {
+        match sum.as_multiple() {
+            Some(multiple) => self.has_unlike_word(matrix, row, multiple),
+            None => self.has_unlike_entry(matrix, row, sum),
+        }
+    }
+
+    // The same for a multiple, a word at a time.
+    fn has_unlike_word(&self, matrix: &Matrix, row: u32, multiple: Multiple) -> bool
+        requires width { matrix.now.width ≡ self.now.inside.size }
+        requires row { row < height matrix.now }
+        requires model { multiple.model < height matrix.now }
+        requires factor { IsEntry multiple.factor }
+        ensures { DecidesUnlike result
+            (λ line. entry matrix.now row line
+            ≡ multiple.factor *ℤ entry matrix.now multiple.model line) self.now }
+    {
+        let _size = self.inside.size();
+        for chunk in 0..words_for(matrix.columns()) {
+            if self.has_unlike_bit(matrix, row, multiple, chunk) {
+                return true;
+            }
+        }
+        false
+    }
+
+    // The same in the lines of a chunk of 64.
+    fn has_unlike_bit(&self, matrix: &Matrix, row: u32, multiple: Multiple, chunk: usize) -> bool
+        requires width { matrix.now.width ≡ self.now.inside.size }
+        requires row { row < height matrix.now }
+        requires model { multiple.model < height matrix.now }
+        requires factor { IsEntry multiple.factor }
+        requires chunk { chunk < words_for matrix.now.width }
+        ensures { IsTrue result ↔ ((k : ℕ) × (k < 64)
+            × (differs_at matrix.now row multiple.factor multiple.model (64 * chunk + k) ≡ true)
+            × (is_inside self.now (64 * chunk + k) ≡ true)) }
+    {
+        let inside = self.inside.words();
+        have_common_bit(difference(matrix, row, multiple, chunk), inside[chunk])
+    }
+
+    // The same, over the lines inside.
+    fn has_unlike_entry(&self, matrix: &Matrix, row: u32, sum: Sum) -> bool
+        requires width { matrix.now.width ≡ self.now.inside.size }
+        requires row { row < height matrix.now }
+        requires sum { IsSumOf matrix.now sum }
+        ensures { DecidesUnlike result
+            (λ line. entry matrix.now row line ≡ sum_at matrix.now sum line) self.now }
+    {
+        let _size = self.inside.size();
+        let mut from = 0;
+        while let Some(line) = self.inside.next(from) {
+            if !sum.is_at(matrix, row, line) {
+                return true;
+            }
+            from = line + 1;
+        }
+        false
+    }
+
     // The columns of a chunk of 64 that are outside and in which a row differs from a multiple of another row.
     fn unlike(&self, matrix: &Matrix, row: u32, multiple: Multiple, chunk: usize) -> u64
         requires width { matrix.now.width ≡ self.now.inside.size }
@@ -165,11 +240,7 @@ impl GrowingLines {
     {
         let _rows = matrix.rows();
         let inside = self.inside.words();
-        if multiple.factor == 0 {
-            return outside(columns_of(matrix, row)[chunk], inside[chunk]);
-        }
-        let word = matrix.difference_word(row, multiple.factor, multiple.model, chunk as u32);
-        outside(word, inside[chunk])
+        outside(difference(matrix, row, multiple, chunk), inside[chunk])
     }
 
     // Adds the lines of the bits of a word. Bit k is the line `first` + k.
@@ -249,4 +320,28 @@ impl GrowingLines {
         }
         !sum.is_at(matrix, row, line)
     }
+}
+
+// The columns of a chunk of 64 in which a row differs from a multiple of another row.
+fn difference(matrix: &Matrix, row: u32, multiple: Multiple, chunk: usize) -> u64
+    requires row { row < height matrix.now }
+    requires model { multiple.model < height matrix.now }
+    requires factor { IsEntry multiple.factor }
+    requires chunk { chunk < words_for matrix.now.width }
+    ensures { (k : ℕ) → k < 64
+        → has_bit result k
+        ≡ differs_at matrix.now row multiple.factor multiple.model (64 * chunk + k) }
+{
+    let _rows = matrix.rows();
+    if multiple.factor == 0 {
+        return columns_of(matrix, row)[chunk];
+    }
+    matrix.difference_word(row, multiple.factor, multiple.model, chunk as u32)
+}
+
+fn have_common_bit(word: u64, other: u64) -> bool
+    ensures { IsTrue result
+        ↔ ((k : ℕ) × (k < 64) × (has_bit word k ≡ true) × (has_bit other k ≡ true)) }
+{
+    word & other != 0
 }

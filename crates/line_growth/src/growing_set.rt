@@ -2,12 +2,12 @@
 ghost use Rattle.std.specs.Prelude.{◌≡◌, ◌<◌, ◌+◌, ◌∷◌, ◌↔◌, [], filter, ℕ, ℤ, List, length, true, false, IsTrue, IfOk, OnOk};
 ghost use Rattle.std.specs.List.{AllByRecursion};
 ghost use Rattle.cmr_base.specs.LineSets.{first_lines};
-ghost use Rattle.cmr_base.specs.Matrix.{Matrix, height};
+ghost use Rattle.cmr_base.specs.Matrix.{Matrix, height, entry};
 ghost use Rattle.cmr_base.specs.Seeds.{IsLine, line_number, count_outside};
 ghost use Rattle.cmr_base.specs.declared.line.Line.{Line};
 ghost use Rattle.cmr_base.specs.declared.line.Line.TheVariants.{Row, Column};
 ghost use Rattle.line_growth.specs.Rules.{IsRuleOf, lower_of, upper_of};
-ghost use Rattle.line_growth.specs.GrowingSets.{DecidesLeaving, HasNone, HasSameSizes, IsGrowing, HasRoomFor, IsSizedFor, KeepsGrowing, Leaves, set_of, work};
+ghost use Rattle.line_growth.specs.GrowingSets.{DecidesLeaving, HasNone, HasSameSizes, HasSweptColumns, HasSweptRows, IsGrowing, HasRoomFor, IsSizedFor, KeepsGrowing, Leaves, PullsColumn, PullsRow, set_of, work};
 
 use crate::growing_lines::GrowingLines;
 use crate::rule::{Block, GrowthRule};
@@ -89,6 +89,90 @@ impl GrowingSet {
         self.rows.copy(&other.rows)?;
         self.columns.copy(&other.columns)?;
         Ok(())
+    }
+
+    /// Adds each line outside that breaks the rule with a line inside. Then the pulls of only these lines are to be followed,
+    /// which is faster than to follow the pulls of all lines if most lines are inside.
+    pub fn sweep(&mut self, matrix: &RowsAndColumns<'_>, rule: GrowthRule) -> Result<(), Memory>
+        requires size { IsSizedFor matrix.now self.old }
+        requires rule { IsRuleOf matrix.now rule }
+        ensures size { HasSameSizes self.old self.new }
+        ensures growing { OnOk result (KeepsGrowing matrix.now (upper_of matrix.now rule)
+            (lower_of matrix.now rule) self.old self.new) }
+    {
+        self.columns.forget_waiting();
+        self.sweep_rows(matrix, rule)?;
+        self.sweep_columns(matrix, rule)?;
+        self.rows.forget_waiting();
+        Ok(())
+    }
+
+    // Adds each row outside that breaks the rule with a column inside.
+    fn sweep_rows(&mut self, matrix: &RowsAndColumns<'_>, rule: GrowthRule) -> Result<(), Memory>
+        requires size { IsSizedFor matrix.now self.old }
+        requires rule { IsRuleOf matrix.now rule }
+        ensures size { HasSameSizes self.old self.new }
+        ensures swept { OnOk result (HasSweptRows matrix.now (lower_of matrix.now rule)
+            (height matrix.now) self.old self.new) }
+    {
+        for row in 0..matrix.rows() {
+            if self.pulls_row(matrix, rule, row) {
+                self.rows.add(row)?;
+            }
+        }
+        Ok(())
+    }
+
+    // Adds each column outside that breaks the rule with a row inside.
+    fn sweep_columns(&mut self, matrix: &RowsAndColumns<'_>, rule: GrowthRule) -> Result<(), Memory>
+        requires size { IsSizedFor matrix.now self.old }
+        requires rule { IsRuleOf matrix.now rule }
+        ensures size { HasSameSizes self.old self.new }
+        ensures swept { OnOk result (HasSweptColumns matrix.now (upper_of matrix.now rule)
+            matrix.now.width self.old self.new) }
+    {
+        for column in 0..matrix.columns() {
+            if self.pulls_column(matrix, rule, column) {
+                self.columns.add(column)?;
+            }
+        }
+        Ok(())
+    }
+
+    // Whether a row is outside and breaks the rule with a column inside.
+    fn pulls_row(&self, matrix: &RowsAndColumns<'_>, rule: GrowthRule, row: u32) -> bool
+        requires size { IsSizedFor matrix.now self.now }
+        requires rule { IsRuleOf matrix.now rule }
+        requires row { row < height matrix.now }
+        ensures yes { result ≡ true
+            → PullsRow matrix.now (lower_of matrix.now rule) self.now row }
+        ensures no { result ≡ false → set_of self.now (Row row) ≡ false
+            → (column : ℕ) → set_of self.now (Column column) ≡ true
+            → entry matrix.now row column ≡ lower_of matrix.now rule row column }
+    {
+        if self.rows.inside().has(row) {
+            return false;
+        }
+        let sum = rule.lower.row(matrix, row);
+        self.columns.has_unlike(matrix.by_rows(), row, sum)
+    }
+
+    // Whether a column is outside and breaks the rule with a row inside.
+    fn pulls_column(&self, matrix: &RowsAndColumns<'_>, rule: GrowthRule, column: u32) -> bool
+        requires size { IsSizedFor matrix.now self.now }
+        requires rule { IsRuleOf matrix.now rule }
+        requires column { column < matrix.now.width }
+        ensures yes { result ≡ true
+            → PullsColumn matrix.now (upper_of matrix.now rule) self.now column }
+        ensures no { result ≡ false → set_of self.now (Column column) ≡ false
+            → (row : ℕ) → set_of self.now (Row row) ≡ true
+            → entry matrix.now row column ≡ upper_of matrix.now rule row column }
+    {
+        if self.columns.inside().has(column) {
+            return false;
+        }
+        let sum = rule.upper.column(matrix, column);
+        self.rows.has_unlike(matrix.by_columns(), column, sum)
     }
 
     /// Grows by the rule and returns whether the set is closed. It stops earlier and returns `false` if it contains a line of

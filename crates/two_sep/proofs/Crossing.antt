@@ -81,8 +81,10 @@ module _ (m : Matrix) where
   pub own_labels_passed : IsMatrix m → (labels : List ℕ) → labels ≡ range_with_len 0 (height m + m.width) → ArePassed m 0 0 labels
   own_labels_passed is labels e = record {
     matrix = is;
-    count = ap (λ (xs : List ℕ). length xs) e ∙ length-range_with_len 0 (height m + m.width);
-    labelled = λ x y hx hy f i j side s. ap (λ (k : ℕ). side (line_at_number (height m) k)) (sym (label x hx) ∙ (f ∙ label y hy));
+    linked = record {
+      count = ap (λ (xs : List ℕ). length xs) e ∙ length-range_with_len 0 (height m + m.width);
+      labelled = λ x y hx hy f i j side s. ap (λ (k : ℕ). side (line_at_number (height m) k)) (sym (label x hx) ∙ (f ∙ label y hy));
+    };
     before = λ i j li lj b. absurd (elim b [
       | inl l ↦ (omega arith)
       | inr h ↦ (let l = h.1 in omega arith)
@@ -97,15 +99,14 @@ module _ (m : Matrix) where
     pub passed_on : row < height m → column < m.width → (entry m row column ≡ pos 0) ⊎ (get_or labels row 0 ≡ get_or labels (height m + column) 0) → ArePassed m row (column + 1) labels
     passed_on lr lc why = record {
       matrix = p.matrix;
-      count = p.count;
-      labelled = p.labelled;
+      linked = p.linked;
       before = λ i j li lj b nonzero. elim b [
         | inl l ↦ p.before i j li lj (inl l) nonzero
         | inr h ↦ elim (cases_lt j column) [
           | inl k ↦ p.before i j li lj (inr (h.0, k)) nonzero
           | inr k ↦ let q : j ≡ column = let a = h.1 in omega arith in elim why [
             | inl zero ↦ absurd (nonzero (ap₂ (entry m) h.0 q ∙ zero))
-            | inr one ↦ subst (λ (x : ℕ). AreTogether m x (height m + j)) (sym h.0) (subst (λ (x : ℕ). AreTogether m row (height m + x)) (sym q) (p.labelled row (height m + column) (omega arith) (omega arith) one))
+            | inr one ↦ subst (λ (x : ℕ). AreTogether m x (height m + j)) (sym h.0) (subst (λ (x : ℕ). AreTogether m row (height m + x)) (sym q) (p.linked.labelled row (height m + column) (omega arith) (omega arith) one))
           ]
         ]
       ];
@@ -122,9 +123,11 @@ module _ (m : Matrix) where
         let here = together_from_none m p.matrix row column lr lc nonzero none in
         record {
           matrix = p.matrix;
-          count = count ∙ p.count;
-          labelled = λ x y hx hy e. labelled here x y hx hy (nat_eq (get_or labels x 0) (get_or labels row 0)) (nat_eq (get_or labels y 0) (get_or labels row 0)) refl refl
-              (sym (is x (let a = p.count in omega arith)) ∙ (e ∙ is y (let a = p.count in omega arith)));
+          linked = record {
+            count = count ∙ p.linked.count;
+            labelled = λ x y hx hy e. labelled here x y hx hy (nat_eq (get_or labels x 0) (get_or labels row 0)) (nat_eq (get_or labels y 0) (get_or labels row 0)) refl refl
+                (sym (is x (let a = p.linked.count in omega arith)) ∙ (e ∙ is y (let a = p.linked.count in omega arith)));
+          };
           before = λ i j li lj b other. elim b [
             | inl l ↦ p.before i j li lj (inl l) other
             | inr h ↦ elim (cases_lt j column) [
@@ -140,22 +143,21 @@ module _ (m : Matrix) where
 
         labelled : AreTogether m row (height m + column) → (x y : ℕ) → x < height m + m.width → y < height m + m.width → (s t : Bool) → nat_eq (get_or labels x 0) (get_or labels row 0) ≡ s → nat_eq (get_or labels y 0) (get_or labels row 0) ≡ t
             → cond s (get_or labels (height m + column) 0) (get_or labels x 0) ≡ cond t (get_or labels (height m + column) 0) (get_or labels y 0) → AreTogether m x y
-        labelled here x y hx hy true true f g e i j side s = p.labelled x y hx hy (eq (get_or labels x 0) (get_or labels row 0) f ∙ sym (eq (get_or labels y 0) (get_or labels row 0) g)) i j side s
-        labelled here x y hx hy false false f g e i j side s = p.labelled x y hx hy e i j side s
+        labelled here x y hx hy true true f g e i j side s = p.linked.labelled x y hx hy (eq (get_or labels x 0) (get_or labels row 0) f ∙ sym (eq (get_or labels y 0) (get_or labels row 0) g)) i j side s
+        labelled here x y hx hy false false f g e i j side s = p.linked.labelled x y hx hy e i j side s
         labelled here x y hx hy true false f g e i j side s =
-            p.labelled x row hx (omega arith) (eq (get_or labels x 0) (get_or labels row 0) f) i j side s
+            p.linked.labelled x row hx (omega arith) (eq (get_or labels x 0) (get_or labels row 0) f) i j side s
             ∙ here i j side s
-            ∙ p.labelled (height m + column) y (omega arith) hy e i j side s
+            ∙ p.linked.labelled (height m + column) y (omega arith) hy e i j side s
         labelled here x y hx hy false true f g e i j side s =
-            p.labelled x (height m + column) hx (omega arith) e i j side s
+            p.linked.labelled x (height m + column) hx (omega arith) e i j side s
             ∙ sym (here i j side s)
-            ∙ p.labelled row y (omega arith) hy (sym (eq (get_or labels y 0) (get_or labels row 0) g)) i j side s
+            ∙ p.linked.labelled row y (omega arith) hy (sym (eq (get_or labels y 0) (get_or labels row 0) g)) i j side s
 
     pub passed_row : m.width ≤ column → ArePassed m (row + 1) 0 labels
     passed_row full = record {
       matrix = p.matrix;
-      count = p.count;
-      labelled = p.labelled;
+      linked = p.linked;
       before = λ i j li lj b nonzero. elim b [
         | inl l ↦ elim (cases_lt i row) [
           | inl k ↦ p.before i j li lj (inl k) nonzero

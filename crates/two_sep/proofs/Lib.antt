@@ -3,3 +3,4 @@ pub mod FirstTwo
 pub mod SeedSteps
 pub mod PartSteps
 pub mod Crossing
+pub mod LinkedSteps

@@ -15,3 +15,7 @@ line_of-column m c = let e : (m + c) - m ≡ c = omega arith in rw (is_not_lt (m
 pub number_in : (m n : ℕ) (line : Line) → IsLine m n line → line_number m line < m + n
 number_in m n (Row r) l = omega arith
 number_in m n (Column c) l = omega arith
+
+pub line_of-number : (m n : ℕ) (line : Line) → IsLine m n line → line_at_number m (line_number m line) ≡ line
+line_of-number m n (Row r) l = line_of-row m r l
+line_of-number m n (Column c) l = line_of-column m c

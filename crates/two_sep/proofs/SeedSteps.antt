@@ -10,14 +10,9 @@ use Rattle.cmr_base.proofs.RowLists.{two_cases}
 use Rattle.cmr_base.proofs.SeedLemmas.{line_is}
 use Rattle.cmr_base.proofs.Booleans.{not_false, not_is}
 use Rattle.line_growth.specs.declared.growing_set.GrowingSet.{GrowingSet}
-use Rattle.line_growth.specs.declared.rule.Block.TheVariants.{Product, Zero}
-use Rattle.line_growth.specs.declared.rule.GrowthRule.{GrowthRule}
 use Rattle.line_growth.specs.GrowingSets.{HasNoLeaving, IsClosedIn, IsGrowing, IsLeaving, set_of}
-use Rattle.two_sep.specs.FirstSeeds.{HasNoGoodSeed, IsFirstGoodSide}
+use Rattle.two_sep.specs.FirstSeeds.{HasNoGoodSeed, IsFirstGoodSide, seed_rule}
 use Rattle.two_sep.proofs.LineNumbers.{number_in}
-
-abbrev pub rule_at : ℕ → ℕ → GrowthRule
-rule_at i j = record { upper = Zero; lower = Product (record { row = i; column = j }) }
 
 module _ (m : Matrix) (i j : ℕ) (row : i < height m) (column : j < m.width) (nonzero : entry m i j ≢ pos 0) where
   abbrev h : ℕ
@@ -26,9 +21,16 @@ module _ (m : Matrix) (i j : ℕ) (row : i < height m) (column : j < m.width) (n
   abbrev pub NotGood : Line → Type 0
   NotGood seed = (side : Lines) → ¬ (IsGoodTwo (height m) m.width (entry m) i j seed side)
 
+  -- the other side is closed under the rule with the blocks exchanged
+  pub other_closed : (seed : Line) (side : Lines) → IsGoodTwo h m.width (entry m) i j seed side → IsClosedIn m (product_at (entry m) i j) zeros (opposite side)
+  other_closed seed side g = record {
+    upper = λ r c hr hc er ec. g.1.grown.closed.lower r c hr hc (not_is (side (Row r)) er) (not_false (side (Column c)) ec);
+    lower = λ r c hr hc er ec. g.1.grown.closed.upper r c hr hc (not_false (side (Row r)) er) (not_is (side (Column c)) ec);
+  }
+
   module _ (place : ℕ) (seed : Line) (seed_in : IsLine (height m) m.width seed) (number : line_number (height m) seed ≡ place) where
     -- a set that leaves the row and two lines outside is the side of a good seed
-    good_side : place ≢ i → place ≢ h + j → (S : Lines) → IsLeaving m (rule_at i j) (seed ∷ Column j ∷ []) (Row i ∷ []) 2 S → IsGoodTwo h m.width (entry m) i j seed S
+    good_side : place ≢ i → place ≢ h + j → (S : Lines) → IsLeaving m (seed_rule i j) (seed ∷ Column j ∷ []) (Row i ∷ []) 2 S → IsGoodTwo h m.width (entry m) i j seed S
     good_side not_row not_column S is = (
       record { row = row; column = column; nonzero = nonzero },
       record {
@@ -42,21 +44,15 @@ module _ (m : Matrix) (i j : ℕ) (row : i < height m) (column : j < m.width) (n
     )
 
     -- otherwise the seed is not good
-    pub not_good : HasNoLeaving m (rule_at i j) (seed ∷ Column j ∷ []) (Row i ∷ []) 2 → NotGood seed
+    pub not_good : HasNoLeaving m (seed_rule i j) (seed ∷ Column j ∷ []) (Row i ∷ []) 2 → NotGood seed
     not_good none side g = none side g.1.grown.closed g.1.grown.has (record { none = g.1.two; enough = g.1.enough })
 
     -- no line that pulls the seed in is good
-    pub bad_backwards : HasNoLeaving m (rule_at i j) (seed ∷ Column j ∷ []) (Row i ∷ []) 2 → (bad : GrowingSet) → IsGrowing m (product_at (entry m) i j) zeros (seed ∷ []) bad → (y : Line) → IsLine h m.width y → set_of bad y ≡ true → NotGood y
+    pub bad_backwards : HasNoLeaving m (seed_rule i j) (seed ∷ Column j ∷ []) (Row i ∷ []) 2 → (bad : GrowingSet) → IsGrowing m (product_at (entry m) i j) zeros (seed ∷ []) bad → (y : Line) → IsLine h m.width y → set_of bad y ≡ true → NotGood y
     bad_backwards none bad grows y y_in e side g = elim (two_cases (side seed)) [
       | inl t ↦ none side g.1.grown.closed (t, g.1.grown.has.1) (record { none = g.1.two; enough = g.1.enough })
-      | inr f ↦ false≢true (sym (not_is (side y) (grows.least (opposite side) backwards (ap not f, tt) y y_in e)) ∙ g.1.grown.has.0)
+      | inr f ↦ false≢true (sym (not_is (side y) (grows.least (opposite side) (other_closed y side g) (ap not f, tt) y y_in e)) ∙ g.1.grown.has.0)
     ]
-      where
-        backwards : IsClosedIn m (product_at (entry m) i j) zeros (opposite side)
-        backwards = record {
-          upper = λ r c hr hc er ec. g.1.grown.closed.lower r c hr hc (not_is (side (Row r)) er) (not_false (side (Column c)) ec);
-          lower = λ r c hr hc er ec. g.1.grown.closed.upper r c hr hc (not_false (side (Row r)) er) (not_is (side (Column c)) ec);
-        }
 
     -- ---- the loop over the seeds
 
@@ -72,7 +68,7 @@ module _ (m : Matrix) (i j : ℕ) (row : i < height m) (column : j < m.width) (n
     pub column_not_good : place ≡ h + j → NotGood seed
     column_not_good e side g = g.1.not_first.0 (line_is h m.width seed (Column j) seed_in column (number ∙ e))
 
-    pub first_found : ((other : Line) → IsLine h m.width other → line_number h other < place → NotGood other) → place ≢ i → place ≢ h + j → (S : Lines) → IsLeaving m (rule_at i j) (seed ∷ Column j ∷ []) (Row i ∷ []) 2 S → IsFirstGoodSide m i j S
+    pub first_found : ((other : Line) → IsLine h m.width other → line_number h other < place → NotGood other) → place ≢ i → place ≢ h + j → (S : Lines) → IsLeaving m (seed_rule i j) (seed ∷ Column j ∷ []) (Row i ∷ []) 2 S → IsFirstGoodSide m i j S
     first_found before not_row not_column S is = record {
       seed = seed;
       good = good_side not_row not_column S is;

@@ -1,2 +1,3 @@
 pub mod FirstSeeds
 pub mod FoundParts
+pub mod LinkedLines

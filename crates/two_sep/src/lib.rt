@@ -1,6 +1,7 @@
 //! The connected parts of a matrix, and its two-separations.
 #![tactic(auto)]
 
+mod linked_lines;
 mod parts;
 mod seeds;
 mod separations;

@@ -1,8 +1,8 @@
 // The first good seed at a nonzero.
-ghost use Rattle.std.specs.Prelude.{◌≢◌, ◌<◌, pos, IfOk, MatchOption};
+ghost use Rattle.std.specs.Prelude.{◌≡◌, ◌≢◌, ◌<◌, pos, IfOk, MatchOption};
 ghost use Rattle.cmr_base.specs.Matrix.{height, entry};
 ghost use Rattle.line_growth.specs.GrowingSets.{IsSizedFor, set_of};
-ghost use Rattle.two_sep.specs.FirstSeeds.{HasNoGoodSeed, IsFirstGoodSide};
+ghost use Rattle.two_sep.specs.FirstSeeds.{HasNoGoodSeed, IsFirstGoodSide, seed_rule};
 
 use cmr_base::{Line, Memory, Position, RowsAndColumns};
 use line_growth::{Block, GrowingSet, GrowthRule, line_at};
@@ -24,10 +24,7 @@ pub fn first_good_side(
         × IsFirstGoodSide matrix.now row column (set_of side))) }
 {
     let rows = matrix.rows();
-    let rule = GrowthRule {
-        upper: Block::Zero,
-        lower: Block::Product(Position { row, column }),
-    };
+    let rule = rule_at(row, column);
     let mut side = GrowingSet::new(alloc, matrix)?;
     let mut bad = GrowingSet::new(alloc, matrix)?;
     for place in 0..rows + matrix.columns() {
@@ -42,4 +39,14 @@ pub fn first_good_side(
         }
     }
     Ok(None)
+}
+
+/// The rule of side one of the separations with this reference.
+pub fn rule_at(row: u32, column: u32) -> GrowthRule
+    ensures { result ≡ seed_rule row column }
+{
+    GrowthRule {
+        upper: Block::Zero,
+        lower: Block::Product(Position { row, column }),
+    }
 }

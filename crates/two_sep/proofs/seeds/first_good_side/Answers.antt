@@ -5,10 +5,11 @@ use Rattle.cmr_base.specs.Separations.{product_at, zeros}
 use Rattle.cmr_base.proofs.Booleans.{not_both}
 use Rattle.line_growth.specs.declared.growing_set.GrowingSet.{GrowingSet}
 use Rattle.line_growth.specs.declared.rule.GrowthRule.{GrowthRule}
-use Rattle.line_growth.specs.GrowingSets.{HasNoLeaving, IsGrowing, IsSizedFor, set_of}
-use Rattle.line_growth.specs.Rules.{IsRuleOf, lower_of, upper_of}
+use Rattle.line_growth.specs.GrowingSets.{DecidesLeaving, HasNoLeaving, IsGrowing, IsSizedFor, set_of}
+use Rattle.line_growth.specs.Rules.{IsRuleOf, exchanged, lower_of, upper_of}
 use Rattle.line_growth.proofs.SetSteps.{decided_no, decided_yes, still_sized}
-use Rattle.two_sep.proofs.SeedSteps.{bad_backwards, column_not_good, first_found, none_good, not_good, row_not_good, rule_at, seeds_more}
+use Rattle.two_sep.specs.FirstSeeds.{seed_rule}
+use Rattle.two_sep.proofs.SeedSteps.{bad_backwards, column_not_good, first_found, none_good, not_good, row_not_good, seeds_more}
 use Rattle.two_sep.proofs.seeds.first_good_side.Goals as goal
 use Rattle.two_sep.proofs.seeds.first_good_side.Goals.{then-place-row+then-place-rows+then-not-has+in_ok-start+in_ok-close+else-branch+in_ok-start-2+in_ok-close-2, else-place-row, else-place-row-via-then-place-row+then-place-rows+else-not-has, else-place-row-via-then-place-row+else-place-rows, else-place-row-via-else-place-row}
 
@@ -23,10 +24,10 @@ loop-place-init c =
     }
 
 pub close-requires-clause-rule : goal.close-requires-clause-rule
-close-requires-clause-rule c = record { upper = tt; lower = (c.requires.row, c.requires.column) }
+close-requires-clause-rule c = subst (λ (r : GrowthRule). IsRuleOf c.args.matrix.now r) (sym c.rule_at-rule.ensures) (record { upper = tt; lower = (c.requires.row, c.requires.column) })
 
 pub close-requires-then-not-has-clause-rule : goal.close-requires-then-not-has-clause-rule
-close-requires-then-not-has-clause-rule c = subst (λ (r : GrowthRule). IsRuleOf c.args.matrix.now r) (sym c.exchanged.ensures) (record { upper = (c.requires.row, c.requires.column); lower = tt })
+close-requires-then-not-has-clause-rule c = subst (λ (r : GrowthRule). IsRuleOf c.args.matrix.now r) (sym (c.exchanged.ensures ∙ ap exchanged c.rule_at-rule.ensures)) (record { upper = (c.requires.row, c.requires.column); lower = tt })
 
 pub returns-then-branch : goal.returns-then-branch
 returns-then-branch c =
@@ -35,10 +36,11 @@ returns-then-branch c =
     let j = c.args.column in
     let seed = c.line_at-seed in
     let start = seed.result ∷ Column j ∷ [] in
-    let decided = c.in_ok-close.ensures.closed start (c.in_ok-start.ensures.growing _ _ _) in (
+    let decided = subst (λ (r : GrowthRule). DecidesLeaving m r start (Row i ∷ []) 2 c.in_ok-close.field-0 (set_of c.close.new.self)) c.rule_at-rule.ensures
+    (c.in_ok-close.ensures.closed start (c.in_ok-start.ensures.growing _ _ _)) in (
       still_sized m c.start.new.self c.close.new.self (still_sized m c.loop-place.side c.start.new.self c.loop-place.invariant.side_size c.start.ensures.size) c.close.ensures.size,
       first_found m i j c.requires.row c.requires.column c.requires.nonzero c.loop-place.place seed.result seed.ensures.line seed.ensures.number c.loop-place.invariant.before c.if-place-row.true
-          (λ e. c.if-place-rows.true (e ∙ ap (λ (k : ℕ). k + j) (sym c.rows-rows.ensures.rows))) (set_of c.close.new.self) (decided_yes m (rule_at i j) start (Row i ∷ []) 2 c.in_ok-close.field-0 (set_of c.close.new.self) decided c.if-branch.true),
+          (λ e. c.if-place-rows.true (e ∙ ap (λ (k : ℕ). k + j) (sym c.rows-rows.ensures.rows))) (set_of c.close.new.self) (decided_yes m (seed_rule i j) start (Row i ∷ []) 2 c.in_ok-close.field-0 (set_of c.close.new.self) decided c.if-branch.true),
     )
 
 pub loop-place-preserved : goal.loop-place-preserved
@@ -53,11 +55,12 @@ loop-place-preserved c =
     let start = seed.result ∷ Column j ∷ [] in
     elim c.if-place-row.branch [
       | then-place-row+then-place-rows+then-not-has+in_ok-start+in_ok-close+else-branch+in_ok-start-2+in_ok-close-2 w ↦
-          let decided = w.in_ok-close.ensures.closed start (w.in_ok-start.ensures.growing _ _ _) in
-          let none : HasNoLeaving m (rule_at i j) start (Row i ∷ []) 2 = decided_no m (rule_at i j) start (Row i ∷ []) 2 w.in_ok-close.field-0 (set_of w.close.new.self) decided w.if-branch.false in
+          let decided = subst (λ (r : GrowthRule). DecidesLeaving m r start (Row i ∷ []) 2 w.in_ok-close.field-0 (set_of w.close.new.self)) c.rule_at-rule.ensures
+          (w.in_ok-close.ensures.closed start (w.in_ok-start.ensures.growing _ _ _)) in
+          let none : HasNoLeaving m (seed_rule i j) start (Row i ∷ []) 2 = decided_no m (seed_rule i j) start (Row i ∷ []) 2 w.in_ok-close.field-0 (set_of w.close.new.self) decided w.if-branch.false in
           let bad = w.close-then-not-has.new.self in
           let pulled : IsGrowing m (product_at (entry m) i j) zeros (seed.result ∷ []) bad =
-          subst (λ (r : GrowthRule). IsGrowing m (upper_of m r) (lower_of m r) (seed.result ∷ []) bad) w.exchanged.ensures (w.in_ok-close-2.ensures.growing (seed.result ∷ []) (w.in_ok-start-2.ensures.growing _ _ _)) in
+          subst (λ (r : GrowthRule). IsGrowing m (upper_of m r) (lower_of m r) (seed.result ∷ []) bad) (w.exchanged.ensures ∙ ap exchanged c.rule_at-rule.ensures) (w.in_ok-close-2.ensures.growing (seed.result ∷ []) (w.in_ok-start-2.ensures.growing _ _ _)) in
           record {
             side_size = subst (λ (z : GrowingSet). IsSizedFor m z) (sym w.side-is) (still_sized m w.start.new.self w.close.new.self (still_sized m c.loop-place.side w.start.new.self so.side_size w.start.ensures.size) w.close.ensures.size);
             bad_size = subst (λ (z : GrowingSet). IsSizedFor m z) (sym w.bad-is) (still_sized m w.start-then-not-has.new.self bad (still_sized m c.loop-place.bad w.start-then-not-has.new.self so.bad_size w.start-then-not-has.ensures.size) w.close-then-not-has.ensures.size);
