@@ -10,7 +10,9 @@ use Rattle.tree_type.specs.Soundness.{IsSoundTree, part}
 use Rattle.tree_type.specs.Verdicts.{Open, verdict_of}
 use Rattle.decomp_tree.specs.PlainTrees.{plain_tree}
 use Rattle.decomp_tree.specs.Shapes.{IsFirstCase, IsLeft, IsShape}
+use Rattle.decomp_tree.specs.OpenEnds.{EndsOpen}
 use Rattle.decomp_tree.specs.PivotedLaws.{KeepsAnswer}
+use Rattle.decomp_tree.specs.PivotedShapes.{AreTooDeep}
 use Rattle.open_parts.specs.Rests.{IsFoundInRests}
 use Rattle.open_parts.specs.TriedShapes.{IsTriedWith}
 
@@ -32,11 +34,16 @@ OneTriedShape =
 abbrev pub NoPivotsTryNothing : Type 0
 NoPivotsTryNothing = (limit : ℕ) (m : Matrix) (tree : Tree) → IsTriedWith limit 0 m tree ↔ IsShape limit m tree
 
--- The lines that their verdict leaves open reach the last case, as without pivots. If pivots are allowed, no rest that was tried is a no.
+-- the number of pivots on the path to a node with which some lines are open, and where these pivots end
+abbrev pub HasEnd : (limit pivots : ℕ) → Matrix → LineSet → Type 0
+HasEnd limit pivots m lines = (made : ℕ) × (made ≤ pivots) × AreTooDeep limit made pivots m × EndsOpen limit made 1 m lines
+
+-- The lines that their verdict leaves open reach the last case, as without pivots. If pivots are allowed, no rest that was tried is a no,
+-- and the pivots have an end.
 abbrev pub OpenLinesAreTried : Type 0
 OpenLinesAreTried =
     (limit pivots : ℕ) (m : Matrix) (tree : Tree) (lines : LineSet) → IsMatrix m → IsTriedWith limit pivots m tree → verdict_of tree ≡ Open lines
-    → AreLines m lines × IsFirstCase limit (part m lines) IsLeft × (0 < pivots → IsFoundInRests limit m lines None)
+    → AreLines m lines × IsFirstCase limit (part m lines) IsLeft × (0 < pivots → IsFoundInRests limit m lines None) × HasEnd limit pivots m lines
 
 -- a fault that is found in the rests of some lines is a violator of the matrix on some of these lines
 abbrev pub FoundFaultsAreViolators : Type 0

@@ -3,4 +3,4 @@
 
 mod place;
 
-pub use place::chosen_place;
+pub use place::{LATE_STATE, chosen_place};
