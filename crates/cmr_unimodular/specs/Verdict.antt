@@ -15,7 +15,7 @@ use Rattle.tree_type.specs.DecompositionTrees.{SizedTree, tree_of}
 use Rattle.tree_type.specs.Verdicts as verdicts
 use Rattle.tree_type.specs.Verdicts.{Verdict, verdict_of}
 use Rattle.tree_text.specs.CanonicalTrees.{tree_text}
-use Rattle.open_parts.specs.Laws.{HasEnd}
+use Rattle.decomp_tree.specs.OpenEnds.{HasEnd}
 use Rattle.open_parts.specs.Rests.{IsFoundInRests}
 use Rattle.open_parts.specs.TriedShapes.{IsTriedWith}
 use Rattle.tree_laws.specs.Laws.{VerdictMeans}

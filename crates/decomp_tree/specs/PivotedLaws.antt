@@ -9,8 +9,8 @@ use Rattle.tree_type.specs.Soundness.{IsSoundTree, part}
 use Rattle.tree_type.specs.Verdicts.{Verdict, Yes, No, Open, first_in, open_at, verdict_of}
 use Rattle.decomp_tree.specs.PlainTrees.{plain_tree}
 use Rattle.decomp_tree.specs.Shapes.{IsFirstCase, IsLeft, IsShape}
-use Rattle.decomp_tree.specs.OpenEnds.{EndsOpen}
-use Rattle.decomp_tree.specs.PivotedShapes.{AreTooDeep, IsShapeWith}
+use Rattle.decomp_tree.specs.OpenEnds.{HasEnd}
+use Rattle.decomp_tree.specs.PivotedShapes.{IsShapeWith}
 
 -- no node is deeper than 2,000, with any number of pivots
 abbrev pub PivotedShapesAreTrees : Type 0
@@ -36,11 +36,9 @@ OpenLinesAreLeft =
     (limit pivots : ℕ) (m : Matrix) (tree : Tree) (lines : LineSet) → IsMatrix m → IsShapeWith limit pivots m tree → first_in open_at tree ≡ Some lines
     → AreLines m lines × IsFirstCase limit (part m lines) IsLeft
 
--- The number of pivots with which they are open, and where these pivots end
+-- from the first lines that they leave open, the pivots have an end
 abbrev pub OpenLinesEnd : Type 0
-OpenLinesEnd =
-    (limit pivots : ℕ) (m : Matrix) (tree : Tree) (lines : LineSet) → IsMatrix m → IsShapeWith limit pivots m tree → first_in open_at tree ≡ Some lines
-    → (made : ℕ) × (made ≤ pivots) × AreTooDeep limit made pivots m × EndsOpen limit made 1 m lines
+OpenLinesEnd = (limit pivots : ℕ) (m : Matrix) (tree : Tree) (lines : LineSet) → IsMatrix m → IsShapeWith limit pivots m tree → first_in open_at tree ≡ Some lines → HasEnd limit pivots m lines
 
 -- Another decomposition keeps the answer of a decomposition: a yes by the same tree, except for its networks, and a no by a no, which may
 -- name another fault.

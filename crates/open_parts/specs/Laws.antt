@@ -10,9 +10,8 @@ use Rattle.tree_type.specs.Soundness.{IsSoundTree, part}
 use Rattle.tree_type.specs.Verdicts.{Open, verdict_of}
 use Rattle.decomp_tree.specs.PlainTrees.{plain_tree}
 use Rattle.decomp_tree.specs.Shapes.{IsFirstCase, IsLeft, IsShape}
-use Rattle.decomp_tree.specs.OpenEnds.{EndsOpen}
+use Rattle.decomp_tree.specs.OpenEnds.{HasEnd}
 use Rattle.decomp_tree.specs.PivotedLaws.{KeepsAnswer}
-use Rattle.decomp_tree.specs.PivotedShapes.{AreTooDeep}
 use Rattle.open_parts.specs.Rests.{IsFoundInRests}
 use Rattle.open_parts.specs.TriedShapes.{IsTriedWith}
 
@@ -33,10 +32,6 @@ OneTriedShape =
 -- if no pivots are allowed, they are exactly the decompositions without pivots
 abbrev pub NoPivotsTryNothing : Type 0
 NoPivotsTryNothing = (limit : ℕ) (m : Matrix) (tree : Tree) → IsTriedWith limit 0 m tree ↔ IsShape limit m tree
-
--- the number of pivots on the path to a node with which some lines are open, and where these pivots end
-abbrev pub HasEnd : (limit pivots : ℕ) → Matrix → LineSet → Type 0
-HasEnd limit pivots m lines = (made : ℕ) × (made ≤ pivots) × AreTooDeep limit made pivots m × EndsOpen limit made 1 m lines
 
 -- The lines that their verdict leaves open reach the last case, as without pivots. If pivots are allowed, no rest that was tried is a no,
 -- and the pivots have an end.

@@ -2,4 +2,5 @@ pub mod LineNumbers
 pub mod FirstTwo
 pub mod SeedSteps
 pub mod PartSteps
+pub mod ApartSets
 pub mod Crossing
