@@ -32,10 +32,9 @@ class Draws:
         after = (1103515245 * self.state + 12345) % 2**31
         return after // 1024 % bound, Draws(after)
 
-
-LATE = Draws()
-for _ in range(AFTER):
-    LATE = LATE.below(1)[1]
+    def after(self, count: int) -> Draws:
+        """The draws after `count` numbers."""
+        return self.below(1)[1].after(count - 1) if count else self
 
 
 def violator_before(matrix: Matrix, row: int, column: int, fault: LineSet) -> LineSet:
@@ -106,9 +105,12 @@ class _Search:
 
 
 def _next_place(part: Matrix, draws: Draws) -> tuple[Place, Draws]:
-    """The position of the next pivot, drawn if the first cut has none. The matrix has a nonzero, as it is not reducible."""
+    """The position of the next pivot: of the first cut, after ten drawn positions one before a cut, and otherwise drawn.
+
+    The matrix has a nonzero, as it is not reducible.
+    """
     position = separating_place(part)
-    if position is None and draws == LATE:
+    if position is None and draws == Draws().after(AFTER):
         position = place_before_cut(part.to_lists())
     if position is not None:
         return position, draws

@@ -48,6 +48,7 @@ class Rules(unittest.TestCase):
             state = (1103515245 * state + 12345) % 2147483648
             self.assertEqual(number, state // 1024 % bound)
         self.assertEqual(Draws().below(1000), (1103527590 // 1024 % 1000, Draws(1103527590)))
+        self.assertEqual(Draws().after(10), Draws(267834847))
 
     def test_first_cuts(self) -> None:
         """The first cut is a cut, and there is one if and only if some set of lines is a cut."""

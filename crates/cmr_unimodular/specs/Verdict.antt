@@ -73,7 +73,7 @@ pub record IsLeftOpen (budget : ℕ) (m : Matrix) : Type 0 where
   pub above : budget < min (height m) m.width
 
 -- The submatrix with these lines is left open. If pivots are allowed, no rest of it that was tried is a no, and the pivots have an end: all
--- are made, or a submatrix that is left open after them has no nonzero whose pivot has a 2, a -2 or a cut.
+-- are made, or they lead to a submatrix that is neither recognised nor separated and has no three-separation of any kind.
 pub record IsOpenPart (budget pivots : ℕ) (m : Matrix) (lines : LineSet) : Type 0 where
   pub are_lines : AreLines m lines
   pub left : IsLeftOpen budget (part m lines)

@@ -1,5 +1,5 @@
 -- A matrix has connected parts, at least two of them if some lines, but not all, are apart from the others.
-use Rattle.std.proofs.Common.{◌≡◌, ◌<◌, ◌≤◌, ◌+◌, ◌-◌, ◌||◌, inl, inr, filter, ℕ, zero, suc, true, false, List, [], ◌∷◌, ◌++◌, length, refl, sym, ◌∙◌, subst, arith, add-one}
+use Rattle.std.proofs.Common.{◌≡◌, ◌<◌, ◌≤◌, ◌+◌, ◌-◌, ◌||◌, inl, inr, filter, ℕ, zero, suc, true, false, List, [], ◌∷◌, ◌++◌, length, refl, sym, ◌∙◌, subst, arith}
 use Rattle.std.proofs.lemmas.Bool.{false≢true, cases_lt}
 use Rattle.cmr_base.specs.declared.line.Line.{Line}
 use Rattle.cmr_base.specs.declared.line.Line.TheVariants.{Row, Column}
@@ -47,7 +47,7 @@ module _ (m : Matrix) where
 
   parts_below : (number : ℕ) → number ≤ height m + m.width → PartsBelow number
   parts_below zero l = record { parts = []; seen = λ line. false; are = found_none m (λ line. false) (λ line. refl) }
-  parts_below (suc number) l = subst PartsBelow (add-one number) (one_more number (omega arith) (parts_below number (omega arith)))
+  parts_below (suc number) l = let e : number + 1 ≡ suc number = omega arith in subst PartsBelow e (one_more number (omega arith) (parts_below number (omega arith)))
 
   components_exist : (parts : List LineSet) × AreComponents m parts
   components_exist =
