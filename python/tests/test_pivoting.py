@@ -13,7 +13,7 @@ from cmr_matrices import Answer, BadInput, Line, LineSet, Matrix, Tree
 from tests import independent
 from tests.open_matrices import RING, latin_square, models, shared_flows, two_goods
 from tests.slow_pivots import Draws, slow_tree, violator_before
-from tests.slow_separating import cut_place, first_cut, place_before_cut
+from tests.slow_separating import cut_place, first_cut, place_before_cut, separating_place
 from tests.support import FANO, asked_once, needs_program
 from tests.test_random import drawn, network
 
@@ -35,6 +35,23 @@ A_NO_IN_A_REST = [
 ]
 OPEN = [[0, 1, 1, 1, 1], [0, 0, 1, 0, 1], [0, 0, 0, 1, 1], [1, 0, 0, 0, 1], [1, -1, 0, 0, 0]]
 """Matrices that are not totally unimodular, and undecided after a pivot if no row sets are searched."""
+A_HIDDEN_SEPARATION = [
+    [0, 0, 0, 0, 1, 0, 0, 0, 0, 0, -1, -1, 0, 0, 0, 0, 0],
+    [0, 0, 0, 1, 0, 0, 1, 0, 0, 0, 0, 0, 1, 0, 0, 0, 0],
+    [0, 1, 0, 0, 0, 0, 0, -1, 0, 1, 0, 0, 0, 0, 0, 0, 0],
+    [0, 0, 0, 0, 0, 0, 0, 0, 1, 0, 0, 0, 0, 0, 1, 0, -1],
+    [0, 0, 0, 1, 0, 0, 0, 0, 0, 0, 0, 1, 0, 1, -1, 1, 0],
+    [0, 1, 0, 0, -1, 0, 0, -1, -1, 1, 0, 0, 0, 0, 0, 0, 0],
+    [1, 0, 0, 1, 0, 0, 1, 0, 0, 0, 0, 0, 0, 0, 0, 0, 0],
+    [0, 0, 1, 0, 0, 1, 0, 1, 0, 0, 0, 0, 0, -1, 0, 0, 1],
+    [0, 0, 0, 0, 0, -1, 0, 0, 0, -1, 0, 0, 1, 0, 0, 0, 0],
+    [0, -1, -1, 0, 0, 0, 1, 0, 0, 0, 1, 0, 0, 0, 0, -1, 0],
+    [1, 0, 0, 0, 0, -1, 0, 0, 0, -1, 0, 0, 0, 0, 0, 0, 0],
+    [0, -1, 0, 0, 0, 0, 1, 0, 0, 0, 0, 0, 0, 0, 0, -1, 0],
+    [0, 0, 0, 0, 0, 1, 0, 1, 0, 0, 0, 0, 0, -1, 0, 0, 0],
+    [0, 0, 0, 1, 0, 0, 0, 0, 0, 0, 0, 1, 0, 1, 0, 0, 0],
+]
+"""The matrix is totally unimodular. Ten pivots at drawn positions show no cut, and the eleventh pivot leads to one."""
 
 
 class Rules(unittest.TestCase):
@@ -225,6 +242,24 @@ class Models(AnswerTest):
             assert answer.tree is not None and answer.open is not None
             self.assertEqual((answer.verdict, str(answer.tree)), ("undecided", "0 undecided 5x5"))
             self.assertIn("`pivots=100`", str(undecided(answer)))
+
+    def test_after_ten_drawn_positions(self) -> None:
+        """The next pivot is at the first nonzero before a cut. Without it, the part is open."""
+        answer = asked_once("totally unimodular", A_HIDDEN_SEPARATION, lines=0, pivots=20)
+        self.shows_yes(A_HIDDEN_SEPARATION, answer)
+        assert answer.tree is not None
+        places = [node.place for _, node in answer.tree.walk() if node.place is not None]
+        matrix, draws = Matrix.of(A_HIDDEN_SEPARATION), Draws()
+        for place in places[:10]:
+            number, draws = draws.below(len(matrix.nonzeros))
+            row, column, _ = matrix.nonzeros[number]
+            self.assertEqual(place, (Line("row", row), Line("column", column)))
+            matrix = matrix.pivoted(row, column)
+        self.assertIsNone(separating_place(matrix))
+        found = place_before_cut(matrix.to_lists())
+        assert found is not None
+        self.assertEqual(places[10], (Line("row", found[0]), Line("column", found[1])))
+        self.assertTrue(asked_once("totally unimodular", A_HIDDEN_SEPARATION, lines=0, pivots=10).is_undecided)
 
     def test_numbers_out_of_their_range(self) -> None:
         questions: list[Callable[..., Answer]] = [cmr.is_totally_unimodular, cmr.is_regular, cmr.is_balanced]
