@@ -182,9 +182,9 @@ ends_open limit (suc pivots) state m lines tree found is are case (Some chosen, 
     go below (No fault) says (before, b, e) = none_is_some found (sym (ap (first_in open_at) e) ∙ first)
     go below (Open left) says t =
         let opened = open_drawn limit pivots chosen.state (pivoted_part m lines chosen.place) lines shape after left (λ some. EndsOpen limit pivots chosen.state (pivoted_part m lines chosen.place) some)
-            (part_pivots_stay_matrices m lines chosen.place is ternary) (lines_pivoted m lines chosen.place lines are) shaped refines
-            below
-            (first_open (first_in fault_at after) (first_in open_at after) left says) in
+        (part_pivots_stay_matrices m lines chosen.place is ternary) (lines_pivoted m lines chosen.place lines are) shaped refines
+        below
+        (first_open (first_in fault_at after) (first_in open_at after) left says) in
         record { chosen = chosen; at = choice; ternary = ternary; left = left; are = opened.0; case = opened.1; ends = opened.2 }
 
     late : AllEnd limit pivots chosen.state (pivoted_part m lines chosen.place) → (state ≡ LATE_STATE) ⊎ (state ≢ LATE_STATE) → IsChosenPlace m lines state chosen → IsLateEnd limit state m lines ⊎ LeavesOpen limit state (EndsOpen limit pivots) m lines
@@ -202,5 +202,5 @@ open_case limit pivots m tree lines is d first =
 pub open_end : OpenLinesEnd
 open_end limit pivots m tree lines is d first =
     let opened = open_drawn limit d.made 1 m (all_lines m) d.drawn.shape tree lines (λ some. EndsOpen limit d.made 1 m some) is (all_are_lines m is) d.drawn.drawn d.drawn.refines
-        (λ some t f here left replaces e. ends_open limit d.made 1 m some t f is here left replaces e) first in
+    (λ some t f here left replaces e. ends_open limit d.made 1 m some t f is here left replaces e) first in
     record { made = d.made; few = d.few; most = d.most; ends = opened.2 }

@@ -71,8 +71,7 @@ module _ (m : Matrix) where
   -- a set that is apart, with a line in it and a line outside
   pub two_parts : (S : Lines) → IsApart (height m) m.width (entry m) S → (x y : Line) → IsLineOf m x → IsLineOf m y → S x ≡ true → S y ≡ false → (parts : List LineSet) × AreComponents m parts × (2 ≤ length parts)
   two_parts S apart x y x_is y_is x_in y_out =
-      let found = components_exist in
-      (
+      let found = components_exist in (
         found.0,
         found.1,
         elim (cases_lt (length found.0) 2) [
