@@ -11,12 +11,14 @@ from dataclasses import dataclass, replace
 from cmr_matrices import BadEntry, Line, LineSet, Matrix, Node, Tree
 from cmr_matrices.line_orders import LineOrder
 from tests.slow_rests import tried_tree
-from tests.slow_separating import Place, separating_place
+from tests.slow_separating import Place, place_before_cut, separating_place
 from tests.support import asked_once
 
 __all__ = ["Draws", "slow_tree", "violator_before"]
 
 MOST_DEPTH = 2000
+AFTER = 10
+"""After this number of drawn positions, a nonzero whose pivot has a 2, a -2 or a cut comes before a drawn one."""
 
 
 @dataclass(frozen=True)
@@ -29,6 +31,10 @@ class Draws:
         """A number below a bound, and the draws after it."""
         after = (1103515245 * self.state + 12345) % 2**31
         return after // 1024 % bound, Draws(after)
+
+    def after(self, count: int) -> Draws:
+        """The draws after `count` numbers."""
+        return self.below(1)[1].after(count - 1) if count else self
 
 
 def violator_before(matrix: Matrix, row: int, column: int, fault: LineSet) -> LineSet:
@@ -99,8 +105,13 @@ class _Search:
 
 
 def _next_place(part: Matrix, draws: Draws) -> tuple[Place, Draws]:
-    """The position of the next pivot, drawn if the first cut has none. The matrix has a nonzero, as it is not reducible."""
+    """The position of the next pivot: of the first cut, after ten drawn positions one before a cut, and otherwise drawn.
+
+    The matrix has a nonzero, as it is not reducible.
+    """
     position = separating_place(part)
+    if position is None and draws == Draws().after(AFTER):
+        position = place_before_cut(part.to_lists())
     if position is not None:
         return position, draws
     number, after = draws.below(len(part.nonzeros))

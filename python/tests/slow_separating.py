@@ -9,9 +9,9 @@ from collections.abc import Collection, Iterator
 from itertools import permutations, product
 from typing import NamedTuple
 
-from cmr_matrices import Matrix
+from cmr_matrices import BadEntry, Matrix
 
-__all__ = ["Place", "cut_place", "first_cut", "separating_place"]
+__all__ = ["Place", "cut_place", "first_cut", "place_before_cut", "separating_place"]
 
 Rows = list[list[int]]
 Place = tuple[int, int]
@@ -44,6 +44,19 @@ def separating_place(matrix: Matrix) -> Place | None:
     rows = matrix.to_lists()
     side = first_cut(rows)
     return None if side is None else cut_place(rows, side)
+
+
+def place_before_cut(rows: Rows) -> Place | None:
+    """The first nonzero, by rows and then by columns, whose pivot has a 2, a -2 or a cut."""
+    matrix = Matrix.of(rows)
+    return next(((row, column) for row, column, _ in matrix.nonzeros if _gives_cut(matrix, row, column)), None)
+
+
+def _gives_cut(matrix: Matrix, row: int, column: int) -> bool:
+    try:
+        return first_cut(matrix.pivoted(row, column).to_lists()) is not None
+    except BadEntry:
+        return True
 
 
 # ---- cuts

@@ -13,7 +13,7 @@ from cmr_matrices import Answer, BadInput, Line, LineSet, Matrix, Tree
 from tests import independent
 from tests.open_matrices import RING, latin_square, models, shared_flows, two_goods
 from tests.slow_pivots import Draws, slow_tree, violator_before
-from tests.slow_separating import cut_place, first_cut
+from tests.slow_separating import cut_place, first_cut, place_before_cut, separating_place
 from tests.support import FANO, asked_once, needs_program
 from tests.test_random import drawn, network
 
@@ -35,6 +35,23 @@ A_NO_IN_A_REST = [
 ]
 OPEN = [[0, 1, 1, 1, 1], [0, 0, 1, 0, 1], [0, 0, 0, 1, 1], [1, 0, 0, 0, 1], [1, -1, 0, 0, 0]]
 """Matrices that are not totally unimodular, and undecided after a pivot if no row sets are searched."""
+A_HIDDEN_SEPARATION = [
+    [0, 0, 0, 0, 1, 0, 0, 0, 0, 0, -1, -1, 0, 0, 0, 0, 0],
+    [0, 0, 0, 1, 0, 0, 1, 0, 0, 0, 0, 0, 1, 0, 0, 0, 0],
+    [0, 1, 0, 0, 0, 0, 0, -1, 0, 1, 0, 0, 0, 0, 0, 0, 0],
+    [0, 0, 0, 0, 0, 0, 0, 0, 1, 0, 0, 0, 0, 0, 1, 0, -1],
+    [0, 0, 0, 1, 0, 0, 0, 0, 0, 0, 0, 1, 0, 1, -1, 1, 0],
+    [0, 1, 0, 0, -1, 0, 0, -1, -1, 1, 0, 0, 0, 0, 0, 0, 0],
+    [1, 0, 0, 1, 0, 0, 1, 0, 0, 0, 0, 0, 0, 0, 0, 0, 0],
+    [0, 0, 1, 0, 0, 1, 0, 1, 0, 0, 0, 0, 0, -1, 0, 0, 1],
+    [0, 0, 0, 0, 0, -1, 0, 0, 0, -1, 0, 0, 1, 0, 0, 0, 0],
+    [0, -1, -1, 0, 0, 0, 1, 0, 0, 0, 1, 0, 0, 0, 0, -1, 0],
+    [1, 0, 0, 0, 0, -1, 0, 0, 0, -1, 0, 0, 0, 0, 0, 0, 0],
+    [0, -1, 0, 0, 0, 0, 1, 0, 0, 0, 0, 0, 0, 0, 0, -1, 0],
+    [0, 0, 0, 0, 0, 1, 0, 1, 0, 0, 0, 0, 0, -1, 0, 0, 0],
+    [0, 0, 0, 1, 0, 0, 0, 0, 0, 0, 0, 1, 0, 1, 0, 0, 0],
+]
+"""The matrix is totally unimodular. Ten pivots at drawn positions show no cut, and the eleventh pivot leads to one."""
 
 
 class Rules(unittest.TestCase):
@@ -48,6 +65,7 @@ class Rules(unittest.TestCase):
             state = (1103515245 * state + 12345) % 2147483648
             self.assertEqual(number, state // 1024 % bound)
         self.assertEqual(Draws().below(1000), (1103527590 // 1024 % 1000, Draws(1103527590)))
+        self.assertEqual(Draws().after(10), Draws(267834847))
 
     def test_first_cuts(self) -> None:
         """The first cut is a cut, and there is one if and only if some set of lines is a cut."""
@@ -62,6 +80,17 @@ class Rules(unittest.TestCase):
             else:
                 self.assertTrue(is_cut(rows, side))
         self.assertGreater(min(seen.values()), 10)
+
+    def test_places_before_cuts(self) -> None:
+        """There is a nonzero before a cut, or no two sides of four lines have blocks whose ranks sum to two."""
+        draw, seen = random.Random(7), Counter[tuple[bool, bool]]()
+        for _ in range(60):
+            rows = [[draw.choice((-1, 0, 1)) for _ in range(5)] for _ in range(4)]
+            sets = (frozenset(lines) for size in (4, 5) for lines in combinations(range(9), size))
+            is_separated, place = any(rank_sum(rows, lines) == 2 for lines in sets), place_before_cut(rows)
+            self.assertTrue(place is not None or not is_separated)
+            seen[is_separated, first_cut(rows) is not None] += 1
+        self.assertGreater(len(seen), 1)
 
     def test_positions(self) -> None:
         """In side one if it is not fit, otherwise in side two; none if both are fit or there is no path."""
@@ -214,6 +243,24 @@ class Models(AnswerTest):
             self.assertEqual((answer.verdict, str(answer.tree)), ("undecided", "0 undecided 5x5"))
             self.assertIn("`pivots=100`", str(undecided(answer)))
 
+    def test_after_ten_drawn_positions(self) -> None:
+        """The next pivot is at the first nonzero before a cut. Without it, the part is open."""
+        answer = asked_once("totally unimodular", A_HIDDEN_SEPARATION, lines=0, pivots=20)
+        self.shows_yes(A_HIDDEN_SEPARATION, answer)
+        assert answer.tree is not None
+        places = [node.place for _, node in answer.tree.walk() if node.place is not None]
+        matrix, draws = Matrix.of(A_HIDDEN_SEPARATION), Draws()
+        for place in places[:10]:
+            number, draws = draws.below(len(matrix.nonzeros))
+            row, column, _ = matrix.nonzeros[number]
+            self.assertEqual(place, (Line("row", row), Line("column", column)))
+            matrix = matrix.pivoted(row, column)
+        self.assertIsNone(separating_place(matrix))
+        found = place_before_cut(matrix.to_lists())
+        assert found is not None
+        self.assertEqual(places[10], (Line("row", found[0]), Line("column", found[1])))
+        self.assertTrue(asked_once("totally unimodular", A_HIDDEN_SEPARATION, lines=0, pivots=10).is_undecided)
+
     def test_numbers_out_of_their_range(self) -> None:
         questions: list[Callable[..., Answer]] = [cmr.is_totally_unimodular, cmr.is_regular, cmr.is_balanced]
         for ask, pivots in product(questions, (-1, 101)):
@@ -317,6 +364,23 @@ def is_product(rows: Rows, one: set[int], two: set[int]) -> bool:
     block = [[rows[r][c] for c in range(len(rows[0])) if len(rows) + c in two] for r in range(len(rows)) if r in one]
     kept = [row for row in block if any(row)]
     return bool(kept) and all(row in (kept[0], [-entry for entry in kept[0]]) for row in kept)
+
+
+def rank_sum(rows: Rows, side: frozenset[int]) -> int:
+    """The sum of the ranks of the two blocks between a set of lines and the other lines."""
+    height, width = len(rows), len(rows[0])
+    blocks = ([[rows[r][c] for c in range(width) if (height + c in side) != is_one] for r in range(height) if (r in side) == is_one] for is_one in (True, False))
+    return sum(rank(block) for block in blocks)
+
+
+def rank(rows: Rows) -> int:
+    """The rank over the rational numbers."""
+    if not any(any(row) for row in rows):
+        return 0
+    first = next(row for row in rows if any(row))
+    column = next(place for place, entry in enumerate(first) if entry)
+    others = [row for row in rows if row is not first]
+    return 1 + rank([[first[column] * entry - row[column] * above for entry, above in zip(row, first)] for row in others])
 
 
 def undecided(answer: Answer) -> cmr.Undecided:

@@ -35,4 +35,4 @@ left_open budget n is = record {
 pub open_part : (budget pivots : ℕ) (m : Matrix) (tree : Tree) (lines : LineSet) → IsMatrix m → IsTriedWith budget pivots m tree → verdict_of tree ≡ Open lines → IsOpenPart budget pivots m lines
 open_part budget pivots m tree lines is shape says =
     let case = open_lines_are_tried budget pivots m tree lines is shape says in
-    record { are_lines = case.0; left = left_open budget (part m lines) case.1; tried = case.2 }
+    record { are_lines = case.0; left = left_open budget (part m lines) case.1; tried = case.2; ends = case.3 }

@@ -15,6 +15,7 @@ use Rattle.tree_type.specs.DecompositionTrees.{SizedTree, tree_of}
 use Rattle.tree_type.specs.Verdicts as verdicts
 use Rattle.tree_type.specs.Verdicts.{Verdict, verdict_of}
 use Rattle.tree_text.specs.CanonicalTrees.{tree_text}
+use Rattle.decomp_tree.specs.OpenEnds.{HasEnd}
 use Rattle.open_parts.specs.Rests.{IsFoundInRests}
 use Rattle.open_parts.specs.TriedShapes.{IsTriedWith}
 use Rattle.tree_laws.specs.Laws.{VerdictMeans}
@@ -71,11 +72,13 @@ pub record IsLeftOpen (budget : ℕ) (m : Matrix) : Type 0 where
   pub no_three_separation : HasNoThreeSeparation m
   pub above : budget < min (height m) m.width
 
--- The submatrix with these lines is left open. If pivots are allowed, no rest of it that was tried is a no.
+-- The submatrix with these lines is left open. If pivots are allowed, no rest of it that was tried is a no, and the pivots have an end: all
+-- are made, or they lead to a submatrix that is neither recognised nor separated and has no three-separation of any kind.
 pub record IsOpenPart (budget pivots : ℕ) (m : Matrix) (lines : LineSet) : Type 0 where
   pub are_lines : AreLines m lines
   pub left : IsLeftOpen budget (part m lines)
   pub tried : 0 < pivots → IsFoundInRests budget m lines None
+  pub ends : HasEnd budget pivots m lines
 
 -- ---- the report
 

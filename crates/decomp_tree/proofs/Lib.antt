@@ -35,6 +35,7 @@ pub mod PivotNodes
 pub mod RefinedSound
 pub mod FoundSound
 pub mod PivotedRoots
+pub mod LastCases
 pub mod OpenNodes
 pub mod FoundCases
 pub mod MorePivots

@@ -1,9 +1,11 @@
 -- The node that a decomposition leaves open comes to the last case, also where pivots were made.
-use Rattle.std.proofs.Common.{◌≡◌, ◌-◌, ◌∙◌, ◌++◌, inl, inr, ℕ, zero, suc, false, List, [], ◌∷◌, Option, Some, None, refl, ap, sym, subst, arith}
+use Rattle.std.proofs.Common.{◌≡◌, ◌≢◌, ◌⊎◌, ◌-◌, ◌∙◌, ◌++◌, inl, inr, ℕ, zero, suc, false, List, [], ◌∷◌, Option, Some, None, refl, ap, sym, subst, arith}
 use Rattle.std.specs.List.{AllByRecursion}
 use Rattle.std.specs.Option.{option_or}
 use Rattle.cmr_base.specs.declared.line_set.LineSet.{LineSet}
-use Rattle.cmr_base.specs.Matrix.{Matrix}
+use Rattle.cmr_base.specs.Matrix.{Matrix, IsMatrix}
+use Rattle.cmr_base.specs.PlacedPivots.{pivoted_part}
+use Rattle.cmr_base.proofs.Booleans.{same_or_not}
 use Rattle.cmr_base.proofs.Lists.{all_prefix, all_back}
 use Rattle.cmr_base.proofs.Options.{some_or, some_same}
 use Rattle.pivots.specs.declared.drawn.DrawnPlace.{DrawnPlace}
@@ -12,13 +14,19 @@ use Rattle.tree_type.specs.DecompositionTrees.{Finding, Empty, Cycle, Reduced, O
 use Rattle.tree_type.specs.Invariant.{AreLines, AreLinesOf, size_of, IsTreeWithin, AreTreesWithin}
 use Rattle.tree_type.specs.Places.{Due, These, Place, places_from, places_below, due_child, lines_of_each}
 use Rattle.tree_type.specs.Soundness.{part}
-use Rattle.tree_type.specs.Verdicts.{Verdict, Yes, No, Open, first_in, first_among, open_at, verdict_of}
+use Rattle.tree_type.specs.Verdicts.{Verdict, Yes, No, Open, fault_at, first_in, first_among, open_at, verdict_from, verdict_of}
 use Rattle.tree_type.proofs.PlacedLines.{lines_within}
 use Rattle.decomp_tree.specs.Refined.{is_undecided, Refines, AllRefine}
 use Rattle.decomp_tree.specs.Shapes.{Case, HasNoLines, HasFault, IsReducible, IsApart, IsNetwork, IsConetwork, IsR10Matrix, IsTwoSum, IsThreeSum, IsShort, IsLeft, IsFirstCase, NodeSays, finding_in, IsShapedAt, IsShapeOn}
 use Rattle.decomp_tree.specs.PivotedShapes.{IsMappedBack, IsFoundAt, IsFound, all_lines, undecided}
-use Rattle.decomp_tree.specs.PivotedLaws.{OpenLinesAreLeft}
+use Rattle.pivots.proofs.PartLaws.{part_pivots_stay_matrices}
+use Rattle.separating_places.specs.declared.place.TheConstants.{LATE_STATE}
+use Rattle.separating_places.specs.SeparatingPlaces.{IsChosenPlace}
+use Rattle.tree_laws.proofs.PivotedMatrices.{lines_pivoted}
+use Rattle.decomp_tree.specs.OpenEnds.{EndsOpen, HasEnd, IsLateEnd, LeavesOpen}
+use Rattle.decomp_tree.specs.PivotedLaws.{OpenLinesAreLeft, OpenLinesEnd}
 use Rattle.decomp_tree.proofs.FaultLines.{lines_themselves}
+use Rattle.decomp_tree.proofs.LastCases.{no_separation_left, some_drawn}
 use Rattle.decomp_tree.proofs.PivotedRoots.{all_are_lines}
 use Rattle.decomp_tree.proofs.RefinedTrees.{RefinedNode, replaced, kept, refined_node}
 use Rattle.decomp_tree.proofs.ShapeSound.{no_pivot}
@@ -107,9 +115,10 @@ open_kept lines Enumerated e = refl
 open_kept lines (Violator fault) e = refl
 open_kept lines (Pivoted place) e = refl
 
-module _ (limit : ℕ) (m : Matrix) (Replaces : LineSet → Tree → Type 0) (open_replaced : (lines : LineSet) (tree : Tree) (found : LineSet) → Replaces lines tree → first_in open_at tree ≡ Some found → found ≡ lines) where
+module _ (limit : ℕ) (m : Matrix) (Replaces : LineSet → Tree → Type 0) (Ends : LineSet → Type 0) (open_replaced : (lines : LineSet) (tree : Tree) (found : LineSet) → Replaces lines tree → first_in open_at tree ≡ Some found → found ≡ lines)
+    (end_replaced : (lines : LineSet) (tree : Tree) (found : LineSet) → AreLines m lines → IsFirstCase limit (part m lines) IsLeft → Replaces lines tree → first_in open_at tree ≡ Some found → Ends lines) where
   abbrev IsOpen : LineSet → Type 0
-  IsOpen found = AreLines m found × IsFirstCase limit (part m found) IsLeft
+  IsOpen found = AreLines m found × IsFirstCase limit (part m found) IsLeft × Ends found
 
   mutual
     open_refined : (path : List ℕ) (due : Due) (parent : LineSet) (levels : ℕ) (shape tree : Tree) (found : LineSet) → AreLines m parent → IsTreeWithin parent levels shape → AllByRecursion (IsShapedAt limit m) (places_from path [] due shape)
@@ -127,7 +136,7 @@ module _ (limit : ℕ) (m : Matrix) (Replaces : LineSet → Tree → Type 0) (op
         below_shaped = subst (λ ps. AllByRecursion (IsShapedAt limit m) (places_below path ps lines finding 0 trees)) (no_pivot [] limit (part m lines) shaped.0.case shaped.0.found shaped.0.parts lines finding shaped.0.says shaped.0.finding) shaped.1
 
         go : RefinedNode Replaces lines finding trees tree → ((below : Trees) → AllRefine Replaces trees below → first_among open_at below ≡ Some found → IsOpen found) → IsOpen found
-        go (replaced e replaces) each = subst IsOpen (sym (open_replaced lines tree found replaces first)) (here, left_here limit m place e shaped.0)
+        go (replaced e replaces) each = subst IsOpen (sym (open_replaced lines tree found replaces first)) (let left = left_here limit m place e shaped.0 in (here, left, end_replaced lines tree found here left replaces first))
         go (kept e below is all) each = each below all (ap (λ (o : Option LineSet). option_or o (first_among open_at below)) (sym (open_kept lines finding e)) ∙ sym (ap (first_in open_at) is) ∙ first)
 
     open_each : (path : List ℕ) (lines : LineSet) (finding : Finding) (levels k : ℕ) (trees below : Trees) (found : LineSet) → AreLines m lines → AreTreesWithin lines levels trees → AllByRecursion (IsShapedAt limit m) (places_below path [] lines finding k trees)
@@ -141,14 +150,57 @@ module _ (limit : ℕ) (m : Matrix) (Replaces : LineSet → Tree → Type 0) (op
           | inr h ↦ open_each path lines finding levels (suc k) trees rest found are within.1 (all_back (IsShapedAt limit m) now later shaped) all h
         ]
 
+-- ---- where the pivots end
+
+first_open : (fault undecided : Option LineSet) (left : LineSet) → verdict_from fault undecided ≡ Open left → undecided ≡ Some left
+first_open None None left e = cc
+first_open None (Some found) left e = cc
+first_open (Some fault) undecided left e = cc
+
+-- the open lines of the decomposition of a submatrix
+open_drawn : (limit pivots state : ℕ) (m : Matrix) (lines : LineSet) (shape tree : Tree) (found : LineSet) (Ends : LineSet → Type 0) → IsMatrix m → AreLines m lines → IsShapeOn limit m lines shape → Refines (IsFound limit pivots state m) shape tree
+    → ((some : LineSet) (t : Tree) (f : LineSet) → AreLines m some → IsFirstCase limit (part m some) IsLeft → IsFound limit pivots state m some t → first_in open_at t ≡ Some f → Ends some) → first_in open_at tree ≡ Some found → AreLines m found × IsFirstCase limit (part m found) IsLeft × Ends found
+open_drawn limit pivots state m lines shape tree found Ends is are shaped refines ends first =
+    open_refined limit m (IsFound limit pivots state m) Ends (λ some t f stands e. found_open limit pivots state m some t f stands e) ends
+    [] (These lines) lines (suc (size_of (lines_at_root shape))) shape tree found are
+    (shape_within limit m is [] (These lines) lines (suc (size_of (lines_at_root shape))) shape shaped are (subst (λ some. AreLinesOf some lines) (sym (shape_lines limit m lines shape shaped)) (lines_themselves m lines are)) (omega arith)) shaped refines first
+
+-- what replaces undecided nodes is open only if the pivots have an end
+abbrev AllEnd : (limit pivots state : ℕ) → Matrix → Type 0
+AllEnd limit pivots state m = (some : LineSet) (t : Tree) (f : LineSet) → AreLines m some → IsFirstCase limit (part m some) IsLeft → IsFound limit pivots state m some t → first_in open_at t ≡ Some f → EndsOpen limit pivots state m some
+
+ends_open : (limit pivots state : ℕ) (m : Matrix) (lines : LineSet) (tree : Tree) (found : LineSet) → IsMatrix m → AreLines m lines → IsFirstCase limit (part m lines) IsLeft → IsFound limit pivots state m lines tree → first_in open_at tree ≡ Some found → EndsOpen limit pivots state m lines
+ends_open limit zero state m lines tree found is are case e first = tt
+ends_open limit (suc pivots) state m lines tree found is are case (None, choice, e) first = absurd (some_drawn limit state m lines case choice.2)
+ends_open limit (suc pivots) state m lines tree found is are case (Some chosen, choice, inl (fault, shows, e)) first = none_is_some found (sym (ap (first_in open_at) e) ∙ first)
+ends_open limit (suc pivots) state m lines tree found is are case (Some chosen, choice, inr (ternary, after, (shape, shaped, refines), told)) first =
+    late (λ some t f here left stands e. ends_open limit pivots chosen.state (pivoted_part m lines chosen.place) some t f (part_pivots_stay_matrices m lines chosen.place is ternary) here left stands e)
+    (same_or_not state LATE_STATE) choice
+  where
+    go : AllEnd limit pivots chosen.state (pivoted_part m lines chosen.place) → (v : Verdict) → verdict_of after ≡ v → IsMappedBack m lines chosen.place after v tree → LeavesOpen limit state (EndsOpen limit pivots) m lines
+    go below Yes says t = none_is_some found (sym (says_yes after says).1 ∙ sym (or_none (first_in open_at after)) ∙ sym (ap (first_in open_at) t) ∙ first)
+    go below (No fault) says (before, b, e) = none_is_some found (sym (ap (first_in open_at) e) ∙ first)
+    go below (Open left) says t =
+        let opened = open_drawn limit pivots chosen.state (pivoted_part m lines chosen.place) lines shape after left (λ some. EndsOpen limit pivots chosen.state (pivoted_part m lines chosen.place) some)
+        (part_pivots_stay_matrices m lines chosen.place is ternary) (lines_pivoted m lines chosen.place lines are) shaped refines
+        below
+        (first_open (first_in fault_at after) (first_in open_at after) left says) in
+        record { chosen = chosen; at = choice; ternary = ternary; left = left; are = opened.0; case = opened.1; ends = opened.2 }
+
+    late : AllEnd limit pivots chosen.state (pivoted_part m lines chosen.place) → (state ≡ LATE_STATE) ⊎ (state ≢ LATE_STATE) → IsChosenPlace m lines state chosen → IsLateEnd limit state m lines ⊎ LeavesOpen limit state (EndsOpen limit pivots) m lines
+    late below (inl e) (inr (none, inr (early, drawn))) = inl (record { late = e; no_place = none; no_cut = early e; case = case; no_separation = no_separation_left limit m lines is are case (early e) })
+    late below (inl e) (inl at) = inr (go below (verdict_of after) refl told)
+    late below (inl e) (inr (none, inl at)) = inr (go below (verdict_of after) refl told)
+    late below (inr n) at = inr (go below (verdict_of after) refl told)
+
 -- the lines that a decomposition leaves open come to the last case
 pub open_case : OpenLinesAreLeft
 open_case limit pivots m tree lines is d first =
-    let all = all_lines m in
-    let are = all_are_lines m is in
-    let made = d.made in
-    let shape = d.drawn.shape in
-    let shaped = d.drawn.drawn in
-    open_refined limit m (IsFound limit made 1 m) (λ some t found replaces e. found_open limit made 1 m some t found replaces e)
-    [] (These all) all (suc (size_of (lines_at_root shape))) shape tree lines are
-    (shape_within limit m is [] (These all) all (suc (size_of (lines_at_root shape))) shape shaped are (subst (λ some. AreLinesOf some all) (sym (shape_lines limit m all shape shaped)) (lines_themselves m all are)) (omega arith)) shaped d.drawn.refines first
+    let opened = open_drawn limit d.made 1 m (all_lines m) d.drawn.shape tree lines (λ some. Unit {0}) is (all_are_lines m is) d.drawn.drawn d.drawn.refines (λ some t f here left replaces e. tt) first in
+    (opened.0, opened.1)
+
+pub open_end : OpenLinesEnd
+open_end limit pivots m tree lines is d first =
+    let opened = open_drawn limit d.made 1 m (all_lines m) d.drawn.shape tree lines (λ some. EndsOpen limit d.made 1 m some) is (all_are_lines m is) d.drawn.drawn d.drawn.refines
+    (λ some t f here left replaces e. ends_open limit d.made 1 m some t f is here left replaces e) first in
+    record { made = d.made; few = d.few; most = d.most; ends = opened.2 }

@@ -8,5 +8,6 @@ pub mod PlainTrees
 pub mod Levels
 pub mod Refined
 pub mod PivotedShapes
+pub mod OpenEnds
 pub mod PivotedLaws
 pub mod Obstructions

@@ -9,6 +9,7 @@ use Rattle.tree_type.specs.Soundness.{IsSoundTree, part}
 use Rattle.tree_type.specs.Verdicts.{Verdict, Yes, No, Open, first_in, open_at, verdict_of}
 use Rattle.decomp_tree.specs.PlainTrees.{plain_tree}
 use Rattle.decomp_tree.specs.Shapes.{IsFirstCase, IsLeft, IsShape}
+use Rattle.decomp_tree.specs.OpenEnds.{HasEnd}
 use Rattle.decomp_tree.specs.PivotedShapes.{IsShapeWith}
 
 -- no node is deeper than 2,000, with any number of pivots
@@ -34,6 +35,10 @@ abbrev pub OpenLinesAreLeft : Type 0
 OpenLinesAreLeft =
     (limit pivots : ℕ) (m : Matrix) (tree : Tree) (lines : LineSet) → IsMatrix m → IsShapeWith limit pivots m tree → first_in open_at tree ≡ Some lines
     → AreLines m lines × IsFirstCase limit (part m lines) IsLeft
+
+-- from the first lines that they leave open, the pivots have an end
+abbrev pub OpenLinesEnd : Type 0
+OpenLinesEnd = (limit pivots : ℕ) (m : Matrix) (tree : Tree) (lines : LineSet) → IsMatrix m → IsShapeWith limit pivots m tree → first_in open_at tree ≡ Some lines → HasEnd limit pivots m lines
 
 -- Another decomposition keeps the answer of a decomposition: a yes by the same tree, except for its networks, and a no by a no, which may
 -- name another fault.

@@ -1,7 +1,7 @@
 //! Laws of decompositions. Each is a function that does nothing: its contract is the law.
 ghost use Rattle.decomp_tree.specs.Laws.{ShapesAreTrees, ShapesAreSound};
 ghost use Rattle.decomp_tree.specs.PlainTrees.{OneShape};
-ghost use Rattle.decomp_tree.specs.PivotedLaws.{PivotedShapesAreTrees, PivotedShapesAreSound, OnePivotedShape, MorePivotsKeepAnswers, NoPivotsChangeNothing, OpenLinesAreLeft};
+ghost use Rattle.decomp_tree.specs.PivotedLaws.{PivotedShapesAreTrees, PivotedShapesAreSound, OnePivotedShape, MorePivotsKeepAnswers, NoPivotsChangeNothing, OpenLinesAreLeft, OpenLinesEnd};
 
 /// A decomposition is a tree of depth at most 2,000 that keeps all rules of decomposition trees.
 pub fn shapes_sound()
@@ -23,5 +23,6 @@ pub fn pivoted_shapes()
     ensures one { OnePivotedShape }
     ensures none { NoPivotsChangeNothing }
     ensures open_lines { OpenLinesAreLeft }
+    ensures ends { OpenLinesEnd }
     ensures more { MorePivotsKeepAnswers }
 {}

@@ -1,10 +1,14 @@
 -- Positions of pivots, the first 2 or -2 after a pivot, and the lines of a fault before it.
-use Rattle.std.proofs.Common.{◌≡◌, ◌≢◌, ◌<◌, ◌⊎◌, ◌↔◌, inl, inr, ℕ, ℤ, List, [], ◌∷◌, length, Contains, Option, Some, None, refl, arith}
+use Rattle.std.proofs.Common.{◌≡◌, ◌≢◌, ◌<◌, ◌⊎◌, ◌↔◌, inl, inr, ℕ, zero, suc, ℤ, pos, negsuc, min, max, List, [], ◌∷◌, length, get_or, Contains, Option, Some, None, refl, subst, arith}
+use Rattle.std.specs.List.{AllByRecursion}
+use Rattle.std.proofs.lemmas.Bool.{cases_lt}
 use Rattle.cmr_base.specs.declared.line_set.LineSet.{LineSet}
 use Rattle.cmr_base.specs.declared.position.Position.{Position}
 use Rattle.cmr_base.specs.Matrix.{Matrix, height, entry, IsEntry, IsMatrix}
+use Rattle.cmr_base.specs.LineSets.{submatrix}
 use Rattle.cmr_base.specs.Members.{IsIn}
 use Rattle.cmr_base.specs.PlacedPivots.{IsPlaceIn, IsTernaryPivot, pivot_entry}
+use Rattle.cmr_base.specs.Seeds.{IsBefore}
 use Rattle.cmr_base.specs.Sums.{IsOdd, sum_over}
 use Rattle.cmr_base.proofs.IncreasingLists.{IncreasesIn, increasing_row_set, increasing_column_set}
 use Rattle.cmr_base.proofs.Places.{contained_below}
@@ -16,7 +20,9 @@ use Rattle.pivots.proofs.PivotedRows.{first_two_apart, two_among}
 use Rattle.ghouila.proofs.EntryTests.{entry_or_not}
 use Rattle.camion_sign.specs.FaultLines.{IsBuilt}
 use Rattle.camion_sign.proofs.LineLists.{above}
-use Rattle.separating_places.specs.SeparatingPlaces.{IsSeparatingPlace, IsNextPlace}
+use Rattle.block_ranks.specs.PlacesBeforeCuts.{IsPlaceBefore, IsPlaceBeforeCut}
+use Rattle.separating_places.specs.declared.place.TheConstants.{LATE_STATE}
+use Rattle.separating_places.specs.SeparatingPlaces.{HasNoLatePlace, HasNoSeparatingPlace, IsLatePlace, IsNextPlace, IsSeparatingPlace}
 use Rattle.tree_type.specs.Invariant.{AreLines}
 use Rattle.decomp_tree.specs.PivotedShapes.{AreBefore}
 use Rattle.decompositions_exist.proofs.NotExcluded.{NotExcluded, one_of_two}
@@ -25,15 +31,35 @@ use Rattle.decompositions_exist.proofs.CollectedLines.{collected}
 
 -- ---- the next position
 
+abbrev place_key : Position → List ℕ
+place_key place = place.row ∷ place.column ∷ []
+
+-- after ten drawn positions there is a first nonzero before a cut if there is one
+late_exists : (m : Matrix) (lines : LineSet) (state : ℕ) (inside : Position) → state ≡ LATE_STATE → IsPlaceBeforeCut (submatrix m lines.rows lines.columns) inside → NotExcluded ((place : Position) × IsLatePlace m lines state place)
+late_exists m lines state inside late is none =
+    first_key place_key 2 (λ place. refl) (IsPlaceBeforeCut (submatrix m lines.rows lines.columns)) inside is (λ found.
+    let place : Position = record { row = get_or lines.rows found.0.row 0; column = get_or lines.columns found.0.column 0 } in
+    none (place, late, record { inside = found.0; at = record { is = found.1.has; first = λ other before b. found.1.first other before (earlier other found.0 b) }; row = refl; column = refl }))
+  where
+    earlier : (p q : Position) → IsPlaceBefore p q → IsBefore (place_key p) (place_key q)
+    earlier p q (inl l) = inl l
+    earlier p q (inr (e, l)) = inr (e, inl l)
+
 pub next_exists : (m : Matrix) (lines : LineSet) (state : ℕ) → NotExcluded ((chosen : Option DrawnPlace) × IsNextPlace m lines state chosen)
 next_exists m lines state none = one_of_two ((place : Position) × IsSeparatingPlace m lines place) (λ either. elim either [
   | inl found ↦ none (Some (record { place = found.0; state = state }), inl (found.1, refl))
-  | inr without ↦ drawn (drawn_place m lines state) refl (λ place at. without (place, at))
+  | inr without ↦ later (λ place at. without (place, at))
 ])
   where
-    drawn : (drawn : Option DrawnPlace) → drawn_place m lines state ≡ drawn → ((place : Position) → ¬ (IsSeparatingPlace m lines place)) → ⊥
-    drawn None e out = none (None, (out, e))
-    drawn (Some chosen) e out = none (Some chosen, inr (out, e))
+    drawn : HasNoSeparatingPlace m lines → HasNoLatePlace m lines state → (drawn : Option DrawnPlace) → drawn_place m lines state ≡ drawn → ⊥
+    drawn out early None e = none (None, (out, early, e))
+    drawn out early (Some chosen) e = none (Some chosen, inr (out, inr (early, e)))
+
+    later : HasNoSeparatingPlace m lines → ⊥
+    later out = one_of_two ((place : Position) × IsLatePlace m lines state place) (λ either. elim either [
+      | inl found ↦ none (Some (record { place = found.0; state = state }), inr (out, inl (found.1, refl)))
+      | inr without ↦ drawn out (λ late inside is. late_exists m lines state inside late is without) (drawn_place m lines state) refl
+    ])
 
 -- ---- the first 2 or -2
 

@@ -13,7 +13,7 @@ use Rattle.decomp_tree.specs.PlainTrees.{plain_tree}
 use Rattle.decomp_tree.specs.PivotedShapes.{IsShapeWith}
 use Rattle.decomp_tree.specs.Refined.{Refines}
 use Rattle.decomp_tree.proofs.OnePivoted.{one_pivoted_shape}
-use Rattle.decomp_tree.proofs.OpenNodes.{open_case}
+use Rattle.decomp_tree.proofs.OpenNodes.{open_case, open_end}
 use Rattle.decomp_tree.proofs.PivotedRoots.{no_pivots_change_nothing, pivoted_shapes_are_sound, pivoted_shapes_are_trees, root_is_whole}
 use Rattle.decomp_tree.proofs.PlainVerdicts.{verdict_plain}
 use Rattle.decomp_tree.proofs.RefinedTrees.{refined_lines}
@@ -184,8 +184,9 @@ module _ (limit : ℕ) (m : Matrix) (drawn tree : Tree) (lines : LineSet) (says 
 pub open_lines_are_tried : OpenLinesAreTried
 open_lines_are_tried limit pivots m tree lines is d says =
     let same = open_stays limit pivots m d.drawn tree is d.shape lines says (tried_view limit m d.drawn tree pivots d.tried) in
-    let left = open_case limit pivots m d.drawn lines is d.shape (sym (ap (first_in open_at) same) ∙ (open_verdict tree lines says).1) in
-    (left.0, left.1, λ l. left_tried limit m d.drawn tree lines says pivots l d.tried)
+    let first = sym (ap (first_in open_at) same) ∙ (open_verdict tree lines says).1 in
+    let left = open_case limit pivots m d.drawn lines is d.shape first in
+    (left.0, left.1, (λ l. left_tried limit m d.drawn tree lines says pivots l d.tried), open_end limit pivots m d.drawn lines is d.shape first)
 
 -- ---- faults
 

@@ -10,6 +10,7 @@ use Rattle.tree_type.specs.Soundness.{IsSoundTree, part}
 use Rattle.tree_type.specs.Verdicts.{Open, verdict_of}
 use Rattle.decomp_tree.specs.PlainTrees.{plain_tree}
 use Rattle.decomp_tree.specs.Shapes.{IsFirstCase, IsLeft, IsShape}
+use Rattle.decomp_tree.specs.OpenEnds.{HasEnd}
 use Rattle.decomp_tree.specs.PivotedLaws.{KeepsAnswer}
 use Rattle.open_parts.specs.Rests.{IsFoundInRests}
 use Rattle.open_parts.specs.TriedShapes.{IsTriedWith}
@@ -32,11 +33,12 @@ OneTriedShape =
 abbrev pub NoPivotsTryNothing : Type 0
 NoPivotsTryNothing = (limit : ℕ) (m : Matrix) (tree : Tree) → IsTriedWith limit 0 m tree ↔ IsShape limit m tree
 
--- The lines that their verdict leaves open reach the last case, as without pivots. If pivots are allowed, no rest that was tried is a no.
+-- The lines that their verdict leaves open reach the last case, as without pivots. If pivots are allowed, no rest that was tried is a no,
+-- and the pivots have an end.
 abbrev pub OpenLinesAreTried : Type 0
 OpenLinesAreTried =
     (limit pivots : ℕ) (m : Matrix) (tree : Tree) (lines : LineSet) → IsMatrix m → IsTriedWith limit pivots m tree → verdict_of tree ≡ Open lines
-    → AreLines m lines × IsFirstCase limit (part m lines) IsLeft × (0 < pivots → IsFoundInRests limit m lines None)
+    → AreLines m lines × IsFirstCase limit (part m lines) IsLeft × (0 < pivots → IsFoundInRests limit m lines None) × HasEnd limit pivots m lines
 
 -- a fault that is found in the rests of some lines is a violator of the matrix on some of these lines
 abbrev pub FoundFaultsAreViolators : Type 0

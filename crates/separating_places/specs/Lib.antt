@@ -1,1 +1,2 @@
 pub mod SeparatingPlaces
+pub mod Laws

@@ -106,7 +106,7 @@ module _ (m : Matrix) where
     line_here : (other : Line) → IsLine h m.width other → number ≤ line_number h other → line_number h other < number + 1 → other ≡ line
     line_here other l low high = line_is h m.width other line l inside (omega arith)
 
-    found_passes : seen line ≡ true → ArePartsFound m parts seen (number + 1)
+    pub found_passes : seen line ≡ true → ArePartsFound m parts seen (number + 1)
     found_passes here = record {
       row_sets = found.row_sets;
       column_sets = found.column_sets;

@@ -1,6 +1,6 @@
 use Rattle.decomp_tree.proofs.OnePivoted.{one_pivoted_shape}
 use Rattle.decomp_tree.proofs.MorePivots.{more_pivots_keep_answers}
-use Rattle.decomp_tree.proofs.OpenNodes.{open_case}
+use Rattle.decomp_tree.proofs.OpenNodes.{open_case, open_end}
 use Rattle.decomp_tree.proofs.PivotedRoots.{pivoted_shapes_are_trees, pivoted_shapes_are_sound, no_pivots_change_nothing}
 use Rattle.decomp_tree.proofs.laws.pivoted_shapes.Goals as goal
 
@@ -21,3 +21,6 @@ returns-clause-open_lines c = open_case
 
 pub returns-clause-more : goal.returns-clause-more
 returns-clause-more c = more_pivots_keep_answers
+
+pub returns-clause-ends : goal.returns-clause-ends
+returns-clause-ends c = open_end

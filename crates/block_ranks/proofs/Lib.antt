@@ -1,0 +1,5 @@
+pub mod PlaceSteps
+pub mod RankBlocks
+pub mod TurnedSides
+pub mod KeptCuts
+pub mod RankSeparations

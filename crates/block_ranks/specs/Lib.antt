@@ -1,0 +1,3 @@
+pub mod BlockRanks
+pub mod PlacesBeforeCuts
+pub mod Laws
