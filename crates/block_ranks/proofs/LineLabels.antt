@@ -9,7 +9,7 @@ use Rattle.cmr_base.specs.Matrix.{Matrix, height, entry, IsMatrix}
 use Rattle.cmr_base.specs.Seeds.{IsLine, line_number}
 use Rattle.cmr_base.proofs.Booleans.{eq_of}
 use Rattle.cmr_base.proofs.SeedLemmas.{line_is}
-use Rattle.block_ranks.specs.LinkedLines.{AreLinked, HaveLabelsUpTo, label_of}
+use Rattle.block_ranks.specs.LinkedLines.{AreLinkedLines, HaveLabelsUpTo, label_of}
 use Rattle.block_ranks.specs.PlacesBeforeCuts.{IsPlaceBeforeCut}
 use Rattle.block_ranks.proofs.PlaceSteps.{at, none_at_start, none_in_row, none_passed}
 
@@ -60,11 +60,11 @@ module _ (m : Matrix) (row column : ℕ) (labels : List ℕ) (have : HaveLabelsU
           let k = line_number (height m) x in
           ap (λ (xs : List ℕ). get_or xs k 0) made ∙ get_or-map new labels k 0 0 (let l = line_in m x hx in let e = have.count in omega arith)
 
-      here : AreLinked m (Row row) (Column column)
+      here : AreLinkedLines m (Row row) (Column column)
       here S out = out (at row column) (record { row = lr; column = lc; nonzero = nonzero; not_before = not_before })
 
       linked : (x y : Line) → IsLine (height m) m.width x → IsLine (height m) m.width y → (s t : Bool) → nat_eq (label_of m labels x) old ≡ s → nat_eq (label_of m labels y) old ≡ t
-          → cond s kept (label_of m labels x) ≡ cond t kept (label_of m labels y) → AreLinked m x y
+          → cond s kept (label_of m labels x) ≡ cond t kept (label_of m labels y) → AreLinkedLines m x y
       linked x y hx hy true true f g e S out = have.labelled x y hx hy (eq_of (label_of m labels x) old f ∙ sym (eq_of (label_of m labels y) old g)) S out
       linked x y hx hy false false f g e S out = have.labelled x y hx hy e S out
       linked x y hx hy true false f g e S out =

@@ -20,7 +20,7 @@ use Rattle.cuts.specs.LineCuts.{IsCut}
 use Rattle.cuts.proofs.CutLemmas.{lower_at, other_enough, other_is_cut, upper_at}
 use Rattle.three_sep.specs.FirstCuts.{HasNoCut}
 use Rattle.block_ranks.specs.BlockRanks.{is_row_of, is_column_of}
-use Rattle.block_ranks.specs.LinkedLines.{AreLinked, HasNoLinkOut}
+use Rattle.block_ranks.specs.LinkedLines.{AreLinkedLines, HasNoLinkOut}
 use Rattle.block_ranks.proofs.KeptCuts.{before_if_cut, before_if_inside, crossed_side, kept}
 use Rattle.block_ranks.proofs.RankBlocks.{HasTwoAt, none_in_column, none_in_row, two_at_any}
 use Rattle.block_ranks.proofs.TurnedSides.{column_elsewhere, column_there, cut_after, row_elsewhere, row_there, turned_enough, turned_side}
@@ -76,7 +76,7 @@ module _ (m : Matrix) (is : IsMatrix m) (r c : ℕ) (lr : r < height m) (lc : c 
 
   -- ---- the row and the column on one side
 
-  same_side : (T : Lines) → IsCut n T → T (Row r) ≡ true → T (Column c) ≡ true → AreLinked m (Row r) (Column c) → ⊥
+  same_side : (T : Lines) → IsCut n T → T (Row r) ≡ true → T (Column c) ≡ true → AreLinkedLines m (Row r) (Column c) → ⊥
   same_side T cut er ec linked = false≢true (sym (ap not ec) ∙ sym (linked (crossed_side T) (crossed_has_none_out m T is.small before)) ∙ er)
     where
       before : IsCut m T
@@ -199,10 +199,10 @@ module _ (m : Matrix) (is : IsMatrix m) (r c : ℕ) (lr : r < height m) (lc : c 
             absurd (before_if_cut m at.row at.column link.row link.column link.nonzero
             (λ small. (turned_side S at.row at.column, cut_after m S is.small enough upper_is_zero at.row at.column here small)) link.not_before)
 
-    other_sides : AreLinked m (Row r) (Column c) → ⊥
+    other_sides : AreLinkedLines m (Row r) (Column c) → ⊥
     other_sides linked = false≢true (sym row_out ∙ (linked S none_out ∙ column_in))
 
-  pub linked_has_no_cut : AreLinked m (Row r) (Column c) → HasNoCut n
+  pub linked_has_no_cut : AreLinkedLines m (Row r) (Column c) → HasNoCut n
   linked_has_no_cut linked T cut = go (two_cases (T (Row r))) (two_cases (T (Column c)))
     where
       go : (T (Row r) ≡ true) ⊎ (T (Row r) ≡ false) → (T (Column c) ≡ true) ⊎ (T (Column c) ≡ false) → ⊥

@@ -10,7 +10,7 @@ use Rattle.pivots.specs.declared.matrix_pivot.Pivoted.{Pivoted}
 use Rattle.pivots.specs.declared.matrix_pivot.Pivoted.TheVariants.{Ternary, Violated}
 use Rattle.pivots.specs.Pivoted.{IsPivoted}
 use Rattle.three_sep.specs.FirstCuts.{HasCut, HasNoCut, IsFirstCutOn}
-use Rattle.block_ranks.specs.LinkedLines.{AreLinked}
+use Rattle.block_ranks.specs.LinkedLines.{AreLinkedLines}
 use Rattle.block_ranks.specs.PlacesBeforeCuts.{HasNoneUpTo, HasNoPlaceBeforeCut, IsFirstPlaceBeforeCut, IsPlaceBeforeCut}
 use Rattle.block_ranks.proofs.LinkedCuts.{linked_has_no_cut}
 
@@ -102,7 +102,7 @@ module _ (m : Matrix) (place : Position) (row : place.row < height m) (column : 
       ]
 
   pub not_before_linked : (by_rows after : Matrix) (found : Pivoted) → by_rows ≡ m → found ≡ Ternary after → IsPivoted by_rows place.row place.column found → IsMatrix after
-      → IsMatrix m → AreLinked m (Row place.row) (Column place.column) → ¬ (IsPlaceBeforeCut m place)
+      → IsMatrix m → AreLinkedLines m (Row place.row) (Column place.column) → ¬ (IsPlaceBeforeCut m place)
   not_before_linked by_rows after found e f pivoted shape is linked =
       let made = is_after by_rows after found e f pivoted in
       let none = linked_has_no_cut m is place.row place.column row column nonzero (subst HasTernaryEntries made shape.small) linked in

@@ -20,8 +20,8 @@ abbrev pub HasNoLinkOut : Matrix → Lines → Type 0
 HasNoLinkOut m S = (place : Position) → IsLink m place → S (Row place.row) ≡ S (Column place.column)
 
 -- Each set that no link leaves has both lines or none. So a path of links leads from one line to the other.
-abbrev pub AreLinked : Matrix → Line → Line → Type 0
-AreLinked m x y = (S : Lines) → HasNoLinkOut m S → S x ≡ S y
+abbrev pub AreLinkedLines : Matrix → Line → Line → Type 0
+AreLinkedLines m x y = (S : Lines) → HasNoLinkOut m S → S x ≡ S y
 
 -- the label of a line, in a list with the labels of the rows and then of the columns
 abbrev pub label_of : Matrix → List ℕ → Line → ℕ
@@ -31,5 +31,5 @@ label_of m labels line = slice_index_or labels (line_number (height m) line) 0
 pub record HaveLabelsUpTo (m : Matrix) (row column : ℕ) (labels : List ℕ) : Type 0 where
   pub matrix : IsMatrix m
   pub count : length labels ≡ height m + m.width
-  pub labelled : (x y : Line) → IsLine (height m) m.width x → IsLine (height m) m.width y → label_of m labels x ≡ label_of m labels y → AreLinked m x y
+  pub labelled : (x y : Line) → IsLine (height m) m.width x → IsLine (height m) m.width y → label_of m labels x ≡ label_of m labels y → AreLinkedLines m x y
   pub none : HasNoneUpTo m row column

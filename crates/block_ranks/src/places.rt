@@ -3,7 +3,7 @@ ghost use Rattle.std.specs.Prelude.{◌≡◌, ◌≢◌, ◌<◌, ◌+◌, pos,
 ghost use Rattle.cmr_base.specs.declared.line.Line.TheVariants.{Column, Row};
 ghost use Rattle.cmr_base.specs.Matrix.{height, entry, IsMatrix};
 ghost use Rattle.three_sep.specs.FirstCuts.{HasCut, HasNoCut};
-ghost use Rattle.block_ranks.specs.LinkedLines.{AreLinked, HaveLabelsUpTo};
+ghost use Rattle.block_ranks.specs.LinkedLines.{AreLinkedLines, HaveLabelsUpTo};
 ghost use Rattle.block_ranks.specs.PlacesBeforeCuts.{HasNoPlaceBeforeCut, IsFirstPlaceBeforeCut, IsPlaceBeforeCut};
 
 use cmr_base::{Matrix, Memory, Position, RowsAndColumns, join_labels, own_labels};
@@ -59,7 +59,8 @@ fn place_in_row(
     Ok(None)
 }
 
-// Whether the pivot at a nonzero has a 2, a -2 or a cut. If the row and the column are linked, it has no cut.
+// Whether the pivot at a nonzero has a 2, a -2 or a cut. If the row and the column are linked, a pivot without a 2 and a -2 has
+// no cut.
 fn is_before_cut(
     alloc: Global,
     matrix: &RowsAndColumns<'_>,
@@ -71,7 +72,7 @@ fn is_before_cut(
     requires nonzero { entry matrix.now place.row place.column ≢ pos 0 }
     requires shape { IsMatrix matrix.now }
     requires linked { are_linked ≡ true
-        → AreLinked matrix.now (Row place.row) (Column place.column) }
+        → AreLinkedLines matrix.now (Row place.row) (Column place.column) }
     ensures yes { IfOk result (λ is. is ≡ true → IsPlaceBeforeCut matrix.now place) }
     ensures no { IfOk result (λ is. is ≡ false → ¬ (IsPlaceBeforeCut matrix.now place)) }
 {
