@@ -1,12 +1,11 @@
 -- A pivot inside a side of a cut keeps the cut. So a connected matrix with a cut has a nonzero whose pivot has a 2, a -2 or a cut.
-use Rattle.std.proofs.Common.{◌≡◌, ◌≢◌, ◌<◌, ◌⊎◌, inl, inr, ◌∙◌, ℕ, ℤ, pos, neg_ℤ, ◌*ℤ◌, ◌-ℤ◌, Bool, true, false, not, Contains, refl, ap, sym, subst, arith}
+use Rattle.std.proofs.Common.{◌≡◌, ◌≢◌, ◌<◌, ◌⊎◌, inl, inr, ◌∙◌, ℕ, ℤ, pos, neg_ℤ, ◌*ℤ◌, ◌-ℤ◌, true, false, not, Contains, ap, sym, subst, arith}
 use Rattle.std.proofs.lemmas.Bool.{false≢true}
 use Rattle.cmr_base.specs.declared.line.Line.TheVariants.{Row, Column}
 use Rattle.cmr_base.specs.LineSets.{first_lines}
-use Rattle.cmr_base.specs.Matrix.{Matrix, height, entry, IsEntry, IsMatrix, HasTernaryEntries}
+use Rattle.cmr_base.specs.Matrix.{Matrix, height, entry, IsMatrix, HasTernaryEntries}
 use Rattle.cmr_base.specs.PlacedPivots.{reduced}
 use Rattle.cmr_base.specs.Components.{IsApart}
-use Rattle.cmr_base.specs.declared.position.Position.{Position}
 use Rattle.cmr_base.specs.Separations.{AreEnough, Lines, opposite}
 use Rattle.cmr_base.specs.Signing.{IsSign}
 use Rattle.cmr_base.proofs.Booleans.{not_false, not_is, same_or_not}
@@ -16,12 +15,12 @@ use Rattle.cmr_base.proofs.SignEntries.{sign-mul, sign_nonzero, sign_of_entry, s
 use Rattle.ghouila.specs.PivotLaws.{pivot_at, IsPivotPlace}
 use Rattle.ghouila.proofs.PivotLaws.{entry_after, same_height}
 use Rattle.ghouila.proofs.PivotSums.{pivoted_apart, pivoted_at}
-use Rattle.ghouila.proofs.WholePivots.{entry_there, entry_in_row, entry_elsewhere}
+use Rattle.ghouila.proofs.WholePivots.{entry_in_row, entry_elsewhere}
 use Rattle.cuts.specs.LineCuts.{IsCut}
 use Rattle.cuts.proofs.CutLemmas.{lower_at, other_is_cut, upper_at}
 use Rattle.three_sep.specs.FirstCuts.{HasCut, HasNoCut}
 use Rattle.block_ranks.specs.Laws.{HasNoApartSet}
-use Rattle.block_ranks.specs.PlacesBeforeCuts.{HasNoPlaceBeforeCut}
+use Rattle.block_ranks.specs.PlacesBeforeCuts.{HasNoPlaceBeforeCut, IsPlaceBeforeCut}
 
 -- ---- products
 
@@ -53,7 +52,7 @@ negative_nonzero z n e = n (back z e)
 
 -- ---- a pivot inside side one
 
-module _ (m : Matrix) (T : Lines) (is : IsMatrix m) (cut : IsCut m T) (s t : ℕ) (ls : s < height m) (lt : t < m.width) (es : T (Row s) ≡ true) (et : T (Column t) ≡ true)
+module _ (m : Matrix) (T : Lines) (small : HasTernaryEntries m) (cut : IsCut m T) (s t : ℕ) (ls : s < height m) (lt : t < m.width) (es : T (Row s) ≡ true) (et : T (Column t) ≡ true)
     (nonzero : entry m s t ≢ pos 0) (ternary : HasTernaryEntries (pivot_at m s t)) where
   abbrev M : ℕ → ℕ → ℤ
   M = entry m
@@ -62,7 +61,7 @@ module _ (m : Matrix) (T : Lines) (is : IsMatrix m) (cut : IsCut m T) (s t : ℕ
   E = entry (pivot_at m s t)
 
   sign : IsSign (M s t)
-  sign = sign_of_entry (M s t) (is.small s t) nonzero
+  sign = sign_of_entry (M s t) (small s t) nonzero
 
   place : IsPivotPlace m s t
   place = record { row_in = ls; column_in = lt; nonzero = sign }
@@ -139,7 +138,7 @@ module _ (m : Matrix) (T : Lines) (is : IsMatrix m) (cut : IsCut m T) (s t : ℕ
 
   -- a nonzero of the upper block in the column of the corner
   upper_row : (r : ℕ) × (r < height m) × (T (Row r) ≡ true) × (E r cut.corners.j ≢ pos 0)
-  upper_row = elim (zero_or_sign (M s cut.corners.j) (is.small s cut.corners.j)) [
+  upper_row = elim (zero_or_sign (M s cut.corners.j) (small s cut.corners.j)) [
     | inr u ↦ (s, ls, es, λ e. sign_nonzero (M s t *ℤ M s cut.corners.j) (sign-mul (M s t) (M s cut.corners.j) sign u) (sym (at_row cut.corners.j cut.are_inside.column_two nj) ∙ e))
     | inl none ↦
         let n : cut.corners.i ≢ s = λ e. cut.upper (ap (λ (r : ℕ). M r cut.corners.j) e ∙ none) in (
@@ -162,7 +161,7 @@ module _ (m : Matrix) (T : Lines) (is : IsMatrix m) (cut : IsCut m T) (s t : ℕ
 
   -- a nonzero of the lower block in the row of the corner
   lower_column : (c : ℕ) × (c < m.width) × (T (Column c) ≡ true) × (E cut.corners.k c ≢ pos 0)
-  lower_column = elim (zero_or_sign (M cut.corners.k t) (is.small cut.corners.k t)) [
+  lower_column = elim (zero_or_sign (M cut.corners.k t) (small cut.corners.k t)) [
     | inr u ↦ (t, lt, et, λ e. negative_nonzero (M s t *ℤ M cut.corners.k t) (sign_nonzero (M s t *ℤ M cut.corners.k t) (sign-mul (M s t) (M cut.corners.k t) sign u)) (sym (at_column cut.corners.k cut.are_inside.row_two nk) ∙ e))
     | inl none ↦
         let n : cut.corners.p ≢ t = λ e. cut.lower (ap (λ (c : ℕ). M cut.corners.k c) e ∙ none) in (
@@ -216,6 +215,23 @@ module _ (m : Matrix) (T : Lines) (is : IsMatrix m) (cut : IsCut m T) (s t : ℕ
       row_back : (r : ℕ) → Contains (first_lines (height (pivot_at m s t))) r → r < height m
       row_back r h = let l = first_lines_contain (height (pivot_at m s t)) r h in let e = same_height m s t place in omega arith
 
+-- ---- nonzeros inside a side
+
+-- a nonzero is before a cut if a pivot without a 2 and a -2 has a cut
+pub before_if_cut : (m : Matrix) (s t : ℕ) → s < height m → t < m.width → entry m s t ≢ pos 0 → (HasTernaryEntries (pivot_at m s t) → HasCut (pivot_at m s t)) → ¬ (¬ (IsPlaceBeforeCut m (record { row = s; column = t })))
+before_if_cut m s t ls lt nonzero cut none =
+    let no_cut : ¬ (HasCut (pivot_at m s t)) = λ after. none (record { row = ls; column = lt; nonzero = nonzero; after = inr after }) in
+    none (record { row = ls; column = lt; nonzero = nonzero; after = inl (λ ternary. no_cut (cut ternary)) })
+
+-- a nonzero inside side one of a cut is before a cut
+pub before_if_inside : (m : Matrix) (T : Lines) → HasTernaryEntries m → IsCut m T → (s t : ℕ) → s < height m → t < m.width → T (Row s) ≡ true → T (Column t) ≡ true → entry m s t ≢ pos 0 → ¬ (¬ (IsPlaceBeforeCut m (record { row = s; column = t })))
+before_if_inside m T small cut s t ls lt es et nonzero = before_if_cut m s t ls lt nonzero (λ ternary. (T, kept m T small cut s t ls lt es et nonzero ternary))
+
+-- the rows of side one, and the columns of side two
+abbrev pub crossed_side : Lines → Lines
+crossed_side T (Row r) = T (Row r)
+crossed_side T (Column c) = not (T (Column c))
+
 -- ---- connected matrices
 
 module _ (m : Matrix) (is : IsMatrix m) (none : HasNoPlaceBeforeCut m) where
@@ -223,21 +239,13 @@ module _ (m : Matrix) (is : IsMatrix m) (none : HasNoPlaceBeforeCut m) where
   no_inner : (T : Lines) → IsCut m T → (s t : ℕ) → s < height m → t < m.width → T (Row s) ≡ true → T (Column t) ≡ true → entry m s t ≡ pos 0
   no_inner T cut s t ls lt es et = elim (zero_or_sign (entry m s t) (is.small s t)) [
     | inl e ↦ e
-    | inr u ↦ absurd (let nonzero = sign_nonzero (entry m s t) u in
-        let at : Position = record { row = s; column = t } in
-        let no_cut : ¬ (HasCut (pivot_at m s t)) = λ after. none at (record { row = ls; column = lt; nonzero = nonzero; after = inr after }) in
-        none at (record { row = ls; column = lt; nonzero = nonzero; after = inl (λ ternary. no_cut (T, kept m T is cut s t ls lt es et nonzero ternary)) }))
+    | inr u ↦ absurd (before_if_inside m T is.small cut s t ls lt es et (sign_nonzero (entry m s t) u) (none (record { row = s; column = t })))
   ]
 
   pub no_cut_if_connected : HasNoApartSet m → HasNoCut m
-  no_cut_if_connected connected T cut = connected crossed apart (Row cut.corners.i) (Row cut.corners.k) cut.are_inside.row_one cut.are_inside.row_two cut.cut.row_one cut.cut.row_two
+  no_cut_if_connected connected T cut = connected (crossed_side T) apart (Row cut.corners.i) (Row cut.corners.k) cut.are_inside.row_one cut.are_inside.row_two cut.cut.row_one cut.cut.row_two
     where
-      -- the rows of side one, and the columns of side two
-      crossed : Lines
-      crossed (Row r) = T (Row r)
-      crossed (Column c) = not (T (Column c))
-
-      apart : IsApart (height m) m.width (entry m) crossed
+      apart : IsApart (height m) m.width (entry m) (crossed_side T)
       apart = record {
         upper = λ r c hr hc er ec. no_inner T cut r c (first_lines_contain (height m) r hr) (first_lines_contain m.width c hc) er (not_false (T (Column c)) ec);
         lower = λ r c hr hc er ec. no_inner (opposite T) (other_is_cut m T cut) r c (first_lines_contain (height m) r hr) (first_lines_contain m.width c hc) (ap not er) (ap not (not_is (T (Column c)) ec));

@@ -3,3 +3,5 @@ pub mod RankBlocks
 pub mod TurnedSides
 pub mod KeptCuts
 pub mod RankSeparations
+pub mod LinkedCuts
+pub mod LineLabels

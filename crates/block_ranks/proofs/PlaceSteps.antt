@@ -1,15 +1,18 @@
 -- Positions before a cut, by rows and then by columns.
-use Rattle.std.proofs.Common.{◌≡◌, ◌≢◌, ◌<◌, ◌≤◌, ◌+◌, ◌⊎◌, inl, inr, ◌∙◌, ℕ, pos, Bool, true, false, Option, Some, None, MatchOption, is_some, refl, ap, sym, subst, arith}
+use Rattle.std.proofs.Common.{◌≡◌, ◌≢◌, ◌<◌, ◌≤◌, ◌+◌, inl, inr, ◌∙◌, ℕ, pos, Bool, true, false, Option, Some, None, MatchOption, is_some, ap, sym, subst, arith}
 use Rattle.std.proofs.lemmas.Bool.{cases_lt, false≢true}
+use Rattle.cmr_base.specs.declared.line.Line.TheVariants.{Row, Column}
 use Rattle.cmr_base.specs.declared.position.Position.{Position}
 use Rattle.cmr_base.specs.declared.line_set.LineSet.{LineSet}
-use Rattle.cmr_base.specs.Matrix.{Matrix, height, entry, IsEntry, IsMatrix}
+use Rattle.cmr_base.specs.Matrix.{Matrix, height, entry, IsEntry, IsMatrix, HasTernaryEntries}
 use Rattle.ghouila.specs.PivotLaws.{pivot_at}
 use Rattle.pivots.specs.declared.matrix_pivot.Pivoted.{Pivoted}
 use Rattle.pivots.specs.declared.matrix_pivot.Pivoted.TheVariants.{Ternary, Violated}
 use Rattle.pivots.specs.Pivoted.{IsPivoted}
 use Rattle.three_sep.specs.FirstCuts.{HasCut, HasNoCut, IsFirstCutOn}
+use Rattle.block_ranks.specs.LinkedLines.{AreLinkedLines}
 use Rattle.block_ranks.specs.PlacesBeforeCuts.{HasNoneUpTo, HasNoPlaceBeforeCut, IsFirstPlaceBeforeCut, IsPlaceBeforeCut}
+use Rattle.block_ranks.proofs.LinkedCuts.{linked_has_no_cut}
 
 abbrev pub at : ℕ → ℕ → Position
 at row column = record { row = row; column = column }
@@ -97,6 +100,13 @@ module _ (m : Matrix) (place : Position) (row : place.row < height m) (column : 
         | inl two ↦ two (subst (λ (x : Matrix). (i j : ℕ) → IsEntry (entry x i j)) made is.small)
         | inr cut ↦ subst HasNoCut made none cut.0 cut.1
       ]
+
+  pub not_before_linked : (by_rows after : Matrix) (found : Pivoted) → by_rows ≡ m → found ≡ Ternary after → IsPivoted by_rows place.row place.column found → IsMatrix after
+      → IsMatrix m → AreLinkedLines m (Row place.row) (Column place.column) → ¬ (IsPlaceBeforeCut m place)
+  not_before_linked by_rows after found e f pivoted shape is linked =
+      let made = is_after by_rows after found e f pivoted in
+      let none = linked_has_no_cut m is place.row place.column row column nonzero (subst HasTernaryEntries made shape.small) linked in
+      not_before_cut by_rows after found e f pivoted shape (subst HasNoCut (sym made) none)
 
 -- ---- whether there is a cut
 

@@ -1,24 +1,20 @@
 -- A three-separation is a cut, or a cut after a pivot.
-use Rattle.std.proofs.Common.{◌≡◌, ◌≢◌, ◌<◌, ◌+◌, ◌⊎◌, inl, inr, ◌∙◌, ℕ, zero, suc, ℤ, Bool, true, false, not, List, refl, ap, sym, subst, arith}
-use Rattle.std.proofs.lemmas.Bool.{false≢true}
-use Rattle.std.specs.List.{AllByRecursion}
+use Rattle.std.proofs.Common.{◌≡◌, ◌+◌, ℕ, zero, suc, ℤ, true, false, not, ap, subst, arith}
 use Rattle.cmr_base.specs.declared.line.Line.TheVariants.{Row, Column}
-use Rattle.cmr_base.specs.declared.position.Position.{Position}
 use Rattle.cmr_base.specs.LineSets.{first_lines}
-use Rattle.cmr_base.specs.Matrix.{Matrix, height, entry, IsEntry, IsMatrix, HasTernaryEntries}
+use Rattle.cmr_base.specs.Matrix.{Matrix, height, entry, IsMatrix}
 use Rattle.cmr_base.specs.Separations.{AreEnough, Lines, opposite}
-use Rattle.cmr_base.proofs.Booleans.{not_is, not_false, is_not}
+use Rattle.cmr_base.proofs.Booleans.{not_is, not_false}
 use Rattle.cmr_base.proofs.ListedLines.{first_lines_contain}
 use Rattle.cmr_base.proofs.Lists.{all_weaker}
-use Rattle.ghouila.specs.PivotLaws.{pivot_at}
 use Rattle.cuts.specs.LineCuts.{IsCut}
 use Rattle.cuts.proofs.CutLemmas.{other_enough}
-use Rattle.three_sep.specs.FirstCuts.{HasCut, HasNoCut}
-use Rattle.block_ranks.specs.BlockRanks.{HasLowerRank, HasNoRankSeparation, HasRank, HasUpperRank, IsRankSeparation, IsSquareIn, is_row_of, is_column_of}
+use Rattle.three_sep.specs.FirstCuts.{HasNoCut}
+use Rattle.block_ranks.specs.BlockRanks.{HasLowerRank, HasNoRankSeparation, HasRank, HasUpperRank, is_row_of, is_column_of}
 use Rattle.block_ranks.specs.Laws.{NoPlaceMeansNoSeparation}
 use Rattle.block_ranks.specs.PlacesBeforeCuts.{HasNoPlaceBeforeCut}
-use Rattle.block_ranks.proofs.KeptCuts.{no_cut_if_connected}
-use Rattle.block_ranks.proofs.RankBlocks.{product_block, two_block}
+use Rattle.block_ranks.proofs.KeptCuts.{before_if_cut, no_cut_if_connected}
+use Rattle.block_ranks.proofs.RankBlocks.{product_block, two_block, zero_block}
 use Rattle.block_ranks.proofs.TurnedSides.{cut_after, turned_side}
 
 -- the same block by other tests
@@ -68,15 +64,13 @@ module _ (m : Matrix) (is : IsMatrix m) where
   -- one block is zero, and the other has rank two
   no_two : HasNoPlaceBeforeCut m → (T : Lines) → AreEnough (first_lines (height m)) (first_lines m.width) T 4 → HasUpperRank m T 0 → HasLowerRank m T 2 → ⊥
   no_two none T enough empty rank =
-      let two = two_block (entry m) (is_row_of m T false) (is_column_of m T true) (λ r c hr hc. is.small r c) rank in
-      let at : Position = record { row = two.row; column = two.column } in
-      let no_cut : ¬ (HasCut (pivot_at m two.row two.column)) = λ cut. none at (record { row = two.row_in.0; column = two.column_in.0; nonzero = two.nonzero; after = inr cut }) in
-      none at (record {
-        row = two.row_in.0;
-        column = two.column_in.0;
-        nonzero = two.nonzero;
-        after = inl (λ ternary. no_cut (turned_side T two.row two.column, cut_after m T is enough empty rank two ternary));
-      })
+      let found = two_block (entry m) (is_row_of m T false) (is_column_of m T true) (λ r c hr hc. is.small r c) rank in
+      let k = found.0 in
+      let p = found.1 in
+      let two = found.2 in
+      before_if_cut m k p two.row_in.0 two.column_in.0 two.nonzero
+      (λ ternary. (turned_side T k p, cut_after m T is.small enough (zero_block (entry m) (is_row_of m T true) (is_column_of m T false) empty) k p two ternary))
+      (none (record { row = k; column = p }))
 
   pub no_separation : HasNoCut m → HasNoPlaceBeforeCut m → HasNoRankSeparation m
   no_separation no_cut none T s = go s.upper_rank s.lower_rank s.sum s.upper s.lower

@@ -1,15 +1,14 @@
 -- A three-separation with a block of rank two and a block of rank zero is a cut after a pivot at a nonzero of the block.
-use Rattle.std.proofs.Common.{◌≡◌, ◌≢◌, ◌<◌, ◌≤◌, ◌+◌, ◌⊎◌, inl, inr, ◌∙◌, ℕ, suc, ℤ, pos, neg_ℤ, ◌*ℤ◌, ◌-ℤ◌, Bool, true, false, not, cond, nat_eq, refl, ap, ap₂, sym, subst, arith}
+use Rattle.std.proofs.Common.{◌≡◌, ◌≢◌, ◌<◌, ◌⊎◌, inl, inr, ◌∙◌, ℕ, suc, ℤ, pos, neg_ℤ, ◌*ℤ◌, ◌-ℤ◌, Bool, true, false, not, cond, nat_eq, refl, ap, sym, subst, arith}
 use Rattle.std.proofs.lemmas.Bool.{false≢true}
-use Rattle.cmr_base.specs.declared.line.Line.{Line}
 use Rattle.cmr_base.specs.declared.line.Line.TheVariants.{Row, Column}
 use Rattle.cmr_base.specs.LineSets.{first_lines}
-use Rattle.cmr_base.specs.Matrix.{Matrix, height, entry, IsEntry, IsMatrix, HasTernaryEntries}
-use Rattle.cmr_base.specs.PlacedPivots.{pivot_entry, reduced}
+use Rattle.cmr_base.specs.Matrix.{Matrix, height, entry, IsEntry, HasTernaryEntries}
+use Rattle.cmr_base.specs.PlacedPivots.{reduced}
 use Rattle.cmr_base.specs.Seeds.{count}
 use Rattle.cmr_base.specs.Separations.{AreEnough, Lines, count_lines_in, opposite, product_at}
 use Rattle.cmr_base.specs.Signing.{IsSign}
-use Rattle.cmr_base.proofs.Booleans.{two_cases, eq_of, self_eq, is_ne, ne_of, same_or_not}
+use Rattle.cmr_base.proofs.Booleans.{eq_of, self_eq, is_ne, ne_of, same_or_not}
 use Rattle.cmr_base.proofs.Integers.{sums, products}
 use Rattle.cmr_base.proofs.LineCounts.{less, count_more, count_same, inside_is}
 use Rattle.cmr_base.proofs.ListedLines.{first_lines_contain}
@@ -19,8 +18,8 @@ use Rattle.ghouila.proofs.PivotLaws.{entry_after, same_height}
 use Rattle.ghouila.proofs.PivotSums.{pivoted_apart, pivoted_at}
 use Rattle.ghouila.proofs.WholePivots.{entry_there, entry_in_row, entry_elsewhere}
 use Rattle.cuts.specs.LineCuts.{IsCut}
-use Rattle.block_ranks.specs.BlockRanks.{is_row_of, is_column_of, HasLowerRank, HasUpperRank}
-use Rattle.block_ranks.proofs.RankBlocks.{HasTwo, two_block, two_rest, zero_block}
+use Rattle.block_ranks.specs.BlockRanks.{is_row_of, is_column_of}
+use Rattle.block_ranks.proofs.RankBlocks.{HasTwoAt, none_in_column, none_in_row}
 
 -- ---- counts
 
@@ -40,16 +39,16 @@ turned_side T k p (Row r) = cond (nat_eq k r) true (T (Row r))
 turned_side T k p (Column c) = cond (nat_eq p c) false (T (Column c))
 
 module _ (T : Lines) (k p : ℕ) where
-  row_there : turned_side T k p (Row k) ≡ true
+  pub row_there : turned_side T k p (Row k) ≡ true
   row_there = ap (λ (t : Bool). cond t true (T (Row k))) (self_eq k)
 
-  row_elsewhere : (r : ℕ) → r ≢ k → turned_side T k p (Row r) ≡ T (Row r)
+  pub row_elsewhere : (r : ℕ) → r ≢ k → turned_side T k p (Row r) ≡ T (Row r)
   row_elsewhere r n = ap (λ (t : Bool). cond t true (T (Row r))) (is_ne k r (λ e. n (sym e)))
 
-  column_there : turned_side T k p (Column p) ≡ false
+  pub column_there : turned_side T k p (Column p) ≡ false
   column_there = ap (λ (t : Bool). cond t false (T (Column p))) (self_eq p)
 
-  column_elsewhere : (c : ℕ) → c ≢ p → turned_side T k p (Column c) ≡ T (Column c)
+  pub column_elsewhere : (c : ℕ) → c ≢ p → turned_side T k p (Column c) ≡ T (Column c)
   column_elsewhere c n = ap (λ (t : Bool). cond t false (T (Column c))) (is_ne p c (λ e. n (sym e)))
 
   -- as many lines on each side
@@ -112,14 +111,8 @@ module _ (a x y : ℤ) (one : a *ℤ a ≡ pos 1) where
 
 -- ---- the cut after the pivot
 
-module _ (m : Matrix) (T : Lines) (is : IsMatrix m) (enough : AreEnough (first_lines (height m)) (first_lines m.width) T 4)
-    (empty : HasUpperRank m T 0) (rank : HasLowerRank m T 2) (two : HasTwo (entry m) (is_row_of m T false) (is_column_of m T true)) where
-  abbrev k : ℕ
-  k = two.row
-
-  abbrev p : ℕ
-  p = two.column
-
+module _ (m : Matrix) (T : Lines) (small : HasTernaryEntries m) (enough : AreEnough (first_lines (height m)) (first_lines m.width) T 4)
+    (empty : (r c : ℕ) → is_row_of m T true r → is_column_of m T false c → entry m r c ≡ pos 0) (k p : ℕ) (two : HasTwoAt (entry m) (is_row_of m T false) (is_column_of m T true) k p) where
   abbrev l : ℕ
   l = two.other_row
 
@@ -133,7 +126,7 @@ module _ (m : Matrix) (T : Lines) (is : IsMatrix m) (enough : AreEnough (first_l
   E = entry (pivot_at m k p)
 
   sign : IsSign (M k p)
-  sign = sign_of_entry (M k p) (is.small k p) two.nonzero
+  sign = sign_of_entry (M k p) (small k p) two.nonzero
 
   place : IsPivotPlace m k p
   place = record { row_in = two.row_in.0; column_in = two.column_in.0; nonzero = sign }
@@ -141,36 +134,11 @@ module _ (m : Matrix) (T : Lines) (is : IsMatrix m) (enough : AreEnough (first_l
   square : M k p *ℤ M k p ≡ pos 1
   square = sign_square (M k p) sign
 
-  -- the row and the column of the pivot are eliminated
-  none_in_row : (c : ℕ) → reduced M k p k c ≡ pos 0
-  none_in_row c = plain (M k p) (M k c) square
-    where
-      plain : (a y : ℤ) → a *ℤ a ≡ pos 1 → y -ℤ a *ℤ (a *ℤ y) ≡ pos 0
-      plain a y one = let e : a *ℤ (a *ℤ y) ≡ y = gathered a y ∙ (rw one (once y)) in omega (arith, sums)
-        where
-          gathered : (a y : ℤ) → a *ℤ (a *ℤ y) ≡ (a *ℤ a) *ℤ y
-          gathered a y = simp products
-
-          once : (y : ℤ) → pos 1 *ℤ y ≡ y
-          once y = simp products
-
-  none_in_column : (r : ℕ) → reduced M k p r p ≡ pos 0
-  none_in_column r = plain (M k p) (M r p) square
-    where
-      plain : (a x : ℤ) → a *ℤ a ≡ pos 1 → x -ℤ a *ℤ (x *ℤ a) ≡ pos 0
-      plain a x one = let e : a *ℤ (x *ℤ a) ≡ x = gathered a x ∙ (rw one (once x)) in omega (arith, sums)
-        where
-          gathered : (a x : ℤ) → a *ℤ (x *ℤ a) ≡ (a *ℤ a) *ℤ x
-          gathered a x = simp products
-
-          once : (x : ℤ) → pos 1 *ℤ x ≡ x
-          once x = simp products
-
   row_apart : l ≢ k
-  row_apart e = two.left (ap (λ (r : ℕ). reduced M k p r q) e ∙ none_in_row q)
+  row_apart e = two.left (ap (λ (r : ℕ). reduced M k p r q) e ∙ none_in_row M k p sign q)
 
   column_apart : q ≢ p
-  column_apart e = two.left (ap (λ (c : ℕ). reduced M k p l c) e ∙ none_in_column l)
+  column_apart e = two.left (ap (λ (c : ℕ). reduced M k p l c) e ∙ none_in_column M k p sign l)
 
   -- entries after the pivot
   at_place : E k p ≡ M k p
@@ -194,7 +162,7 @@ module _ (m : Matrix) (T : Lines) (is : IsMatrix m) (enough : AreEnough (first_l
       go (inl e) (inr n) = rw (e, at_place, at_row c lc n) (in_row (M k p) (M k p) (M k c) square)
       go (inr n) (inl f) = rw (f, at_place, at_column r lr n) (in_column (M k p) (M r p) (M k p) square)
       go (inr n) (inr n') =
-          let none = zero_block M (is_row_of m T true) (is_column_of m T false) empty r c (lr, sym (row_elsewhere T k p r n) ∙ er) (lc, sym (column_elsewhere T k p c n') ∙ ec) in
+          let none = empty r c (lr, sym (row_elsewhere T k p r n) ∙ er) (lc, sym (column_elsewhere T k p c n') ∙ ec) in
           rw (elsewhere r c lr lc n n', none, at_place, at_column r lr n, at_row c lc n') (beside (M k p) (M r p) (M k c) square)
 
   module _ (ternary : HasTernaryEntries (pivot_at m k p)) where
@@ -208,8 +176,7 @@ module _ (m : Matrix) (T : Lines) (is : IsMatrix m) (enough : AreEnough (first_l
         let lo = two.other_row_in.0 in
         let lp = two.other_column_in.0 in
         rw (elsewhere r c lr lc n n', elsewhere r q lr lp n column_apart, elsewhere l c lo lc row_apart n', elsewhere l q lo lp row_apart column_apart)
-        (two_rest M (is_row_of m T false) (is_column_of m T true) rank k p l q two.row_in two.column_in two.other_row_in two.other_column_in sign left_sign r c
-        (lr, sym (row_elsewhere T k p r n) ∙ er) (lc, sym (column_elsewhere T k p c n') ∙ ec))
+        (two.rest left_sign r c (lr, sym (row_elsewhere T k p r n) ∙ er) (lc, sym (column_elsewhere T k p c n') ∙ ec))
 
     pub cut_after : IsCut (pivot_at m k p) (turned_side T k p)
     cut_after = record {

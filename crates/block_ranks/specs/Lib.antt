@@ -1,3 +1,4 @@
 pub mod BlockRanks
 pub mod PlacesBeforeCuts
+pub mod LinkedLines
 pub mod Laws

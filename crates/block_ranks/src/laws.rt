@@ -1,4 +1,4 @@
-//! A law over the definitions alone. The function does nothing: its contract is the law.
+//! A law over definitions only. The function does nothing: its contract is the law.
 ghost use Rattle.block_ranks.specs.Laws.{NoPlaceMeansNoSeparation};
 
 /// A connected matrix without a nonzero whose pivot has a 2, a -2 or a cut has no three-separation: for no two sides with at least four
