@@ -83,16 +83,16 @@ module _ (m : Matrix) (T : Lines) (small : HasTernaryEntries m) (cut : IsCut m T
   other_column c ec e = false≢true (sym ec ∙ (ap (λ (x : ℕ). T (Column x)) e ∙ et))
 
   -- the upper block is still a product
-  upper_after : (r c : ℕ) → r < height m → c < m.width → T (Row r) ≡ true → T (Column c) ≡ false → E r c ≡ E r cut.corners.j *ℤ (M cut.corners.i c *ℤ M cut.corners.i cut.corners.j)
+  upper_after : (r c : ℕ) → r < height m → c < m.width → T (Row r) ≡ true → T (Column c) ≡ false → E r c ≡ E r cut.corners.two.column *ℤ (M cut.corners.one.row c *ℤ M cut.corners.one.row cut.corners.two.column)
   upper_after r c lr lc er ec = go (same_or_not r s)
     where
-      lj : cut.corners.j < m.width
+      lj : cut.corners.two.column < m.width
       lj = cut.are_inside.column_two
 
-      nj : cut.corners.j ≢ t
-      nj = other_column cut.corners.j cut.cut.column_two
+      nj : cut.corners.two.column ≢ t
+      nj = other_column cut.corners.two.column cut.cut.column_two
 
-      before : (x : ℕ) → x < height m → T (Row x) ≡ true → M x c ≡ M x cut.corners.j *ℤ (M cut.corners.i c *ℤ M cut.corners.i cut.corners.j)
+      before : (x : ℕ) → x < height m → T (Row x) ≡ true → M x c ≡ M x cut.corners.two.column *ℤ (M cut.corners.one.row c *ℤ M cut.corners.one.row cut.corners.two.column)
       before x lx ex = upper_at m cut.cut.closed x c lx lc ex ec
 
       in_row : (b y z w : ℤ) → z ≡ y *ℤ w → b *ℤ z ≡ (b *ℤ y) *ℤ w
@@ -101,25 +101,25 @@ module _ (m : Matrix) (T : Lines) (small : HasTernaryEntries m) (cut : IsCut m T
       beside : (b x y z v w : ℤ) → v ≡ x *ℤ w → z ≡ y *ℤ w → (u : ℤ) → v -ℤ b *ℤ (u *ℤ z) ≡ (x -ℤ b *ℤ (u *ℤ y)) *ℤ w
       beside b x y z v w e f u = rw (e, f) (simp products (omega (arith, sums)))
 
-      go : (r ≡ s) ⊎ (r ≢ s) → E r c ≡ E r cut.corners.j *ℤ (M cut.corners.i c *ℤ M cut.corners.i cut.corners.j)
-      go (inl e) = subst (λ (x : ℕ). E x c ≡ E x cut.corners.j *ℤ (M cut.corners.i c *ℤ M cut.corners.i cut.corners.j)) (sym e)
-          (at_row c lc (other_column c ec) ∙ in_row (M s t) (M s cut.corners.j) (M s c) (M cut.corners.i c *ℤ M cut.corners.i cut.corners.j) (before s ls es)
-          ∙ ap (λ (z : ℤ). z *ℤ (M cut.corners.i c *ℤ M cut.corners.i cut.corners.j)) (sym (at_row cut.corners.j lj nj)))
+      go : (r ≡ s) ⊎ (r ≢ s) → E r c ≡ E r cut.corners.two.column *ℤ (M cut.corners.one.row c *ℤ M cut.corners.one.row cut.corners.two.column)
+      go (inl e) = subst (λ (x : ℕ). E x c ≡ E x cut.corners.two.column *ℤ (M cut.corners.one.row c *ℤ M cut.corners.one.row cut.corners.two.column)) (sym e)
+          (at_row c lc (other_column c ec) ∙ in_row (M s t) (M s cut.corners.two.column) (M s c) (M cut.corners.one.row c *ℤ M cut.corners.one.row cut.corners.two.column) (before s ls es)
+          ∙ ap (λ (z : ℤ). z *ℤ (M cut.corners.one.row c *ℤ M cut.corners.one.row cut.corners.two.column)) (sym (at_row cut.corners.two.column lj nj)))
       go (inr n) = elsewhere r c lr lc n (other_column c ec)
-          ∙ beside (M s t) (M r cut.corners.j) (M s cut.corners.j) (M s c) (M r c) (M cut.corners.i c *ℤ M cut.corners.i cut.corners.j) (before r lr er) (before s ls es) (M r t)
-          ∙ ap (λ (z : ℤ). z *ℤ (M cut.corners.i c *ℤ M cut.corners.i cut.corners.j)) (sym (elsewhere r cut.corners.j lr lj n nj))
+          ∙ beside (M s t) (M r cut.corners.two.column) (M s cut.corners.two.column) (M s c) (M r c) (M cut.corners.one.row c *ℤ M cut.corners.one.row cut.corners.two.column) (before r lr er) (before s ls es) (M r t)
+          ∙ ap (λ (z : ℤ). z *ℤ (M cut.corners.one.row c *ℤ M cut.corners.one.row cut.corners.two.column)) (sym (elsewhere r cut.corners.two.column lr lj n nj))
 
   -- the lower block is still a product
-  lower_after : (r c : ℕ) → r < height m → c < m.width → T (Row r) ≡ false → T (Column c) ≡ true → E r c ≡ M r cut.corners.p *ℤ (E cut.corners.k c *ℤ M cut.corners.k cut.corners.p)
+  lower_after : (r c : ℕ) → r < height m → c < m.width → T (Row r) ≡ false → T (Column c) ≡ true → E r c ≡ M r cut.corners.one.column *ℤ (E cut.corners.two.row c *ℤ M cut.corners.two.row cut.corners.one.column)
   lower_after r c lr lc er ec = go (same_or_not c t)
     where
-      lk : cut.corners.k < height m
+      lk : cut.corners.two.row < height m
       lk = cut.are_inside.row_two
 
-      nk : cut.corners.k ≢ s
-      nk = other_row cut.corners.k cut.cut.row_two
+      nk : cut.corners.two.row ≢ s
+      nk = other_row cut.corners.two.row cut.cut.row_two
 
-      before : (x : ℕ) → x < m.width → T (Column x) ≡ true → M r x ≡ M r cut.corners.p *ℤ (M cut.corners.k x *ℤ M cut.corners.k cut.corners.p)
+      before : (x : ℕ) → x < m.width → T (Column x) ≡ true → M r x ≡ M r cut.corners.one.column *ℤ (M cut.corners.two.row x *ℤ M cut.corners.two.row cut.corners.one.column)
       before x lx ex = lower_at m cut.cut.closed r x lr lx er ex
 
       in_column : (b x y z f : ℤ) → z ≡ x *ℤ (y *ℤ f) → neg_ℤ (b *ℤ z) ≡ x *ℤ (neg_ℤ (b *ℤ y) *ℤ f)
@@ -128,30 +128,30 @@ module _ (m : Matrix) (T : Lines) (small : HasTernaryEntries m) (cut : IsCut m T
       beside : (b x y z f v u w : ℤ) → v ≡ x *ℤ (y *ℤ f) → u ≡ x *ℤ (z *ℤ f) → v -ℤ b *ℤ (u *ℤ w) ≡ x *ℤ ((y -ℤ b *ℤ (z *ℤ w)) *ℤ f)
       beside b x y z f v u w e g = rw (e, g) (simp products (omega (arith, sums)))
 
-      go : (c ≡ t) ⊎ (c ≢ t) → E r c ≡ M r cut.corners.p *ℤ (E cut.corners.k c *ℤ M cut.corners.k cut.corners.p)
-      go (inl e) = subst (λ (x : ℕ). E r x ≡ M r cut.corners.p *ℤ (E cut.corners.k x *ℤ M cut.corners.k cut.corners.p)) (sym e)
-          (at_column r lr (other_row r er) ∙ in_column (M s t) (M r cut.corners.p) (M cut.corners.k t) (M r t) (M cut.corners.k cut.corners.p) (before t lt et)
-          ∙ ap (λ (z : ℤ). M r cut.corners.p *ℤ (z *ℤ M cut.corners.k cut.corners.p)) (sym (at_column cut.corners.k lk nk)))
+      go : (c ≡ t) ⊎ (c ≢ t) → E r c ≡ M r cut.corners.one.column *ℤ (E cut.corners.two.row c *ℤ M cut.corners.two.row cut.corners.one.column)
+      go (inl e) = subst (λ (x : ℕ). E r x ≡ M r cut.corners.one.column *ℤ (E cut.corners.two.row x *ℤ M cut.corners.two.row cut.corners.one.column)) (sym e)
+          (at_column r lr (other_row r er) ∙ in_column (M s t) (M r cut.corners.one.column) (M cut.corners.two.row t) (M r t) (M cut.corners.two.row cut.corners.one.column) (before t lt et)
+          ∙ ap (λ (z : ℤ). M r cut.corners.one.column *ℤ (z *ℤ M cut.corners.two.row cut.corners.one.column)) (sym (at_column cut.corners.two.row lk nk)))
       go (inr n) = elsewhere r c lr lc (other_row r er) n
-          ∙ beside (M s t) (M r cut.corners.p) (M cut.corners.k c) (M cut.corners.k t) (M cut.corners.k cut.corners.p) (M r c) (M r t) (M s c) (before c lc ec) (before t lt et)
-          ∙ ap (λ (z : ℤ). M r cut.corners.p *ℤ (z *ℤ M cut.corners.k cut.corners.p)) (sym (elsewhere cut.corners.k c lk lc nk n))
+          ∙ beside (M s t) (M r cut.corners.one.column) (M cut.corners.two.row c) (M cut.corners.two.row t) (M cut.corners.two.row cut.corners.one.column) (M r c) (M r t) (M s c) (before c lc ec) (before t lt et)
+          ∙ ap (λ (z : ℤ). M r cut.corners.one.column *ℤ (z *ℤ M cut.corners.two.row cut.corners.one.column)) (sym (elsewhere cut.corners.two.row c lk lc nk n))
 
   -- a nonzero of the upper block in the column of the corner
-  upper_row : (r : ℕ) × (r < height m) × (T (Row r) ≡ true) × (E r cut.corners.j ≢ pos 0)
-  upper_row = elim (zero_or_sign (M s cut.corners.j) (small s cut.corners.j)) [
-    | inr u ↦ (s, ls, es, λ e. sign_nonzero (M s t *ℤ M s cut.corners.j) (sign-mul (M s t) (M s cut.corners.j) sign u) (sym (at_row cut.corners.j cut.are_inside.column_two nj) ∙ e))
+  upper_row : (r : ℕ) × (r < height m) × (T (Row r) ≡ true) × (E r cut.corners.two.column ≢ pos 0)
+  upper_row = elim (zero_or_sign (M s cut.corners.two.column) (small s cut.corners.two.column)) [
+    | inr u ↦ (s, ls, es, λ e. sign_nonzero (M s t *ℤ M s cut.corners.two.column) (sign-mul (M s t) (M s cut.corners.two.column) sign u) (sym (at_row cut.corners.two.column cut.are_inside.column_two nj) ∙ e))
     | inl none ↦
-        let n : cut.corners.i ≢ s = λ e. cut.upper (ap (λ (r : ℕ). M r cut.corners.j) e ∙ none) in (
-          cut.corners.i,
+        let n : cut.corners.one.row ≢ s = λ e. cut.upper (ap (λ (r : ℕ). M r cut.corners.two.column) e ∙ none) in (
+          cut.corners.one.row,
           cut.are_inside.row_one,
           cut.cut.row_one,
-          λ e. cut.upper (plain (M cut.corners.i cut.corners.j) (M s t) (M cut.corners.i t) (M s cut.corners.j) none
-              (sym (elsewhere cut.corners.i cut.corners.j cut.are_inside.row_one cut.are_inside.column_two n nj) ∙ e)),
+          λ e. cut.upper (plain (M cut.corners.one.row cut.corners.two.column) (M s t) (M cut.corners.one.row t) (M s cut.corners.two.column) none
+              (sym (elsewhere cut.corners.one.row cut.corners.two.column cut.are_inside.row_one cut.are_inside.column_two n nj) ∙ e)),
         )
   ]
     where
-      nj : cut.corners.j ≢ t
-      nj = other_column cut.corners.j cut.cut.column_two
+      nj : cut.corners.two.column ≢ t
+      nj = other_column cut.corners.two.column cut.cut.column_two
 
       plain : (x b u y : ℤ) → y ≡ pos 0 → x -ℤ b *ℤ (u *ℤ y) ≡ pos 0 → x ≡ pos 0
       plain x b u y none e = sym (left x b u y none) ∙ e
@@ -160,21 +160,21 @@ module _ (m : Matrix) (T : Lines) (small : HasTernaryEntries m) (cut : IsCut m T
           left x b u y none = rw none (simp products (omega (arith, sums)))
 
   -- a nonzero of the lower block in the row of the corner
-  lower_column : (c : ℕ) × (c < m.width) × (T (Column c) ≡ true) × (E cut.corners.k c ≢ pos 0)
-  lower_column = elim (zero_or_sign (M cut.corners.k t) (small cut.corners.k t)) [
-    | inr u ↦ (t, lt, et, λ e. negative_nonzero (M s t *ℤ M cut.corners.k t) (sign_nonzero (M s t *ℤ M cut.corners.k t) (sign-mul (M s t) (M cut.corners.k t) sign u)) (sym (at_column cut.corners.k cut.are_inside.row_two nk) ∙ e))
+  lower_column : (c : ℕ) × (c < m.width) × (T (Column c) ≡ true) × (E cut.corners.two.row c ≢ pos 0)
+  lower_column = elim (zero_or_sign (M cut.corners.two.row t) (small cut.corners.two.row t)) [
+    | inr u ↦ (t, lt, et, λ e. negative_nonzero (M s t *ℤ M cut.corners.two.row t) (sign_nonzero (M s t *ℤ M cut.corners.two.row t) (sign-mul (M s t) (M cut.corners.two.row t) sign u)) (sym (at_column cut.corners.two.row cut.are_inside.row_two nk) ∙ e))
     | inl none ↦
-        let n : cut.corners.p ≢ t = λ e. cut.lower (ap (λ (c : ℕ). M cut.corners.k c) e ∙ none) in (
-          cut.corners.p,
+        let n : cut.corners.one.column ≢ t = λ e. cut.lower (ap (λ (c : ℕ). M cut.corners.two.row c) e ∙ none) in (
+          cut.corners.one.column,
           cut.are_inside.column_one,
           cut.cut.column_one,
-          λ e. cut.lower (plain (M cut.corners.k cut.corners.p) (M s t) (M cut.corners.k t) (M s cut.corners.p) none
-              (sym (elsewhere cut.corners.k cut.corners.p cut.are_inside.row_two cut.are_inside.column_one nk n) ∙ e)),
+          λ e. cut.lower (plain (M cut.corners.two.row cut.corners.one.column) (M s t) (M cut.corners.two.row t) (M s cut.corners.one.column) none
+              (sym (elsewhere cut.corners.two.row cut.corners.one.column cut.are_inside.row_two cut.are_inside.column_one nk n) ∙ e)),
         )
   ]
     where
-      nk : cut.corners.k ≢ s
-      nk = other_row cut.corners.k cut.cut.row_two
+      nk : cut.corners.two.row ≢ s
+      nk = other_row cut.corners.two.row cut.cut.row_two
 
       plain : (x b u y : ℤ) → u ≡ pos 0 → x -ℤ b *ℤ (u *ℤ y) ≡ pos 0 → x ≡ pos 0
       plain x b u y none e = sym (left x b u y none) ∙ e
@@ -184,22 +184,22 @@ module _ (m : Matrix) (T : Lines) (small : HasTernaryEntries m) (cut : IsCut m T
 
   pub kept : IsCut (pivot_at m s t) T
   kept = record {
-    corners = record { i = upper_row.0; p = lower_column.0; k = cut.corners.k; j = cut.corners.j };
-    are_inside = record { row_one = row_in upper_row.0 upper_row.1; column_one = lower_column.1; row_two = row_in cut.corners.k cut.are_inside.row_two; column_two = cut.are_inside.column_two };
+    corners = record { one = record { row = upper_row.0; column = lower_column.0 }; two = cut.corners.two };
+    are_inside = record { row_one = row_in upper_row.0 upper_row.1; column_one = lower_column.1; row_two = row_in cut.corners.two.row cut.are_inside.row_two; column_two = cut.are_inside.column_two };
     upper = upper_row.3;
     lower = lower_column.3;
     cut = record {
       closed = record {
         upper = λ r c hr hc er ec.
             let lc = first_lines_contain m.width c hc in
-            by_row (E r c) (E r cut.corners.j) (E upper_row.0 c) (E upper_row.0 cut.corners.j) (M cut.corners.i c *ℤ M cut.corners.i cut.corners.j)
-            (sign_of_entry (E upper_row.0 cut.corners.j) (ternary upper_row.0 cut.corners.j) upper_row.3)
+            by_row (E r c) (E r cut.corners.two.column) (E upper_row.0 c) (E upper_row.0 cut.corners.two.column) (M cut.corners.one.row c *ℤ M cut.corners.one.row cut.corners.two.column)
+            (sign_of_entry (E upper_row.0 cut.corners.two.column) (ternary upper_row.0 cut.corners.two.column) upper_row.3)
             (upper_after r c (row_back r hr) lc er ec) (upper_after upper_row.0 c upper_row.1 lc upper_row.2 ec);
         lower = λ r c hr hc er ec.
             let lr = row_back r hr in
             lower_after r c lr (first_lines_contain m.width c hc) er ec
-            ∙ by_column (M r cut.corners.p) (E cut.corners.k c) (E cut.corners.k lower_column.0) (M cut.corners.k cut.corners.p) (sign_of_entry (E cut.corners.k lower_column.0) (ternary cut.corners.k lower_column.0) lower_column.3)
-            ∙ ap (λ (z : ℤ). z *ℤ (E cut.corners.k c *ℤ E cut.corners.k lower_column.0)) (sym (lower_after r lower_column.0 lr lower_column.1 er lower_column.2));
+            ∙ by_column (M r cut.corners.one.column) (E cut.corners.two.row c) (E cut.corners.two.row lower_column.0) (M cut.corners.two.row cut.corners.one.column) (sign_of_entry (E cut.corners.two.row lower_column.0) (ternary cut.corners.two.row lower_column.0) lower_column.3)
+            ∙ ap (λ (z : ℤ). z *ℤ (E cut.corners.two.row c *ℤ E cut.corners.two.row lower_column.0)) (sym (lower_after r lower_column.0 lr lower_column.1 er lower_column.2));
       };
       row_one = upper_row.2;
       column_one = lower_column.2;
@@ -243,7 +243,7 @@ module _ (m : Matrix) (is : IsMatrix m) (none : HasNoPlaceBeforeCut m) where
   ]
 
   pub no_cut_if_connected : HasNoApartSet m → HasNoCut m
-  no_cut_if_connected connected T cut = connected (crossed_side T) apart (Row cut.corners.i) (Row cut.corners.k) cut.are_inside.row_one cut.are_inside.row_two cut.cut.row_one cut.cut.row_two
+  no_cut_if_connected connected T cut = connected (crossed_side T) apart (Row cut.corners.one.row) (Row cut.corners.two.row) cut.are_inside.row_one cut.are_inside.row_two cut.cut.row_one cut.cut.row_two
     where
       apart : IsApart (height m) m.width (entry m) (crossed_side T)
       apart = record {

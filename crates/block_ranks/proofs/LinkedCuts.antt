@@ -107,11 +107,11 @@ module _ (m : Matrix) (is : IsMatrix m) (r c : ℕ) (lr : r < height m) (lc : c 
         (other_enough m T 4 (subst (λ (h : ℕ). AreEnough (first_lines h) (first_lines m.width) T 4) (same_height m r c place) cut.cut.enough)))
 
     -- the upper block is zero
-    upper_entry : (x y : ℕ) → x < height m → y < m.width → T (Row x) ≡ true → T (Column y) ≡ false → E x y ≡ E x cut.corners.j *ℤ (E cut.corners.i y *ℤ E cut.corners.i cut.corners.j)
+    upper_entry : (x y : ℕ) → x < height m → y < m.width → T (Row x) ≡ true → T (Column y) ≡ false → E x y ≡ E x cut.corners.two.column *ℤ (E cut.corners.one.row y *ℤ E cut.corners.one.row cut.corners.two.column)
     upper_entry x y lx ly = upper_at n cut.cut.closed x y (row_after x lx) ly
 
     upper_product : (x y : ℕ) → x < height m → y < m.width → T (Row x) ≡ true → T (Column y) ≡ false → E x y ≡ product_at E r c x y
-    upper_product x y lx ly ex ey = rw (upper_entry x y lx ly ex ey, upper_entry x c lx lc ex ec, upper_entry r y lr ly er ey) (plain (E x cut.corners.j) (E r cut.corners.j) (E cut.corners.i y) (E cut.corners.i c) (E cut.corners.i cut.corners.j) (E r c) (upper_entry r c lr lc er ec) place_after.nonzero)
+    upper_product x y lx ly ex ey = rw (upper_entry x y lx ly ex ey, upper_entry x c lx lc ex ec, upper_entry r y lr ly er ey) (plain (E x cut.corners.two.column) (E r cut.corners.two.column) (E cut.corners.one.row y) (E cut.corners.one.row c) (E cut.corners.one.row cut.corners.two.column) (E r c) (upper_entry r c lr lc er ec) place_after.nonzero)
       where
         plain : (x r y c e s : ℤ) → s ≡ r *ℤ (c *ℤ e) → IsSign s → x *ℤ (y *ℤ e) ≡ (x *ℤ (c *ℤ e)) *ℤ ((r *ℤ (y *ℤ e)) *ℤ s)
         plain x r y c e s at u = sym (gathered x r y c e s ∙ ap (λ (z : ℤ). z *ℤ (s *ℤ (x *ℤ (y *ℤ e)))) (sym at) ∙ sign_twice s (x *ℤ (y *ℤ e)) u)
@@ -132,16 +132,16 @@ module _ (m : Matrix) (is : IsMatrix m) (r c : ℕ) (lr : r < height m) (lc : c 
     abbrev L : ℕ → ℕ → ℤ
     L = reduced M r c
 
-    row_apart : cut.corners.k ≢ r
+    row_apart : cut.corners.two.row ≢ r
     row_apart e = false≢true (sym cut.cut.row_two ∙ (ap (λ (x : ℕ). T (Row x)) e ∙ er))
 
-    column_apart : cut.corners.p ≢ c
+    column_apart : cut.corners.one.column ≢ c
     column_apart e = false≢true (sym ec ∙ (ap (λ (y : ℕ). T (Column y)) (sym e) ∙ cut.cut.column_one))
 
-    lk : cut.corners.k < height m
+    lk : cut.corners.two.row < height m
     lk = let l = cut.are_inside.row_two in let e = same_height m r c place in omega arith
 
-    left_entry : (x y : ℕ) → is_row_of m S false x → is_column_of m S true y → L x y ≡ product_at L cut.corners.k cut.corners.p x y
+    left_entry : (x y : ℕ) → is_row_of m S false x → is_column_of m S true y → L x y ≡ product_at L cut.corners.two.row cut.corners.one.column x y
     left_entry x y hx hy = go (same_or_not x r) (same_or_not y c)
       where
         in_row : (z f g e : ℤ) → z ≡ pos 0 → f ≡ pos 0 → z ≡ f *ℤ (g *ℤ e)
@@ -150,18 +150,18 @@ module _ (m : Matrix) (is : IsMatrix m) (r c : ℕ) (lr : r < height m) (lc : c 
         in_column : (z f g e : ℤ) → z ≡ pos 0 → g ≡ pos 0 → z ≡ f *ℤ (g *ℤ e)
         in_column z f g e h h' = rw (h, h') (simp products)
 
-        go : (x ≡ r) ⊎ (x ≢ r) → (y ≡ c) ⊎ (y ≢ c) → L x y ≡ product_at L cut.corners.k cut.corners.p x y
-        go (inl e) t = in_row (L x y) (L x cut.corners.p) (L cut.corners.k y) (L cut.corners.k cut.corners.p) (subst (λ (k : ℕ). L k y ≡ pos 0) (sym e) (none_in_row M r c sign y))
-            (subst (λ (k : ℕ). L k cut.corners.p ≡ pos 0) (sym e) (none_in_row M r c sign cut.corners.p))
-        go (inr s) (inl e) = in_column (L x y) (L x cut.corners.p) (L cut.corners.k y) (L cut.corners.k cut.corners.p) (subst (λ (k : ℕ). L x k ≡ pos 0) (sym e) (none_in_column M r c sign x))
-            (subst (λ (k : ℕ). L cut.corners.k k ≡ pos 0) (sym e) (none_in_column M r c sign cut.corners.k))
+        go : (x ≡ r) ⊎ (x ≢ r) → (y ≡ c) ⊎ (y ≢ c) → L x y ≡ product_at L cut.corners.two.row cut.corners.one.column x y
+        go (inl e) t = in_row (L x y) (L x cut.corners.one.column) (L cut.corners.two.row y) (L cut.corners.two.row cut.corners.one.column) (subst (λ (k : ℕ). L k y ≡ pos 0) (sym e) (none_in_row M r c sign y))
+            (subst (λ (k : ℕ). L k cut.corners.one.column ≡ pos 0) (sym e) (none_in_row M r c sign cut.corners.one.column))
+        go (inr s) (inl e) = in_column (L x y) (L x cut.corners.one.column) (L cut.corners.two.row y) (L cut.corners.two.row cut.corners.one.column) (subst (λ (k : ℕ). L x k ≡ pos 0) (sym e) (none_in_column M r c sign x))
+            (subst (λ (k : ℕ). L cut.corners.two.row k ≡ pos 0) (sym e) (none_in_column M r c sign cut.corners.two.row))
         go (inr s) (inr t) =
             let lp = cut.are_inside.column_one in
             rw (
               sym (after_is x y hx.0 hy.0 s t),
-              sym (after_is x cut.corners.p hx.0 lp s column_apart),
-              sym (after_is cut.corners.k y lk hy.0 row_apart t),
-              sym (after_is cut.corners.k cut.corners.p lk lp row_apart column_apart),
+              sym (after_is x cut.corners.one.column hx.0 lp s column_apart),
+              sym (after_is cut.corners.two.row y lk hy.0 row_apart t),
+              sym (after_is cut.corners.two.row cut.corners.one.column lk lp row_apart column_apart),
             )
             (lower_at n cut.cut.closed x y (row_after x hx.0) hy.0 (sym (row_same x s) ∙ hx.1) (sym (column_same y t) ∙ hy.1))
 
@@ -175,14 +175,14 @@ module _ (m : Matrix) (is : IsMatrix m) (r c : ℕ) (lr : r < height m) (lc : c 
 
     two : HasTwoAt M (is_row_of m S false) (is_column_of m S true) r c
     two = record {
-      other_row = cut.corners.k;
-      other_column = cut.corners.p;
+      other_row = cut.corners.two.row;
+      other_column = cut.corners.one.column;
       row_in = (lr, row_out);
       column_in = (lc, column_in);
-      other_row_in = (lk, row_same cut.corners.k row_apart ∙ cut.cut.row_two);
-      other_column_in = (cut.are_inside.column_one, column_same cut.corners.p column_apart ∙ cut.cut.column_one);
+      other_row_in = (lk, row_same cut.corners.two.row row_apart ∙ cut.cut.row_two);
+      other_column_in = (cut.are_inside.column_one, column_same cut.corners.one.column column_apart ∙ cut.cut.column_one);
       nonzero = nonzero;
-      left = λ e. cut.lower (after_is cut.corners.k cut.corners.p lk cut.are_inside.column_one row_apart column_apart ∙ e);
+      left = λ e. cut.lower (after_is cut.corners.two.row cut.corners.one.column lk cut.are_inside.column_one row_apart column_apart ∙ e);
       rest = λ u. left_entry;
     }
 

@@ -44,7 +44,7 @@ module _ (m : Matrix) (is : IsMatrix m) where
       let up = product_block (entry m) (is_row_of m T true) (is_column_of m T false) (λ r c hr hc. is.small r c) upper in
       let down = product_block (entry m) (is_row_of m T false) (is_column_of m T true) (λ r c hr hc. is.small r c) lower in
       record {
-        corners = record { i = up.row; p = down.column; k = down.row; j = up.column };
+        corners = record { one = record { row = up.row; column = down.column }; two = record { row = down.row; column = up.column } };
         are_inside = record { row_one = up.row_in.0; column_one = down.column_in.0; row_two = down.row_in.0; column_two = up.column_in.0 };
         upper = up.nonzero;
         lower = down.nonzero;

@@ -180,7 +180,7 @@ module _ (m : Matrix) (T : Lines) (small : HasTernaryEntries m) (enough : AreEno
 
     pub cut_after : IsCut (pivot_at m k p) (turned_side T k p)
     cut_after = record {
-      corners = record { i = k; p = q; k = l; j = p };
+      corners = record { one = record { row = k; column = q }; two = record { row = l; column = p } };
       are_inside = record { row_one = row_in k two.row_in.0; column_one = two.other_column_in.0; row_two = row_in l two.other_row_in.0; column_two = two.column_in.0 };
       upper = λ e. two.nonzero (sym at_place ∙ e);
       lower = λ e. two.left (sym (elsewhere l q two.other_row_in.0 two.other_column_in.0 row_apart column_apart) ∙ e);
