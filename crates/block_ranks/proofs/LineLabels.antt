@@ -9,7 +9,7 @@ use Rattle.cmr_base.specs.Matrix.{Matrix, height, entry, IsMatrix}
 use Rattle.cmr_base.specs.Seeds.{IsLine, line_number}
 use Rattle.cmr_base.proofs.Booleans.{eq_of}
 use Rattle.cmr_base.proofs.SeedLemmas.{line_is}
-use Rattle.block_ranks.specs.LinkedLines.{AreLinkedLines, HaveLabelsUpTo, label_of}
+use Rattle.block_ranks.specs.Links.{AreLinkedLines, HaveLabelsUpTo, label_of}
 use Rattle.block_ranks.specs.PlacesBeforeCuts.{IsPlaceBeforeCut}
 use Rattle.block_ranks.proofs.PlaceSteps.{at, none_at_start, none_in_row, none_passed}
 

@@ -20,7 +20,7 @@ use Rattle.cuts.specs.LineCuts.{IsCut}
 use Rattle.cuts.proofs.CutLemmas.{lower_at, other_enough, other_is_cut, upper_at}
 use Rattle.three_sep.specs.FirstCuts.{HasNoCut}
 use Rattle.block_ranks.specs.BlockRanks.{is_row_of, is_column_of}
-use Rattle.block_ranks.specs.LinkedLines.{AreLinkedLines, HasNoLinkOut}
+use Rattle.block_ranks.specs.Links.{AreLinkedLines, HasNoLinkOut}
 use Rattle.block_ranks.proofs.KeptCuts.{before_if_cut, before_if_inside, crossed_side, kept}
 use Rattle.block_ranks.proofs.RankBlocks.{HasTwoAt, none_in_column, none_in_row, two_at_any}
 use Rattle.block_ranks.proofs.TurnedSides.{column_elsewhere, column_there, cut_after, row_elsewhere, row_there, turned_enough, turned_side}

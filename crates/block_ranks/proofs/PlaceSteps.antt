@@ -10,7 +10,7 @@ use Rattle.pivots.specs.declared.matrix_pivot.Pivoted.{Pivoted}
 use Rattle.pivots.specs.declared.matrix_pivot.Pivoted.TheVariants.{Ternary, Violated}
 use Rattle.pivots.specs.Pivoted.{IsPivoted}
 use Rattle.three_sep.specs.FirstCuts.{HasCut, HasNoCut, IsFirstCutOn}
-use Rattle.block_ranks.specs.LinkedLines.{AreLinkedLines}
+use Rattle.block_ranks.specs.Links.{AreLinkedLines}
 use Rattle.block_ranks.specs.PlacesBeforeCuts.{HasNoneUpTo, HasNoPlaceBeforeCut, IsFirstPlaceBeforeCut, IsPlaceBeforeCut}
 use Rattle.block_ranks.proofs.LinkedCuts.{linked_has_no_cut}
 

@@ -1,4 +1,4 @@
 pub mod BlockRanks
 pub mod PlacesBeforeCuts
-pub mod LinkedLines
+pub mod Links
 pub mod Laws

@@ -3,7 +3,7 @@ ghost use Rattle.std.specs.Prelude.{◌≡◌, ◌≢◌, ◌<◌, ◌+◌, pos,
 ghost use Rattle.cmr_base.specs.declared.line.Line.TheVariants.{Column, Row};
 ghost use Rattle.cmr_base.specs.Matrix.{height, entry, IsMatrix};
 ghost use Rattle.three_sep.specs.FirstCuts.{HasCut, HasNoCut};
-ghost use Rattle.block_ranks.specs.LinkedLines.{AreLinkedLines, HaveLabelsUpTo};
+ghost use Rattle.block_ranks.specs.Links.{AreLinkedLines, HaveLabelsUpTo};
 ghost use Rattle.block_ranks.specs.PlacesBeforeCuts.{HasNoPlaceBeforeCut, IsFirstPlaceBeforeCut, IsPlaceBeforeCut};
 
 use cmr_base::{Matrix, Memory, Position, RowsAndColumns, join_labels, own_labels};

@@ -1,4 +1,4 @@
-use Rattle.block_ranks.specs.LinkedLines.{HaveLabelsUpTo}
+use Rattle.block_ranks.specs.Links.{HaveLabelsUpTo}
 use Rattle.block_ranks.proofs.places.place_before_cut.Given as goal
 
 abbrev pub invariant-loop-row : goal.invariant-loop-row

@@ -3,7 +3,7 @@ use Rattle.std.proofs.lemmas.List.{get_or_default}
 use Rattle.cmr_base.specs.declared.line.Line.TheVariants.{Row, Column}
 use Rattle.cmr_base.specs.Matrix.{height}
 use Rattle.cmr_base.proofs.Booleans.{eq_of}
-use Rattle.block_ranks.specs.LinkedLines.{HaveLabelsUpTo}
+use Rattle.block_ranks.specs.Links.{HaveLabelsUpTo}
 use Rattle.block_ranks.proofs.LineLabels.{labels_at_zero, labels_joined}
 use Rattle.block_ranks.proofs.places.place_in_row.Goals as goal
 use Rattle.block_ranks.proofs.places.place_in_row.Goals.{then-is_nonzero+in_ok-is_before_cut+else-branch, else-is_nonzero}
