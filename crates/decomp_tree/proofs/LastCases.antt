@@ -1,5 +1,5 @@
 -- A submatrix that reaches the last case is not zero. If no pivot of it has a 2, a -2 or a cut, it has no three-separation of any kind.
-use Rattle.std.proofs.Common.{◌≡◌, ◌≢◌, ◌<◌, ◌∙◌, inl, inr, ℕ, ℤ, pos, false, Option, None, IsSome, Contains, List, get_or, length, map, refl, subst, arith}
+use Rattle.std.proofs.Common.{◌≡◌, ◌≢◌, ◌<◌, ◌∙◌, inl, inr, ℕ, ℤ, pos, false, Option, None, IsSome, Contains, List, get_or, length, map, subst, arith}
 use Rattle.std.specs.Prelude.{IfNone}
 use Rattle.std.proofs.lemmas.Bool.{cases_lt}
 use Rattle.std.proofs.lemmas.List.{length-map}

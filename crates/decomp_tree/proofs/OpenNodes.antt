@@ -23,7 +23,7 @@ use Rattle.pivots.proofs.PartLaws.{part_pivots_stay_matrices}
 use Rattle.separating_places.specs.declared.place.TheConstants.{LATE_STATE}
 use Rattle.separating_places.specs.SeparatingPlaces.{IsChosenPlace}
 use Rattle.tree_laws.proofs.PivotedMatrices.{lines_pivoted}
-use Rattle.decomp_tree.specs.OpenEnds.{EndsOpen, HasEnd, IsLateEnd, LeavesOpen}
+use Rattle.decomp_tree.specs.OpenEnds.{EndsOpen, IsLateEnd, LeavesOpen}
 use Rattle.decomp_tree.specs.PivotedLaws.{OpenLinesAreLeft, OpenLinesEnd}
 use Rattle.decomp_tree.proofs.FaultLines.{lines_themselves}
 use Rattle.decomp_tree.proofs.LastCases.{no_separation_left, some_drawn}
