@@ -42,7 +42,7 @@ place_unique M t c d p q a b = go (a.least q b.is_path) (b.least p a.is_path)
     go (inr l) (inl m) = absurd (let e = l.0 in omega arith)
     go (inr l) (inr m) = same_list p q l.0 l.1 m.1
 
-module _ (m : Matrix) (t c d : ℕ) (walk : Walk) (w : HasWalked m t c walk) (order : c < d) (met : place_in walk.places.items d < 4294967295) where
+module _ (m values : Matrix) (t c d : ℕ) (walk : Walk) (w : HasWalked m values t c walk) (order : c < d) (met : place_in walk.places.items d < 4294967295) where
   -- the step at which the walk reached column d is not the first
   pub later_step : 0 < place_in walk.places.items d
   later_step = positive (place_in walk.places.items d) refl
@@ -60,8 +60,8 @@ module _ (m : Matrix) (t c d : ℕ) (walk : Walk) (w : HasWalked m t c walk) (or
       ∙ sym (append_assoc key ((step_at walk.steps.items (place_in walk.places.items d)).row ∷ []) (d ∷ []))
 
   module _ (first : entry m t c ≢ pos 0) (last : entry m t d ≢ pos 0) (lines : List ℕ) (lines_are : w.key (place_in walk.places.items d) ≡ lines ++ d ∷ []) where
-    path : IsPath (entry m) t c d lines × (trail_sum (entry m) c (lines ++ d ∷ []) ≡ path_sum (entry m) c d lines)
-    path = trail_path (entry m) t c d lines (subst (IsTrail (entry m) t c) lines_are (w.queue.trail (place_in walk.places.items d) (w.queue.listed d met).0))
+    path : IsPath (entry m) t c d lines × (trail_sum (entry values) c (lines ++ d ∷ []) ≡ path_sum (entry values) c d lines)
+    path = trail_path (entry m) t (entry values) c d lines (subst (IsTrail (entry m) t c) lines_are (w.queue.trail (place_in walk.places.items d) (w.queue.listed d met).0))
 
     pub is_place : IsCyclePlace (entry m) t c d lines
     is_place = record {
@@ -73,37 +73,47 @@ module _ (m : Matrix) (t c d : ℕ) (walk : Walk) (w : HasWalked m t c walk) (or
           not_after lines other d (subst (λ (k : List ℕ). IsUpTo k (other ++ d ∷ [])) lines_are (w.least d (other ++ d ∷ []) met v.0 v.1));
     }
 
+    -- the sum of the values on it
+    pub sum_two : TwoIf (step_at walk.steps.items (place_in walk.places.items d)).is_two (path_sum (entry values) c d lines)
+    sum_two = subst (TwoIf (step_at walk.steps.items (place_in walk.places.items d)).is_two) path.1
+        (subst (λ (k : List ℕ). TwoIf (step_at walk.steps.items (place_in walk.places.items d)).is_two (trail_sum (entry values) c k)) lines_are (w.queue.sums (place_in walk.places.items d) (w.queue.listed d met).0))
+
+-- the values are those of the matrix
+module _ (m : Matrix) (t c d : ℕ) (walk : Walk) (w : HasWalked m m t c walk) (order : c < d) (met : place_in walk.places.items d < 4294967295) (first : entry m t c ≢ pos 0) (last : entry m t d ≢ pos 0) where
+  abbrev is_two_at : Bool
+  is_two_at = (step_at walk.steps.items (place_in walk.places.items d)).is_two
+
+  module _ (lines : List ℕ) (lines_are : w.key (place_in walk.places.items d) ≡ lines ++ d ∷ []) where
+    here : IsCyclePlace (entry m) t c d lines
+    here = is_place m m t c d walk w order met first last lines lines_are
+
     -- whether its cycle has the sum 2 modulo 4
-    pub is_fault_if : (same : Bool) → TwoIf same (entry m t c +ℤ entry m t d)
-        → ((flip (step_at walk.steps.items (place_in walk.places.items d)).is_two same ≡ true) → IsFaultAt (entry m) t c d lines) × (IsFaultAt (entry m) t c d lines → flip (step_at walk.steps.items (place_in walk.places.items d)).is_two same ≡ true)
+    is_fault_if : (same : Bool) → TwoIf same (entry m t c +ℤ entry m t d) → ((flip is_two_at same ≡ true) → IsFaultAt (entry m) t c d lines) × (IsFaultAt (entry m) t c d lines → flip is_two_at same ≡ true)
     is_fault_if same two = (
-      (λ f. record { place = is_place; two_mod_four = subst IsTwoModFour (sym sum) (subst (λ (b : Bool). TwoIf b (trail_sum (entry m) c (lines ++ d ∷ []) +ℤ (entry m t c +ℤ entry m t d))) f whole) }),
-      (λ f. two_not (trail_sum (entry m) c (lines ++ d ∷ []) +ℤ (entry m t c +ℤ entry m t d)) (flip (step_at walk.steps.items (place_in walk.places.items d)).is_two same) whole (subst IsTwoModFour sum f.two_mod_four)),
+      (λ f. record { place = here; two_mod_four = subst IsTwoModFour (sym sum) (subst (λ (b : Bool). TwoIf b (path_sum (entry m) c d lines +ℤ (entry m t c +ℤ entry m t d))) f whole) }),
+      (λ f. two_not (path_sum (entry m) c d lines +ℤ (entry m t c +ℤ entry m t d)) (flip is_two_at same) whole (subst IsTwoModFour sum f.two_mod_four)),
     )
       where
         small : (i j : ℕ) → IsEntry (entry m i j)
         small i j = w.fits.matrix.small i j
 
-        plain : (a b s : ℤ) → s ≡ b → a +ℤ b ≡ s +ℤ a
-        plain a b s e = omega (arith, sums)
+        plain : (a b : ℤ) → a +ℤ b ≡ b +ℤ a
+        plain a b = omega (arith, sums)
 
-        sum : sum_over (cycle_rows t lines) (λ i. sum_over (cycle_columns c d lines) (λ j. entry m i j)) ≡ trail_sum (entry m) c (lines ++ d ∷ []) +ℤ (entry m t c +ℤ entry m t d)
-        sum = place_sum (entry m) small t c d lines is_place (route (entry m) small t c d lines path.0)
-            ∙ plain (entry m t c +ℤ entry m t d) (path_sum (entry m) c d lines) (trail_sum (entry m) c (lines ++ d ∷ [])) path.1
+        sum : sum_over (cycle_rows t lines) (λ i. sum_over (cycle_columns c d lines) (λ j. entry m i j)) ≡ path_sum (entry m) c d lines +ℤ (entry m t c +ℤ entry m t d)
+        sum = place_sum (entry m) small t c d lines here (route (entry m) small t c d lines here.is_path) ∙ plain (entry m t c +ℤ entry m t d) (path_sum (entry m) c d lines)
 
-        whole : TwoIf (flip (step_at walk.steps.items (place_in walk.places.items d)).is_two same) (trail_sum (entry m) c (lines ++ d ∷ []) +ℤ (entry m t c +ℤ entry m t d))
-        whole = two_add (step_at walk.steps.items (place_in walk.places.items d)).is_two same (trail_sum (entry m) c (lines ++ d ∷ [])) (entry m t c +ℤ entry m t d)
-            (subst (λ (k : List ℕ). TwoIf (step_at walk.steps.items (place_in walk.places.items d)).is_two (trail_sum (entry m) c k)) lines_are (w.queue.sums (place_in walk.places.items d) (w.queue.listed d met).0)) two
+        whole : TwoIf (flip is_two_at same) (path_sum (entry m) c d lines +ℤ (entry m t c +ℤ entry m t d))
+        whole = two_add is_two_at same (path_sum (entry m) c d lines) (entry m t c +ℤ entry m t d) (sum_two m m t c d walk w order met first last lines lines_are) two
 
   -- the same, without the lines
-  pub fault_if : entry m t c ≢ pos 0 → entry m t d ≢ pos 0 → (same : Bool) → TwoIf same (entry m t c +ℤ entry m t d)
-      → ((flip (step_at walk.steps.items (place_in walk.places.items d)).is_two same ≡ true) → (lines : List ℕ) × IsFaultAt (entry m) t c d lines) × ((lines : List ℕ) × IsFaultAt (entry m) t c d lines → flip (step_at walk.steps.items (place_in walk.places.items d)).is_two same ≡ true)
-  fault_if first last same two =
+  pub fault_if : (same : Bool) → TwoIf same (entry m t c +ℤ entry m t d) → ((flip is_two_at same ≡ true) → (lines : List ℕ) × IsFaultAt (entry m) t c d lines) × ((lines : List ℕ) × IsFaultAt (entry m) t c d lines → flip is_two_at same ≡ true)
+  fault_if same two =
       let lines = w.key (step_at walk.steps.items (place_in walk.places.items d)).before ++ (step_at walk.steps.items (place_in walk.places.items d)).row ∷ [] in
-      let k = key_is (w.key (step_at walk.steps.items (place_in walk.places.items d)).before) refl in
-      let v = is_fault_if first last lines k same two in (
+      let k = key_is m m t c d walk w order met (w.key (step_at walk.steps.items (place_in walk.places.items d)).before) refl in
+      let v = is_fault_if lines k same two in (
         (λ f. (lines, v.0 f)),
-        (λ f. v.1 (subst (IsFaultAt (entry m) t c d) (place_unique (entry m) t c d f.0 lines f.1.place (is_place first last lines k)) f.1)),
+        (λ f. v.1 (subst (IsFaultAt (entry m) t c d) (place_unique (entry m) t c d f.0 lines f.1.place (here lines k)) f.1)),
       )
 
 pub column_fault : (m : Matrix) (t c d : ℕ) (lines : List ℕ) → (path : List ℕ) × IsFaultAt (entry m) t c d path → IsCyclePlace (entry m) t c d lines → ((y : ℕ) → y < d → HasNoFaultAt m t c y) → IsColumnFault m t c d lines
@@ -143,39 +153,39 @@ first_of_rows m t found f is before h = go (subst (λ (o : Option Fault). MatchO
 
 -- ---- values read from a walk
 
-pub met_step : (m : Matrix) (t c d : ℕ) (walk : Walk) (place : ℕ) (step : ReachedColumn) → HasWalked m t c walk → d < m.width → place ≡ get_or walk.places.items d place → place_in walk.places.items d < 4294967295 → step ≡ get_or walk.steps.items place step
+pub met_step : (m values : Matrix) (t c d : ℕ) (walk : Walk) (place : ℕ) (step : ReachedColumn) → HasWalked m values t c walk → d < m.width → place ≡ get_or walk.places.items d place → place_in walk.places.items d < 4294967295 → step ≡ get_or walk.steps.items place step
     → step_at walk.steps.items (place_in walk.places.items d) ≡ step
-met_step m t c d walk place step w l e met f =
+met_step m values t c d walk place step w l e met f =
     let a : place_in walk.places.items d ≡ place = any_default walk.places.items d 4294967295 place (let g = w.fits.places in omega arith) ∙ sym e in
     ap (step_at walk.steps.items) a ∙ step_is walk.steps.items place step (let b = (w.queue.listed d met).0 in omega arith) f
 
 -- ---- the path, backwards
 
-pub begin_back : (m : Matrix) (t c d : ℕ) (walk : Walk) (step : ReachedColumn) (lines : List ℕ) → c < d → place_in walk.places.items d < 4294967295 → step_at walk.steps.items (place_in walk.places.items d) ≡ step → lines ≡ step.row ∷ []
-    → (w : HasWalked m t c walk) → w.key (place_in walk.places.items d) ≡ w.key step.before ++ (reverse lines ++ d ∷ [])
-begin_back m t c d walk step lines order met e f w =
-    key_is m t c d walk w order met (w.key (step_at walk.steps.items (place_in walk.places.items d)).before) refl
+pub begin_back : (m values : Matrix) (t c d : ℕ) (walk : Walk) (step : ReachedColumn) (lines : List ℕ) → c < d → place_in walk.places.items d < 4294967295 → step_at walk.steps.items (place_in walk.places.items d) ≡ step → lines ≡ step.row ∷ []
+    → (w : HasWalked m values t c walk) → w.key (place_in walk.places.items d) ≡ w.key step.before ++ (reverse lines ++ d ∷ [])
+begin_back m values t c d walk step lines order met e f w =
+    key_is m values t c d walk w order met (w.key (step_at walk.steps.items (place_in walk.places.items d)).before) refl
     ∙ ap (λ (s : ReachedColumn). (w.key s.before ++ s.row ∷ []) ++ d ∷ []) e
     ∙ append_assoc (w.key step.before) (step.row ∷ []) (d ∷ [])
     ∙ ap (λ (v : List ℕ). w.key step.before ++ (reverse v ++ d ∷ [])) (sym f)
 
-pub before_in : (m : Matrix) (t c d : ℕ) (walk : Walk) (step : ReachedColumn) → HasWalked m t c walk → c < d → place_in walk.places.items d < 4294967295 → step_at walk.steps.items (place_in walk.places.items d) ≡ step → step.before < length walk.steps.items
-before_in m t c d walk step w order met e =
-    let a = w.queue.earlier (place_in walk.places.items d) (later_step m t c d walk w order met) (w.queue.listed d met).0 in
+pub before_in : (m values : Matrix) (t c d : ℕ) (walk : Walk) (step : ReachedColumn) → HasWalked m values t c walk → c < d → place_in walk.places.items d < 4294967295 → step_at walk.steps.items (place_in walk.places.items d) ≡ step → step.before < length walk.steps.items
+before_in m values t c d walk step w order met e =
+    let a = w.queue.earlier (place_in walk.places.items d) (later_step m values t c d walk w order met) (w.queue.listed d met).0 in
     let b = ap (λ (s : ReachedColumn). s.before) e in let k = (w.queue.listed d met).0 in omega arith
 
-pub earlier_place : (m : Matrix) (t c : ℕ) (walk : Walk) (place : ℕ) (step : ReachedColumn) → HasWalked m t c walk → place ≢ 0 → place < length walk.steps.items → step ≡ get_or walk.steps.items place step → step.before < place
-earlier_place m t c walk place step w other l e =
+pub earlier_place : (m values : Matrix) (t c : ℕ) (walk : Walk) (place : ℕ) (step : ReachedColumn) → HasWalked m values t c walk → place ≢ 0 → place < length walk.steps.items → step ≡ get_or walk.steps.items place step → step.before < place
+earlier_place m values t c walk place step w other l e =
     let a = w.queue.earlier place (positive place other) l in
     let b = ap (λ (s : ReachedColumn). s.before) (step_is walk.steps.items place step l e) in omega arith
   where
     positive : (n : ℕ) → n ≢ 0 → 0 < n
     positive n h = omega arith
 
-pub go_back : (m : Matrix) (t c d : ℕ) (walk : Walk) (place : ℕ) (step : ReachedColumn) (lines more : List ℕ) → place ≢ 0 → place < length walk.steps.items → step ≡ get_or walk.steps.items place step → more ≡ (lines ++ step.column ∷ []) ++ step.row ∷ []
-    → ((w : HasWalked m t c walk) → w.key (place_in walk.places.items d) ≡ w.key place ++ (reverse lines ++ d ∷ []))
-    → (w : HasWalked m t c walk) → w.key (place_in walk.places.items d) ≡ w.key step.before ++ (reverse more ++ d ∷ [])
-go_back m t c d walk place step lines more other l e f before w =
+pub go_back : (m values : Matrix) (t c d : ℕ) (walk : Walk) (place : ℕ) (step : ReachedColumn) (lines more : List ℕ) → place ≢ 0 → place < length walk.steps.items → step ≡ get_or walk.steps.items place step → more ≡ (lines ++ step.column ∷ []) ++ step.row ∷ []
+    → ((w : HasWalked m values t c walk) → w.key (place_in walk.places.items d) ≡ w.key place ++ (reverse lines ++ d ∷ []))
+    → (w : HasWalked m values t c walk) → w.key (place_in walk.places.items d) ≡ w.key step.before ++ (reverse more ++ d ∷ [])
+go_back m values t c d walk place step lines more other l e f before w =
     before w
     ∙ ap (λ (k : List ℕ). k ++ (reverse lines ++ d ∷ [])) (w.queue.parent place (positive place other) l ∙ ap (λ (s : ReachedColumn). w.key s.before ++ s.row ∷ s.column ∷ []) (step_is walk.steps.items place step l e))
     ∙ append_assoc (w.key step.before) (step.row ∷ step.column ∷ []) (reverse lines ++ d ∷ [])
@@ -184,8 +194,8 @@ go_back m t c d walk place step lines more other l e f before w =
     positive : (n : ℕ) → n ≢ 0 → 0 < n
     positive n h = omega arith
 
-pub path_back : (m : Matrix) (t c d : ℕ) (walk : Walk) (place : ℕ) (lines path : List ℕ) → HasWalked m t c walk → c < d → place_in walk.places.items d < 4294967295 → entry m t c ≢ pos 0 → entry m t d ≢ pos 0 → place ≡ 0 → path ≡ reverse lines
-    → ((w : HasWalked m t c walk) → w.key (place_in walk.places.items d) ≡ w.key place ++ (reverse lines ++ d ∷ [])) → IsCyclePlace (entry m) t c d path
-path_back m t c d walk place lines path w order met first last z e k =
-    is_place m t c d walk w order met first last path
+pub path_back : (m values : Matrix) (t c d : ℕ) (walk : Walk) (place : ℕ) (lines path : List ℕ) → HasWalked m values t c walk → c < d → place_in walk.places.items d < 4294967295 → entry m t c ≢ pos 0 → entry m t d ≢ pos 0 → place ≡ 0 → path ≡ reverse lines
+    → ((w : HasWalked m values t c walk) → w.key (place_in walk.places.items d) ≡ w.key place ++ (reverse lines ++ d ∷ [])) → IsCyclePlace (entry m) t c d path
+path_back m values t c d walk place lines path w order met first last z e k =
+    is_place m values t c d walk w order met first last path
     (k w ∙ ap (λ (v : List ℕ). v ++ (reverse lines ++ d ∷ [])) (ap w.key z ∙ w.queue.start) ∙ ap (λ (v : List ℕ). v ++ d ∷ []) (sym e))

@@ -28,23 +28,23 @@ use Rattle.chains.proofs.ChainViolators.{one_entry}
 use Rattle.camion_sign.proofs.LineLists.{path_rows_low}
 
 -- the columns of the place in increasing order
-record IsOrdered (a : Matrix) (t c d : ℕ) (cycle : LineSet) : Type 0 where
-  first : ℕ
-  last : ℕ
-  path : List ℕ
-  place : IsCyclePlace (entry a) t first last path
-  ends : ((first ≡ c) × (last ≡ d)) ⊎ ((first ≡ d) × (last ≡ c))
-  row_set : IsRowSet a cycle.rows
-  column_set : IsColumnSet a cycle.columns
-  rows_are : (line : ℕ) → IsIn line cycle.rows ↔ IsIn line (cycle_rows t path)
-  columns_are : (line : ℕ) → IsIn line cycle.columns ↔ IsIn line (cycle_columns first last path)
+pub record IsOrdered (a : Matrix) (t c d : ℕ) (cycle : LineSet) : Type 0 where
+  pub first : ℕ
+  pub last : ℕ
+  pub path : List ℕ
+  pub place : IsCyclePlace (entry a) t first last path
+  pub ends : ((first ≡ c) × (last ≡ d)) ⊎ ((first ≡ d) × (last ≡ c))
+  pub row_set : IsRowSet a cycle.rows
+  pub column_set : IsColumnSet a cycle.columns
+  pub rows_are : (line : ℕ) → IsIn line cycle.rows ↔ IsIn line (cycle_rows t path)
+  pub columns_are : (line : ℕ) → IsIn line cycle.columns ↔ IsIn line (cycle_columns first last path)
 
 swapped : (c d : ℕ) (path : List ℕ) (line : ℕ) → IsIn line (cycle_columns c d path) → IsIn line (cycle_columns d c path)
 swapped c d path line (inl e) = inr (inl e)
 swapped c d path line (inr (inl e)) = inl e
 swapped c d path line (inr (inr h)) = inr (inr h)
 
-ordered : (a : Matrix) (t c d : ℕ) (cycle : LineSet) → IsCycleLines a t c d cycle → IsOrdered a t c d cycle
+pub ordered : (a : Matrix) (t c d : ℕ) (cycle : LineSet) → IsCycleLines a t c d cycle → IsOrdered a t c d cycle
 ordered a t c d cycle q = go q.place
   where
     go : IsPlaceOf a t c d q.path → IsOrdered a t c d cycle
@@ -73,7 +73,7 @@ one_is a binary i j (inl e) = e
 one_is a binary i j (inr e) = absurd (no_minus a binary i j e)
 
 module _ (a : Matrix) (is : IsMatrix a) (t c d : ℕ) (cycle : LineSet) (o : IsOrdered a t c d cycle) where
-  the_route : Route (entry a) is.small t o.first o.last o.path
+  pub the_route : Route (entry a) is.small t o.first o.last o.path
   the_route = route (entry a) is.small t o.first o.last o.path o.place.is_path
 
   the_cycle : IsCycle (entry a) t the_route.k the_route.way.row the_route.way.col
@@ -92,12 +92,12 @@ module _ (a : Matrix) (is : IsMatrix a) (t c d : ℕ) (cycle : LineSet) (o : IsO
   column_sums : (f : ℕ → ℤ) → sum_over cycle.columns f ≡ sum_over (cycle_columns o.first o.last o.path) f
   column_sums f = sum_over_members cycle.columns (cycle_columns o.first o.last o.path) f distinct_columns (columns_apart (entry a) is.small t o.first o.last o.path o.place the_route) (λ j. (o.columns_are j).0) (λ j. (o.columns_are j).1)
 
-  whole_sum : (N : ℕ → ℕ → ℤ) → sum_over cycle.rows (λ i. sum_over cycle.columns (λ j. N i j)) ≡ sum_over (cycle_rows t o.path) (λ i. sum_over (cycle_columns o.first o.last o.path) (λ j. N i j))
+  pub whole_sum : (N : ℕ → ℕ → ℤ) → sum_over cycle.rows (λ i. sum_over cycle.columns (λ j. N i j)) ≡ sum_over (cycle_rows t o.path) (λ i. sum_over (cycle_columns o.first o.last o.path) (λ j. N i j))
   whole_sum N = row_sums (λ i. sum_over cycle.columns (λ j. N i j))
       ∙ sum_over_same (cycle_rows t o.path) (λ i. sum_over cycle.columns (λ j. N i j)) (λ i. sum_over (cycle_columns o.first o.last o.path) (λ j. N i j)) (all_of _ (λ i. column_sums (λ j. N i j)) (cycle_rows t o.path))
 
   -- signs in the cycle's nonzeros
-  signed_cycle : (N : ℕ → ℕ → ℤ) → ((i j : ℕ) → IsEntry (N i j)) → ((i j : ℕ) → entry a i j ≡ pos 0 → N i j ≡ pos 0) → ((i j : ℕ) → i < t → entry a i j ≢ pos 0 → N i j ≢ pos 0)
+  pub signed_cycle : (N : ℕ → ℕ → ℤ) → ((i j : ℕ) → IsEntry (N i j)) → ((i j : ℕ) → entry a i j ≡ pos 0 → N i j ≡ pos 0) → ((i j : ℕ) → i < t → entry a i j ≢ pos 0 → N i j ≢ pos 0)
       → N t o.first ≢ pos 0 → N t o.last ≢ pos 0 → IsCycle N t the_route.k the_route.way.row the_route.way.col
   signed_cycle N small inside earlier first last = record {
     long = the_cycle.long;
@@ -243,9 +243,8 @@ forced_step a s is binary signs t d cycle v turn next = record {
     o = ordered a t next.partner d cycle next.cycle_is
 
 -- the same with its columns exchanged
-pub exchanged : {E : Type 0} (a : Matrix) (t c d : ℕ) (result : Result LineSet E) → IfOk result (IsCycleLines a t c d) → IfOk result (IsCycleLines a t d c)
-exchanged a t c d (Err e) h = h
-exchanged a t c d (Ok cycle) h = record {
+pub exchanged_lines : (a : Matrix) (t c d : ℕ) (cycle : LineSet) → IsCycleLines a t c d cycle → IsCycleLines a t d c cycle
+exchanged_lines a t c d cycle h = record {
   path = h.path;
   place = elim h.place [ inl p ↦ inr p | inr p ↦ inl p ];
   row_set = h.row_set;
@@ -253,3 +252,7 @@ exchanged a t c d (Ok cycle) h = record {
   rows_are = h.rows_are;
   columns_are = λ line. ((λ g. swapped c d h.path line ((h.columns_are line).0 g)), (λ g. (h.columns_are line).1 (swapped d c h.path line g)));
 }
+
+pub exchanged : {E : Type 0} (a : Matrix) (t c d : ℕ) (result : Result LineSet E) → IfOk result (IsCycleLines a t c d) → IfOk result (IsCycleLines a t d c)
+exchanged a t c d (Err e) h = h
+exchanged a t c d (Ok cycle) h = exchanged_lines a t c d cycle h

@@ -4,12 +4,15 @@ pub mod LineCuts
 pub mod NonzeroLists
 pub mod Trails
 pub mod Walks
+pub mod ColumnParts
 pub mod Steps
 pub mod EntryTests
 pub mod FirstFaults
 pub mod LineLists
 pub mod FaultViolator
 pub mod ForcedCycles
+pub mod ForcedSigns
+pub mod SomeCycles
 pub mod FreeSteps
 pub mod SigningStates
 pub mod PlaceLinks

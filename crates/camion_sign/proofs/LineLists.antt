@@ -43,7 +43,7 @@ pushed P x list list2 b p e = rw e (record {
 -- ---- lines gathered by repeatedly taking the least
 
 -- there is no other line up to the least line
-built_up : (lines found : List ℕ) (from to : ℕ) → from ≤ to → ((x : ℕ) → IsIn x lines → x < to → x < from) → IsBuilt (λ line. IsIn line lines) from found → IsBuilt (λ line. IsIn line lines) to found
+pub built_up : (lines found : List ℕ) (from to : ℕ) → from ≤ to → ((x : ℕ) → IsIn x lines → x < to → x < from) → IsBuilt (λ line. IsIn line lines) from found → IsBuilt (λ line. IsIn line lines) to found
 built_up lines found from to l none b = record {
   increasing = b.increasing;
   members = λ y. (

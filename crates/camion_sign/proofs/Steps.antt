@@ -68,26 +68,26 @@ grows_same walk = record { longer = omega arith; steps = λ j l. refl; places = 
 
 -- ---- the columns of a row
 
-pub start_row : (m : Matrix) (t c h r : ℕ) (from : ReachedColumn) (walk : Walk) → IsWalking m t c h r walk → IsOpen m t h walk → from ≡ get_or walk.steps.items h from → IsReaching m t c h r 0 from walk walk
-start_row m t c h r from walk w o e = record {
+pub start_row : (m values : Matrix) (t c h r : ℕ) (from : ReachedColumn) (walk : Walk) → IsWalking m values t c h r walk → IsOpen m t h walk → from ≡ get_or walk.steps.items h from → IsReaching m values t c h r 0 from walk walk
+start_row m values t c h r from walk w o e = record {
   fits = w.fits;
   grows = grows_same walk;
   used = refl;
   within = o.within;
   from_is = step_is walk.steps.items h from o.within e;
   key = w.key;
-  prefix = fewer (entry m) t c m.width (progress walk.steps.items walk.places.items walk.used.items) w.key h (λ s x. r ≤ s) (λ s x. (r < s) ⊎ ((r ≡ s) × (0 ≤ x))) w.prefix
+  prefix = fewer (entry m) (entry values) t c m.width (progress walk.steps.items walk.places.items walk.used.items) w.key h (λ s x. r ≤ s) (λ s x. (r < s) ⊎ ((r ≡ s) × (0 ≤ x))) w.prefix
       (λ s x q. elim q [ inl l ↦ omega arith | inr p ↦ let f = p.0 in omega arith ]);
   met = λ x l. absurd (omega arith);
 }
 
-module _ (m : Matrix) (t c h r low : ℕ) (from : ReachedColumn) (old walk : Walk) (w : IsReaching m t c h r low from old walk) where
+module _ (m values : Matrix) (t c h r low : ℕ) (from : ReachedColumn) (old walk : Walk) (w : IsReaching m values t c h r low from old walk) where
   -- a column that the walk has reached before is met
-  passed : (x : ℕ) → low ≤ x → place_in walk.places.items x < 4294967295 → IsMet (entry m) t c m.width (progress walk.steps.items walk.places.items walk.used.items) w.key x (w.key h ++ r ∷ x ∷ [])
-  passed x after met = met_before (entry m) t c m.width (progress walk.steps.items walk.places.items walk.used.items) w.key h r x (λ s y. (r < s) ⊎ ((r ≡ s) × (low ≤ y))) w.prefix w.within met (inr (refl, after))
+  passed : (x : ℕ) → low ≤ x → place_in walk.places.items x < 4294967295 → IsMet (entry m) (entry values) t c m.width (progress walk.steps.items walk.places.items walk.used.items) w.key x (w.key h ++ r ∷ x ∷ [])
+  passed x after met = met_before (entry m) (entry values) t c m.width (progress walk.steps.items walk.places.items walk.used.items) w.key h r x (λ s y. (r < s) ⊎ ((r ≡ s) × (low ≤ y))) w.prefix w.within met (inr (refl, after))
 
   -- the walk has reached the columns of the row below `high` before
-  pub pass_columns : (high : ℕ) → low ≤ high → ((x : ℕ) → low ≤ x → x < high → entry m r x ≢ pos 0 → place_in walk.places.items x < 4294967295) → IsReaching m t c h r high from old walk
+  pub pass_columns : (high : ℕ) → low ≤ high → ((x : ℕ) → low ≤ x → x < high → entry m r x ≢ pos 0 → place_in walk.places.items x < 4294967295) → IsReaching m values t c h r high from old walk
   pass_columns high up there = record {
     fits = w.fits;
     grows = w.grows;
@@ -95,7 +95,7 @@ module _ (m : Matrix) (t c h r low : ℕ) (from : ReachedColumn) (old walk : Wal
     within = w.within;
     from_is = w.from_is;
     key = w.key;
-    prefix = fewer (entry m) t c m.width (progress walk.steps.items walk.places.items walk.used.items) w.key h (λ s x. (r < s) ⊎ ((r ≡ s) × (low ≤ x))) (λ s x. (r < s) ⊎ ((r ≡ s) × (high ≤ x))) w.prefix
+    prefix = fewer (entry m) (entry values) t c m.width (progress walk.steps.items walk.places.items walk.used.items) w.key h (λ s x. (r < s) ⊎ ((r ≡ s) × (low ≤ x))) (λ s x. (r < s) ⊎ ((r ≡ s) × (high ≤ x))) w.prefix
         (λ s x q. elim q [ inl l ↦ inl l | inr p ↦ inr (p.0, (let f = p.1 in omega arith)) ]);
     met = λ x l n. elim (cases_lt x low) [
       | inl before ↦ w.met x before n
@@ -104,20 +104,20 @@ module _ (m : Matrix) (t c h r low : ℕ) (from : ReachedColumn) (old walk : Wal
   }
 
   -- all columns of the row are met, if those from `low` on are reached
-  pub met_all : ((x : ℕ) → low ≤ x → entry m r x ≢ pos 0 → place_in walk.places.items x < 4294967295) → (x : ℕ) → entry m r x ≢ pos 0 → IsMet (entry m) t c m.width (progress walk.steps.items walk.places.items walk.used.items) w.key x (w.key h ++ r ∷ x ∷ [])
+  pub met_all : ((x : ℕ) → low ≤ x → entry m r x ≢ pos 0 → place_in walk.places.items x < 4294967295) → (x : ℕ) → entry m r x ≢ pos 0 → IsMet (entry m) (entry values) t c m.width (progress walk.steps.items walk.places.items walk.used.items) w.key x (w.key h ++ r ∷ x ∷ [])
   met_all rest x n = elim (cases_lt x low) [
     | inl before ↦ w.met x before n
     | inr after ↦ passed x after (rest x after n)
   ]
 
 -- the walk reaches a column of the row now
-module _ (m : Matrix) (t c h r x : ℕ) (from : ReachedColumn) (old walk : Walk) (w : IsReaching m t c h r x from old walk) where
+module _ (m values : Matrix) (t c h r x : ℕ) (from : ReachedColumn) (old walk : Walk) (w : IsReaching m values t c h r x from old walk) where
   pub reach_column : (walk2 : Walk) (same : Bool) → x < m.width → entry m r x ≢ pos 0 → place_in walk.places.items x ≡ 4294967295
-      → Goes (entry m) t c m.width (progress walk.steps.items walk.places.items walk.used.items) w.key h → r < t → entry m r from.column ≢ pos 0 → TwoIf same (entry m r from.column +ℤ entry m r x)
+      → Goes (entry m) (entry values) t c m.width (progress walk.steps.items walk.places.items walk.used.items) w.key h → r < t → entry m r from.column ≢ pos 0 → TwoIf same (entry values r from.column +ℤ entry values r x)
       → walk2.steps.items ≡ walk.steps.items ++ record { column = x; row = r; before = h; is_two = flip from.is_two same } ∷ []
       → walk2.places.items ≡ set walk.places.items x (length walk.steps.items) → walk2.used.items ≡ walk.used.items
       → length walk2.reached.items ≡ length walk.reached.items → AreInStep walk2.places.items walk2.reached.items
-      → IsReaching m t c h r (x + 1) from old walk2
+      → IsReaching m values t c h r (x + 1) from old walk2
   reach_column walk2 same low to unmet goes early leads two steps2 places2 used2 long2 in_step2 = record {
     fits = record {
       matrix = w.fits.matrix;
@@ -134,18 +134,21 @@ module _ (m : Matrix) (t c h r x : ℕ) (from : ReachedColumn) (old walk : Walk)
     used = used2 ∙ w.used;
     within = let a = w.within in let b = more in omega arith;
     from_is = kept h w.within ∙ w.from_is;
-    key = with_key M t c m.width s s' w.key h r x same;
-    prefix = subst (λ (v : Progress). IsPrefix M t c m.width v (with_key M t c m.width s s' w.key h r x same) h Q) (sym now) (visit M t c m.width s s' w.key h r x same P Q top_width w.prefix w.within one unmet' goes early leads' to low (inr (refl, omega arith)) two' still);
-    met = λ y l n. subst (λ (v : Progress). IsMet M t c m.width v (with_key M t c m.width s s' w.key h r x same) y (with_key M t c m.width s s' w.key h r x same h ++ r ∷ y ∷ [])) (sym now) (elim (cases_lt y x) [
-      | inl lt ↦ kept_here M t c m.width s s' w.key h r x same P Q top_width w.prefix w.within one unmet' y r y (w.met y lt n)
+    key = with_key M V t c m.width s s' w.key h r x same;
+    prefix = subst (λ (v : Progress). IsPrefix M V t c m.width v (with_key M V t c m.width s s' w.key h r x same) h Q) (sym now) (visit M V t c m.width s s' w.key h r x same P Q top_width w.prefix w.within one unmet' goes early leads' to low (inr (refl, omega arith)) two' still);
+    met = λ y l n. subst (λ (v : Progress). IsMet M V t c m.width v (with_key M V t c m.width s s' w.key h r x same) y (with_key M V t c m.width s s' w.key h r x same h ++ r ∷ y ∷ [])) (sym now) (elim (cases_lt y x) [
+      | inl lt ↦ kept_here M V t c m.width s s' w.key h r x same P Q top_width w.prefix w.within one unmet' y r y (w.met y lt n)
       | inr ge ↦ let q : x ≡ y = omega arith in
-          subst (λ (z : ℕ). IsMet M t c m.width s' (with_key M t c m.width s s' w.key h r x same) z (with_key M t c m.width s s' w.key h r x same h ++ r ∷ z ∷ [])) q
-          (reached M t c m.width s s' w.key h r x same P Q top_width w.prefix w.within one unmet')
+          subst (λ (z : ℕ). IsMet M V t c m.width s' (with_key M V t c m.width s s' w.key h r x same) z (with_key M V t c m.width s s' w.key h r x same h ++ r ∷ z ∷ [])) q
+          (reached M V t c m.width s s' w.key h r x same P Q top_width w.prefix w.within one unmet')
     ]);
   }
     where
       M : ℕ → ℕ → ℤ
       M = entry m
+
+      V : ℕ → ℕ → ℤ
+      V = entry values
 
       new : ReachedColumn
       new = record { column = x; row = r; before = h; is_two = flip from.is_two same }
@@ -178,8 +181,8 @@ module _ (m : Matrix) (t c h r x : ℕ) (from : ReachedColumn) (old walk : Walk)
       leads' : M r (s.column h) ≢ pos 0
       leads' = subst (λ (step : ReachedColumn). M r step.column ≢ pos 0) (sym w.from_is) leads
 
-      two' : TwoIf same (M r (s.column h) +ℤ M r x)
-      two' = subst (λ (step : ReachedColumn). TwoIf same (M r step.column +ℤ M r x)) (sym w.from_is) two
+      two' : TwoIf same (V r (s.column h) +ℤ V r x)
+      two' = subst (λ (step : ReachedColumn). TwoIf same (V r step.column +ℤ V r x)) (sym w.from_is) two
 
       still : (q y : ℕ) → Q q y → P q y × ((r < q) ⊎ ((r ≡ q) × (x < y)))
       still q y (inl l) = (inl l, inl l)
@@ -198,9 +201,9 @@ module _ (m : Matrix) (t c h r x : ℕ) (from : ReachedColumn) (old walk : Walk)
       ]
 
 -- the walk has reached all columns of the row: the row is taken
-pub end_row : (m : Matrix) (t c h r low : ℕ) (from : ReachedColumn) (old walk walk2 : Walk) → IsReaching m t c h r low from old walk → ((x : ℕ) → low ≤ x → entry m r x ≢ pos 0 → place_in walk.places.items x < 4294967295)
-    → walk2.steps.items ≡ walk.steps.items → walk2.places.items ≡ walk.places.items → HasOneMore walk.used.items r walk2.used.items → walk2.reached.items ≡ walk.reached.items → IsWalking m t c h (r + 1) walk2
-end_row m t c h r low from old walk walk2 w rest steps2 places2 used2 reached2 = record {
+pub end_row : (m values : Matrix) (t c h r low : ℕ) (from : ReachedColumn) (old walk walk2 : Walk) → IsReaching m values t c h r low from old walk → ((x : ℕ) → low ≤ x → entry m r x ≢ pos 0 → place_in walk.places.items x < 4294967295)
+    → walk2.steps.items ≡ walk.steps.items → walk2.places.items ≡ walk.places.items → HasOneMore walk.used.items r walk2.used.items → walk2.reached.items ≡ walk.reached.items → IsWalking m values t c h (r + 1) walk2
+end_row m values t c h r low from old walk walk2 w rest steps2 places2 used2 reached2 = record {
   fits = record {
     matrix = w.fits.matrix;
     places = ap length places2 ∙ w.fits.places;
@@ -209,7 +212,7 @@ end_row m t c h r low from old walk walk2 w rest steps2 places2 used2 reached2 =
     in_step = subst (λ (v : List ℕ). AreInStep v walk2.reached.items) (sym places2) (subst (AreInStep walk.places.items) (sym reached2) w.fits.in_step);
   };
   key = w.key;
-  prefix = subst (λ (v : Progress). IsPrefix (entry m) t c m.width v w.key h (λ s x. r + 1 ≤ s)) (sym (same_progress walk2 walk.steps.items walk.places.items walk2.used.items steps2 places2 refl)) (record {
+  prefix = subst (λ (v : Progress). IsPrefix (entry m) (entry values) t c m.width v w.key h (λ s x. r + 1 ≤ s)) (sym (same_progress walk2 walk.steps.items walk.places.items walk2.used.items steps2 places2 refl)) (record {
     queue = record {
       some = w.prefix.queue.some;
       first = w.prefix.queue.first;
@@ -229,7 +232,7 @@ end_row m t c h r low from old walk walk2 w rest steps2 places2 used2 reached2 =
     done = w.prefix.done;
     gone = λ s x u n. elim (used2.only s u) [
       | inl q ↦
-          let met' = met_all m t c h r low from old walk w rest x (subst (λ (y : ℕ). entry m y x ≢ pos 0) q n) in
+          let met' = met_all m values t c h r low from old walk w rest x (subst (λ (y : ℕ). entry m y x ≢ pos 0) q n) in
           (met'.0, λ k. subst (λ (y : ℕ). IsUpTo (w.key (place_in walk.places.items x)) (w.key h ++ y ∷ x ∷ [])) (sym q) met'.1)
       | inr old_is ↦ w.prefix.gone s x old_is n
     ];
@@ -237,13 +240,13 @@ end_row m t c h r low from old walk walk2 w rest steps2 places2 used2 reached2 =
   });
 }
 
-pub same_goes : (m : Matrix) (t c h r low : ℕ) (from : ReachedColumn) (old walk : Walk) (w : IsReaching m t c h r low from old walk) → IsOpen m t h old → Goes (entry m) t c m.width (progress walk.steps.items walk.places.items walk.used.items) w.key h
-same_goes m t c h r low from old walk w o = elim o.goes [ inl z ↦ inl z | inr z ↦ inr (ap (λ (v : ReachedColumn). entry m t v.column) (w.grows.steps h o.within) ∙ z) ]
+pub same_goes : (m values : Matrix) (t c h r low : ℕ) (from : ReachedColumn) (old walk : Walk) (w : IsReaching m values t c h r low from old walk) → IsOpen m t h old → Goes (entry m) (entry values) t c m.width (progress walk.steps.items walk.places.items walk.used.items) w.key h
+same_goes m values t c h r low from old walk w o = elim o.goes [ inl z ↦ inl z | inr z ↦ inr (ap (λ (v : ReachedColumn). entry m t v.column) (w.grows.steps h o.within) ∙ z) ]
 
 -- ---- the rows of a column
 
-pub start_rows : (m : Matrix) (t c h pending : ℕ) (walk : Walk) → IsWalking m t c h 0 walk → IsOpen m t h walk → pending ≤ m.width → NoneWaits m t c pending walk.places.items → IsSpreading m t c h 0 pending walk walk
-start_rows m t c h pending walk w o l waits = record {
+pub start_rows : (m values : Matrix) (t c h pending : ℕ) (walk : Walk) → IsWalking m values t c h 0 walk → IsOpen m t h walk → pending ≤ m.width → NoneWaits m t c pending walk.places.items → IsSpreading m values t c h 0 pending walk walk
+start_rows m values t c h pending walk w o l waits = record {
   walking = w;
   low_in = omega arith;
   gone = λ r a. absurd (omega arith);
@@ -253,7 +256,7 @@ start_rows m t c h pending walk w o l waits = record {
   waits = waits;
 }
 
-module _ (m : Matrix) (t c h low : ℕ) (old walk : Walk) {pending : ℕ} (w : IsSpreading m t c h low pending old walk) where
+module _ (m values : Matrix) (t c h low : ℕ) (old walk : Walk) {pending : ℕ} (w : IsSpreading m values t c h low pending old walk) where
   -- the walk has taken each row below `high` that meets the column
   taken_below : (high : ℕ) → ((r : ℕ) → low ≤ r → r < high → entry m r (step_at old.steps.items h).column ≢ pos 0 → has_column walk.used.items r ≡ true)
       → (r : ℕ) → r < high → entry m r (step_at old.steps.items h).column ≢ pos 0 → has_column walk.used.items r ≡ true
@@ -263,18 +266,18 @@ module _ (m : Matrix) (t c h low : ℕ) (old walk : Walk) {pending : ℕ} (w : I
   ]
 
   -- the walk passes to a later row
-  pub walks_from : (row : ℕ) → low ≤ row → IsWalking m t c h row walk
+  pub walks_from : (row : ℕ) → low ≤ row → IsWalking m values t c h row walk
   walks_from row up = record {
     fits = w.walking.fits;
     key = w.walking.key;
-    prefix = fewer (entry m) t c m.width (progress walk.steps.items walk.places.items walk.used.items) w.walking.key h (λ s x. low ≤ s) (λ s x. row ≤ s) w.walking.prefix (λ s x l. omega arith);
+    prefix = fewer (entry m) (entry values) t c m.width (progress walk.steps.items walk.places.items walk.used.items) w.walking.key h (λ s x. low ≤ s) (λ s x. row ≤ s) w.walking.prefix (λ s x l. omega arith);
   }
 
   -- the walk takes the next row now
   pub take_row : (row : ℕ) (walk1 : Walk) (pending1 : ℕ) → row < t → ((r : ℕ) → low ≤ r → r < row → entry m r (step_at old.steps.items h).column ≢ pos 0 → has_column walk.used.items r ≡ true)
-      → IsWalking m t c h (row + 1) walk1 → GrowsFrom walk walk1 → HasOneMore walk.used.items row walk1.used.items
+      → IsWalking m values t c h (row + 1) walk1 → GrowsFrom walk walk1 → HasOneMore walk.used.items row walk1.used.items
       → pending ≤ pending1 → pending1 ≤ m.width → ((d : ℕ) → pending ≤ d → d < pending1 → entry m t d ≢ pos 0 → (place_in walk1.places.items d ≢ 4294967295) ⊎ IsUntouched m t d)
-      → IsSpreading m t c h (row + 1) pending1 old walk1
+      → IsSpreading m values t c h (row + 1) pending1 old walk1
   take_row row walk1 pending1 early between walking grows used le wide waits = record {
     walking = walking;
     low_in = omega arith;
@@ -298,11 +301,11 @@ module _ (m : Matrix) (t c h low : ℕ) (old walk : Walk) {pending : ℕ} (w : I
   }
 
   -- the rows before t are done: the walk has taken each row from `low` on that meets the column, or the rest is not before t
-  pub end_rows : ((r : ℕ) → low ≤ r → r < t → entry m r (step_at old.steps.items h).column ≢ pos 0 → has_column walk.used.items r ≡ true) → IsWalking m t c (h + 1) 0 walk
-  end_rows rest = subst (λ (n : ℕ). IsWalking m t c n 0 walk) (sym (add-one h)) (record {
+  pub end_rows : ((r : ℕ) → low ≤ r → r < t → entry m r (step_at old.steps.items h).column ≢ pos 0 → has_column walk.used.items r ≡ true) → IsWalking m values t c (h + 1) 0 walk
+  end_rows rest = subst (λ (n : ℕ). IsWalking m values t c n 0 walk) (sym (add-one h)) (record {
     fits = w.walking.fits;
     key = w.walking.key;
-    prefix = next (entry m) t c m.width (progress walk.steps.items walk.places.items walk.used.items) w.walking.key h t 0 (λ s x. low ≤ s) (λ s x. 0 ≤ s) w.walking.prefix w.open_is.within w.low_in
+    prefix = next (entry m) (entry values) t c m.width (progress walk.steps.items walk.places.items walk.used.items) w.walking.key h t 0 (λ s x. low ≤ s) (λ s x. 0 ≤ s) w.walking.prefix w.open_is.within w.low_in
         (λ r goes early leads. taken_below t rest r early (leads_old r leads));
   })
     where
@@ -310,12 +313,12 @@ module _ (m : Matrix) (t c h low : ℕ) (old walk : Walk) {pending : ℕ} (w : I
       leads_old r = subst (λ (y : ℕ). entry m r y ≢ pos 0) w.column_is
 
   -- no column waits: the walk may end here
-  pub settle_rows : HasSettled m t c walk
+  pub settle_rows : HasSettled m values t c walk
   settle_rows = record {
     fits = w.walking.fits;
     key = w.walking.key;
     queue = w.walking.prefix.queue;
-    settled = settles (entry m) t c m.width (progress walk.steps.items walk.places.items walk.used.items) w.walking.key h t 0 (λ s x. low ≤ s) w.walking.prefix w.open_is.within w.low_in
+    settled = settles (entry m) (entry values) t c m.width (progress walk.steps.items walk.places.items walk.used.items) w.walking.key h t 0 (λ s x. low ≤ s) w.walking.prefix w.open_is.within w.low_in
         (λ r x early leads. elim (cases_lt r low) [
           | inl before ↦ inl (w.gone r before (subst (λ (y : ℕ). entry m r y ≢ pos 0) w.column_is leads))
           | inr after ↦ inr after
@@ -334,10 +337,10 @@ untouched m t x rows nonzeros (inr h) r early n = later (nonzeros.all r n)
 
 -- ---- the whole walk
 
-pub begin_walk : (m : Matrix) (t c : ℕ) (walk walk2 : Walk) → HasPlacesAndMarks m walk → c < m.width → walk2.steps.items ≡ record { column = c; row = 0; before = 0; is_two = false } ∷ []
+pub begin_walk : (m values : Matrix) (t c : ℕ) (walk walk2 : Walk) → HasPlacesAndMarks m walk → c < m.width → walk2.steps.items ≡ record { column = c; row = 0; before = 0; is_two = false } ∷ []
     → walk2.places.items ≡ set (replicate (length walk.places.items) 4294967295) c 0 → length walk2.used.items ≡ length walk.used.items → ((r : ℕ) → has_column walk2.used.items r ≡ false)
-    → length walk2.reached.items ≡ length walk.reached.items → AreInStep walk2.places.items walk2.reached.items → IsGoing m t c 0 (c + 1) walk2
-begin_walk m t c walk walk2 f l steps2 places2 used2 unused long2 in_step2 = record {
+    → length walk2.reached.items ≡ length walk.reached.items → AreInStep walk2.places.items walk2.reached.items → IsGoing m values t c 0 (c + 1) walk2
+begin_walk m values t c walk walk2 f l steps2 places2 used2 unused long2 in_step2 = record {
   state = inl (record {
     fits = record {
       matrix = f.matrix;
@@ -347,8 +350,8 @@ begin_walk m t c walk walk2 f l steps2 places2 used2 unused long2 in_step2 = rec
       in_step = in_step2;
     };
     key = λ j. [];
-    prefix = subst (λ (v : Progress). IsPrefix (entry m) t c m.width v (λ j. []) 0 (λ r x. 0 ≤ r)) (sym (same_progress walk2 first (set (replicate (length walk.places.items) 4294967295) c 0) walk2.used.items steps2 places2 refl))
-        (begin (entry m) t c m.width (progress first (set (replicate (length walk.places.items) 4294967295) c 0) walk2.used.items) (λ r x. 0 ≤ r) l refl refl refl
+    prefix = subst (λ (v : Progress). IsPrefix (entry m) (entry values) t c m.width v (λ j. []) 0 (λ r x. 0 ≤ r)) (sym (same_progress walk2 first (set (replicate (length walk.places.items) 4294967295) c 0) walk2.used.items steps2 places2 refl))
+        (begin (entry m) (entry values) t c m.width (progress first (set (replicate (length walk.places.items) 4294967295) c 0) walk2.used.items) (λ r x. 0 ≤ r) l refl refl refl
         (get_or-set_same (replicate (length walk.places.items) 4294967295) c 0 4294967295 (let e = length-replicate {A = ℕ} (length walk.places.items) 4294967295 in let g = f.places in omega arith))
         (λ z q. get_or-set_other (replicate (length walk.places.items) 4294967295) c z 0 4294967295 q ∙ get_or-replicated (length walk.places.items) z 4294967295)
         unused);
@@ -360,74 +363,74 @@ begin_walk m t c walk walk2 f l steps2 places2 used2 unused long2 in_step2 = rec
     first : List ReachedColumn
     first = record { column = c; row = 0; before = 0; is_two = false } ∷ []
 
-pub is_walking : (m : Matrix) (t c h pending : ℕ) (walk : Walk) → IsGoing m t c h pending walk → pending < m.width → IsWalking m t c h 0 walk
-is_walking m t c h pending walk g l = elim g.state [ inl w ↦ w | inr s ↦ absurd (let e = s.0 in omega arith) ]
+pub is_walking : (m values : Matrix) (t c h pending : ℕ) (walk : Walk) → IsGoing m values t c h pending walk → pending < m.width → IsWalking m values t c h 0 walk
+is_walking m values t c h pending walk g l = elim g.state [ inl w ↦ w | inr s ↦ absurd (let e = s.0 in omega arith) ]
 
-pub smaller : (m : Matrix) (t c h pending : ℕ) (walk : Walk) → IsGoing m t c h pending walk → pending < m.width → h < length walk.steps.items → m.width - (h + 1) < m.width - h
-smaller m t c h pending walk g l k =
-    let w = is_walking m t c h pending walk g l in
-    let f = few (entry m) t c m.width (progress walk.steps.items walk.places.items walk.used.items) w.key w.prefix.queue in omega arith
+pub smaller : (m values : Matrix) (t c h pending : ℕ) (walk : Walk) → IsGoing m values t c h pending walk → pending < m.width → h < length walk.steps.items → m.width - (h + 1) < m.width - h
+smaller m values t c h pending walk g l k =
+    let w = is_walking m values t c h pending walk g l in
+    let f = few (entry m) (entry values) t c m.width (progress walk.steps.items walk.places.items walk.used.items) w.key w.prefix.queue in omega arith
 
 -- a trail cannot go on through a column in which row t is not 0
-pub skip_place : (m : Matrix) (t c h pending pending2 : ℕ) (walk walk2 : Walk) (step : ReachedColumn) → IsGoing m t c h pending walk → pending < m.width → h < length walk.steps.items → h ≢ 0 → step ≡ get_or walk.steps.items h step → entry m t step.column ≢ pos 0
-    → walk2 ≡ walk → pending2 ≡ pending → IsGoing m t c (h + 1) pending2 walk2
-skip_place m t c h pending pending2 walk walk2 step g l k other step_is' n e f =
-    subst (λ (v : Walk). IsGoing m t c (h + 1) pending2 v) (sym e) (subst (λ (v : ℕ). IsGoing m t c (h + 1) v walk) (sym f) (record {
-      state = inl (subst (λ (v : ℕ). IsWalking m t c v 0 walk) (sym (add-one h)) (record {
+pub skip_place : (m values : Matrix) (t c h pending pending2 : ℕ) (walk walk2 : Walk) (step : ReachedColumn) → IsGoing m values t c h pending walk → pending < m.width → h < length walk.steps.items → h ≢ 0 → step ≡ get_or walk.steps.items h step → entry m t step.column ≢ pos 0
+    → walk2 ≡ walk → pending2 ≡ pending → IsGoing m values t c (h + 1) pending2 walk2
+skip_place m values t c h pending pending2 walk walk2 step g l k other step_is' n e f =
+    subst (λ (v : Walk). IsGoing m values t c (h + 1) pending2 v) (sym e) (subst (λ (v : ℕ). IsGoing m values t c (h + 1) v walk) (sym f) (record {
+      state = inl (subst (λ (v : ℕ). IsWalking m values t c v 0 walk) (sym (add-one h)) (record {
         fits = w.fits;
         key = w.key;
-        prefix = next (entry m) t c m.width (progress walk.steps.items walk.places.items walk.used.items) w.key h 0 0 (λ r x. 0 ≤ r) (λ r x. 0 ≤ r) w.prefix k (omega arith)
+        prefix = next (entry m) (entry values) t c m.width (progress walk.steps.items walk.places.items walk.used.items) w.key h 0 0 (λ r x. 0 ≤ r) (λ r x. 0 ≤ r) w.prefix k (omega arith)
             (λ r goes early leads. absurd (elim goes [ inl z ↦ other z | inr z ↦ n (ap (λ (v : ReachedColumn). entry m t v.column) (sym (step_is walk.steps.items h step k step_is')) ∙ z) ]));
       }));
       pending_in = g.pending_in;
       waits = g.waits;
     }))
   where
-    w : IsWalking m t c h 0 walk
-    w = is_walking m t c h pending walk g l
+    w : IsWalking m values t c h 0 walk
+    w = is_walking m values t c h pending walk g l
 
-pub went_on : (m : Matrix) (t c h pending pending2 : ℕ) (walk walk2 : Walk) → IsWalking m t c (h + 1) 0 walk ⊎ ((pending ≡ m.width) × HasSettled m t c walk) → pending ≤ m.width → NoneWaits m t c pending walk.places.items → walk2 ≡ walk → pending2 ≡ pending → IsGoing m t c (h + 1) pending2 walk2
-went_on m t c h pending pending2 walk walk2 state l waits e f =
-    subst (λ (v : Walk). IsGoing m t c (h + 1) pending2 v) (sym e) (subst (λ (v : ℕ). IsGoing m t c (h + 1) v walk) (sym f) (record { state = state; pending_in = l; waits = waits }))
+pub went_on : (m values : Matrix) (t c h pending pending2 : ℕ) (walk walk2 : Walk) → IsWalking m values t c (h + 1) 0 walk ⊎ ((pending ≡ m.width) × HasSettled m values t c walk) → pending ≤ m.width → NoneWaits m t c pending walk.places.items → walk2 ≡ walk → pending2 ≡ pending → IsGoing m values t c (h + 1) pending2 walk2
+went_on m values t c h pending pending2 walk walk2 state l waits e f =
+    subst (λ (v : Walk). IsGoing m values t c (h + 1) pending2 v) (sym e) (subst (λ (v : ℕ). IsGoing m values t c (h + 1) v walk) (sym f) (record { state = state; pending_in = l; waits = waits }))
 
 pub path_touches : (m : Matrix) (t c d : ℕ) (lines : List ℕ) → IsPath (entry m) t c d lines → (r : ℕ) × (r < t) × (entry m r d ≢ pos 0)
 path_touches m t c d [] h = absurd h
 path_touches m t c d (r ∷ []) h = (r, h.0, h.2)
 path_touches m t c d (r ∷ j ∷ lines) h = path_touches m t j d lines h.4
 
-pub end_walk : (m : Matrix) (t c h pending : ℕ) (walk : Walk) → IsGoing m t c h pending walk → t < height m → (length walk.steps.items ≤ h) ⊎ (m.width ≤ pending) → HasWalked m t c walk
-end_walk m t c h pending walk g tall end = elim g.state [
+pub end_walk : (m values : Matrix) (t c h pending : ℕ) (walk : Walk) → IsGoing m values t c h pending walk → t < height m → (length walk.steps.items ≤ h) ⊎ (m.width ≤ pending) → HasWalked m values t c walk
+end_walk m values t c h pending walk g tall end = elim g.state [
   | inl w ↦ elim (cases_lt h (length walk.steps.items)) [
     | inl lt ↦ from_settled w.fits w.key w.prefix.queue
-        (settles (entry m) t c m.width (progress walk.steps.items walk.places.items walk.used.items) w.key h 0 0 (λ r x. 0 ≤ r) w.prefix lt (omega arith) (λ r x early leads. inr (omega arith)))
+        (settles (entry m) (entry values) t c m.width (progress walk.steps.items walk.places.items walk.used.items) w.key h 0 0 (λ r x. 0 ≤ r) w.prefix lt (omega arith) (λ r x early leads. inr (omega arith)))
         (elim end [ inl l ↦ absurd (omega arith) | inr l ↦ l ])
     | inr ge ↦ from_all w (let k = w.prefix.fits in omega arith)
   ]
   | inr s ↦ from_settled s.1.fits s.1.key s.1.queue s.1.settled (let e = s.0 in omega arith)
 ]
   where
-    from_settled : HasPlacesAndMarks m walk → (key : ℕ → List ℕ) → IsQueue (entry m) t c m.width (progress walk.steps.items walk.places.items walk.used.items) key → IsSettled (entry m) t c m.width (progress walk.steps.items walk.places.items walk.used.items) key → m.width ≤ pending → HasWalked m t c walk
+    from_settled : HasPlacesAndMarks m walk → (key : ℕ → List ℕ) → IsQueue (entry m) (entry values) t c m.width (progress walk.steps.items walk.places.items walk.used.items) key → IsSettled (entry m) (entry values) t c m.width (progress walk.steps.items walk.places.items walk.used.items) key → m.width ≤ pending → HasWalked m values t c walk
     from_settled fits key queue settled wide = record {
       fits = fits;
       key = key;
       queue = queue;
-      least = least (entry m) t c m.width (progress walk.steps.items walk.places.items walk.used.items) key queue settled;
+      least = least (entry m) (entry values) t c m.width (progress walk.steps.items walk.places.items walk.used.items) key queue settled;
       none = λ d lines order n unmet h. elim (g.waits d order (let a = within m t d fits.matrix tall n in omega arith) n) [
         | inl met ↦ met unmet
         | inr u ↦ let v = path_touches m t c d lines h in u v.0 v.1 v.2
       ];
     }
 
-    from_all : IsWalking m t c h 0 walk → h ≡ length walk.steps.items → HasWalked m t c walk
+    from_all : IsWalking m values t c h 0 walk → h ≡ length walk.steps.items → HasWalked m values t c walk
     from_all w e =
-        let prefix = subst (λ (v : ℕ). IsPrefix (entry m) t c m.width (progress walk.steps.items walk.places.items walk.used.items) w.key v (λ r x. 0 ≤ r)) e w.prefix in
+        let prefix = subst (λ (v : ℕ). IsPrefix (entry m) (entry values) t c m.width (progress walk.steps.items walk.places.items walk.used.items) w.key v (λ r x. 0 ≤ r)) e w.prefix in
         record {
           fits = w.fits;
           key = w.key;
           queue = w.prefix.queue;
-          least = least (entry m) t c m.width (progress walk.steps.items walk.places.items walk.used.items) w.key w.prefix.queue (all_settled (entry m) t c m.width (progress walk.steps.items walk.places.items walk.used.items) w.key (λ r x. 0 ≤ r) prefix);
+          least = least (entry m) (entry values) t c m.width (progress walk.steps.items walk.places.items walk.used.items) w.key w.prefix.queue (all_settled (entry m) (entry values) t c m.width (progress walk.steps.items walk.places.items walk.used.items) w.key (λ r x. 0 ≤ r) prefix);
           none = λ d lines order n unmet h.
               let v = path_trail (entry m) t c d lines h in
-              let met = all_met (entry m) t c m.width (progress walk.steps.items walk.places.items walk.used.items) w.key (λ r x. 0 ≤ r) prefix (lines ++ d ∷ []) v.0 in
+              let met = all_met (entry m) (entry values) t c m.width (progress walk.steps.items walk.places.items walk.used.items) w.key (λ r x. 0 ≤ r) prefix (lines ++ d ∷ []) v.0 in
               let q = ap (place_in walk.places.items) v.1 in omega arith;
         }

@@ -105,15 +105,15 @@ module _ (M : ℕ → ℕ → ℤ) (t : ℕ) where
   end_more c (s ∷ []) r x h = absurd h
   end_more c (s ∷ y ∷ lines) r x (k, d, e, o, more) = end_more y lines r x more
 
-  pub sum_more : (c : ℕ) (lines : List ℕ) (r x : ℕ) → IsTrail M t c lines → trail_sum M c (lines ++ r ∷ x ∷ []) ≡ trail_sum M c lines +ℤ (M r (trail_end c lines) +ℤ M r x)
-  sum_more c [] r x h = plain (M r c +ℤ M r x)
+  pub sum_more : (V : ℕ → ℕ → ℤ) (c : ℕ) (lines : List ℕ) (r x : ℕ) → IsTrail M t c lines → trail_sum V c (lines ++ r ∷ x ∷ []) ≡ trail_sum V c lines +ℤ (V r (trail_end c lines) +ℤ V r x)
+  sum_more V c [] r x h = plain (V r c +ℤ V r x)
     where
       plain : (a : ℤ) → a +ℤ pos 0 ≡ pos 0 +ℤ a
       plain a = omega (arith, sums)
-  sum_more c (s ∷ []) r x h = absurd h
-  sum_more c (s ∷ y ∷ lines) r x (k, d, e, o, more) =
-      ap (λ (z : ℤ). (M s c +ℤ M s y) +ℤ z) (sum_more y lines r x more)
-      ∙ plain (M s c +ℤ M s y) (trail_sum M y lines) (M r (trail_end y lines) +ℤ M r x)
+  sum_more V c (s ∷ []) r x h = absurd h
+  sum_more V c (s ∷ y ∷ lines) r x (k, d, e, o, more) =
+      ap (λ (z : ℤ). (V s c +ℤ V s y) +ℤ z) (sum_more V y lines r x more)
+      ∙ plain (V s c +ℤ V s y) (trail_sum V y lines) (V r (trail_end y lines) +ℤ V r x)
     where
       plain : (a b c : ℤ) → a +ℤ (b +ℤ c) ≡ (a +ℤ b) +ℤ c
       plain a b c = omega (arith, sums)
@@ -156,11 +156,11 @@ module _ (M : ℕ → ℕ → ℤ) (t : ℕ) where
   path_trail c d (r ∷ []) (l, a, b) = ((l, a, b, tt, tt), refl)
   path_trail c d (r ∷ j ∷ lines) (l, a, b, z, more) = let v = path_trail j d lines more in ((l, a, b, goes_on j (lines ++ d ∷ []) z, v.0), v.1)
 
-  pub trail_path : (c d : ℕ) (lines : List ℕ) → IsTrail M t c (lines ++ d ∷ []) → IsPath M t c d lines × (trail_sum M c (lines ++ d ∷ []) ≡ path_sum M c d lines)
-  trail_path c d [] h = absurd h
-  trail_path c d (r ∷ []) (l, a, b, o, more) = ((l, a, b), plain (M r c +ℤ M r d))
+  pub trail_path : (V : ℕ → ℕ → ℤ) (c d : ℕ) (lines : List ℕ) → IsTrail M t c (lines ++ d ∷ []) → IsPath M t c d lines × (trail_sum V c (lines ++ d ∷ []) ≡ path_sum V c d lines)
+  trail_path V c d [] h = absurd h
+  trail_path V c d (r ∷ []) (l, a, b, o, more) = ((l, a, b), plain (V r c +ℤ V r d))
     where
       plain : (a : ℤ) → a +ℤ pos 0 ≡ a
       plain a = omega (arith, sums)
-  trail_path c d (r ∷ j ∷ lines) (l, a, b, o, more) = let v = trail_path j d lines more in
-      ((l, a, b, goes_is j lines d o, v.0), ap (λ (z : ℤ). (M r c +ℤ M r j) +ℤ z) v.1)
+  trail_path V c d (r ∷ j ∷ lines) (l, a, b, o, more) = let v = trail_path V j d lines more in
+      ((l, a, b, goes_is j lines d o, v.0), ap (λ (z : ℤ). (V r c +ℤ V r j) +ℤ z) v.1)

@@ -30,10 +30,10 @@ pub record IsOneMore (s s' : Progress) (x r h : ℕ) (two : Bool) : Type 0 where
   pub places : (z : ℕ) → z ≢ x → s'.place z ≡ s.place z
   pub used : (q : ℕ) → s'.used q ≡ s.used q
 
-module _ (M : ℕ → ℕ → ℤ) (t c n : ℕ) where
+module _ (M V : ℕ → ℕ → ℤ) (t c n : ℕ) where
   module _ (s : Progress) (key : ℕ → List ℕ) where
     -- the walk reaches at most all columns
-    pub few : IsQueue M t c n s key → s.count ≤ n
+    pub few : IsQueue M V t c n s key → s.count ≤ n
     few w = subst (λ (x : ℕ). x ≤ n) (list_length s.count) (distinct_few n (list s.count) (apart s.count (omega arith)) (λ x g. let v = from_list s.count x g in subst (λ (y : ℕ). y < n) v.2 (w.inside v.0 v.1)))
       where
         list : ℕ → List ℕ
@@ -61,7 +61,7 @@ module _ (M : ℕ → ℕ → ℤ) (t c n : ℕ) where
         )
 
     -- fewer lines are examined again
-    pub fewer : (h : ℕ) (P Q : ℕ → ℕ → Type 0) → IsPrefix M t c n s key h P → ((r x : ℕ) → Q r x → P r x) → IsPrefix M t c n s key h Q
+    pub fewer : (h : ℕ) (P Q : ℕ → ℕ → Type 0) → IsPrefix M V t c n s key h P → ((r x : ℕ) → Q r x → P r x) → IsPrefix M V t c n s key h Q
     fewer h P Q w f = record {
       queue = w.queue;
       fits = w.fits;
@@ -71,28 +71,28 @@ module _ (M : ℕ → ℕ → ℤ) (t c n : ℕ) where
     }
 
     -- a column that is met already is met no later
-    pub met_before : (h r x : ℕ) (P : ℕ → ℕ → Type 0) → IsPrefix M t c n s key h P → h < s.count → s.place x < 4294967295 → P r x → IsMet M t c n s key x (key h ++ r ∷ x ∷ [])
+    pub met_before : (h r x : ℕ) (P : ℕ → ℕ → Type 0) → IsPrefix M V t c n s key h P → h < s.count → s.place x < 4294967295 → P r x → IsMet M V t c n s key x (key h ++ r ∷ x ∷ [])
     met_before h r x P w l met p = (met, inl (w.prefix (s.place x) r x (w.queue.listed x met).0 l p))
 
     -- position h is done: the walk has taken all rows before t that meet its column
-    pub next : (h r0 x0 : ℕ) (P Q : ℕ → ℕ → Type 0) → IsPrefix M t c n s key h P → h < s.count → P r0 x0 → ((r : ℕ) → Goes M t c n s key h → r < t → M r (s.column h) ≢ pos 0 → s.used r ≡ true) → IsPrefix M t c n s key (suc h) Q
+    pub next : (h r0 x0 : ℕ) (P Q : ℕ → ℕ → Type 0) → IsPrefix M V t c n s key h P → h < s.count → P r0 x0 → ((r : ℕ) → Goes M V t c n s key h → r < t → M r (s.column h) ≢ pos 0 → s.used r ≡ true) → IsPrefix M V t c n s key (suc h) Q
     next h r0 x0 P Q w l p all = record {
       queue = w.queue;
       fits = omega arith;
       done = λ i r x m goes early from to. elim (cases_lt i h) [
         | inl lt ↦ w.done i r x lt goes early from to
-        | inr ge ↦ let q : h ≡ i = omega arith in here i q r x (all r (subst (Goes M t c n s key) (sym q) goes) early (subst (λ (v : ℕ). M r (s.column v) ≢ pos 0) (sym q) from)) to
+        | inr ge ↦ let q : h ≡ i = omega arith in here i q r x (all r (subst (Goes M V t c n s key) (sym q) goes) early (subst (λ (v : ℕ). M r (s.column v) ≢ pos 0) (sym q) from)) to
       ];
       gone = λ r x u to. let v = w.gone r x u to in (v.0, λ m. inl (up_to_before (key (s.place x)) (key h ++ r ∷ x ∷ []) (key (suc h) ++ r ∷ x ∷ []) (v.1 l) (before_more (key h) (key (suc h)) r x r x (w.queue.sorted h (suc h) (omega arith) m))));
       prefix = λ j r x m k q. before_trans (key j) (key h ++ r0 ∷ x0 ∷ []) (key (suc h) ++ r ∷ x ∷ []) (w.prefix j r0 x0 m l p) (before_more (key h) (key (suc h)) r0 x0 r x (w.queue.sorted h (suc h) (omega arith) k));
     }
       where
-        here : (i : ℕ) → h ≡ i → (r x : ℕ) → s.used r ≡ true → M r x ≢ pos 0 → IsMet M t c n s key x (key i ++ r ∷ x ∷ [])
+        here : (i : ℕ) → h ≡ i → (r x : ℕ) → s.used r ≡ true → M r x ≢ pos 0 → IsMet M V t c n s key x (key i ++ r ∷ x ∷ [])
         here i q r x u to = let v = w.gone r x u to in (v.0, subst (λ (j : ℕ). IsUpTo (key (s.place x)) (key j ++ r ∷ x ∷ [])) q (v.1 l))
 
     -- within position h everything is settled, if each row that meets its column is taken or next
-    pub settles : (h r0 x0 : ℕ) (P : ℕ → ℕ → Type 0) → IsPrefix M t c n s key h P → h < s.count → P r0 x0
-        → ((r x : ℕ) → r < t → M r (s.column h) ≢ pos 0 → (s.used r ≡ true) ⊎ P r x) → IsSettled M t c n s key
+    pub settles : (h r0 x0 : ℕ) (P : ℕ → ℕ → Type 0) → IsPrefix M V t c n s key h P → h < s.count → P r0 x0
+        → ((r x : ℕ) → r < t → M r (s.column h) ≢ pos 0 → (s.used r ≡ true) ⊎ P r x) → IsSettled M V t c n s key
     settles h r0 x0 P w l p all i r x lines m goes early from to le = elim (cases_lt i h) [
       | inl lt ↦ let v = w.done i r x lt goes early from to in inl (v.0, up_to_trans (key (s.place x)) (key i ++ r ∷ x ∷ []) (lines ++ r ∷ x ∷ []) v.1 (up_to_more (key i) lines r x le))
       | inr ge ↦ elim (cases_lt h i) [
@@ -102,30 +102,30 @@ module _ (M : ℕ → ℕ → ℤ) (t c n : ℕ) where
       ]
     ]
       where
-        here : IsUpTo (key h) lines → (s.used r ≡ true) ⊎ P r x → IsMet M t c n s key x (lines ++ r ∷ x ∷ []) ⊎ ((j : ℕ) → j < s.count → IsShortlexBefore (key j) (lines ++ r ∷ x ∷ []))
+        here : IsUpTo (key h) lines → (s.used r ≡ true) ⊎ P r x → IsMet M V t c n s key x (lines ++ r ∷ x ∷ []) ⊎ ((j : ℕ) → j < s.count → IsShortlexBefore (key j) (lines ++ r ∷ x ∷ []))
         here e (inl u) = let v = w.gone r x u to in inl (v.0, up_to_trans (key (s.place x)) (key h ++ r ∷ x ∷ []) (lines ++ r ∷ x ∷ []) (v.1 l) (up_to_more (key h) lines r x e))
         here e (inr q) = inr (λ j k. before_up_to (key j) (key h ++ r ∷ x ∷ []) (lines ++ r ∷ x ∷ []) (w.prefix j r x k l q) (up_to_more (key h) lines r x e))
 
     -- each trail ends in a column that is met by a trail that is not after it; or it is late
-    compare : (Late : List ℕ → Type 0) → IsQueue M t c n s key → ((lines : List ℕ) (r x : ℕ) → Late lines → Late (lines ++ r ∷ x ∷ []))
-        → ((i r x : ℕ) (lines : List ℕ) → i < s.count → Goes M t c n s key i → r < t → M r (s.column i) ≢ pos 0 → M r x ≢ pos 0 → IsUpTo (key i) lines → IsMet M t c n s key x (lines ++ r ∷ x ∷ []) ⊎ Late (lines ++ r ∷ x ∷ []))
-        → (size : ℕ) (lines : List ℕ) → length lines < size → IsTrail M t c lines → IsMet M t c n s key (trail_end c lines) lines ⊎ Late lines
+    compare : (Late : List ℕ → Type 0) → IsQueue M V t c n s key → ((lines : List ℕ) (r x : ℕ) → Late lines → Late (lines ++ r ∷ x ∷ []))
+        → ((i r x : ℕ) (lines : List ℕ) → i < s.count → Goes M V t c n s key i → r < t → M r (s.column i) ≢ pos 0 → M r x ≢ pos 0 → IsUpTo (key i) lines → IsMet M V t c n s key x (lines ++ r ∷ x ∷ []) ⊎ Late (lines ++ r ∷ x ∷ []))
+        → (size : ℕ) (lines : List ℕ) → length lines < size → IsTrail M t c lines → IsMet M V t c n s key (trail_end c lines) lines ⊎ Late lines
     compare Late w more settle zero lines l h = absurd (omega arith)
     compare Late w more settle (suc size) lines l h = go (last_step M t c lines h) (λ prefix m g. compare Late w more settle size prefix m g)
       where
         at_start : s.place c ≡ 0
         at_start = ap s.place (sym w.first) ∙ w.placed 0 w.some
 
-        go : (lines ≡ []) ⊎ HasLast M t c lines → ((prefix : List ℕ) → length prefix < size → IsTrail M t c prefix → IsMet M t c n s key (trail_end c prefix) prefix ⊎ Late prefix) → IsMet M t c n s key (trail_end c lines) lines ⊎ Late lines
-        go (inl e) k = subst (λ (v : List ℕ). IsMet M t c n s key (trail_end c v) v ⊎ Late v) (sym e) (inl (let a = at_start in omega arith, inr (ap key at_start ∙ w.start)))
-        go (inr p) k = subst (λ (v : List ℕ). IsMet M t c n s key (trail_end c v) v ⊎ Late v) (sym p.lines_are)
-            (subst (λ (x : ℕ). IsMet M t c n s key x (p.prefix ++ p.row ∷ p.column ∷ []) ⊎ Late (p.prefix ++ p.row ∷ p.column ∷ [])) (sym (end_more M t c p.prefix p.row p.column p.trail))
+        go : (lines ≡ []) ⊎ HasLast M t c lines → ((prefix : List ℕ) → length prefix < size → IsTrail M t c prefix → IsMet M V t c n s key (trail_end c prefix) prefix ⊎ Late prefix) → IsMet M V t c n s key (trail_end c lines) lines ⊎ Late lines
+        go (inl e) k = subst (λ (v : List ℕ). IsMet M V t c n s key (trail_end c v) v ⊎ Late v) (sym e) (inl (let a = at_start in omega arith, inr (ap key at_start ∙ w.start)))
+        go (inr p) k = subst (λ (v : List ℕ). IsMet M V t c n s key (trail_end c v) v ⊎ Late v) (sym p.lines_are)
+            (subst (λ (x : ℕ). IsMet M V t c n s key x (p.prefix ++ p.row ∷ p.column ∷ []) ⊎ Late (p.prefix ++ p.row ∷ p.column ∷ [])) (sym (end_more M t c p.prefix p.row p.column p.trail))
             (elim (k p.prefix (let e = ap length p.lines_are in let f = length_more p.prefix p.row p.column in omega arith) p.trail) [
               | inl met ↦ step met
               | inr late ↦ inr (more p.prefix p.row p.column late)
             ]))
           where
-            step : IsMet M t c n s key (trail_end c p.prefix) p.prefix → IsMet M t c n s key p.column (p.prefix ++ p.row ∷ p.column ∷ []) ⊎ Late (p.prefix ++ p.row ∷ p.column ∷ [])
+            step : IsMet M V t c n s key (trail_end c p.prefix) p.prefix → IsMet M V t c n s key p.column (p.prefix ++ p.row ∷ p.column ∷ []) ⊎ Late (p.prefix ++ p.row ∷ p.column ∷ [])
             step met =
                 let v = w.listed (trail_end c p.prefix) met.0 in
                 settle (s.place (trail_end c p.prefix)) p.row p.column p.prefix v.0
@@ -133,7 +133,7 @@ module _ (M : ℕ → ℕ → ℤ) (t c n : ℕ) where
                 p.early (subst (λ (y : ℕ). M p.row y ≢ pos 0) (sym v.1) p.from) p.to met.1
 
     -- if everything is settled, the trails to the columns that are met are least
-    pub least : IsQueue M t c n s key → IsSettled M t c n s key → (d : ℕ) (lines : List ℕ) → s.place d < 4294967295 → IsTrail M t c lines → trail_end c lines ≡ d → IsUpTo (key (s.place d)) lines
+    pub least : IsQueue M V t c n s key → IsSettled M V t c n s key → (d : ℕ) (lines : List ℕ) → s.place d < 4294967295 → IsTrail M t c lines → trail_end c lines ≡ d → IsUpTo (key (s.place d)) lines
     least w settled d lines met h e =
         elim (compare (λ (ls : List ℕ). (j : ℕ) → j < s.count → IsShortlexBefore (key j) ls) w (λ ls r x late j l. before_trans (key j) ls (ls ++ r ∷ x ∷ []) (late j l) (longer_before ls r x)) settled (suc (length lines)) lines (omega arith) h) [
           | inl v ↦ subst (λ (y : ℕ). IsUpTo (key (s.place y)) lines) e v.1
@@ -141,19 +141,19 @@ module _ (M : ℕ → ℕ → ℤ) (t c n : ℕ) where
         ]
 
     -- if all positions are done, each trail ends in a column that is met
-    pub all_met : (P : ℕ → ℕ → Type 0) → IsPrefix M t c n s key s.count P → (lines : List ℕ) → IsTrail M t c lines → s.place (trail_end c lines) < 4294967295
+    pub all_met : (P : ℕ → ℕ → Type 0) → IsPrefix M V t c n s key s.count P → (lines : List ℕ) → IsTrail M t c lines → s.place (trail_end c lines) < 4294967295
     all_met P w lines h =
         elim (compare (λ (ls : List ℕ). ⊥) w.queue (λ ls r x late. late)
         (λ i r x ls l goes early from to le. let v = w.done i r x l goes early from to in inl (v.0, up_to_trans (key (s.place x)) (key i ++ r ∷ x ∷ []) (ls ++ r ∷ x ∷ []) v.1 (up_to_more (key i) ls r x le)))
         (suc (length lines)) lines (omega arith) h) [ inl v ↦ v.0 | inr late ↦ absurd late ]
 
-    pub all_settled : (P : ℕ → ℕ → Type 0) → IsPrefix M t c n s key s.count P → IsSettled M t c n s key
+    pub all_settled : (P : ℕ → ℕ → Type 0) → IsPrefix M V t c n s key s.count P → IsSettled M V t c n s key
     all_settled P w i r x lines l goes early from to le =
         let v = w.done i r x l goes early from to in
         inl (v.0, up_to_trans (key (s.place x)) (key i ++ r ∷ x ∷ []) (lines ++ r ∷ x ∷ []) v.1 (up_to_more (key i) lines r x le))
 
   -- the walk begins
-  pub begin : (s : Progress) (P : ℕ → ℕ → Type 0) → c < n → s.count ≡ 1 → s.column 0 ≡ c → s.is_two 0 ≡ false → s.place c ≡ 0 → ((z : ℕ) → z ≢ c → s.place z ≡ 4294967295) → ((r : ℕ) → s.used r ≡ false) → IsPrefix M t c n s (λ j. []) 0 P
+  pub begin : (s : Progress) (P : ℕ → ℕ → Type 0) → c < n → s.count ≡ 1 → s.column 0 ≡ c → s.is_two 0 ≡ false → s.place c ≡ 0 → ((z : ℕ) → z ≢ c → s.place z ≡ 4294967295) → ((r : ℕ) → s.used r ≡ false) → IsPrefix M V t c n s (λ j. []) 0 P
   begin s P inside one first even place places unused = record {
     queue = record {
       some = omega arith;
@@ -192,7 +192,7 @@ module _ (M : ℕ → ℕ → ℤ) (t c n : ℕ) where
     unfolding with_key
     new_key j e = ap (λ (i : ℕ). cond (nat_eq i s.count) (key h ++ r ∷ x ∷ []) (key i)) e ∙ ap (λ (b : Bool). cond b (key h ++ r ∷ x ∷ []) (key s.count)) (self_eq s.count)
 
-    module _ (P Q : ℕ → ℕ → Type 0) (low : n < 4294967295) (w : IsPrefix M t c n s key h P) (l : h < s.count) (o : IsOneMore s s' x r h (flip (s.is_two h) same)) (unmet : s.place x ≡ 4294967295) where
+    module _ (P Q : ℕ → ℕ → Type 0) (low : n < 4294967295) (w : IsPrefix M V t c n s key h P) (l : h < s.count) (o : IsOneMore s s' x r h (flip (s.is_two h) same)) (unmet : s.place x ≡ 4294967295) where
       few_top : s.count < 4294967295
       few_top = let b = few s key w.queue in omega arith
 
@@ -200,7 +200,7 @@ module _ (M : ℕ → ℕ → ℤ) (t c n : ℕ) where
       old_place : (z : ℕ) → s.place z < 4294967295 → s'.place z ≡ s.place z
       old_place z m = elim (cases_eq z x) [ inl q ↦ absurd (let e = ap s.place q in omega arith) | inr q ↦ o.places z q ]
 
-      pub kept : (z : ℕ) (lines : List ℕ) → IsMet M t c n s key z lines → IsMet M t c n s' with_key z lines
+      pub kept : (z : ℕ) (lines : List ℕ) → IsMet M V t c n s key z lines → IsMet M V t c n s' with_key z lines
       kept z lines met =
           let e = old_place z met.0 in
           (let m = met.0 in omega arith, subst (λ (v : List ℕ). IsUpTo v lines) (sym (ap with_key e ∙ old_key (s.place z) (w.queue.listed z met.0).0)) met.1)
@@ -208,16 +208,16 @@ module _ (M : ℕ → ℕ → ℤ) (t c n : ℕ) where
       same_head : with_key h ≡ key h
       same_head = old_key h l
 
-      pub kept_here : (z q y : ℕ) → IsMet M t c n s key z (key h ++ q ∷ y ∷ []) → IsMet M t c n s' with_key z (with_key h ++ q ∷ y ∷ [])
-      kept_here z q y met = subst (λ (v : List ℕ). IsMet M t c n s' with_key z (v ++ q ∷ y ∷ [])) (sym same_head) (kept z (key h ++ q ∷ y ∷ []) met)
+      pub kept_here : (z q y : ℕ) → IsMet M V t c n s key z (key h ++ q ∷ y ∷ []) → IsMet M V t c n s' with_key z (with_key h ++ q ∷ y ∷ [])
+      kept_here z q y met = subst (λ (v : List ℕ). IsMet M V t c n s' with_key z (v ++ q ∷ y ∷ [])) (sym same_head) (kept z (key h ++ q ∷ y ∷ []) met)
 
-      pub reached : IsMet M t c n s' with_key x (with_key h ++ r ∷ x ∷ [])
+      pub reached : IsMet M V t c n s' with_key x (with_key h ++ r ∷ x ∷ [])
       reached = (
         let e = o.place in let b = few_top in omega arith,
         inr (new_key (s'.place x) o.place ∙ ap (λ (v : List ℕ). v ++ r ∷ x ∷ []) (sym same_head)),
       )
 
-      module _ (goes : Goes M t c n s key h) (early : r < t) (from : M r (s.column h) ≢ pos 0) (to : M r x ≢ pos 0) (inside : x < n) (next_one : P r x) (two : TwoIf same (M r (s.column h) +ℤ M r x))
+      module _ (goes : Goes M V t c n s key h) (early : r < t) (from : M r (s.column h) ≢ pos 0) (to : M r x ≢ pos 0) (inside : x < n) (next_one : P r x) (two : TwoIf same (V r (s.column h) +ℤ V r x))
           (still : (q y : ℕ) → Q q y → P q y × ((r < q) ⊎ ((r ≡ q) × (x < y)))) where
         end_is : trail_end c (key h) ≡ s.column h
         end_is = w.queue.ends h l
@@ -227,15 +227,15 @@ module _ (M : ℕ → ℕ → ℤ) (t c n : ℕ) where
             (elim goes [ inl z ↦ inl (ap key z ∙ w.queue.start) | inr z ↦ inr (ap (M t) end_is ∙ z) ])
             early (subst (λ (y : ℕ). M r y ≢ pos 0) (sym end_is) from) to
 
-        new_sum : TwoIf (flip (s.is_two h) same) (trail_sum M c (key h ++ r ∷ x ∷ []))
-        new_sum = subst (TwoIf (flip (s.is_two h) same)) (sym (sum_more M t c (key h) r x (w.queue.trail h l)))
-            (two_add (s.is_two h) same (trail_sum M c (key h)) (M r (trail_end c (key h)) +ℤ M r x) (w.queue.sums h l) (subst (λ (y : ℕ). TwoIf same (M r y +ℤ M r x)) (sym end_is) two))
+        new_sum : TwoIf (flip (s.is_two h) same) (trail_sum V c (key h ++ r ∷ x ∷ []))
+        new_sum = subst (TwoIf (flip (s.is_two h) same)) (sym (sum_more M t V c (key h) r x (w.queue.trail h l)))
+            (two_add (s.is_two h) same (trail_sum V c (key h)) (V r (trail_end c (key h)) +ℤ V r x) (w.queue.sums h l) (subst (λ (y : ℕ). TwoIf same (V r y +ℤ V r x)) (sym end_is) two))
 
         -- a property of the old positions and of the new position is a property of all
         each : (F : ℕ → Type 0) → ((j : ℕ) → j < s.count → F j) → F s.count → (j : ℕ) → j < s'.count → F j
         each F old new j m = elim (cases_lt j s.count) [ inl lt ↦ old j lt | inr ge ↦ let q : s.count ≡ j = let e = o.count in omega arith in subst F q new ]
 
-        queue : IsQueue M t c n s' with_key
+        queue : IsQueue M V t c n s' with_key
         queue = record {
           some = let e = o.count in omega arith;
           first = o.columns 0 w.queue.some ∙ w.queue.first;
@@ -258,9 +258,9 @@ module _ (M : ℕ → ℕ → ℤ) (t c n : ℕ) where
           trail = each (λ j. IsTrail M t c (with_key j)) (λ j m. subst (IsTrail M t c) (sym (old_key j m)) (w.queue.trail j m)) (subst (IsTrail M t c) (sym (new_key s.count refl)) new_trail);
           ends = each (λ j. trail_end c (with_key j) ≡ s'.column j) (λ j m. ap (trail_end c) (old_key j m) ∙ w.queue.ends j m ∙ sym (o.columns j m))
               (ap (trail_end c) (new_key s.count refl) ∙ end_more M t c (key h) r x (w.queue.trail h l) ∙ sym o.column);
-          sums = each (λ j. TwoIf (s'.is_two j) (trail_sum M c (with_key j)))
-              (λ j m. subst (λ (b : Bool). TwoIf b (trail_sum M c (with_key j))) (sym (o.twos j m)) (subst (λ (v : List ℕ). TwoIf (s.is_two j) (trail_sum M c v)) (sym (old_key j m)) (w.queue.sums j m)))
-              (subst (λ (b : Bool). TwoIf b (trail_sum M c (with_key s.count))) (sym o.is_two) (subst (λ (v : List ℕ). TwoIf (flip (s.is_two h) same) (trail_sum M c v)) (sym (new_key s.count refl)) new_sum));
+          sums = each (λ j. TwoIf (s'.is_two j) (trail_sum V c (with_key j)))
+              (λ j m. subst (λ (b : Bool). TwoIf b (trail_sum V c (with_key j))) (sym (o.twos j m)) (subst (λ (v : List ℕ). TwoIf (s.is_two j) (trail_sum V c v)) (sym (old_key j m)) (w.queue.sums j m)))
+              (subst (λ (b : Bool). TwoIf b (trail_sum V c (with_key s.count))) (sym o.is_two) (subst (λ (v : List ℕ). TwoIf (flip (s.is_two h) same) (trail_sum V c v)) (sym (new_key s.count refl)) new_sum));
           earlier = λ j p m. each (λ j. 0 < j → s'.before j < j) (λ j m p. let e = o.befores j m in let a = w.queue.earlier j p m in omega arith) (λ p. let e = o.before in omega arith) j m p;
           parent = λ j p m. each (λ j. 0 < j → with_key j ≡ with_key (s'.before j) ++ s'.row j ∷ s'.column j ∷ [])
               (λ j m p. old_key j m ∙ w.queue.parent j p m
@@ -276,14 +276,14 @@ module _ (M : ℕ → ℕ → ℤ) (t c n : ℕ) where
               j m p;
         }
 
-        pub visit : IsPrefix M t c n s' with_key h Q
+        pub visit : IsPrefix M V t c n s' with_key h Q
         visit = record {
           queue = queue;
           fits = let e = o.count in omega arith;
           done = λ i q y m g a f b.
               let k : i < s.count = omega arith in
               let v = w.done i q y m (elim g [ inl z ↦ inl z | inr z ↦ inr (ap (M t) (sym (o.columns i k)) ∙ z) ]) a (subst (λ (u : ℕ). M q u ≢ pos 0) (o.columns i k) f) b in
-              subst (λ (u : List ℕ). IsMet M t c n s' with_key y (u ++ q ∷ y ∷ [])) (sym (old_key i k)) (kept y (key i ++ q ∷ y ∷ []) v);
+              subst (λ (u : List ℕ). IsMet M V t c n s' with_key y (u ++ q ∷ y ∷ [])) (sym (old_key i k)) (kept y (key i ++ q ∷ y ∷ []) v);
           gone = λ q y u b.
               let v = w.gone q y (sym (o.used q) ∙ u) b in
               let k = kept_here y q y (v.0, v.1 l) in (k.0, λ m. k.1);

@@ -3,8 +3,10 @@ pub mod NonzerosView
 pub mod ListedMatrixView
 pub mod Trails
 pub mod Walks
+pub mod ColumnParts
 pub mod FaultLines
 pub mod SignOrder
+pub mod KeptSteps
 pub mod Signings
 pub mod Laws
 pub mod RowSigns

@@ -1,18 +1,38 @@
 -- The state of a signing.
-use Rattle.std.specs.Prelude.{◌≡◌, ◌≢◌, ◌<◌, ◌≤◌, ◌+◌, if◌then◌else◌, ℕ, zero, suc, true, false, ℤ, pos, List, Some, length, slice_index, slice_index_or}
-use Rattle.cmr_base.specs.Matrix.{Matrix, height, entry, is_nonzero, IsMatrix}
-use Rattle.cmr_base.specs.CyclePlaces.{IsCyclePlace}
-use Rattle.camion_sign.specs.Walks.{HasPlacesAndMarks, HasWalked}
+use Rattle.std.specs.Prelude.{◌≡◌, ◌≢◌, ◌<◌, ◌≤◌, ◌+◌, ◌⊎◌, if◌then◌else◌, ℕ, zero, suc, Bool, true, false, ℤ, pos, List, Some, length, slice_index, slice_index_or}
+use Rattle.cmr_base.specs.Matrix.{Matrix, height, entry, is_nonzero, IsEntry, IsMatrix}
+use Rattle.cmr_base.specs.CyclePlaces.{IsCyclePlace, path_sum}
+use Rattle.cmr_base.specs.Planes.{is_minus}
+use Rattle.camion_sign.specs.Walks.{HasFoundPaths, HasPlacesAndMarks, HasValuesBefore, TwoIf}
+use Rattle.camion_sign.specs.ColumnParts.{HasPartsBefore}
 use Rattle.camion_sign.specs.declared.row_places.RowPlaces.{RowPlaces}
 use Rattle.camion_sign.specs.declared.signed_columns.SignedColumns.{SignedColumns}
 use Rattle.camion_sign.specs.declared.signing.Signing.{Signing}
+use Rattle.chains.specs.declared.step.SignStep.{SignStep}
 use Rattle.chains.specs.SignSteps.{AreSigns, IsUnsignedOne, unsigned, LeadTo}
+use Rattle.camion_sign.specs.KeptSteps.{HasKept}
 use Rattle.camion_sign.specs.SignOrder.{IsForcedBy, IsPlaceOf, IsRowsTurn, IsNextSign}
 
--- z is not 0 if and only if two columns make a cycle place with row t
-pub record ShowsPlace (m : Matrix) (t c d : ℕ) (z : ℤ) : Type 0 where
-  pub place : z ≢ pos 0 → (path : List ℕ) × IsCyclePlace (entry m) t c d path
+-- two columns, first and last, make a cycle place with row t; the sum of the signs on its path is 2 modulo 4 if `two` is true, and
+-- divisible by 4 if it is false
+abbrev pub HasPathWith : Matrix → Matrix → ℕ → ℕ → ℕ → Bool → Type 0
+HasPathWith m s t c d two = (path : List ℕ) × IsCyclePlace (entry m) t c d path × TwoIf two (path_sum (entry s) c d path)
+
+-- the same for two columns in any order
+abbrev pub HasPlaceWith : Matrix → Matrix → ℕ → ℕ → ℕ → Bool → Type 0
+HasPlaceWith m s t c d two = HasPathWith m s t c d two ⊎ HasPathWith m s t d c two
+
+-- the mark of two columns: it is not 0 if and only if they make a cycle place with row t, and says which sum the path has
+pub record ShowsPlace (m s : Matrix) (t c d : ℕ) (z : ℤ) : Type 0 where
+  pub small : IsEntry z
+  pub place : z ≢ pos 0 → HasPathWith m s t c d (is_minus z)
   pub none : z ≡ pos 0 → (path : List ℕ) → ¬ (IsCyclePlace (entry m) t c d path)
+
+-- the same for two columns in any order
+pub record ShowsPlaceOf (m s : Matrix) (t c d : ℕ) (z : ℤ) : Type 0 where
+  pub small : IsEntry z
+  pub place : z ≢ pos 0 → HasPlaceWith m s t c d (is_minus z)
+  pub none : z ≡ pos 0 → (path : List ℕ) → ¬ (IsPlaceOf m t c d path)
 
 -- one row and one column for each column of the matrix
 pub record AreSquare (m links : Matrix) : Type 0 where
@@ -21,20 +41,22 @@ pub record AreSquare (m links : Matrix) : Type 0 where
   pub links_width : links.width ≡ m.width
 
 -- the same for a first column, and all last columns before a bound
-abbrev pub ShowsPlacesFrom : Matrix → ℕ → ℕ → ℕ → Matrix → Type 0
-ShowsPlacesFrom m t c bound links = (d : ℕ) → c < d → d < bound → entry m t d ≢ pos 0 → ShowsPlace m t c d (entry links c d)
+abbrev pub ShowsPlacesFrom : Matrix → Matrix → ℕ → ℕ → ℕ → Matrix → Type 0
+ShowsPlacesFrom m s t c bound links = (d : ℕ) → c < d → d < bound → entry m t d ≢ pos 0 → ShowsPlace m s t c d (entry links c d)
 
--- room for the places of any row
-pub record HasRoomForPlaces (m : Matrix) (places : RowPlaces) : Type 0 where
+-- room for the places of row t, and the parts by the rows before it
+pub record HasRoomForPlaces (m : Matrix) (t : ℕ) (places : RowPlaces) : Type 0 where
+  pub parts : HasPartsBefore m t places.parts
   pub fits : HasPlacesAndMarks m places.walk
   pub square : AreSquare m places.links
   pub one_each : length places.known.items ≡ m.width
 
--- the known places of row t, and the last walk
-pub record KnowsPlaces (m : Matrix) (t : ℕ) (places : RowPlaces) : Type 0 where
-  pub room : HasRoomForPlaces m places
-  pub shows : (c : ℕ) → slice_index_or places.known.items c false ≡ true → ShowsPlacesFrom m t c m.width places.links
-  pub walked : (c : ℕ) → places.walked ≡ Some c → HasWalked m t c places.walk
+-- the known places of row t with the signs of the rows before it, and the last walk
+pub record KnowsPlaces (m s : Matrix) (t : ℕ) (places : RowPlaces) : Type 0 where
+  pub room : HasRoomForPlaces m t places
+  pub signs : HasValuesBefore m s t
+  pub shows : (c : ℕ) → slice_index_or places.known.items c false ≡ true → ShowsPlacesFrom m s t c m.width places.links
+  pub walked : (c : ℕ) → places.walked ≡ Some c → HasFoundPaths m t c places.walk
 
 -- the signed columns of a row, and for each column the number of first signed columns with which it makes no cycle place
 pub record KnowsSigned (a s : Matrix) (row : ℕ) (signed : SignedColumns) : Type 0 where
@@ -48,7 +70,9 @@ pub record KnowsSigned (a s : Matrix) (row : ℕ) (signed : SignedColumns) : Typ
 pub record IsAtRow (a : Matrix) (row : ℕ) (signing : Signing) : Type 0 where
   pub signs : AreSigns a signing.signs
   pub turn : IsRowsTurn a signing.signs row
-  pub steps : LeadTo (IsNextSign a) (unsigned a) signing.steps signing.signs
+  pub steps : List SignStep
+  pub lead : LeadTo (IsNextSign a) (unsigned a) steps signing.signs
+  pub kept : HasKept steps signing.steps
   pub signed : KnowsSigned a signing.signs row signing.signed
 
 -- the first one of the row without sign

@@ -1,6 +1,6 @@
 -- Breadth-first walks from a column over the rows before t. The walk reaches columns in the order of their least trails.
 use Rattle.std.specs.Prelude.{ℕ, List, [], ◌∷◌, ◌++◌, Bool, true, false, not, ◌&&◌, ℤ, pos, ◌+ℤ◌, ◌≡◌, ◌≢◌, ◌<◌, ◌≤◌, ◌⊎◌, length, slice_index_or}
-use Rattle.cmr_base.specs.Matrix.{Matrix, height, entry, IsMatrix}
+use Rattle.cmr_base.specs.Matrix.{Matrix, height, entry, IsMatrix, IsEntry}
 use Rattle.cmr_base.specs.ColumnSets.{has_column}
 use Rattle.cmr_base.specs.CyclePlaces.{IsPath}
 use Rattle.cmr_base.specs.Planes.{words_for}
@@ -21,8 +21,8 @@ TwoIf true z = IsTwoModFour z
 TwoIf false z = (k : ℤ) × (z ≡ (k +ℤ k) +ℤ (k +ℤ k))
 
 -- The state of a walk. `column` lists the reached columns in order. Each has a row and the position of the column from which
--- the walk reached it, and `is_two` says whether its trail has the sum 2 modulo 4. `place` is the position of each column, or
--- the greatest number without one. `used` marks the rows that the walk has taken.
+-- the walk reached it, and `is_two` says whether the values on its trail have the sum 2 modulo 4. `place` is the
+-- position of each column, or the greatest number without one. `used` marks the rows that the walk has taken.
 pub record Progress : Type 0 where
   pub count : ℕ
   pub column : ℕ → ℕ
@@ -49,7 +49,7 @@ progress steps places used = record {
   used = has_column used;
 }
 
-module _ (M : ℕ → ℕ → ℤ) (t c n : ℕ) (s : Progress) (key : ℕ → List ℕ) where
+module _ (M V : ℕ → ℕ → ℤ) (t c n : ℕ) (s : Progress) (key : ℕ → List ℕ) where
   -- the reached columns, and their trails
   pub record IsQueue : Type 0 where
     pub some : 0 < s.count
@@ -62,7 +62,7 @@ module _ (M : ℕ → ℕ → ℤ) (t c n : ℕ) (s : Progress) (key : ℕ → L
     pub sorted : (i j : ℕ) → i < j → j < s.count → IsShortlexBefore (key i) (key j)
     pub trail : (j : ℕ) → j < s.count → IsTrail M t c (key j)
     pub ends : (j : ℕ) → j < s.count → trail_end c (key j) ≡ s.column j
-    pub sums : (j : ℕ) → j < s.count → TwoIf (s.is_two j) (trail_sum M c (key j))
+    pub sums : (j : ℕ) → j < s.count → TwoIf (s.is_two j) (trail_sum V c (key j))
     pub earlier : (j : ℕ) → 0 < j → j < s.count → s.before j < j
     pub parent : (j : ℕ) → 0 < j → j < s.count → key j ≡ key (s.before j) ++ s.row j ∷ s.column j ∷ []
 
@@ -116,11 +116,18 @@ pub record HasPlacesAndMarks (m : Matrix) (walk : Walk) : Type 0 where
   pub reached : length walk.reached.items ≡ words_for m.width
   pub in_step : AreInStep walk.places.items walk.reached.items
 
+-- values that are not 0 in the nonzeros of the rows before t
+pub record HasValuesBefore (m values : Matrix) (t : ℕ) : Type 0 where
+  pub small : (i j : ℕ) → IsEntry (entry values i j)
+  pub same_height : height values ≡ height m
+  pub same_width : values.width ≡ m.width
+  pub nonzero : (i j : ℕ) → i < t → entry m i j ≢ pos 0 → entry values i j ≢ pos 0
+
 -- a walk from column c over the rows before t, at position h; it examines no row below `low` again for this position
-pub record IsWalking (m : Matrix) (t c h low : ℕ) (walk : Walk) : Type 0 where
+pub record IsWalking (m values : Matrix) (t c h low : ℕ) (walk : Walk) : Type 0 where
   pub fits : HasPlacesAndMarks m walk
   pub key : ℕ → List ℕ
-  pub prefix : IsPrefix (entry m) t c m.width (progress walk.steps.items walk.places.items walk.used.items) key h (λ r x. low ≤ r)
+  pub prefix : IsPrefix (entry m) (entry values) t c m.width (progress walk.steps.items walk.places.items walk.used.items) key h (λ r x. low ≤ r)
 
 -- position h is in the walk, and a trail may continue from it
 pub record IsOpen (m : Matrix) (t h : ℕ) (walk : Walk) : Type 0 where
@@ -134,15 +141,15 @@ pub record GrowsFrom (old new : Walk) : Type 0 where
   pub places : (x : ℕ) → place_in old.places.items x < UNREACHED → place_in new.places.items x < UNREACHED
 
 -- among the columns that row r meets, from the step at position h: those below `low` are reached
-pub record IsReaching (m : Matrix) (t c h r low : ℕ) (from : ReachedColumn) (old walk : Walk) : Type 0 where
+pub record IsReaching (m values : Matrix) (t c h r low : ℕ) (from : ReachedColumn) (old walk : Walk) : Type 0 where
   pub fits : HasPlacesAndMarks m walk
   pub grows : GrowsFrom old walk
   pub used : walk.used.items ≡ old.used.items
   pub within : h < length walk.steps.items
   pub from_is : step_at walk.steps.items h ≡ from
   pub key : ℕ → List ℕ
-  pub prefix : IsPrefix (entry m) t c m.width (progress walk.steps.items walk.places.items walk.used.items) key h (λ s x. (r < s) ⊎ ((r ≡ s) × (low ≤ x)))
-  pub met : (x : ℕ) → x < low → entry m r x ≢ pos 0 → IsMet (entry m) t c m.width (progress walk.steps.items walk.places.items walk.used.items) key x (key h ++ r ∷ x ∷ [])
+  pub prefix : IsPrefix (entry m) (entry values) t c m.width (progress walk.steps.items walk.places.items walk.used.items) key h (λ s x. (r < s) ⊎ ((r ≡ s) × (low ≤ x)))
+  pub met : (x : ℕ) → x < low → entry m r x ≢ pos 0 → IsMet (entry m) (entry values) t c m.width (progress walk.steps.items walk.places.items walk.used.items) key x (key h ++ r ∷ x ∷ [])
 
 -- no row before t meets the column
 abbrev pub IsUntouched : Matrix → ℕ → ℕ → Type 0
@@ -153,8 +160,8 @@ abbrev pub NoneWaits : Matrix → ℕ → ℕ → ℕ → List ℕ → Type 0
 NoneWaits m t c pending places = (d : ℕ) → c < d → d < pending → entry m t d ≢ pos 0 → (place_in places d ≢ UNREACHED) ⊎ IsUntouched m t d
 
 -- among the rows that the column at position h meets: those below `low` are taken
-pub record IsSpreading (m : Matrix) (t c h low pending : ℕ) (old walk : Walk) : Type 0 where
-  pub walking : IsWalking m t c h low walk
+pub record IsSpreading (m values : Matrix) (t c h low pending : ℕ) (old walk : Walk) : Type 0 where
+  pub walking : IsWalking m values t c h low walk
   pub low_in : low ≤ t
   pub gone : (r : ℕ) → r < low → entry m r (step_at old.steps.items h).column ≢ pos 0 → has_column walk.used.items r ≡ true
   pub open_is : IsOpen m t h walk
@@ -163,22 +170,26 @@ pub record IsSpreading (m : Matrix) (t c h low pending : ℕ) (old walk : Walk) 
   pub waits : NoneWaits m t c pending walk.places.items
 
 -- the walk may end: everything that it searches for is settled
-pub record HasSettled (m : Matrix) (t c : ℕ) (walk : Walk) : Type 0 where
+pub record HasSettled (m values : Matrix) (t c : ℕ) (walk : Walk) : Type 0 where
   pub fits : HasPlacesAndMarks m walk
   pub key : ℕ → List ℕ
-  pub queue : IsQueue (entry m) t c m.width (progress walk.steps.items walk.places.items walk.used.items) key
-  pub settled : IsSettled (entry m) t c m.width (progress walk.steps.items walk.places.items walk.used.items) key
+  pub queue : IsQueue (entry m) (entry values) t c m.width (progress walk.steps.items walk.places.items walk.used.items) key
+  pub settled : IsSettled (entry m) (entry values) t c m.width (progress walk.steps.items walk.places.items walk.used.items) key
 
 -- between two positions
-pub record IsGoing (m : Matrix) (t c h pending : ℕ) (walk : Walk) : Type 0 where
-  pub state : IsWalking m t c h 0 walk ⊎ ((pending ≡ m.width) × HasSettled m t c walk)
+pub record IsGoing (m values : Matrix) (t c h pending : ℕ) (walk : Walk) : Type 0 where
+  pub state : IsWalking m values t c h 0 walk ⊎ ((pending ≡ m.width) × HasSettled m values t c walk)
   pub pending_in : pending ≤ m.width
   pub waits : NoneWaits m t c pending walk.places.items
 
--- the result of a walk: the least trails to the reached columns, and no paths to the others
-pub record HasWalked (m : Matrix) (t c : ℕ) (walk : Walk) : Type 0 where
+-- the result of a walk: the least trails to the reached columns, the sums of the values on them, and no paths to the others
+pub record HasWalked (m values : Matrix) (t c : ℕ) (walk : Walk) : Type 0 where
   pub fits : HasPlacesAndMarks m walk
   pub key : ℕ → List ℕ
-  pub queue : IsQueue (entry m) t c m.width (progress walk.steps.items walk.places.items walk.used.items) key
+  pub queue : IsQueue (entry m) (entry values) t c m.width (progress walk.steps.items walk.places.items walk.used.items) key
   pub least : (d : ℕ) (lines : List ℕ) → place_in walk.places.items d < UNREACHED → IsTrail (entry m) t c lines → trail_end c lines ≡ d → IsUpTo (key (place_in walk.places.items d)) lines
   pub none : (d : ℕ) (lines : List ℕ) → c < d → entry m t d ≢ pos 0 → place_in walk.places.items d ≡ UNREACHED → IsPath (entry m) t c d lines → ⊥
+
+-- the same for some values
+abbrev pub HasFoundPaths : Matrix → ℕ → ℕ → Walk → Type 0
+HasFoundPaths m t c walk = (values : Matrix) × HasWalked m values t c walk

@@ -2,7 +2,7 @@
 ghost use Rattle.std.specs.Prelude.{◌≡◌, ◌≢◌, ◌<◌, ◌≤◌, ◌+◌, ◌↔◌, ℕ, List, pos, IsTrue, IfOk, MatchOption};
 ghost use Rattle.cmr_base.specs.Matrix.{height, entry};
 ghost use Rattle.cmr_base.specs.CyclePlaces.{HasNoCycleFault, IsCyclePlace, IsFaultAt};
-ghost use Rattle.camion_sign.specs.Walks.{HasPlacesAndMarks, HasWalked, place_in};
+ghost use Rattle.camion_sign.specs.Walks.{HasFoundPaths, HasPlacesAndMarks, HasWalked, place_in};
 ghost use Rattle.camion_sign.specs.FaultLines.{HasNoFaultAt, IsColumnFault, IsFirstFault};
 ghost use Rattle.camion_sign.specs.NearColumns.{HasNearRoom, KnowsNear};
 ghost use Rattle.network_orient.specs.FirstRows.{HasNoFaultBefore};
@@ -165,7 +165,7 @@ fn fault_from(
         × IsColumnFault matrix.now start.row start.column f.last f.lines.items)) }
     ensures fits { IfOk result (λ found. HasPlacesAndMarks matrix.now walk.new) }
 {
-    walk_from(matrix, walk, start)?;
+    walk_from(matrix, matrix.by_rows(), walk, start)?;
     let mut from = start.column + 1;
     while let Some(last) = matrix.by_rows().next_nonzero(start.row, from) {
         if is_fault(matrix, walk, start, last) {
@@ -187,7 +187,7 @@ fn is_fault(matrix: &ListedMatrix<'_>, walk: &Walk, start: Start, last: u32) -> 
     requires order { start.column < last }
     requires width { last < matrix.now.width }
     requires first { entry matrix.now start.row start.column ≢ pos 0 }
-    requires walked { HasWalked matrix.now start.row start.column walk.now }
+    requires walked { HasWalked matrix.now matrix.now start.row start.column walk.now }
     ensures reached { IsTrue result → place_in walk.now.places.items last < UNREACHED }
     ensures fault { IsTrue result
         ↔ ((path : List ℕ) × IsFaultAt (entry matrix.now) start.row start.column last path) }
@@ -212,7 +212,7 @@ pub fn path_to(
     requires width { last < matrix.now.width }
     requires first { entry matrix.now start.row start.column ≢ pos 0 }
     requires last { entry matrix.now start.row last ≢ pos 0 }
-    requires walked { HasWalked matrix.now start.row start.column walk.now }
+    requires walked { HasFoundPaths matrix.now start.row start.column walk.now }
     requires reached { place_in walk.now.places.items last < UNREACHED }
     ensures { IfOk result (λ lines.
         IsCyclePlace (entry matrix.now) start.row start.column last lines.items) }

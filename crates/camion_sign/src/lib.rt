@@ -1,8 +1,10 @@
 //! Cycle places of a matrix, and the signs that they force.
 #![tactic(auto)]
 
+mod column_parts;
 mod cycle_lines;
 mod fault;
+mod kept_steps;
 pub mod laws;
 mod listed_matrix;
 mod near_columns;
@@ -16,4 +18,4 @@ mod signing;
 mod walk;
 
 pub use cycle_lines::{cycle_fault, cycle_fault_from, cycle_fault_of};
-pub use signing::sign;
+pub use signing::{sign, signed_matrix};

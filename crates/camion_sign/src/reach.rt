@@ -1,12 +1,12 @@
 // Walks from the first column of the places of a row.
 ghost use Rattle.std.specs.Prelude.{◌≡◌, ◌≢◌, ◌<◌, ◌≤◌, ◌+◌, ◌⊎◌, ℕ, pos, false, IfOk, OnOk};
 ghost use Rattle.cmr_base.specs.Matrix.{height, entry};
-ghost use Rattle.camion_sign.specs.Walks.{HasPlacesAndMarks, IsWalking, IsOpen, GrowsFrom, HasSettled, HasWalked, IsUntouched, HasOneMore, NoneWaits, step_at, place_in, flip};
+ghost use Rattle.camion_sign.specs.Walks.{HasPlacesAndMarks, HasValuesBefore, IsWalking, IsOpen, GrowsFrom, HasSettled, HasWalked, IsUntouched, HasOneMore, NoneWaits, step_at, place_in, flip};
 
 use crate::listed_matrix::ListedMatrix;
 use crate::walk::{ReachedColumn, UNREACHED, Walk};
-use cmr_base::Memory;
 use cmr_base::columns::add_column;
+use cmr_base::{Matrix, Memory};
 use std::alloc::Global;
 
 /// The row and the first column of a set of places.
@@ -18,19 +18,25 @@ pub struct Start {
 
 /// Walks until each reachable last column is reached. The walk is breadth-first: it uses the rows before the row of the places,
 /// passes through columns in which that row is 0, and takes lines in increasing order. So it reaches each column by the least
-/// of its shortest paths.
-pub fn walk_from(matrix: &ListedMatrix<'_>, walk: &mut Walk, start: Start) -> Result<(), Memory>
+/// of its shortest paths. The sums are those of the values in the positions of the nonzeros.
+pub fn walk_from(
+    matrix: &ListedMatrix<'_>,
+    values: &Matrix,
+    walk: &mut Walk,
+    start: Start,
+) -> Result<(), Memory>
     requires row { start.row < height matrix.now }
     requires column { start.column < matrix.now.width }
+    requires values { HasValuesBefore matrix.now values.now start.row }
     requires fits { HasPlacesAndMarks matrix.now walk.old }
-    ensures { OnOk result (HasWalked matrix.now start.row start.column walk.new) }
+    ensures { OnOk result (HasWalked matrix.now values.now start.row start.column walk.new) }
 {
     walk.begin(start.column)?;
     let mut head = 0;
     let mut pending = start.column + 1;
     while head < walk.steps.len() && pending < matrix.columns() {
         if head == 0 || matrix.entry(start.row, walk.steps[head].column) == 0 {
-            pending = reach_rows(matrix, walk, start, head, pending)?;
+            pending = reach_rows(matrix, values, walk, start, head, pending)?;
         }
         head += 1;
     }
@@ -40,20 +46,22 @@ pub fn walk_from(matrix: &ListedMatrix<'_>, walk: &mut Walk, start: Start) -> Re
 // Takes the rows that meet the column at a position of the walk, until no last column waits.
 fn reach_rows(
     matrix: &ListedMatrix<'_>,
+    values: &Matrix,
     walk: &mut Walk,
     start: Start,
     head: usize,
     pending: u32,
 ) -> Result<u32, Memory>
     requires row { start.row < height matrix.now }
+    requires values { HasValuesBefore matrix.now values.now start.row }
     requires open { IsOpen matrix.now start.row head walk.old }
-    requires walking { IsWalking matrix.now start.row start.column head 0 walk.old }
+    requires walking { IsWalking matrix.now values.now start.row start.column head 0 walk.old }
     requires pending { pending ≤ matrix.now.width }
     requires waits { NoneWaits matrix.now start.row start.column pending walk.old.places.items }
-    ensures walk { IfOk result (λ pending. IsWalking matrix.now start.row start.column (head + 1) 0
-        walk.new
+    ensures walk { IfOk result (λ pending.
+        IsWalking matrix.now values.now start.row start.column (head + 1) 0 walk.new
         ⊎ ((pending ≡ matrix.now.width)
-        × HasSettled matrix.now start.row start.column walk.new)) }
+        × HasSettled matrix.now values.now start.row start.column walk.new)) }
     ensures pending { IfOk result (λ pending. pending ≤ matrix.now.width) }
     ensures waits { IfOk result (λ pending.
         NoneWaits matrix.now start.row start.column pending walk.new.places.items) }
@@ -65,7 +73,7 @@ fn reach_rows(
         if row >= start.row {
             return Ok(pending);
         }
-        reach_row(matrix, walk, start, head, row)?;
+        reach_row(matrix, values, walk, start, head, row)?;
         pending = first_waiting(matrix, walk, start, pending);
         if pending == matrix.columns() {
             return Ok(pending);
@@ -78,6 +86,7 @@ fn reach_rows(
 // Reaches the columns of a row that the walk has not reached before.
 fn reach_row(
     matrix: &ListedMatrix<'_>,
+    values: &Matrix,
     walk: &mut Walk,
     start: Start,
     head: usize,
@@ -85,20 +94,21 @@ fn reach_row(
 ) -> Result<(), Memory>
     requires row { start.row < height matrix.now }
     requires early { row < start.row }
+    requires values { HasValuesBefore matrix.now values.now start.row }
     requires open { IsOpen matrix.now start.row head walk.old }
     requires leads { entry matrix.now row (step_at walk.old.steps.items head).column ≢ pos 0 }
-    requires walking { IsWalking matrix.now start.row start.column head row walk.old }
-    ensures walking { OnOk result (IsWalking matrix.now start.row start.column head (row + 1)
-        walk.new) }
+    requires walking { IsWalking matrix.now values.now start.row start.column head row walk.old }
+    ensures walking { OnOk result
+        (IsWalking matrix.now values.now start.row start.column head (row + 1) walk.new) }
     ensures grows { OnOk result (GrowsFrom walk.old walk.new) }
     ensures used { OnOk result (HasOneMore walk.old.used.items row walk.new.used.items) }
 {
     let from = walk.steps[head];
-    let sign = matrix.entry(row, from.column);
+    let sign = values.entry(row, from.column);
     let columns = matrix.by_rows().support_words(row);
     let mut low = 0;
     while let Some(column) = walk.next_unreached(columns, low) {
-        let is_same = sign == matrix.entry(row, column);
+        let is_same = sign == values.entry(row, column);
         walk.reach(ReachedColumn {
             column,
             row,

@@ -50,22 +50,22 @@ impl SignedColumns {
         places: &mut RowPlaces,
         row: u32,
         column: u32,
-        _signs: &Matrix,
+        signs: &Matrix,
     ) -> Result<bool, Memory>
         requires row { row < height matrix.now }
         requires column { column < matrix.now.width }
-        requires places { KnowsPlaces matrix.now row places.old }
-        requires signs { AreSigns matrix.now _signs.now }
-        requires signed { KnowsSigned matrix.now _signs.now row self.old }
-        requires here { IsUnsignedOne matrix.now _signs.now row column }
+        requires places { KnowsPlaces matrix.now signs.now row places.old }
+        requires signs { AreSigns matrix.now signs.now }
+        requires signed { KnowsSigned matrix.now signs.now row self.old }
+        requires here { IsUnsignedOne matrix.now signs.now row column }
         ensures none { IfOk result (λ forced. forced ≡ false
-            → (c : ℕ) → ¬ (IsForcedBy matrix.now _signs.now row column c)) }
-        ensures places { IfOk result (λ forced. KnowsPlaces matrix.now row places.new) }
-        ensures signed { IfOk result (λ forced. KnowsSigned matrix.now _signs.now row self.new) }
+            → (c : ℕ) → ¬ (IsForcedBy matrix.now signs.now row column c)) }
+        ensures places { IfOk result (λ forced. KnowsPlaces matrix.now signs.now row places.new) }
+        ensures signed { IfOk result (λ forced. KnowsSigned matrix.now signs.now row self.new) }
     {
         let mut place = self.passed[column as usize];
         'signed: while place < self.columns.len() {
-            let is_place = places.make_place(matrix, row, column, self.columns[place])?;
+            let is_place = places.make_place(matrix, signs, row, column, self.columns[place])?;
             if is_place {
                 return Ok(true);
             }

@@ -1,37 +1,35 @@
 // Camion's signing of a 0/1 matrix, row by row.
-ghost use Rattle.std.specs.Prelude.{◌<◌, ◌≤◌, ◌+◌, ◌*◌, ◌+ℤ◌, ◌↔◌, ℕ, length, IsTrue, IfOk, OnOk, MatchOption};
+ghost use Rattle.std.specs.Prelude.{◌≡◌, ◌<◌, ◌≤◌, ◌+◌, ◌*◌, ◌+ℤ◌, ◌↔◌, ℕ, ℤ, List, length, IsTrue, IfOk, OnOk, MatchOption};
 ghost use Rattle.cmr_base.specs.Matrix.{height, entry, IsMatrix};
 ghost use Rattle.cmr_base.specs.Signing.{IsSign};
-ghost use Rattle.cmr_base.specs.Sums.{IsOdd};
 ghost use Rattle.cmr_base.specs.Supports.{HaveOneSupport};
 ghost use Rattle.cmr_base.specs.Trees.{IsBinary};
 ghost use Rattle.chains.specs.SignSteps.{AreSigns, IsUnsignedOne, IsZeroModFour, unsigned, LeadTo};
 ghost use Rattle.camion_sign.specs.SignOrder.{IsForcedBy, IsSignedBy};
+ghost use Rattle.camion_sign.specs.Walks.{TwoIf};
+ghost use Rattle.cmr_base.specs.Planes.{is_minus};
+ghost use Rattle.chains.specs.declared.step.SignStep.{SignStep};
 ghost use Rattle.chains.specs.Chains.{KeepsRule};
 ghost use Rattle.std.specs.List.{AllByRecursion};
 ghost use Rattle.chains.specs.ChainTexts.{IsStepIn};
+ghost use Rattle.camion_sign.specs.declared.row_places.RowPlaces.{RowPlaces};
 ghost use Rattle.camion_sign.specs.Signings.{HasRoomForPlaces, KnowsPlaces, KnowsSigned, IsAtRow, IsFirstUnsigned, IsPartner, IsForcedColumn, NoneForced, unsigned_before};
 
+use crate::kept_steps::KeptSteps;
 use crate::listed_matrix::ListedMatrix;
-use crate::row_places::RowPlaces;
+use crate::row_places::{ForcedOne, RowPlaces};
 use crate::signed_columns::SignedColumns;
-use chains::{SignStep, SignStepList};
+use chains::SignStepList;
 use cmr_base::{Matrix, Memory, RowsAndColumns};
 use std::alloc::Global;
 
-/// The signs given so far, and 0 without a sign; the steps that gave them; and the signed columns of the current row.
+/// The signs given so far, and 0 without a sign; the steps that gave them, if they are kept; and the signed columns of the
+/// current row.
 #[derive(Drop)]
 pub struct Signing {
     pub signs: Matrix,
-    pub steps: SignStepList,
+    pub steps: KeptSteps,
     pub signed: SignedColumns,
-}
-
-// A forced one: its column, and the signed column with which it makes a cycle place.
-#[derive(Clone, Copy)]
-pub struct ForcedOne {
-    pub column: u32,
-    pub partner: u32,
 }
 
 /// The signing of a 0/1 matrix (Camion), and its steps, row by row. If a one makes a cycle place with a signed one of its row,
@@ -40,8 +38,8 @@ pub struct ForcedOne {
 /// have a cycle fault.
 ///
 /// The time is one walk through the earlier rows for each first column of a place that is required, usually few in a row, and
-/// at most one more walk for each one. In addition, it is at most the product of the numbers of ones and columns for each row,
-/// and the square of the length of its cycle for each forced one.
+/// at most one more walk for each forced one. In addition, it is at most the product of the numbers of ones and columns for each
+/// row, and the square of the length of its cycle for each forced one.
 pub fn sign(alloc: Global, matrix: &Matrix) -> Result<(Matrix, SignStepList), Memory>
     ensures signed { IfOk result (λ signed. IsSignedBy matrix.now signed.1 signed.0) }
     // For a 0/1 matrix, the steps are the steps of a chain.
@@ -54,27 +52,47 @@ pub fn sign(alloc: Global, matrix: &Matrix) -> Result<(Matrix, SignStepList), Me
         AllByRecursion (IsStepIn (height matrix.now) matrix.now.width) signed.1) }
 {
     let columns = matrix.transposed(alloc)?;
-    let signing = all_rows_signed(alloc, &RowsAndColumns::of(matrix, &columns))?;
-    Ok((signing.signs, signing.steps))
+    let signing = all_rows_signed(alloc, &RowsAndColumns::of(matrix, &columns), true)?;
+    Ok((signing.signs, signing.steps.list))
 }
 
-fn all_rows_signed(alloc: Global, matrix: &RowsAndColumns<'_>) -> Result<Signing, Memory>
+/// The signed matrix of the same signing. It needs no lines of cycles, so the time is that of the walks and at most the product of
+/// the numbers of ones and columns for each row.
+pub fn signed_matrix(alloc: Global, matrix: &Matrix) -> Result<Matrix, Memory>
+    ensures signed { IfOk result (λ signed. (steps : List SignStep)
+        × IsSignedBy matrix.now steps signed
+        × (IsBinary matrix.now
+        → LeadTo (KeepsRule matrix.now) (unsigned matrix.now) steps signed)) }
+    ensures support { IfOk result (λ signed. HaveOneSupport matrix.now signed) }
+{
+    let columns = matrix.transposed(alloc)?;
+    let signing = all_rows_signed(alloc, &RowsAndColumns::of(matrix, &columns), false)?;
+    Ok(signing.signs)
+}
+
+fn all_rows_signed(
+    alloc: Global,
+    matrix: &RowsAndColumns<'_>,
+    keeps_steps: bool,
+) -> Result<Signing, Memory>
     ensures state { IfOk result (IsAtRow matrix.now (height matrix.now)) }
+    ensures flag { IfOk result (λ signing. signing.steps.are_kept ≡ keeps_steps) }
     ensures shape { IfOk result (λ signing. IsMatrix matrix.now) }
 {
     let listed = ListedMatrix::new(alloc, matrix)?;
-    let mut signing = no_signs(alloc, &listed)?;
+    let mut signing = no_signs(alloc, &listed, keeps_steps)?;
     sign_rows(alloc, &listed, &mut signing)?;
     Ok(signing)
 }
 
 // The state before the first step.
-fn no_signs(alloc: Global, matrix: &ListedMatrix<'_>) -> Result<Signing, Memory>
-    ensures { IfOk result (IsAtRow matrix.now 0) }
+fn no_signs(alloc: Global, matrix: &ListedMatrix<'_>, keeps_steps: bool) -> Result<Signing, Memory>
+    ensures state { IfOk result (IsAtRow matrix.now 0) }
+    ensures flag { IfOk result (λ signing. signing.steps.are_kept ≡ keeps_steps) }
 {
     Ok(Signing {
         signs: Matrix::zero(alloc, matrix.rows(), matrix.columns())?,
-        steps: SignStepList::new(alloc),
+        steps: KeptSteps::new(alloc, keeps_steps),
         signed: SignedColumns::new(alloc, matrix.columns())?,
     })
 }
@@ -83,12 +101,14 @@ fn no_signs(alloc: Global, matrix: &ListedMatrix<'_>) -> Result<Signing, Memory>
 fn sign_rows(alloc: Global, matrix: &ListedMatrix<'_>, signing: &mut Signing) -> Result<(), Memory>
     requires { IsAtRow matrix.now 0 signing.old }
     ensures state { OnOk result (IsAtRow matrix.now (height matrix.now) signing.new) }
+    ensures flag { OnOk result (signing.new.steps.are_kept ≡ signing.old.steps.are_kept) }
     ensures shape { OnOk result (IsMatrix matrix.now) }
 {
     let mut places = RowPlaces::new(alloc, matrix)?;
     for row in 0..matrix.rows() {
         places.begin(matrix);
         sign_row(alloc, matrix, &mut places, row, signing)?;
+        places.end(matrix, row);
     }
     Ok(())
 }
@@ -102,10 +122,11 @@ fn sign_row(
     signing: &mut Signing,
 ) -> Result<(), Memory>
     requires row { row < height matrix.now }
-    requires places { KnowsPlaces matrix.now row places.old }
+    requires places { KnowsPlaces matrix.now signing.old.signs row places.old }
     requires state { IsAtRow matrix.now row signing.old }
     ensures state { OnOk result (IsAtRow matrix.now (row + 1) signing.new) }
-    ensures room { OnOk result (HasRoomForPlaces matrix.now places.new) }
+    ensures flag { OnOk result (signing.new.steps.are_kept ≡ signing.old.steps.are_kept) }
+    ensures room { OnOk result (HasRoomForPlaces matrix.now row places.new) }
 {
     let mut next = first_unsigned(matrix, row, 0, &signing.signs);
     'ones: while let Some(column) = next {
@@ -126,11 +147,12 @@ fn sign_next(
     signing: &mut Signing,
 ) -> Result<(), Memory>
     requires row { row < height matrix.now }
-    requires places { KnowsPlaces matrix.now row places.old }
+    requires places { KnowsPlaces matrix.now signing.old.signs row places.old }
     requires state { IsAtRow matrix.now row signing.old }
     requires first { IsFirstUnsigned matrix.now signing.old.signs row first }
     ensures state { OnOk result (IsAtRow matrix.now row signing.new) }
-    ensures places { OnOk result (KnowsPlaces matrix.now row places.new) }
+    ensures flag { OnOk result (signing.new.steps.are_kept ≡ signing.old.steps.are_kept) }
+    ensures places { OnOk result (KnowsPlaces matrix.now signing.new.signs row places.new) }
     ensures fewer { OnOk result (unsigned_before matrix.now signing.new.signs row matrix.now.width
         < unsigned_before matrix.now signing.old.signs row matrix.now.width) }
     ensures keeps { OnOk result ((d : ℕ) → IsUnsignedOne matrix.now signing.new.signs row d
@@ -160,7 +182,7 @@ fn forced_one(
     signed: &mut SignedColumns,
 ) -> Result<Option<ForcedOne>, Memory>
     requires row { row < height matrix.now }
-    requires places { KnowsPlaces matrix.now row places.old }
+    requires places { KnowsPlaces matrix.now signs.now row places.old }
     requires signs { AreSigns matrix.now signs.now }
     requires first { IsFirstUnsigned matrix.now signs.now row first }
     requires signed { KnowsSigned matrix.now signs.now row signed.old }
@@ -168,7 +190,7 @@ fn forced_one(
         (NoneForced matrix.now signs.now row)
         (λ forced. IsForcedColumn matrix.now signs.now row forced.column
         × IsPartner matrix.now signs.now row forced.column forced.partner)) }
-    ensures places { IfOk result (λ found. KnowsPlaces matrix.now row places.new) }
+    ensures places { IfOk result (λ found. KnowsPlaces matrix.now signs.now row places.new) }
     ensures signed { IfOk result (λ found. KnowsSigned matrix.now signs.now row signed.new) }
 {
     for column in first..matrix.columns() {
@@ -201,14 +223,14 @@ fn partner_of(
 ) -> Result<Option<u32>, Memory>
     requires row { row < height matrix.now }
     requires column { column < matrix.now.width }
-    requires places { KnowsPlaces matrix.now row places.old }
+    requires places { KnowsPlaces matrix.now signs.now row places.old }
     requires signs { AreSigns matrix.now signs.now }
     requires here { IsUnsignedOne matrix.now signs.now row column }
     requires signed { KnowsSigned matrix.now signs.now row signed.old }
     ensures partner { IfOk result (λ found. MatchOption found
         ((c : ℕ) → ¬ (IsForcedBy matrix.now signs.now row column c))
         (IsPartner matrix.now signs.now row column)) }
-    ensures places { IfOk result (λ found. KnowsPlaces matrix.now row places.new) }
+    ensures places { IfOk result (λ found. KnowsPlaces matrix.now signs.now row places.new) }
     ensures signed { IfOk result (λ found. KnowsSigned matrix.now signs.now row signed.new) }
 {
     let is_forced = signed.force(matrix, places, row, column, signs)?;
@@ -229,17 +251,17 @@ fn least_partner(
 ) -> Result<Option<u32>, Memory>
     requires row { row < height matrix.now }
     requires column { column < matrix.now.width }
-    requires places { KnowsPlaces matrix.now row places.old }
+    requires places { KnowsPlaces matrix.now signs.now row places.old }
     requires signs { AreSigns matrix.now signs.now }
     requires here { IsUnsignedOne matrix.now signs.now row column }
     ensures partner { IfOk result (λ found. MatchOption found
         ((c : ℕ) → ¬ (IsForcedBy matrix.now signs.now row column c))
         (IsPartner matrix.now signs.now row column)) }
-    ensures places { IfOk result (λ found. KnowsPlaces matrix.now row places.new) }
+    ensures places { IfOk result (λ found. KnowsPlaces matrix.now signs.now row places.new) }
 {
     for partner in matrix.row(row) {
         if signs.entry(row, *partner) != 0 {
-            let is_place = places.make_place(matrix, row, column, *partner)?;
+            let is_place = places.make_place(matrix, signs, row, column, *partner)?;
             if is_place {
                 return Ok(Some(*partner));
             }
@@ -276,13 +298,17 @@ fn sign_free(
     requires first { IsFirstUnsigned matrix.now signing.old.signs row column }
     requires none { NoneForced matrix.now signing.old.signs row }
     ensures state { OnOk result (IsAtRow matrix.now row signing.new) }
+    ensures flag { OnOk result (signing.new.steps.are_kept ≡ signing.old.steps.are_kept) }
     ensures fewer { OnOk result (unsigned_before matrix.now signing.new.signs row matrix.now.width
         < unsigned_before matrix.now signing.old.signs row matrix.now.width) }
     ensures keeps { OnOk result ((d : ℕ) → IsUnsignedOne matrix.now signing.new.signs row d
         → IsUnsignedOne matrix.now signing.old.signs row d) }
+    ensures places { OnOk result ((places : RowPlaces)
+        → KnowsPlaces matrix.now signing.old.signs row places
+        → KnowsPlaces matrix.now signing.new.signs row places) }
 {
     signing.signs.set(row, column, 1);
-    signing.steps.push(SignStep::Free { row, column })?;
+    signing.steps.free(row, column)?;
     signing.signed.columns.push(column)?;
     Ok(())
 }
@@ -296,31 +322,37 @@ fn sign_forced(
     signing: &mut Signing,
 ) -> Result<(), Memory>
     requires row { row < height matrix.now }
-    requires places { KnowsPlaces matrix.now row places.old }
+    requires places { KnowsPlaces matrix.now signing.old.signs row places.old }
     requires state { IsAtRow matrix.now row signing.old }
     requires here { IsForcedColumn matrix.now signing.old.signs row forced.column }
     requires partner { IsPartner matrix.now signing.old.signs row forced.column forced.partner }
     ensures state { OnOk result (IsAtRow matrix.now row signing.new) }
-    ensures places { OnOk result (KnowsPlaces matrix.now row places.new) }
+    ensures flag { OnOk result (signing.new.steps.are_kept ≡ signing.old.steps.are_kept) }
+    ensures places { OnOk result (KnowsPlaces matrix.now signing.new.signs row places.new) }
     ensures fewer { OnOk result (unsigned_before matrix.now signing.new.signs row matrix.now.width
         < unsigned_before matrix.now signing.old.signs row matrix.now.width) }
     ensures keeps { OnOk result ((d : ℕ) → IsUnsignedOne matrix.now signing.new.signs row d
         → IsUnsignedOne matrix.now signing.old.signs row d) }
 {
-    let column = forced.column;
-    let cycle = places.cycle(alloc, matrix, row, column, forced.partner)?;
-    let sign = closing_sign(signing.signs.sum(&cycle));
+    signing
+        .steps
+        .forced(alloc, matrix, &signing.signs, places, row, forced)?;
+    let ForcedOne { column, partner } = forced;
+    let mark = places.mark(matrix, &signing.signs, row, column, partner)?;
+    let sign = closing_sign(mark, signing.signs.entry(row, partner));
     signing.signs.set(row, column, sign);
-    signing.steps.push(SignStep::Forced { row, column, cycle })?;
     signing.signed.columns.push(column)?;
     Ok(())
 }
 
-// The sign that makes an odd sum a multiple of four.
-fn closing_sign(sum: i32) -> i8
-    requires { IsOdd sum }
+// The sign that makes the sum of a cycle a multiple of four. The mark is -1 if the sum of the path is 2 modulo 4, and 1 if it is
+// a multiple of four. The other sign is that of the partner.
+fn closing_sign(mark: i8, partner: i8) -> i8
+    requires mark { IsSign mark }
+    requires partner { IsSign partner }
     ensures sign { IsSign result }
-    ensures four { IsZeroModFour (sum +ℤ result) }
+    ensures four { (sum : ℤ) → TwoIf (is_minus mark) sum
+        → IsZeroModFour ((partner +ℤ result) +ℤ sum) }
 {
-    if sum.rem_euclid(4) == 1 { -1 } else { 1 }
+    if mark == partner { -1 } else { 1 }
 }

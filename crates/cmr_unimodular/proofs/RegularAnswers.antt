@@ -110,9 +110,9 @@ reported o a signed steps tree (Ok outcome) signing decomposition right is = rec
 reported o a signed steps tree (Err memory) signing decomposition right is = tt
 
 -- the chain that is written
-pub chain_written : (a : Matrix) (steps : List SignStep) (violator fault : LineSet) (rows columns : ℕ) → violator ≡ fault → rows ≡ height a → columns ≡ a.width
-    → chain_text (record { chain = record { steps = steps; violator = violator }; rows = rows; columns = columns }) ≡ chain_text (chain_with a steps fault)
-chain_written a steps violator fault rows columns e f g = rw (e, f, g) refl
+pub chain_written : (a : Matrix) (kept steps : List SignStep) (violator fault : LineSet) (rows columns : ℕ) → kept ≡ steps → violator ≡ fault → rows ≡ height a → columns ≡ a.width
+    → chain_text (record { chain = record { steps = kept; violator = violator }; rows = rows; columns = columns }) ≡ chain_text (chain_with a steps fault)
+chain_written a kept steps violator fault rows columns d e f g = rw (d, e, f, g) refl
 
 -- the numbers in the arguments of `regular` are in their ranges, the pivots included
 pub regular_order-ranges : (words : List Text) (o : RegularOrder) → regular_order words ≡ Some o → (regular_tool o).InRanges × (o.pivots ≤ 100)

@@ -3,9 +3,10 @@ ghost use Rattle.chains.specs.ChainTexts.{AreLinesIn, IsStepIn, chain_text};
 ghost use Rattle.tree_laws.specs.Laws.{VerdictMeans};
 ghost use Rattle.clap.specs.Words.{app_of, found_of, rows_of};
 ghost use Rattle.std.specs.List.{AllByRecursion};
-ghost use Rattle.std.specs.Prelude.{◌*◌, ◌++◌, ◌≡◌, ◌≤◌, IfOk, OnOk, length, map, option_map};
+ghost use Rattle.std.specs.Prelude.{◌*◌, ◌++◌, ◌≡◌, ◌≤◌, List, IfOk, OnOk, length, map, option_map};
 ghost use Rattle.tree_type.specs.Verdicts.{verdict_shown};
-ghost use Rattle.cmr_base.specs.Matrix.{height};
+ghost use Rattle.chains.specs.declared.step.SignStep.{SignStep};
+ghost use Rattle.cmr_base.specs.Matrix.{Matrix, height};
 ghost use Rattle.cmr_base.specs.Trees.{IsBinary};
 ghost use Rattle.cmr_front.specs.Outcome.{file_of, outcome_report};
 ghost use Rattle.cmr_front.specs.Report.{asked_file};
@@ -14,7 +15,7 @@ ghost use Rattle.cmr_unimodular.specs.Regular.{HasLinesIn, IsSignedTo, RegularDe
 ghost use Rattle.cmr_unimodular.specs.Verdict.{verdict_in, verdict_order_of, verdict_report};
 
 use crate::verdict::{VerdictOptions, decomposed, report_tree};
-use camion_sign::sign;
+use camion_sign::{sign, signed_matrix};
 use chains::{Chain, SignStepList, write_chain};
 use clap::{ArgMatches, Command};
 use cmr_base::{Indices, LineSet, MAX_LINES, Matrix, Memory, Word};
@@ -131,10 +132,10 @@ fn sign_and_test<'a, R: Threads + Sync>(
     ensures { IfOk result (λ outcome.
         RegularDecides (regular_order_of options.now) matrix.now (outcome_report outcome)) }
 {
-    let signing = signing_of(alloc, matrix)?;
+    let signed = signing_of(alloc, matrix)?;
     let asked = verdict_options(options);
-    let tree = decomposed(rt, alloc, &asked, &signing.signed)?;
-    report_signing(alloc, options, matrix, signing, &tree)
+    let tree = decomposed(rt, alloc, &asked, &signed)?;
+    report_signing(alloc, options, matrix, &signed, &tree)
 }
 
 // The report of the tree of a signed matrix, with the files of the signing.
@@ -142,41 +143,42 @@ fn report_signing<'a>(
     alloc: Global,
     options: &RegularOptions<'a>,
     matrix: &Matrix,
-    signing: SignedMatrix,
+    signed: &Matrix,
     tree: &DecTree,
 ) -> Result<Outcome<'a>, Memory>
-    requires signed { IsSignedTo matrix.now signing.steps signing.signed }
-    requires few { length signing.steps ≤ height matrix.now * matrix.now.width }
-    requires steps { AllByRecursion (IsStepIn (height matrix.now) matrix.now.width) signing.steps }
-    requires means { VerdictMeans signing.signed (verdict_in tree.now) }
-    ensures { IfOk result (λ outcome. outcome_report outcome
-        ≡ regular_report (regular_order_of options.now) matrix.now signing.steps signing.signed
-        tree.now) }
+    requires signed { (steps : List SignStep) × IsSignedTo matrix.now steps signed.now }
+    requires means { VerdictMeans signed.now (verdict_in tree.now) }
+    ensures { IfOk result (λ outcome. (steps : List SignStep)
+        → IsSignedTo matrix.now steps signed.now
+        → outcome_report outcome
+        ≡ regular_report (regular_order_of options.now) matrix.now steps signed.now tree.now) }
 {
-    let reported = report_tree(alloc, &verdict_options(options), &signing.signed, tree)?;
-    with_signing(alloc, options, matrix, signing, tree, reported)
+    let reported = report_tree(alloc, &verdict_options(options), signed, tree)?;
+    with_signing(alloc, options, matrix, signed, tree, reported)
 }
 
-// A signed matrix, and the steps that signed it.
-#[derive(Drop)]
-struct SignedMatrix {
-    signed: Matrix,
-    steps: SignStepList,
-}
-
-fn signing_of(alloc: Global, matrix: &Matrix) -> Result<SignedMatrix, Memory>
+fn signing_of(alloc: Global, matrix: &Matrix) -> Result<Matrix, Memory>
     requires { IsBinary matrix.now }
-    ensures signed { IfOk result (λ signing. IsSignedTo matrix.now signing.steps signing.signed) }
-    ensures few { IfOk result (λ signing. length signing.steps
-        ≤ height matrix.now * matrix.now.width) }
-    ensures steps { IfOk result (λ signing.
-        AllByRecursion (IsStepIn (height matrix.now) matrix.now.width) signing.steps) }
+    ensures { IfOk result (λ signed. (steps : List SignStep)
+        × IsSignedTo matrix.now steps signed) }
 {
-    let (signed, steps) = sign(alloc, matrix)?;
+    let signed = signed_matrix(alloc, matrix)?;
     let rows = matrix.rows();
     let signed_rows = signed.rows();
     prove!(signed_rows == rows);
-    Ok(SignedMatrix { signed, steps })
+    Ok(signed)
+}
+
+// The steps of the signing. Only the chain needs them.
+fn steps_of(alloc: Global, matrix: &Matrix) -> Result<SignStepList, Memory>
+    ensures same { IfOk result (λ steps. (others : List SignStep) (signed : Matrix)
+        → IsSignedTo matrix.now others signed → steps ≡ others) }
+    ensures few { IfOk result (λ steps. length steps ≤ height matrix.now * matrix.now.width) }
+    ensures steps { IfOk result (λ steps.
+        AllByRecursion (IsStepIn (height matrix.now) matrix.now.width) steps) }
+{
+    let (_, steps) = sign(alloc, matrix)?;
+    Ok(steps)
 }
 
 fn verdict_options<'a>(options: &RegularOptions<'a>) -> VerdictOptions<'a>
@@ -198,30 +200,22 @@ fn with_signing<'a>(
     alloc: Global,
     options: &RegularOptions<'a>,
     matrix: &Matrix,
-    signing: SignedMatrix,
+    signed: &Matrix,
     tree: &DecTree,
     reported: Outcome<'a>,
 ) -> Result<Outcome<'a>, Memory>
-    requires signed { IsSignedTo matrix.now signing.steps signing.signed }
-    requires few { length signing.steps ≤ height matrix.now * matrix.now.width }
-    requires steps { AllByRecursion (IsStepIn (height matrix.now) matrix.now.width) signing.steps }
-    requires means { VerdictMeans signing.signed (verdict_in tree.now) }
+    requires signed { (steps : List SignStep) × IsSignedTo matrix.now steps signed.now }
+    requires means { VerdictMeans signed.now (verdict_in tree.now) }
     requires reported { outcome_report reported
-        ≡ verdict_report (regular_verdict (regular_order_of options.now)) signing.signed tree.now }
-    ensures { IfOk result (λ outcome. outcome_report outcome
-        ≡ regular_report (regular_order_of options.now) matrix.now signing.steps signing.signed
-        tree.now) }
+        ≡ verdict_report (regular_verdict (regular_order_of options.now)) signed.now tree.now }
+    ensures { IfOk result (λ outcome. (steps : List SignStep)
+        → IsSignedTo matrix.now steps signed.now
+        → outcome_report outcome
+        ≡ regular_report (regular_order_of options.now) matrix.now steps signed.now tree.now) }
 {
     let mut files = reported.files;
-    push_matrix(alloc, &mut files, options.signed, &signing.signed)?;
-    push_chain(
-        alloc,
-        &mut files,
-        options.chain,
-        matrix,
-        signing.steps,
-        &verdict(tree),
-    )?;
+    push_matrix(alloc, &mut files, options.signed, signed)?;
+    push_chain(alloc, &mut files, options.chain, matrix, &verdict(tree))?;
     Ok(Outcome {
         answer: reported.answer,
         output: reported.output,
@@ -235,19 +229,18 @@ fn push_chain<'a>(
     files: &mut Vec<OutputFile<'a>>,
     name: Option<&'a str>,
     matrix: &Matrix,
-    steps: SignStepList,
     verdict: &VerdictOf<'_>,
 ) -> Result<(), Memory>
-    requires few { length steps ≤ height matrix.now * matrix.now.width }
-    requires steps { AllByRecursion (IsStepIn (height matrix.now) matrix.now.width) steps }
     requires lines { HasLinesIn (height matrix.now) matrix.now.width (verdict_shown verdict.now) }
-    ensures { OnOk result (map file_of files.new.items
+    ensures { OnOk result ((steps : List SignStep) (signed : Matrix)
+        → IsSignedTo matrix.now steps signed
+        → map file_of files.new.items
         ≡ map file_of files.old.items
         ++ chain_file (option_map (λ name. name.now) name.entry) matrix.now steps
         (verdict_shown verdict.now)) }
 {
     match verdict {
-        VerdictOf::No(fault) => push_chain_with(alloc, files, name, matrix, steps, fault),
+        VerdictOf::No(fault) => push_chain_with(alloc, files, name, matrix, fault),
         VerdictOf::Yes | VerdictOf::Undecided(_) => Ok(()),
     }
 }
@@ -257,18 +250,18 @@ fn push_chain_with<'a>(
     files: &mut Vec<OutputFile<'a>>,
     name: Option<&'a str>,
     matrix: &Matrix,
-    steps: SignStepList,
     fault: &LineSet,
 ) -> Result<(), Memory>
-    requires few { length steps ≤ height matrix.now * matrix.now.width }
-    requires steps { AllByRecursion (IsStepIn (height matrix.now) matrix.now.width) steps }
     requires lines { AreLinesIn (height matrix.now) matrix.now.width fault.now }
-    ensures { OnOk result (map file_of files.new.items
+    ensures { OnOk result ((steps : List SignStep) (signed : Matrix)
+        → IsSignedTo matrix.now steps signed
+        → map file_of files.new.items
         ≡ map file_of files.old.items
         ++ asked_file (option_map (λ name. name.now) name.entry)
         (chain_text (chain_with matrix.now steps fault.now))) }
 {
     if let Some(name) = name {
+        let steps = steps_of(alloc, matrix)?;
         let violator = copied(alloc, fault)?;
         let chain = Chain { steps, violator };
         let bytes = write_chain(alloc, &chain, matrix.rows(), matrix.columns())?;

@@ -11,7 +11,7 @@ use Rattle.camion_sign.proofs.reach.reach_row.Goals as goal
 
 pub loop-column-init : goal.loop-column-init
 loop-column-init c = record {
-  state = start_row c.args.matrix.now c.args.start.row c.args.start.column c.args.head c.args.row c.index-from.result.now c.args.walk.now c.requires.walking c.requires.open c.index-from.ensures;
+  state = start_row c.args.matrix.now c.args.values.now c.args.start.row c.args.start.column c.args.head c.args.row c.index-from.result.now c.args.walk.now c.requires.walking c.requires.open c.index-from.ensures;
   low_in = omega arith;
 }
 
@@ -29,13 +29,14 @@ next_unreached-requires-clause-reached c =
 
 pub entry-requires-clause-column : goal.entry-requires-clause-column
 entry-requires-clause-column c =
-    fresh_in c.by_rows.result.now c.args.matrix.now c.args.row c.args.start.row c.support_words-columns.result.now c.loop-column.walk.reached.items c.by_rows.ensures.value c.support_words-columns.ensures c.by_rows.ensures.shape c.requires.early c.requires.row c.in-Some.column c.in-Some.ensures.1
+    let low = fresh_in c.by_rows.result.now c.args.matrix.now c.args.row c.args.start.row c.support_words-columns.result.now c.loop-column.walk.reached.items c.by_rows.ensures.value c.support_words-columns.ensures c.by_rows.ensures.shape c.requires.early c.requires.row c.in-Some.column c.in-Some.ensures.1 in
+    omega (arith, low, c.requires.values.same_width)
 
 pub overflow_cast-head : goal.overflow_cast-head
 overflow_cast-head c =
     let w = c.loop-column.invariant.state in
     let m = c.args.matrix.now in
-    omega (arith, w.within, w.fits.matrix.width_in, few (entry m) c.args.start.row c.args.start.column m.width (progress c.loop-column.walk.steps.items c.loop-column.walk.places.items c.loop-column.walk.used.items) w.key w.prefix.queue)
+    omega (arith, w.within, w.fits.matrix.width_in, few (entry m) (entry c.args.values.now) c.args.start.row c.args.start.column m.width (progress c.loop-column.walk.steps.items c.loop-column.walk.places.items c.loop-column.walk.used.items) w.key w.prefix.queue)
 
 pub reach-requires-clause-column : goal.reach-requires-clause-column
 reach-requires-clause-column c =
@@ -46,7 +47,7 @@ pub reach-requires-clause-few : goal.reach-requires-clause-few
 reach-requires-clause-few c =
     let w = c.loop-column.invariant.state in
     let m = c.args.matrix.now in
-    omega (arith, w.fits.matrix.width_in, few (entry m) c.args.start.row c.args.start.column m.width (progress c.loop-column.walk.steps.items c.loop-column.walk.places.items c.loop-column.walk.used.items) w.key w.prefix.queue)
+    omega (arith, w.fits.matrix.width_in, few (entry m) (entry c.args.values.now) c.args.start.row c.args.start.column m.width (progress c.loop-column.walk.steps.items c.loop-column.walk.places.items c.loop-column.walk.used.items) w.key w.prefix.queue)
 
 pub reach-requires-clause-word : goal.reach-requires-clause-word
 reach-requires-clause-word c =
@@ -81,13 +82,13 @@ loop-column-preserved c =
     let x = c.in-Some.column in
     let low = fresh_in c.by_rows.result.now c.args.matrix.now c.args.row c.args.start.row c.support_words-columns.result.now c.loop-column.walk.reached.items c.by_rows.ensures.value c.support_words-columns.ensures c.by_rows.ensures.shape c.requires.early c.requires.row c.in-Some.column c.in-Some.ensures.1 in
     let fresh = fresh_is m r words walk.places.items walk.reached.items is shape tall state.fits.in_step x c.in-Some.ensures.1 in
-    let passed = pass_columns m t first h r c.loop-column.low from c.args.walk.now walk state x c.in-Some.ensures.0
+    let passed = pass_columns m c.args.values.now t first h r c.loop-column.low from c.args.walk.now walk state x c.in-Some.ensures.0
     (λ y up below n. not_fresh m r words walk.places.items walk.reached.items is shape tall state.fits.in_step y (c.in-Some.ensures.2 y up below) n) in
     let leads = subst (λ (v : ReachedColumn). entry m r v.column ≢ pos 0) (step_is c.args.walk.now.steps.items h from c.requires.open.within c.index-from.ensures) c.requires.leads in
     record {
-      state = reach_column m t first h r x from c.args.walk.now walk passed c.reach.new.self (nat_eq (of_z w8 c.entry-sign.result) (of_z w8 c.entry.result)) low fresh.0 fresh.1
-          (same_goes m t first h r x from c.args.walk.now walk passed c.requires.open) c.requires.early leads
-          (test_two m r from.column r x c.entry-sign.result c.entry.result shape c.entry-sign.ensures.value c.entry.ensures.value c.entry-sign.ensures.small c.entry.ensures.small leads fresh.0)
+      state = reach_column m c.args.values.now t first h r x from c.args.walk.now walk passed c.reach.new.self (nat_eq (of_z w8 c.entry-sign.result) (of_z w8 c.entry.result)) low fresh.0 fresh.1
+          (same_goes m c.args.values.now t first h r x from c.args.walk.now walk passed c.requires.open) c.requires.early leads
+          (test_two c.args.values.now r from.column r x c.entry-sign.result c.entry.result c.requires.values.small c.entry-sign.ensures.value c.entry.ensures.value c.entry-sign.ensures.small c.entry.ensures.small (c.requires.values.nonzero r from.column c.requires.early leads) (c.requires.values.nonzero r x c.requires.early fresh.0))
           (c.in_ok-reach.ensures.steps ∙ ap (λ (b : Bool). walk.steps.items ++ record { column = x; row = r; before = h; is_two = b } ∷ []) c.flipped.ensures)
           c.in_ok-reach.ensures.places c.in_ok-reach.ensures.used c.in_ok-reach.ensures.reached c.in_ok-reach.ensures.in_step;
       low_in = omega (arith, low);
@@ -104,7 +105,7 @@ returns-clause-walking c =
     let tall : r < height m = omega (arith, c.requires.early, c.requires.row) in
     let is = words_of_row c.by_rows.result.now m r words c.by_rows.ensures.value c.support_words-columns.ensures in
     let one : HasOneMore walk.used.items r c.add_column.new.set.items = record { size = c.add_column.ensures.size; only = c.add_column.ensures.only; here = c.add_column.ensures.here; kept = c.add_column.ensures.kept } in
-    end_row m c.args.start.row c.args.start.column c.args.head r c.loop-column.low c.index-from.result.now c.args.walk.now walk _ state
+    end_row m c.args.values.now c.args.start.row c.args.start.column c.args.head r c.loop-column.low c.index-from.result.now c.args.walk.now walk _ state
     (λ x up n. not_fresh m r words walk.places.items walk.reached.items is shape tall state.fits.in_step x (c.in_default.ensures x up) n) refl refl one refl
 
 pub returns-clause-used : goal.returns-clause-used

@@ -4,7 +4,7 @@ use Rattle.camion_sign.proofs.reach.reach_row.Given as goal
 
 abbrev pub invariant-loop-column : goal.invariant-loop-column
 invariant-loop-column l = record {
-  state : IsReaching l.matrix l.fn.start.row l.fn.start.column l.head l.row l.low l.from l.fn.walk l.walk;
+  state : IsReaching l.matrix l.values l.fn.start.row l.fn.start.column l.head l.row l.low l.from l.fn.walk l.walk;
   low_in : l.low ≤ l.matrix.width;
 }
 

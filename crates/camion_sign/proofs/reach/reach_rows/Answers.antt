@@ -12,7 +12,7 @@ support_words-rows-requires c =
     omega (arith, wide, ap height c.by_columns.ensures.value, height-transposed c.args.matrix.now)
 
 pub loop-row-init : goal.loop-row-init
-loop-row-init c = start_rows c.args.matrix.now c.args.start.row c.args.start.column c.args.head c.args.pending c.args.walk.now c.requires.walking c.requires.open c.requires.pending c.requires.waits
+loop-row-init c = start_rows c.args.matrix.now c.args.values.now c.args.start.row c.args.start.column c.args.head c.args.pending c.args.walk.now c.requires.walking c.requires.open c.requires.pending c.requires.waits
 
 pub next_unused-requires-clause-size : goal.next_unused-requires-clause-size
 next_unused-requires-clause-size c =
@@ -31,7 +31,7 @@ returns-then-row-start-clause-walk c =
     let walk = c.loop-row.walk in
     let is = step_is c.args.walk.now.steps.items c.args.head c.index.result.now c.requires.open.within c.index.ensures in
     let wide = subst (λ (j : ℕ). j < m.width) (ap (λ v. v.column) is) (c.requires.walking.prefix.queue.inside c.args.head c.requires.open.within) in
-    inl (end_rows m c.args.start.row c.args.start.column c.args.head c.loop-row.low c.args.walk.now walk c.loop-row.invariant
+    inl (end_rows m c.args.values.now c.args.start.row c.args.start.column c.args.head c.loop-row.low c.args.walk.now walk c.loop-row.invariant
     (λ r up early leads. used_if_meets c.by_columns.result.now m c.index.result.now.column c.support_words-rows.result.now walk.used.items c.by_columns.ensures.value c.support_words-rows.ensures c.by_columns.ensures.shape wide r
     (c.in-Some.ensures.2 r up (let late = c.if-row-start.true in omega arith)) (subst (λ (y : ℕ). entry m r y ≢ pos 0) (ap (λ v. v.column) is) leads)))
 
@@ -55,7 +55,7 @@ reach_row-requires-clause-leads c =
 
 pub reach_row-requires-clause-walking : goal.reach_row-requires-clause-walking
 reach_row-requires-clause-walking c =
-    walks_from c.args.matrix.now c.args.start.row c.args.start.column c.args.head c.loop-row.low c.args.walk.now c.loop-row.walk c.loop-row.invariant c.in-Some.row c.in-Some.ensures.0
+    walks_from c.args.matrix.now c.args.values.now c.args.start.row c.args.start.column c.args.head c.loop-row.low c.args.walk.now c.loop-row.walk c.loop-row.invariant c.in-Some.row c.in-Some.ensures.0
 
 pub first_waiting-pending-requires-clause-fits : goal.first_waiting-pending-requires-clause-fits
 first_waiting-pending-requires-clause-fits c = c.in_ok-reach_row.ensures.walking.fits
@@ -69,11 +69,11 @@ returns-then-pending-columns-clause-walk c =
     let walk = c.loop-row.walk in
     let is = step_is c.args.walk.now.steps.items c.args.head c.index.result.now c.requires.open.within c.index.ensures in
     let wide = subst (λ (j : ℕ). j < m.width) (ap (λ v. v.column) is) (c.requires.walking.prefix.queue.inside c.args.head c.requires.open.within) in
-    let taken = take_row m c.args.start.row c.args.start.column c.args.head c.loop-row.low c.args.walk.now walk c.loop-row.invariant c.in-Some.row c.reach_row.new.walk c.first_waiting-pending.result c.if-row-start.false
+    let taken = take_row m c.args.values.now c.args.start.row c.args.start.column c.args.head c.loop-row.low c.args.walk.now walk c.loop-row.invariant c.in-Some.row c.reach_row.new.walk c.first_waiting-pending.result c.if-row-start.false
     (λ r up below leads. used_if_meets c.by_columns.result.now m c.index.result.now.column c.support_words-rows.result.now walk.used.items c.by_columns.ensures.value c.support_words-rows.ensures c.by_columns.ensures.shape wide r
     (c.in-Some.ensures.2 r up below) (subst (λ (y : ℕ). entry m r y ≢ pos 0) (ap (λ v. v.column) is) leads))
     c.in_ok-reach_row.ensures.walking c.in_ok-reach_row.ensures.grows c.in_ok-reach_row.ensures.used c.first_waiting-pending.ensures.from c.first_waiting-pending.ensures.width c.first_waiting-pending.ensures.waits in
-    inr (c.if-pending-columns.true ∙ c.columns.ensures.columns, settle_rows m c.args.start.row c.args.start.column c.args.head (c.in-Some.row + 1) c.args.walk.now c.reach_row.new.walk taken)
+    inr (c.if-pending-columns.true ∙ c.columns.ensures.columns, settle_rows m c.args.values.now c.args.start.row c.args.start.column c.args.head (c.in-Some.row + 1) c.args.walk.now c.reach_row.new.walk taken)
 
 pub returns-then-pending-columns-clause-pending : goal.returns-then-pending-columns-clause-pending
 returns-then-pending-columns-clause-pending c = c.first_waiting-pending.ensures.width
@@ -84,7 +84,7 @@ returns-then-pending-columns-clause-waits c =
     let walk = c.loop-row.walk in
     let is = step_is c.args.walk.now.steps.items c.args.head c.index.result.now c.requires.open.within c.index.ensures in
     let wide = subst (λ (j : ℕ). j < m.width) (ap (λ v. v.column) is) (c.requires.walking.prefix.queue.inside c.args.head c.requires.open.within) in
-    let taken = take_row m c.args.start.row c.args.start.column c.args.head c.loop-row.low c.args.walk.now walk c.loop-row.invariant c.in-Some.row c.reach_row.new.walk c.first_waiting-pending.result c.if-row-start.false
+    let taken = take_row m c.args.values.now c.args.start.row c.args.start.column c.args.head c.loop-row.low c.args.walk.now walk c.loop-row.invariant c.in-Some.row c.reach_row.new.walk c.first_waiting-pending.result c.if-row-start.false
     (λ r up below leads. used_if_meets c.by_columns.result.now m c.index.result.now.column c.support_words-rows.result.now walk.used.items c.by_columns.ensures.value c.support_words-rows.ensures c.by_columns.ensures.shape wide r
     (c.in-Some.ensures.2 r up below) (subst (λ (y : ℕ). entry m r y ≢ pos 0) (ap (λ v. v.column) is) leads))
     c.in_ok-reach_row.ensures.walking c.in_ok-reach_row.ensures.grows c.in_ok-reach_row.ensures.used c.first_waiting-pending.ensures.from c.first_waiting-pending.ensures.width c.first_waiting-pending.ensures.waits in
@@ -104,7 +104,7 @@ loop-row-preserved c =
     let walk = c.loop-row.walk in
     let is = step_is c.args.walk.now.steps.items c.args.head c.index.result.now c.requires.open.within c.index.ensures in
     let wide = subst (λ (j : ℕ). j < m.width) (ap (λ v. v.column) is) (c.requires.walking.prefix.queue.inside c.args.head c.requires.open.within) in
-    take_row m c.args.start.row c.args.start.column c.args.head c.loop-row.low c.args.walk.now walk c.loop-row.invariant c.in-Some.row c.reach_row.new.walk c.first_waiting-pending.result c.if-row-start.false
+    take_row m c.args.values.now c.args.start.row c.args.start.column c.args.head c.loop-row.low c.args.walk.now walk c.loop-row.invariant c.in-Some.row c.reach_row.new.walk c.first_waiting-pending.result c.if-row-start.false
     (λ r up below leads. used_if_meets c.by_columns.result.now m c.index.result.now.column c.support_words-rows.result.now walk.used.items c.by_columns.ensures.value c.support_words-rows.ensures c.by_columns.ensures.shape wide r
     (c.in-Some.ensures.2 r up below) (subst (λ (y : ℕ). entry m r y ≢ pos 0) (ap (λ v. v.column) is) leads))
     c.in_ok-reach_row.ensures.walking c.in_ok-reach_row.ensures.grows c.in_ok-reach_row.ensures.used c.first_waiting-pending.ensures.from c.first_waiting-pending.ensures.width c.first_waiting-pending.ensures.waits
@@ -115,7 +115,7 @@ returns-clause-walk c =
     let walk = c.loop-row.walk in
     let is = step_is c.args.walk.now.steps.items c.args.head c.index.result.now c.requires.open.within c.index.ensures in
     let wide = subst (λ (j : ℕ). j < m.width) (ap (λ v. v.column) is) (c.requires.walking.prefix.queue.inside c.args.head c.requires.open.within) in
-    inl (end_rows m c.args.start.row c.args.start.column c.args.head c.loop-row.low c.args.walk.now walk c.loop-row.invariant
+    inl (end_rows m c.args.values.now c.args.start.row c.args.start.column c.args.head c.loop-row.low c.args.walk.now walk c.loop-row.invariant
     (λ r up early leads. used_if_meets c.by_columns.result.now m c.index.result.now.column c.support_words-rows.result.now walk.used.items c.by_columns.ensures.value c.support_words-rows.ensures c.by_columns.ensures.shape wide r
     (c.in_default.ensures r up) (subst (λ (y : ℕ). entry m r y ≢ pos 0) (ap (λ v. v.column) is) leads)))
 

@@ -1,15 +1,17 @@
-use Rattle.std.proofs.Common.{◌∙◌, ℤ, pos, ap, w32}
-use Rattle.std.specs.Int.{int_rem_euclid}
-use Rattle.std.proofs.lemmas.Int.{to_z-of_z}
-use Rattle.chains.proofs.OddSums.{minus_closes, plus_closes}
+use Rattle.std.proofs.Common.{ap, of_z, w8}
+use Rattle.cmr_base.proofs.EntryBytes.{same_bytes}
+use Rattle.cmr_base.proofs.SignEntries.{sign_is_entry}
+use Rattle.camion_sign.proofs.ForcedSigns.{equal_closes, other_closes}
 use Rattle.camion_sign.proofs.signing.closing_sign.Goals as goal
 
-pub returns-then-rem_euclid-eq1-clause-four : goal.returns-then-rem_euclid-eq1-clause-four
-returns-then-rem_euclid-eq1-clause-four c =
-    let value = c.rem_euclid.ensures.value ∙ ap (λ (z : ℤ). int_rem_euclid z (pos 4)) (to_z-of_z w32 c.args.sum c.ranges.sum) in
-    minus_closes c.args.sum c.rem_euclid.result value c.if-rem_euclid-eq1.true
+pub returns-then-mark-partner-clause-four : goal.returns-then-mark-partner-clause-four
+returns-then-mark-partner-clause-four c =
+    let z = c.args.mark in
+    let p = c.args.partner in
+    equal_closes z p c.requires.mark c.requires.partner (same_bytes z p (sign_is_entry z c.requires.mark) (sign_is_entry p c.requires.partner) c.if-mark-partner.true)
 
-pub returns-else-rem_euclid-eq1-clause-four : goal.returns-else-rem_euclid-eq1-clause-four
-returns-else-rem_euclid-eq1-clause-four c =
-    let value = c.rem_euclid.ensures.value ∙ ap (λ (z : ℤ). int_rem_euclid z (pos 4)) (to_z-of_z w32 c.args.sum c.ranges.sum) in
-    plus_closes c.args.sum c.rem_euclid.result value c.requires c.if-rem_euclid-eq1.false
+pub returns-else-mark-partner-clause-four : goal.returns-else-mark-partner-clause-four
+returns-else-mark-partner-clause-four c =
+    let z = c.args.mark in
+    let p = c.args.partner in
+    other_closes z p c.requires.mark c.requires.partner (λ e. c.if-mark-partner.false (ap (of_z w8) e))

@@ -7,6 +7,6 @@ use Rattle.camion_sign.proofs.signing.forced_one.Given as goal
 abbrev pub invariant-loop-column : goal.invariant-loop-column
 invariant-loop-column l = record {
   none : (d : ℕ) → d < l.column → IsUnsignedOne l.matrix l.signs l.row d → (c : ℕ) → ¬ (IsForcedBy l.matrix l.signs l.row d c);
-  knows : KnowsPlaces l.matrix l.row l.places;
+  knows : KnowsPlaces l.matrix l.signs l.row l.places;
   signed : KnowsSigned l.matrix l.signs l.row l.signed;
 }

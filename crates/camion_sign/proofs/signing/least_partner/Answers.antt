@@ -22,11 +22,11 @@ loop-partner-preserved c =
     elim c.if-entry-ne0.branch [
       | then-entry-ne0+in_ok-is_place+else-is_place w ↦ record {
         none = one_passed a s c.args.row c.args.column columns c.requires.signs c.row-partner-items.ensures k (λ forced. w.in_ok-is_place.ensures.no w.if-is_place.false forced.1.0 forced.1.1) c.loop-partner.invariant.none;
-        knows = subst (KnowsPlaces a c.args.row) (sym w.places-is) w.in_ok-is_place.ensures.places;
+        knows = subst (KnowsPlaces a s c.args.row) (sym w.places-is) w.in_ok-is_place.ensures.places;
       }
       | else-entry-ne0 w ↦ record {
         none = one_passed a s c.args.row c.args.column columns c.requires.signs c.row-partner-items.ensures k (λ forced. forced.0 (sym c.entry.ensures.value ∙ zero_byte c.entry.result c.entry.ensures.small w.if-entry-ne0.false)) c.loop-partner.invariant.none;
-        knows = subst (KnowsPlaces a c.args.row) (sym w.places-is) c.loop-partner.invariant.knows;
+        knows = subst (KnowsPlaces a s c.args.row) (sym w.places-is) c.loop-partner.invariant.knows;
       }
     ]
 

@@ -1,84 +1,56 @@
-use Rattle.std.proofs.Common.{◌≡◌, ◌∙◌, ◌+ℤ◌, ℤ, refl, rules, sym, ap, subst, arith, to_z, of_z, w8, w32, SFits}
-use Rattle.std.proofs.lemmas.Int.{ints, to_z-of_z}
-use Rattle.cmr_base.specs.Matrix.{with_entry, IsEntry}
-use Rattle.cmr_base.specs.Sums.{IsOdd}
+use Rattle.std.proofs.Common.{◌∙◌, ◌<◌, ◌+ℤ◌, ℤ, refl, sym, ap, subst, arith}
+use Rattle.cmr_base.specs.Matrix.{entry, with_entry, IsEntry}
+use Rattle.cmr_base.specs.Planes.{is_minus}
+use Rattle.cmr_base.specs.Signing.{IsSign}
 use Rattle.cmr_base.proofs.SignEntries.{sign_is_entry}
-use Rattle.ghouila.proofs.SignsUnique.{column_in}
 use Rattle.cmr_base.proofs.SmallEntries.{entry_as_byte}
+use Rattle.ghouila.proofs.SignsUnique.{column_in}
 use Rattle.chains.specs.SignSteps.{IsZeroModFour}
 use Rattle.camion_sign.specs.SignOrder.{IsNextForced}
+use Rattle.camion_sign.specs.Walks.{TwoIf}
 use Rattle.chains.specs.declared.step.SignStep.TheVariants.{Forced}
-use Rattle.camion_sign.proofs.ForcedCycles.{sum_more, odd_sum}
+use Rattle.camion_sign.proofs.ForcedSigns.{forced_four, sign_if, signs_before}
 use Rattle.camion_sign.proofs.PartnerSteps.{ones_kept}
-use Rattle.camion_sign.proofs.SigningStates.{state_more, fewer_more}
+use Rattle.camion_sign.proofs.PlaceLinks.{known_still}
+use Rattle.camion_sign.proofs.SigningStates.{earlier_same, state_more, fewer_more}
 use Rattle.camion_sign.proofs.signing.sign_forced.Goals as goal
 
-pub closing_sign-sign-requires : goal.closing_sign-sign-requires
-closing_sign-sign-requires c =
-    let fits : SFits w32 c.sum.result = search rules in
-    subst IsOdd (sym (to_z-of_z w32 c.sum.result fits ∙ c.sum.ensures))
-    (odd_sum c.args.matrix.now c.args.signing.now.signs c.requires.places.room.fits.matrix c.requires.state.signs c.args.row c.args.forced.partner c.args.forced.column c.requires.state.turn c.requires.here.here c.requires.partner.forces.0 c.in_ok-cycle.cycle c.in_ok-cycle.ensures.cycle)
+pub forced-requires-clause-place : goal.forced-requires-clause-place
+forced-requires-clause-place c = c.requires.partner.forces.1
 
-pub returns-clause-state : goal.returns-clause-state
-returns-clause-state c =
-    let state = c.requires.state in
-    let small = sign_is_entry c.closing_sign-sign.result c.closing_sign-sign.ensures.sign in
-    let low = small.low in
-    let high = small.high in
-    let kept : to_z w8 (of_z w8 c.closing_sign-sign.result) ≡ c.closing_sign-sign.result = omega (arith, ints) in
-    let set = c.set.ensures ∙ ap (with_entry c.args.signing.now.signs c.args.row c.args.forced.column) kept in
-    let v = c.closing_sign-sign.result in
-    let fits : SFits w32 c.sum.result = search rules in
-    let sum = to_z-of_z w32 c.sum.result fits ∙ c.sum.ensures in
-    let more = sum_more c.args.matrix.now c.args.signing.now.signs c.requires.places.room.fits.matrix state.signs c.args.row c.args.forced.partner c.args.forced.column state.turn c.requires.here.here c.requires.partner.forces.0 c.in_ok-cycle.cycle c.in_ok-cycle.ensures.cycle v in
-    let next : IsNextForced c.args.matrix.now c.args.signing.now.signs c.args.row c.args.forced.column c.in_ok-cycle.cycle v = record {
-      here = c.requires.here.here;
-      partner = c.args.forced.partner;
-      signed = c.requires.partner.forces.0;
-      cycle_is = c.in_ok-cycle.ensures.cycle;
-      least_column = c.requires.here.least;
-      least_partner = c.requires.partner.least;
-      is_sign = c.closing_sign-sign.ensures.sign;
-      four = subst IsZeroModFour (sym more) (subst (λ (z : ℤ). IsZeroModFour (z +ℤ v)) sum c.closing_sign-sign.ensures.four);
-    } in
-    state_more c.args.matrix.now c.args.signing.now.signs c.requires.places.room.fits.matrix c.args.row c.args.forced.column v c.closing_sign-sign.ensures.sign state.signs state.turn c.requires.here.here
-    c.args.signing.now.steps c.push.new.self (Forced c.args.row c.args.forced.column c.in_ok-cycle.cycle) state.steps (state.turn, next) refl c.in_ok-push.ensures.ok c.set.new.self set c.args.signing.now.signed _ state.signed c.in_ok-push-2.ensures.items refl
+pub mark-requires-clause-places : goal.mark-requires-clause-places
+mark-requires-clause-places c = c.in_ok-forced.ensures.places
 
-pub returns-clause-fewer : goal.returns-clause-fewer
-returns-clause-fewer c =
-    let state = c.requires.state in
-    let small = sign_is_entry c.closing_sign-sign.result c.closing_sign-sign.ensures.sign in
-    let low = small.low in
-    let high = small.high in
-    let kept : to_z w8 (of_z w8 c.closing_sign-sign.result) ≡ c.closing_sign-sign.result = omega (arith, ints) in
-    let set = c.set.ensures ∙ ap (with_entry c.args.signing.now.signs c.args.row c.args.forced.column) kept in
-    fewer_more c.args.matrix.now c.args.signing.now.signs c.requires.places.room.fits.matrix c.args.row c.args.forced.column c.closing_sign-sign.result c.closing_sign-sign.ensures.sign state.signs state.turn c.requires.here.here c.set.new.self set
+pub mark-requires-clause-column : goal.mark-requires-clause-column
+mark-requires-clause-column c = column_in c.args.matrix.now c.args.row c.args.forced.column c.requires.places.room.fits.matrix.rectangular c.requires.here.here.one
 
-pub returns-clause-keeps : goal.returns-clause-keeps
-returns-clause-keeps c =
-    let state = c.requires.state in
-    let small = sign_is_entry c.closing_sign-sign.result c.closing_sign-sign.ensures.sign in
-    let low = small.low in
-    let high = small.high in
-    let kept : to_z w8 (of_z w8 c.closing_sign-sign.result) ≡ c.closing_sign-sign.result = omega (arith, ints) in
-    let set = c.set.ensures ∙ ap (with_entry c.args.signing.now.signs c.args.row c.args.forced.column) kept in
-    ones_kept c.args.matrix.now c.args.signing.now.signs c.set.new.self c.requires.places.room.fits.matrix state.signs c.args.row c.args.forced.column c.closing_sign-sign.result c.closing_sign-sign.ensures.sign c.requires.here.here set
+pub mark-requires-clause-partner : goal.mark-requires-clause-partner
+mark-requires-clause-partner c = column_in c.args.matrix.now c.args.row c.args.forced.partner c.requires.places.room.fits.matrix.rectangular (λ z. c.requires.partner.forces.0 (c.requires.state.signs.inside c.args.row c.args.forced.partner z))
 
-pub cycle-requires-clause-places : goal.cycle-requires-clause-places
-cycle-requires-clause-places c = c.requires.places
+pub mark-requires-clause-other : goal.mark-requires-clause-other
+mark-requires-clause-other c e = c.requires.partner.forces.0 (ap (entry c.args.signing.now.signs c.args.row) e ∙ c.requires.here.here.no_sign)
 
-pub cycle-requires-clause-place : goal.cycle-requires-clause-place
-cycle-requires-clause-place c = c.requires.partner.forces.1
+pub mark-requires-clause-first : goal.mark-requires-clause-first
+mark-requires-clause-first c = c.requires.here.here.one
 
-pub sum-requires-clause-rows : goal.sum-requires-clause-rows
-sum-requires-clause-rows c k l =
-    let inside = c.in_ok-cycle.ensures.cycle.row_set.in_range k l in
-    omega (arith, inside, c.requires.state.signs.same_height)
+pub mark-requires-clause-last : goal.mark-requires-clause-last
+mark-requires-clause-last c z = c.requires.partner.forces.0 (c.requires.state.signs.inside c.args.row c.args.forced.partner z)
 
-pub sum-requires-clause-columns : goal.sum-requires-clause-columns
-sum-requires-clause-columns c k l =
-    let inside = c.in_ok-cycle.ensures.cycle.column_set.in_range k l in
+pub entry-requires-clause-row : goal.entry-requires-clause-row
+entry-requires-clause-row c = omega (arith, c.requires.row, c.requires.state.signs.same_height)
+
+pub entry-requires-clause-column : goal.entry-requires-clause-column
+entry-requires-clause-column c =
+    let inside : c.args.forced.partner < c.args.matrix.now.width = column_in c.args.matrix.now c.args.row c.args.forced.partner c.requires.places.room.fits.matrix.rectangular (λ z. c.requires.partner.forces.0 (c.requires.state.signs.inside c.args.row c.args.forced.partner z)) in
     omega (arith, inside, c.requires.state.signs.same_width)
+
+pub closing_sign-sign-requires-clause-mark : goal.closing_sign-sign-requires-clause-mark
+closing_sign-sign-requires-clause-mark c =
+    subst IsSign (sym (entry_as_byte c.in_ok-mark.mark c.in_ok-mark.ensures.mark.small)) (sign_if c.in_ok-mark.mark c.in_ok-mark.ensures.mark.small (λ z. c.in_ok-mark.ensures.mark.none z c.requires.partner.forces.1.0 c.requires.partner.forces.1.1))
+
+pub closing_sign-sign-requires-clause-partner : goal.closing_sign-sign-requires-clause-partner
+closing_sign-sign-requires-clause-partner c =
+    subst IsSign (sym (entry_as_byte c.entry.result c.entry.ensures.small)) (sign_if c.entry.result c.entry.ensures.small (λ z. c.requires.partner.forces.0 (sym c.entry.ensures.value ∙ z)))
 
 pub set-requires-clause-row : goal.set-requires-clause-row
 set-requires-clause-row c = omega (arith, c.requires.row, c.requires.state.signs.same_height)
@@ -93,5 +65,53 @@ set-requires-clause-small c =
     let small = sign_is_entry c.closing_sign-sign.result c.closing_sign-sign.ensures.sign in
     subst IsEntry (sym (entry_as_byte c.closing_sign-sign.result small)) small
 
+pub returns-clause-state : goal.returns-clause-state
+returns-clause-state c =
+    let a = c.args.matrix.now in
+    let s = c.args.signing.now.signs in
+    let row = c.args.row in
+    let column = c.args.forced.column in
+    let partner = c.args.forced.partner in
+    let state = c.requires.state in
+    let is = c.requires.places.room.fits.matrix in
+    let v = c.closing_sign-sign.result in
+    let cycle = c.in_ok-forced.ensures.kept.0 in
+    let lines = c.in_ok-forced.ensures.kept.1 in
+    let small = sign_is_entry v c.closing_sign-sign.ensures.sign in
+    let set = c.set.ensures ∙ ap (with_entry s row column) (entry_as_byte v small) in
+    let mark = c.in_ok-mark.mark in
+    let place = c.in_ok-mark.ensures.mark.place (λ z. c.in_ok-mark.ensures.mark.none z c.requires.partner.forces.1.0 c.requires.partner.forces.1.1) in
+    let next : IsNextForced a s row column cycle v = record {
+      here = c.requires.here.here;
+      partner = partner;
+      signed = c.requires.partner.forces.0;
+      cycle_is = lines;
+      least_column = c.requires.here.least;
+      least_partner = c.requires.partner.least;
+      is_sign = c.closing_sign-sign.ensures.sign;
+      four = forced_four a s is state.signs row partner column state.turn c.requires.here.here c.requires.partner.forces.0 cycle lines v c.closing_sign-sign.ensures.sign (is_minus mark) place
+          (λ sum two. subst (λ (p : ℤ). IsZeroModFour ((p +ℤ v) +ℤ sum)) (entry_as_byte c.entry.result c.entry.ensures.small ∙ c.entry.ensures.value)
+          (c.closing_sign-sign.ensures.four sum (subst (λ z. TwoIf (is_minus z) sum) (sym (entry_as_byte mark c.in_ok-mark.ensures.mark.small)) two)));
+    } in
+    state_more a s is row column v c.closing_sign-sign.ensures.sign state.signs state.turn c.requires.here.here
+    state.steps (Forced row column cycle) c.forced.new.self state.lead (state.turn, next) refl (c.in_ok-forced.ensures.kept.2 state.steps state.kept) c.set.new.self set c.args.signing.now.signed _ state.signed c.in_ok-push.ensures.items refl
+
+pub returns-clause-fewer : goal.returns-clause-fewer
+returns-clause-fewer c =
+    let v = c.closing_sign-sign.result in
+    let set = c.set.ensures ∙ ap (with_entry c.args.signing.now.signs c.args.row c.args.forced.column) (entry_as_byte v (sign_is_entry v c.closing_sign-sign.ensures.sign)) in
+    fewer_more c.args.matrix.now c.args.signing.now.signs c.requires.places.room.fits.matrix c.args.row c.args.forced.column v c.closing_sign-sign.ensures.sign c.requires.state.signs c.requires.state.turn c.requires.here.here c.set.new.self set
+
+pub returns-clause-keeps : goal.returns-clause-keeps
+returns-clause-keeps c =
+    let v = c.closing_sign-sign.result in
+    let set = c.set.ensures ∙ ap (with_entry c.args.signing.now.signs c.args.row c.args.forced.column) (entry_as_byte v (sign_is_entry v c.closing_sign-sign.ensures.sign)) in
+    ones_kept c.args.matrix.now c.args.signing.now.signs c.set.new.self c.requires.places.room.fits.matrix c.requires.state.signs c.args.row c.args.forced.column v c.closing_sign-sign.ensures.sign c.requires.here.here set
+
 pub returns-clause-places : goal.returns-clause-places
-returns-clause-places c = c.in_ok-cycle.ensures.places
+returns-clause-places c =
+    let v = c.closing_sign-sign.result in
+    let set = c.set.ensures ∙ ap (with_entry c.args.signing.now.signs c.args.row c.args.forced.column) (entry_as_byte v (sign_is_entry v c.closing_sign-sign.ensures.sign)) in
+    let state = returns-clause-state c in
+    known_still c.args.matrix.now c.args.signing.now.signs c.set.new.self c.args.row c.mark.new.self c.in_ok-mark.ensures.places (signs_before c.args.matrix.now c.set.new.self c.args.row state.signs state.turn)
+    (earlier_same c.args.signing.now.signs c.set.new.self c.args.row c.args.forced.column v set)

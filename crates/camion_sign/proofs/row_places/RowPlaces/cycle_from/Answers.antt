@@ -11,7 +11,7 @@ returns-clause-cycle c =
 
 pub path_to-requires-clause-reached : goal.path_to-requires-clause-reached
 path_to-requires-clause-reached c =
-    let w = c.in_ok-walk_if_needed.ensures.walked in
+    let w = c.in_ok-walk_if_needed.ensures.walked.1 in
     let place = c.requires.place.1 in
     elim (cases_lt (place_in c.walk_if_needed.new.self.walk.places.items c.args.last) 4294967295) [
       | inl met ↦ met

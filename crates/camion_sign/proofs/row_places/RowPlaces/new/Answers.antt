@@ -14,12 +14,13 @@ returns c =
     let few : size ≤ 1000 = let most = shape.width_in in omega (arith, wide, most) in
     let known : c.in_ok-vec.field-0.items ≡ replicate size false = search rules in
     record {
+      parts = c.in_ok-new.ensures;
       fits = record {
         matrix = shape;
-        places = c.in_ok-new.ensures.places ∙ wide;
-        used = c.in_ok-new.ensures.used ∙ ap words_for c.rows.ensures.rows;
-        reached = c.in_ok-new.ensures.reached ∙ ap words_for wide;
-        in_step = c.in_ok-new.ensures.in_step;
+        places = c.in_ok-new-2.ensures.places ∙ wide;
+        used = c.in_ok-new-2.ensures.used ∙ ap words_for c.rows.ensures.rows;
+        reached = c.in_ok-new-2.ensures.reached ∙ ap words_for wide;
+        in_step = c.in_ok-new-2.ensures.in_step;
       };
       square = record {
         matrix = subst IsMatrix (sym links) (is_matrix-zero size size few few);

@@ -18,11 +18,11 @@ signed-preserved c =
     record {
       knows = c.in_ok-is_place.ensures.places;
       few = omega (arith, c.signed-test.true, c.len.ensures);
-      none = place_passed c.args.matrix.now c.args._signs.now c.args.row c.args.self.now c.requires.signed c.args.column c.signed.place c.index.result.now value (c.in_ok-is_place.ensures.no c.if-is_place.false) c.signed.invariant.none;
+      none = place_passed c.args.matrix.now c.args.signs.now c.args.row c.args.self.now c.requires.signed c.args.column c.signed.place c.index.result.now value (c.in_ok-is_place.ensures.no c.if-is_place.false) c.signed.invariant.none;
     }
 
 pub returns-clause-none : goal.returns-clause-none
-returns-clause-none c _ = none_forces c.args.matrix.now c.args._signs.now c.args.row c.args.self.now c.requires.signed c.args.column c.signed.place (omega (arith, c.signed-test.false, c.len.ensures)) c.signed.invariant.none
+returns-clause-none c _ = none_forces c.args.matrix.now c.args.signs.now c.args.row c.args.self.now c.requires.signed c.args.column c.signed.place (omega (arith, c.signed-test.false, c.len.ensures)) c.signed.invariant.none
 
 pub returns-clause-signed : goal.returns-clause-signed
-returns-clause-signed c = passed_more c.args.matrix.now c.args._signs.now c.args.row c.args.self.now c.requires.signed c.args.column c.signed.place c.requires.column c.signed.invariant.few c.signed.invariant.none _ refl refl
+returns-clause-signed c = passed_more c.args.matrix.now c.args.signs.now c.args.row c.args.self.now c.requires.signed c.args.column c.signed.place c.requires.column c.signed.invariant.few c.signed.invariant.none _ refl refl

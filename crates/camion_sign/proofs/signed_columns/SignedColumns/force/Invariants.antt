@@ -5,7 +5,7 @@ use Rattle.camion_sign.proofs.signed_columns.SignedColumns.force.Given as goal
 
 abbrev pub invariant-signed : goal.invariant-signed
 invariant-signed l = record {
-  knows : KnowsPlaces l.matrix l.row l.places;
+  knows : KnowsPlaces l.matrix l.signs l.row l.places;
   few : l.place ≤ length l.self.columns.items;
   none : (k : ℕ) → k < l.place → (path : List ℕ) → ¬ (IsPlaceOf l.matrix l.row (get_or l.self.columns.items k 0) l.column path);
 }

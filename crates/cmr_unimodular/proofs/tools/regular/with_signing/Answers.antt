@@ -8,4 +8,4 @@ use Rattle.cmr_unimodular.proofs.tools.regular.with_signing.Goals as goal
 pub push_chain-requires-clause-lines : goal.push_chain-requires-clause-lines
 push_chain-requires-clause-lines c =
     let a = c.args.matrix.now in
-    subst (HasLinesIn (height a) a.width) (sym c.verdict.ensures) (lines_in_matrix a c.args.signing.signed c.args.signing.steps (verdict_in c.args.tree.now) c.requires.signed c.requires.means)
+    subst (HasLinesIn (height a) a.width) (sym c.verdict.ensures) (lines_in_matrix a c.args.signed.now c.requires.signed.0 (verdict_in c.args.tree.now) c.requires.signed.1 c.requires.means)
