@@ -369,7 +369,10 @@ def is_product(rows: Rows, one: set[int], two: set[int]) -> bool:
 def rank_sum(rows: Rows, side: frozenset[int]) -> int:
     """The sum of the ranks of the two blocks between a set of lines and the other lines."""
     height, width = len(rows), len(rows[0])
-    blocks = ([[rows[r][c] for c in range(width) if (height + c in side) != is_one] for r in range(height) if (r in side) == is_one] for is_one in (True, False))
+    blocks = (
+        [[rows[r][c] for c in range(width) if (height + c in side) != is_one] for r in range(height) if (r in side) == is_one]
+        for is_one in (True, False)
+    )
     return sum(rank(block) for block in blocks)
 
 
