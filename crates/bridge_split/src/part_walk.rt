@@ -100,7 +100,6 @@ impl PartWalk {
     fn walk_from(&mut self, matrix: &Matrix, rows: &[u32], row: u32, place: usize, number: u32)
         requires rows { AllBelow (height matrix.now) rows.now }
         requires increasing { IsStrictlyIncreasing rows.now }
-        requires row { row < height matrix.now }
         requires place { place < length rows.now }
         requires numbering { IsBetweenParts matrix.now rows.now row number place self.old }
         requires left { IsLeft row (number_at self.old.part.items) (slice_index rows.now place) }
@@ -131,7 +130,6 @@ impl PartWalk {
     fn meet_touched(&mut self, matrix: &Matrix, rows: &[u32], row: u32, number: u32) -> u32
         requires rows { AllBelow (height matrix.now) rows.now }
         requires few { length rows.now ≤ MAX_ROWS }
-        requires row { row < height matrix.now }
         requires room { IsWalkAt matrix.now row self.old }
         requires walk { IsWalkingPart (support matrix.now) rows.now row
             (number_at self.old.part.items) number (has_column self.old.reached.words) }

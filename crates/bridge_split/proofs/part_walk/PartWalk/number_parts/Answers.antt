@@ -13,9 +13,6 @@ use Rattle.bridge_split.proofs.part_walk.PartWalk.number_parts.Goals.{then-is_le
 pub set_zeros-requires-clause-row : goal.set_zeros-requires-clause-row
 set_zeros-requires-clause-row c = members_below (height c.args.matrix.now) c.args.rows.now c.requires.rows c.args.row c.requires.row
 
-pub walk_from-requires-clause-row : goal.walk_from-requires-clause-row
-walk_from-requires-clause-row c = members_below (height c.args.matrix.now) c.args.rows.now c.requires.rows c.args.row c.requires.row
-
 pub loop-place-preserved : goal.loop-place-preserved
 loop-place-preserved c =
     let m = c.args.matrix.now in
