@@ -39,7 +39,7 @@ late_exists : (m : Matrix) (lines : LineSet) (state : ℕ) (inside : Position) �
 late_exists m lines state inside late is none =
     first_key place_key 2 (λ place. refl) (IsPlaceBeforeCut (submatrix m lines.rows lines.columns)) inside is (λ found.
     let place : Position = record { row = get_or lines.rows found.0.row 0; column = get_or lines.columns found.0.column 0 } in
-    none (place, late, record { inside = found.0; at = record { is = found.1.has; first = λ other before b. found.1.first other before (earlier other found.0 b) }; row = refl; column = refl }))
+    none (place, (late, record { inside = found.0; at = record { is = found.1.has; first = λ other before b. found.1.first other before (earlier other found.0 b) }; row = refl; column = refl })))
   where
     earlier : (p q : Position) → IsPlaceBefore p q → IsBefore (place_key p) (place_key q)
     earlier p q (inl l) = inl l
