@@ -1,5 +1,5 @@
 -- A matrix with a separation has the separation of the first good seed.
-use Rattle.std.proofs.Common.{◌≡◌, ◌∙◌, filter, ℕ, List, length, refl, sym}
+use Rattle.std.proofs.Common.{◌≡◌, filter, ℕ, List, length, refl, sym}
 use Rattle.std.proofs.lemmas.List.Kept.{IsStrictlyIncreasing-filter}
 use Rattle.cmr_base.specs.declared.line.Line.{Line}
 use Rattle.cmr_base.specs.declared.line.Line.TheVariants.{Row, Column}
