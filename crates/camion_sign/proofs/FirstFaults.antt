@@ -156,7 +156,7 @@ first_of_rows m t found f is before h = go (subst (λ (o : Option Fault). MatchO
 pub met_step : (m values : Matrix) (t c d : ℕ) (walk : Walk) (place : ℕ) (step : ReachedColumn) → HasWalked m values t c walk → d < m.width → place ≡ get_or walk.places.items d place → place_in walk.places.items d < 4294967295 → step ≡ get_or walk.steps.items place step
     → step_at walk.steps.items (place_in walk.places.items d) ≡ step
 met_step m values t c d walk place step w l e met f =
-    let a : place_in walk.places.items d ≡ place = any_default walk.places.items d 4294967295 place (let g = w.fits.places in omega arith) ∙ sym e in
+    let a : place_in walk.places.items d ≡ place = any_default walk.places.items d 4294967295 place (omega (arith, w.fits.in_step.one_each, w.fits.columns)) ∙ sym e in
     ap (step_at walk.steps.items) a ∙ step_is walk.steps.items place step (let b = (w.queue.listed d met).0 in omega arith) f
 
 -- ---- the path, backwards

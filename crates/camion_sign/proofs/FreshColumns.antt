@@ -4,16 +4,16 @@ use Rattle.std.specs.Int.{bit_at, trailing_zeros}
 use Rattle.std.proofs.lemmas.Bool.{cases_lt}
 use Rattle.std.proofs.Math.Nat.{div-le_self}
 use Rattle.std.proofs.lemmas.Nat.Bits.{bit_at-lt}
-use Rattle.std.proofs.Common.{get_or-set_same, get_or-set_other}
+use Rattle.std.proofs.Common.{get_or-set_same, get_or-set_other, length-set}
 use Rattle.std.proofs.lemmas.List.{length-replicate}
 use Rattle.cmr_base.proofs.Lists.{get_or-replicated}
-use Rattle.cmr_base.specs.Matrix.{Matrix, height, entry, row_of, is_nonzero, transposed, IsMatrix}
-use Rattle.cmr_base.specs.Planes.{has_bit, words_for, words_of}
+use Rattle.cmr_base.specs.BitSets.{Bits, AreWordsOf}
+use Rattle.cmr_base.specs.Matrix.{Matrix, entry, is_nonzero}
+use Rattle.cmr_base.specs.Planes.{has_bit}
+use Rattle.cmr_base.specs.Trees.{support}
 use Rattle.cmr_base.specs.ColumnSets.{has_column}
 use Rattle.cmr_base.proofs.Booleans.{and_is, and_not, nonzero_is, not_both, not_is, true_is, true_is_false, zero_is}
-use Rattle.cmr_base.proofs.ColumnWords.{column_at, words_columns, words_long}
-use Rattle.cmr_base.proofs.NextNonzeros.{column_in}
-use Rattle.cmr_base.proofs.Parts.{entry-transposed, height-transposed, is_matrix-transposed}
+use Rattle.cmr_base.proofs.ColumnWords.{column_at}
 use Rattle.cmr_base.proofs.FirstBits.{first_by_bits, none_by_bits}
 use Rattle.camion_sign.specs.Walks.{AreInStep, is_fresh, place_in}
 
@@ -46,64 +46,47 @@ module _ (one two reached : List ℕ) (from column word : ℕ) (same : two ≡ r
     | inr after ↦ none_by_bits (is_fresh one reached) column word fits bits_are empty x after h
   ]
 
--- ---- the words of a row
+-- ---- the words of a row, and those of a column
 
--- the words of a row of the matrix itself
-pub words_of_row : (a m : Matrix) (row : ℕ) (words : List ℕ) → a ≡ m → words ≡ words_of (words_for a.width) is_nonzero (row_of a row) → words ≡ words_of (words_for m.width) is_nonzero (row_of m row)
-words_of_row a m row words e is = subst (λ (x : Matrix). words ≡ words_of (words_for x.width) is_nonzero (row_of x row)) e is
+-- a fresh line is in the set
+pub fresh_in : (lines others : List ℕ) (size : ℕ) → AreWordsOf size lines → (x : ℕ) → is_fresh lines others x ≡ true → x < size
+fresh_in lines others size are x h = are.inside x (and_is (has_column lines x) (not (has_column others x)) h).0
 
--- a fresh column of the row is in the matrix
-pub fresh_in : (a m : Matrix) (row t : ℕ) (words reached : List ℕ) → a ≡ m → words ≡ words_of (words_for a.width) is_nonzero (row_of a row) → IsMatrix m → row < t → t < height m → (x : ℕ) → is_fresh words reached x ≡ true → x < m.width
-fresh_in a m row t words reached e is shape early tall x h =
-    let low : row < height m = omega (arith, early, tall) in
-    column_in m row x shape low (sym (words_columns m row words (words_of_row a m row words e is) shape low x) ∙ (and_is (has_column words x) (not (has_column reached x)) h).0)
-
-module _ (m : Matrix) (row : ℕ) (words places reached : List ℕ) (is : words ≡ words_of (words_for m.width) is_nonzero (row_of m row)) (shape : IsMatrix m) (tall : row < height m) (step : AreInStep places reached) where
-  pub fresh_is : (x : ℕ) → is_fresh words reached x ≡ true → (entry m row x ≢ pos 0) × (place_in places x ≡ 4294967295)
+module _ (m : Matrix) (row : ℕ) (words places : List ℕ) (reached : Bits) (are : (x : ℕ) → has_column words x ≡ support m row x) (step : AreInStep places reached) where
+  pub fresh_is : (x : ℕ) → is_fresh words reached.words x ≡ true → (entry m row x ≢ pos 0) × (place_in places x ≡ 4294967295)
   fresh_is x h =
-      let both = and_is (has_column words x) (not (has_column reached x)) h in
-      (nonzero_is (entry m row x) (sym (words_columns m row words is shape tall x) ∙ both.0), step.lacks x (not_is (has_column reached x) both.1))
+      let both = and_is (has_column words x) (not (has_column reached.words x)) h in
+      (nonzero_is (entry m row x) (sym (are x) ∙ both.0), step.lacks x (not_is (has_column reached.words x) both.1))
 
-  pub not_fresh : (x : ℕ) → is_fresh words reached x ≡ false → entry m row x ≢ pos 0 → place_in places x < 4294967295
-  not_fresh x h n =
-      step.has x (and_not (has_column words x) (has_column reached x) h (words_columns m row words is shape tall x ∙ true_is (is_nonzero (entry m row x)) (λ f. n (zero_is (entry m row x) f))))
+  pub not_fresh : (x : ℕ) → is_fresh words reached.words x ≡ false → entry m row x ≢ pos 0 → place_in places x < 4294967295
+  not_fresh x h n = step.has x (and_not (has_column words x) (has_column reached.words x) h (are x ∙ true_is (is_nonzero (entry m row x)) (λ f. n (zero_is (entry m row x) f))))
 
--- ---- the words of a column
+module _ (m : Matrix) (column : ℕ) (words used : List ℕ) (are : (r : ℕ) → has_column words r ≡ support m r column) where
+  -- an unused row of the column meets it
+  pub unused_meets : (r : ℕ) → is_fresh words used r ≡ true → entry m r column ≢ pos 0
+  unused_meets r h = nonzero_is (entry m r column) (sym (are r) ∙ (and_is (has_column words r) (not (has_column used r)) h).0)
 
-module _ (b m : Matrix) (column : ℕ) (words used : List ℕ) (e : b ≡ transposed m) (is : words ≡ words_of (words_for b.width) is_nonzero (row_of b column)) where
-  -- the words of a column are the words of a row of the transposed matrix
-  words_are : words ≡ words_of (words_for (transposed m).width) is_nonzero (row_of (transposed m) column)
-  words_are = subst (λ (x : Matrix). words ≡ words_of (words_for x.width) is_nonzero (row_of x column)) e is
-
-  pub column_long : length words ≡ words_for (height m)
-  column_long = words_long (transposed m) column words words_are
-
-  module _ (shape : IsMatrix m) (wide : column < m.width) where
-    rows_are : (r : ℕ) → has_column words r ≡ is_nonzero (entry m r column)
-    rows_are r =
-        words_columns (transposed m) column words words_are (is_matrix-transposed m shape) (subst (λ (n : ℕ). column < n) (sym (height-transposed m)) wide) r ∙ ap is_nonzero (entry-transposed m r column shape)
-
-    -- an unused row of the column meets it
-    pub unused_meets : (r : ℕ) → is_fresh words used r ≡ true → entry m r column ≢ pos 0
-    unused_meets r h = nonzero_is (entry m r column) (sym (rows_are r) ∙ (and_is (has_column words r) (not (has_column used r)) h).0)
-
-    pub used_if_meets : (r : ℕ) → is_fresh words used r ≡ false → entry m r column ≢ pos 0 → has_column used r ≡ true
-    used_if_meets r h n = and_not (has_column words r) (has_column used r) h (rows_are r ∙ true_is (is_nonzero (entry m r column)) (λ f. n (zero_is (entry m r column) f)))
+  pub used_if_meets : (r : ℕ) → is_fresh words used r ≡ false → entry m r column ≢ pos 0 → has_column used r ≡ true
+  used_if_meets r h n = and_not (has_column words r) (has_column used r) h (are r ∙ true_is (is_nonzero (entry m r column)) (λ f. n (zero_is (entry m r column) f)))
 
 -- ---- the set of reached columns
 
 -- only the first column is reached
-pub begins_in_step : (places : List ℕ) (size column : ℕ) (cleared made : List ℕ) → places ≡ replicate size 4294967295 → column < size → ((x : ℕ) → has_column cleared x ≡ false)
-    → ((x : ℕ) → has_column made x ≡ true → (x ≡ column) ⊎ (has_column cleared x ≡ true)) → has_column made column ≡ true → AreInStep (set places column 0) made
-begins_in_step places size column cleared made is inside none only here = record {
+pub begins_in_step : (places : List ℕ) (size column : ℕ) (old cleared made : Bits) → places ≡ replicate size 4294967295 → size ≡ old.size → column < old.size → cleared.size ≡ old.size → made.size ≡ cleared.size
+    → ((x : ℕ) → has_column cleared.words x ≡ false) → ((x : ℕ) → has_column made.words x ≡ true → (x ≡ column) ⊎ (has_column cleared.words x ≡ true)) → has_column made.words column ≡ true → AreInStep (set places column 0) made
+begins_in_step places size column old cleared made is size_is inside cleared_size made_size none only here = record {
+  one_each = length-set places column 0 ∙ long ∙ size_is ∙ sym cleared_size ∙ sym made_size;
   has = λ x h. elim (only x h) [
     | inl e ↦ subst (λ (y : ℕ). place_in (set places column 0) y < 4294967295) (sym e) (let at = get_or-set_same places column 0 4294967295 low in omega arith)
-    | inr old ↦ true_is_false (sym old ∙ none x)
+    | inr old_has ↦ true_is_false (sym old_has ∙ none x)
   ];
   lacks = λ x h.
-      get_or-set_other places column x 0 4294967295 (λ e. not_both (has_column made column) here (sym (ap (has_column made) e) ∙ h))
+      get_or-set_other places column x 0 4294967295 (λ e. not_both (has_column made.words column) here (sym (ap (has_column made.words) e) ∙ h))
       ∙ ap (λ (v : List ℕ). place_in v x) is ∙ get_or-replicated size x 4294967295;
 }
   where
+    long : length places ≡ size
+    long = ap length is ∙ length-replicate {A = ℕ} size 4294967295
+
     low : column < length places
-    low = let long = ap length is ∙ length-replicate {A = ℕ} size 4294967295 in omega arith
+    low = omega (arith, long, size_is, inside)

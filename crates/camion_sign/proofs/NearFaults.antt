@@ -2,15 +2,14 @@
 use Rattle.std.proofs.Common.{ℕ, ℤ, pos, negsuc, Bool, true, false, ◌||◌, List, [], ◌∷◌, length, ◌≡◌, ◌≢◌, ◌<◌, ◌+◌, ◌+ℤ◌, ◌⊎◌, inl, inr, ◌∙◌, sym, arith, subst}
 use Rattle.std.proofs.lemmas.Bool.{cases_lt}
 use Rattle.cmr_base.specs.CyclePlaces.{IsNotAfter, IsFaultAt}
-use Rattle.cmr_base.specs.Matrix.{Matrix, height, entry, row_of, is_nonzero, IsMatrix}
+use Rattle.cmr_base.specs.Matrix.{Matrix, entry, IsMatrix}
 use Rattle.cmr_base.specs.Signing.{IsSign}
 use Rattle.cmr_base.specs.Sums.{IsTwoModFour}
 use Rattle.cmr_base.proofs.Integers.{sums}
 use Rattle.ghouila.proofs.SignedSums.{zero_or_sign}
 use Rattle.cmr_base.specs.ColumnSets.{has_column}
-use Rattle.cmr_base.specs.Planes.{words_for, words_of}
+use Rattle.cmr_base.specs.Trees.{support}
 use Rattle.cmr_base.proofs.Booleans.{nonzero_is, not_both, or_is, true_is}
-use Rattle.cmr_base.proofs.ColumnWords.{words_columns}
 use Rattle.camion_sign.specs.FaultLines.{HasNoFaultAt}
 use Rattle.camion_sign.specs.NearColumns.{AllShareEarlier, AreWaiting, KnowsNear, ShareEarlier}
 use Rattle.camion_sign.specs.declared.near_columns.NearColumns.{NearColumns}
@@ -75,11 +74,11 @@ module _ (m : Matrix) (t c : ℕ) (is : IsMatrix m) where
 -- ---- sets of columns
 
 -- the columns of another row share it
-pub shares_more : (m : Matrix) (t c r : ℕ) (old new words : List ℕ) → IsMatrix m → r < height m → r < t → entry m r c ≢ pos 0 → words ≡ words_of (words_for m.width) is_nonzero (row_of m r)
+pub shares_more : (m : Matrix) (t c r : ℕ) (old new words : List ℕ) → r < t → entry m r c ≢ pos 0 → ((x : ℕ) → has_column words x ≡ support m r x)
     → ((x : ℕ) → has_column new x ≡ (has_column old x || has_column words x)) → ((d : ℕ) → has_column old d ≡ true → ShareEarlier m t c d) → (d : ℕ) → has_column new d ≡ true → ShareEarlier m t c d
-shares_more m t c r old new words shape tall early from is added before d h = elim (or_is (has_column old d) (has_column words d) (sym (added d) ∙ h)) [
+shares_more m t c r old new words early from are added before d h = elim (or_is (has_column old d) (has_column words d) (sym (added d) ∙ h)) [
   | inl o ↦ before d o
-  | inr w ↦ (r, early, from, nonzero_is (entry m r d) (sym (words_columns m r words is shape tall d) ∙ w))
+  | inr w ↦ (r, early, from, nonzero_is (entry m r d) (sym (are d) ∙ w))
 ]
 
 -- a column is no longer waiting

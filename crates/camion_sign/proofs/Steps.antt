@@ -1,8 +1,9 @@
 -- The state of a walk, as lists.
-use Rattle.std.proofs.Common.{ℕ, zero, suc, ◌+◌, ◌-◌, Bool, true, false, List, [], ◌∷◌, ◌++◌, ◌≡◌, ◌≢◌, ◌<◌, ◌≤◌, ℤ, pos, ◌+ℤ◌, length, get_or, set, replicate, ◌⊎◌, inl, inr, ◌∙◌, sym, ap, refl, arith, subst, get_or-set_same, get_or-set_other, length-set, add-one}
+use Rattle.std.proofs.Common.{ℕ, zero, suc, ◌+◌, ◌-◌, Bool, true, false, List, [], ◌∷◌, ◌++◌, ◌≡◌, ◌≢◌, ◌<◌, ◌≤◌, ℤ, pos, ◌+ℤ◌, length, get_or, set, replicate, ◌⊎◌, inl, inr, ◌∙◌, sym, ap, refl, arith, subst, get_or-set_same, get_or-set_other, add-one}
 use Rattle.std.proofs.lemmas.Bool.{cases_lt, cases_eq}
 use Rattle.std.proofs.lemmas.List.{get_or_append_left, get_or_past, length-replicate}
 use Rattle.std.proofs.Math.Seq.{get_or-append_seam}
+use Rattle.cmr_base.specs.BitSets.{Bits}
 use Rattle.cmr_base.specs.Matrix.{Matrix, height, entry, IsMatrix, row_of}
 use Rattle.cmr_base.specs.ColumnSets.{has_column}
 use Rattle.cmr_base.specs.CyclePlaces.{IsPath}
@@ -58,10 +59,10 @@ any_step (x ∷ xs) (suc i) d e l = any_step xs i d e (omega arith)
 pub step_is : (steps : List ReachedColumn) (j : ℕ) (step : ReachedColumn) → j < length steps → step ≡ get_or steps j step → step_at steps j ≡ step
 step_is steps j step l e = any_step steps j (record { column = 0; row = 0; before = 0; is_two = false }) step l ∙ sym e
 
-same_progress : (walk : Walk) (steps : List ReachedColumn) (places used : List ℕ) → walk.steps.items ≡ steps → walk.places.items ≡ places → walk.used.items ≡ used
-    → progress walk.steps.items walk.places.items walk.used.items ≡ progress steps places used
+same_progress : (walk : Walk) (steps : List ReachedColumn) (places used : List ℕ) → walk.steps.items ≡ steps → walk.places.items ≡ places → walk.used.words ≡ used
+    → progress walk.steps.items walk.places.items walk.used.words ≡ progress steps places used
 same_progress walk steps places used e f g =
-    ap (λ (v : List ReachedColumn). progress v walk.places.items walk.used.items) e ∙ ap (λ (v : List ℕ). progress steps v walk.used.items) f ∙ ap (λ (v : List ℕ). progress steps places v) g
+    ap (λ (v : List ReachedColumn). progress v walk.places.items walk.used.words) e ∙ ap (λ (v : List ℕ). progress steps v walk.used.words) f ∙ ap (λ (v : List ℕ). progress steps places v) g
 
 grows_same : (walk : Walk) → GrowsFrom walk walk
 grows_same walk = record { longer = omega arith; steps = λ j l. refl; places = λ x l. l }
@@ -76,15 +77,15 @@ start_row m values t c h r from walk w o e = record {
   within = o.within;
   from_is = step_is walk.steps.items h from o.within e;
   key = w.key;
-  prefix = fewer (entry m) (entry values) t c m.width (progress walk.steps.items walk.places.items walk.used.items) w.key h (λ s x. r ≤ s) (λ s x. (r < s) ⊎ ((r ≡ s) × (0 ≤ x))) w.prefix
+  prefix = fewer (entry m) (entry values) t c m.width (progress walk.steps.items walk.places.items walk.used.words) w.key h (λ s x. r ≤ s) (λ s x. (r < s) ⊎ ((r ≡ s) × (0 ≤ x))) w.prefix
       (λ s x q. elim q [ inl l ↦ omega arith | inr p ↦ let f = p.0 in omega arith ]);
   met = λ x l. absurd (omega arith);
 }
 
 module _ (m values : Matrix) (t c h r low : ℕ) (from : ReachedColumn) (old walk : Walk) (w : IsReaching m values t c h r low from old walk) where
   -- a column that the walk has reached before is met
-  passed : (x : ℕ) → low ≤ x → place_in walk.places.items x < 4294967295 → IsMet (entry m) (entry values) t c m.width (progress walk.steps.items walk.places.items walk.used.items) w.key x (w.key h ++ r ∷ x ∷ [])
-  passed x after met = met_before (entry m) (entry values) t c m.width (progress walk.steps.items walk.places.items walk.used.items) w.key h r x (λ s y. (r < s) ⊎ ((r ≡ s) × (low ≤ y))) w.prefix w.within met (inr (refl, after))
+  passed : (x : ℕ) → low ≤ x → place_in walk.places.items x < 4294967295 → IsMet (entry m) (entry values) t c m.width (progress walk.steps.items walk.places.items walk.used.words) w.key x (w.key h ++ r ∷ x ∷ [])
+  passed x after met = met_before (entry m) (entry values) t c m.width (progress walk.steps.items walk.places.items walk.used.words) w.key h r x (λ s y. (r < s) ⊎ ((r ≡ s) × (low ≤ y))) w.prefix w.within met (inr (refl, after))
 
   -- the walk has reached the columns of the row below `high` before
   pub pass_columns : (high : ℕ) → low ≤ high → ((x : ℕ) → low ≤ x → x < high → entry m r x ≢ pos 0 → place_in walk.places.items x < 4294967295) → IsReaching m values t c h r high from old walk
@@ -95,7 +96,7 @@ module _ (m values : Matrix) (t c h r low : ℕ) (from : ReachedColumn) (old wal
     within = w.within;
     from_is = w.from_is;
     key = w.key;
-    prefix = fewer (entry m) (entry values) t c m.width (progress walk.steps.items walk.places.items walk.used.items) w.key h (λ s x. (r < s) ⊎ ((r ≡ s) × (low ≤ x))) (λ s x. (r < s) ⊎ ((r ≡ s) × (high ≤ x))) w.prefix
+    prefix = fewer (entry m) (entry values) t c m.width (progress walk.steps.items walk.places.items walk.used.words) w.key h (λ s x. (r < s) ⊎ ((r ≡ s) × (low ≤ x))) (λ s x. (r < s) ⊎ ((r ≡ s) × (high ≤ x))) w.prefix
         (λ s x q. elim q [ inl l ↦ inl l | inr p ↦ inr (p.0, (let f = p.1 in omega arith)) ]);
     met = λ x l n. elim (cases_lt x low) [
       | inl before ↦ w.met x before n
@@ -104,7 +105,7 @@ module _ (m values : Matrix) (t c h r low : ℕ) (from : ReachedColumn) (old wal
   }
 
   -- all columns of the row are met, if those from `low` on are reached
-  pub met_all : ((x : ℕ) → low ≤ x → entry m r x ≢ pos 0 → place_in walk.places.items x < 4294967295) → (x : ℕ) → entry m r x ≢ pos 0 → IsMet (entry m) (entry values) t c m.width (progress walk.steps.items walk.places.items walk.used.items) w.key x (w.key h ++ r ∷ x ∷ [])
+  pub met_all : ((x : ℕ) → low ≤ x → entry m r x ≢ pos 0 → place_in walk.places.items x < 4294967295) → (x : ℕ) → entry m r x ≢ pos 0 → IsMet (entry m) (entry values) t c m.width (progress walk.steps.items walk.places.items walk.used.words) w.key x (w.key h ++ r ∷ x ∷ [])
   met_all rest x n = elim (cases_lt x low) [
     | inl before ↦ w.met x before n
     | inr after ↦ passed x after (rest x after n)
@@ -113,17 +114,16 @@ module _ (m values : Matrix) (t c h r low : ℕ) (from : ReachedColumn) (old wal
 -- the walk reaches a column of the row now
 module _ (m values : Matrix) (t c h r x : ℕ) (from : ReachedColumn) (old walk : Walk) (w : IsReaching m values t c h r x from old walk) where
   pub reach_column : (walk2 : Walk) (same : Bool) → x < m.width → entry m r x ≢ pos 0 → place_in walk.places.items x ≡ 4294967295
-      → Goes (entry m) (entry values) t c m.width (progress walk.steps.items walk.places.items walk.used.items) w.key h → r < t → entry m r from.column ≢ pos 0 → TwoIf same (entry values r from.column +ℤ entry values r x)
+      → Goes (entry m) (entry values) t c m.width (progress walk.steps.items walk.places.items walk.used.words) w.key h → r < t → entry m r from.column ≢ pos 0 → TwoIf same (entry values r from.column +ℤ entry values r x)
       → walk2.steps.items ≡ walk.steps.items ++ record { column = x; row = r; before = h; is_two = flip from.is_two same } ∷ []
-      → walk2.places.items ≡ set walk.places.items x (length walk.steps.items) → walk2.used.items ≡ walk.used.items
-      → length walk2.reached.items ≡ length walk.reached.items → AreInStep walk2.places.items walk2.reached.items
+      → walk2.places.items ≡ set walk.places.items x (length walk.steps.items) → walk2.used ≡ walk.used
+      → walk2.reached.size ≡ walk.reached.size → AreInStep walk2.places.items walk2.reached
       → IsReaching m values t c h r (x + 1) from old walk2
-  reach_column walk2 same low to unmet goes early leads two steps2 places2 used2 long2 in_step2 = record {
+  reach_column walk2 same low to unmet goes early leads two steps2 places2 used2 columns2 in_step2 = record {
     fits = record {
       matrix = w.fits.matrix;
-      places = ap length places2 ∙ length-set walk.places.items x (length walk.steps.items) ∙ w.fits.places;
-      used = ap length used2 ∙ w.fits.used;
-      reached = long2 ∙ w.fits.reached;
+      rows = ap (λ (set : Bits). set.size) used2 ∙ w.fits.rows;
+      columns = columns2 ∙ w.fits.columns;
       in_step = in_step2;
     };
     grows = record {
@@ -154,10 +154,10 @@ module _ (m values : Matrix) (t c h r x : ℕ) (from : ReachedColumn) (old walk 
       new = record { column = x; row = r; before = h; is_two = flip from.is_two same }
 
       s : Progress
-      s = progress walk.steps.items walk.places.items walk.used.items
+      s = progress walk.steps.items walk.places.items walk.used.words
 
       s' : Progress
-      s' = progress (walk.steps.items ++ new ∷ []) (set walk.places.items x (length walk.steps.items)) walk.used.items
+      s' = progress (walk.steps.items ++ new ∷ []) (set walk.places.items x (length walk.steps.items)) walk.used.words
 
       P : ℕ → ℕ → Type 0
       P q y = (r < q) ⊎ ((r ≡ q) × (x ≤ y))
@@ -165,15 +165,15 @@ module _ (m values : Matrix) (t c h r x : ℕ) (from : ReachedColumn) (old walk 
       Q : ℕ → ℕ → Type 0
       Q q y = (r < q) ⊎ ((r ≡ q) × (x + 1 ≤ y))
 
-      now : progress walk2.steps.items walk2.places.items walk2.used.items ≡ s'
-      now = same_progress walk2 (walk.steps.items ++ new ∷ []) (set walk.places.items x (length walk.steps.items)) walk.used.items steps2 places2 used2
+      now : progress walk2.steps.items walk2.places.items walk2.used.words ≡ s'
+      now = same_progress walk2 (walk.steps.items ++ new ∷ []) (set walk.places.items x (length walk.steps.items)) walk.used.words steps2 places2 (ap (λ (set : Bits). set.words) used2)
 
       top_width : m.width < 4294967295
       top_width = let a = w.fits.matrix.width_in in omega arith
 
       one : IsOneMore s s' x r h (flip (s.is_two h) same)
-      one = subst (λ (step : ReachedColumn). IsOneMore s (progress (walk.steps.items ++ record { column = x; row = r; before = h; is_two = flip step.is_two same } ∷ []) (set walk.places.items x (length walk.steps.items)) walk.used.items) x r h (flip (s.is_two h) same))
-          w.from_is (one_more walk.steps.items walk.places.items walk.used.items x r h (flip (s.is_two h) same) (let e = w.fits.places in omega arith))
+      one = subst (λ (step : ReachedColumn). IsOneMore s (progress (walk.steps.items ++ record { column = x; row = r; before = h; is_two = flip step.is_two same } ∷ []) (set walk.places.items x (length walk.steps.items)) walk.used.words) x r h (flip (s.is_two h) same))
+          w.from_is (one_more walk.steps.items walk.places.items walk.used.words x r h (flip (s.is_two h) same) (omega (arith, w.fits.in_step.one_each, w.fits.columns)))
 
       unmet' : place_in walk.places.items x ≡ 4294967295
       unmet' = unmet
@@ -202,17 +202,16 @@ module _ (m values : Matrix) (t c h r x : ℕ) (from : ReachedColumn) (old walk 
 
 -- the walk has reached all columns of the row: the row is taken
 pub end_row : (m values : Matrix) (t c h r low : ℕ) (from : ReachedColumn) (old walk walk2 : Walk) → IsReaching m values t c h r low from old walk → ((x : ℕ) → low ≤ x → entry m r x ≢ pos 0 → place_in walk.places.items x < 4294967295)
-    → walk2.steps.items ≡ walk.steps.items → walk2.places.items ≡ walk.places.items → HasOneMore walk.used.items r walk2.used.items → walk2.reached.items ≡ walk.reached.items → IsWalking m values t c h (r + 1) walk2
+    → walk2.steps.items ≡ walk.steps.items → walk2.places.items ≡ walk.places.items → HasOneMore walk.used r walk2.used → walk2.reached ≡ walk.reached → IsWalking m values t c h (r + 1) walk2
 end_row m values t c h r low from old walk walk2 w rest steps2 places2 used2 reached2 = record {
   fits = record {
     matrix = w.fits.matrix;
-    places = ap length places2 ∙ w.fits.places;
-    used = used2.size ∙ w.fits.used;
-    reached = ap length reached2 ∙ w.fits.reached;
-    in_step = subst (λ (v : List ℕ). AreInStep v walk2.reached.items) (sym places2) (subst (AreInStep walk.places.items) (sym reached2) w.fits.in_step);
+    rows = used2.size ∙ w.fits.rows;
+    columns = ap (λ (set : Bits). set.size) reached2 ∙ w.fits.columns;
+    in_step = subst (λ (v : List ℕ). AreInStep v walk2.reached) (sym places2) (subst (AreInStep walk.places.items) (sym reached2) w.fits.in_step);
   };
   key = w.key;
-  prefix = subst (λ (v : Progress). IsPrefix (entry m) (entry values) t c m.width v w.key h (λ s x. r + 1 ≤ s)) (sym (same_progress walk2 walk.steps.items walk.places.items walk2.used.items steps2 places2 refl)) (record {
+  prefix = subst (λ (v : Progress). IsPrefix (entry m) (entry values) t c m.width v w.key h (λ s x. r + 1 ≤ s)) (sym (same_progress walk2 walk.steps.items walk.places.items walk2.used.words steps2 places2 refl)) (record {
     queue = record {
       some = w.prefix.queue.some;
       first = w.prefix.queue.first;
@@ -240,7 +239,7 @@ end_row m values t c h r low from old walk walk2 w rest steps2 places2 used2 rea
   });
 }
 
-pub same_goes : (m values : Matrix) (t c h r low : ℕ) (from : ReachedColumn) (old walk : Walk) (w : IsReaching m values t c h r low from old walk) → IsOpen m t h old → Goes (entry m) (entry values) t c m.width (progress walk.steps.items walk.places.items walk.used.items) w.key h
+pub same_goes : (m values : Matrix) (t c h r low : ℕ) (from : ReachedColumn) (old walk : Walk) (w : IsReaching m values t c h r low from old walk) → IsOpen m t h old → Goes (entry m) (entry values) t c m.width (progress walk.steps.items walk.places.items walk.used.words) w.key h
 same_goes m values t c h r low from old walk w o = elim o.goes [ inl z ↦ inl z | inr z ↦ inr (ap (λ (v : ReachedColumn). entry m t v.column) (w.grows.steps h o.within) ∙ z) ]
 
 -- ---- the rows of a column
@@ -258,8 +257,8 @@ start_rows m values t c h pending walk w o l waits = record {
 
 module _ (m values : Matrix) (t c h low : ℕ) (old walk : Walk) {pending : ℕ} (w : IsSpreading m values t c h low pending old walk) where
   -- the walk has taken each row below `high` that meets the column
-  taken_below : (high : ℕ) → ((r : ℕ) → low ≤ r → r < high → entry m r (step_at old.steps.items h).column ≢ pos 0 → has_column walk.used.items r ≡ true)
-      → (r : ℕ) → r < high → entry m r (step_at old.steps.items h).column ≢ pos 0 → has_column walk.used.items r ≡ true
+  taken_below : (high : ℕ) → ((r : ℕ) → low ≤ r → r < high → entry m r (step_at old.steps.items h).column ≢ pos 0 → has_column walk.used.words r ≡ true)
+      → (r : ℕ) → r < high → entry m r (step_at old.steps.items h).column ≢ pos 0 → has_column walk.used.words r ≡ true
   taken_below high between r below leads = elim (cases_lt r low) [
     | inl before ↦ w.gone r before leads
     | inr after ↦ between r after below leads
@@ -270,12 +269,12 @@ module _ (m values : Matrix) (t c h low : ℕ) (old walk : Walk) {pending : ℕ}
   walks_from row up = record {
     fits = w.walking.fits;
     key = w.walking.key;
-    prefix = fewer (entry m) (entry values) t c m.width (progress walk.steps.items walk.places.items walk.used.items) w.walking.key h (λ s x. low ≤ s) (λ s x. row ≤ s) w.walking.prefix (λ s x l. omega arith);
+    prefix = fewer (entry m) (entry values) t c m.width (progress walk.steps.items walk.places.items walk.used.words) w.walking.key h (λ s x. low ≤ s) (λ s x. row ≤ s) w.walking.prefix (λ s x l. omega arith);
   }
 
   -- the walk takes the next row now
-  pub take_row : (row : ℕ) (walk1 : Walk) (pending1 : ℕ) → row < t → ((r : ℕ) → low ≤ r → r < row → entry m r (step_at old.steps.items h).column ≢ pos 0 → has_column walk.used.items r ≡ true)
-      → IsWalking m values t c h (row + 1) walk1 → GrowsFrom walk walk1 → HasOneMore walk.used.items row walk1.used.items
+  pub take_row : (row : ℕ) (walk1 : Walk) (pending1 : ℕ) → row < t → ((r : ℕ) → low ≤ r → r < row → entry m r (step_at old.steps.items h).column ≢ pos 0 → has_column walk.used.words r ≡ true)
+      → IsWalking m values t c h (row + 1) walk1 → GrowsFrom walk walk1 → HasOneMore walk.used row walk1.used
       → pending ≤ pending1 → pending1 ≤ m.width → ((d : ℕ) → pending ≤ d → d < pending1 → entry m t d ≢ pos 0 → (place_in walk1.places.items d ≢ 4294967295) ⊎ IsUntouched m t d)
       → IsSpreading m values t c h (row + 1) pending1 old walk1
   take_row row walk1 pending1 early between walking grows used le wide waits = record {
@@ -283,7 +282,7 @@ module _ (m values : Matrix) (t c h low : ℕ) (old walk : Walk) {pending : ℕ}
     low_in = omega arith;
     gone = λ r a leads. elim (cases_lt r row) [
       | inl lt ↦ used.kept r (taken_below row between r lt leads)
-      | inr ge ↦ let q : row ≡ r = omega arith in subst (λ (y : ℕ). has_column walk1.used.items y ≡ true) q used.here
+      | inr ge ↦ let q : row ≡ r = omega arith in subst (λ (y : ℕ). has_column walk1.used.words y ≡ true) q used.here
     ];
     open_is = record {
       within = let a = w.open_is.within in let b = grows.longer in omega arith;
@@ -301,11 +300,11 @@ module _ (m values : Matrix) (t c h low : ℕ) (old walk : Walk) {pending : ℕ}
   }
 
   -- the rows before t are done: the walk has taken each row from `low` on that meets the column, or the rest is not before t
-  pub end_rows : ((r : ℕ) → low ≤ r → r < t → entry m r (step_at old.steps.items h).column ≢ pos 0 → has_column walk.used.items r ≡ true) → IsWalking m values t c (h + 1) 0 walk
+  pub end_rows : ((r : ℕ) → low ≤ r → r < t → entry m r (step_at old.steps.items h).column ≢ pos 0 → has_column walk.used.words r ≡ true) → IsWalking m values t c (h + 1) 0 walk
   end_rows rest = subst (λ (n : ℕ). IsWalking m values t c n 0 walk) (sym (add-one h)) (record {
     fits = w.walking.fits;
     key = w.walking.key;
-    prefix = next (entry m) (entry values) t c m.width (progress walk.steps.items walk.places.items walk.used.items) w.walking.key h t 0 (λ s x. low ≤ s) (λ s x. 0 ≤ s) w.walking.prefix w.open_is.within w.low_in
+    prefix = next (entry m) (entry values) t c m.width (progress walk.steps.items walk.places.items walk.used.words) w.walking.key h t 0 (λ s x. low ≤ s) (λ s x. 0 ≤ s) w.walking.prefix w.open_is.within w.low_in
         (λ r goes early leads. taken_below t rest r early (leads_old r leads));
   })
     where
@@ -318,7 +317,7 @@ module _ (m values : Matrix) (t c h low : ℕ) (old walk : Walk) {pending : ℕ}
     fits = w.walking.fits;
     key = w.walking.key;
     queue = w.walking.prefix.queue;
-    settled = settles (entry m) (entry values) t c m.width (progress walk.steps.items walk.places.items walk.used.items) w.walking.key h t 0 (λ s x. low ≤ s) w.walking.prefix w.open_is.within w.low_in
+    settled = settles (entry m) (entry values) t c m.width (progress walk.steps.items walk.places.items walk.used.words) w.walking.key h t 0 (λ s x. low ≤ s) w.walking.prefix w.open_is.within w.low_in
         (λ r x early leads. elim (cases_lt r low) [
           | inl before ↦ inl (w.gone r before (subst (λ (y : ℕ). entry m r y ≢ pos 0) w.column_is leads))
           | inr after ↦ inr after
@@ -338,21 +337,20 @@ untouched m t x rows nonzeros (inr h) r early n = later (nonzeros.all r n)
 -- ---- the whole walk
 
 pub begin_walk : (m values : Matrix) (t c : ℕ) (walk walk2 : Walk) → HasPlacesAndMarks m walk → c < m.width → walk2.steps.items ≡ record { column = c; row = 0; before = 0; is_two = false } ∷ []
-    → walk2.places.items ≡ set (replicate (length walk.places.items) 4294967295) c 0 → length walk2.used.items ≡ length walk.used.items → ((r : ℕ) → has_column walk2.used.items r ≡ false)
-    → length walk2.reached.items ≡ length walk.reached.items → AreInStep walk2.places.items walk2.reached.items → IsGoing m values t c 0 (c + 1) walk2
-begin_walk m values t c walk walk2 f l steps2 places2 used2 unused long2 in_step2 = record {
+    → walk2.places.items ≡ set (replicate (length walk.places.items) 4294967295) c 0 → walk2.used.size ≡ walk.used.size → ((r : ℕ) → has_column walk2.used.words r ≡ false)
+    → walk2.reached.size ≡ walk.reached.size → AreInStep walk2.places.items walk2.reached → IsGoing m values t c 0 (c + 1) walk2
+begin_walk m values t c walk walk2 f l steps2 places2 rows2 unused columns2 in_step2 = record {
   state = inl (record {
     fits = record {
       matrix = f.matrix;
-      places = ap length places2 ∙ length-set (replicate (length walk.places.items) 4294967295) c 0 ∙ length-replicate (length walk.places.items) 4294967295 ∙ f.places;
-      used = used2 ∙ f.used;
-      reached = long2 ∙ f.reached;
+      rows = rows2 ∙ f.rows;
+      columns = columns2 ∙ f.columns;
       in_step = in_step2;
     };
     key = λ j. [];
-    prefix = subst (λ (v : Progress). IsPrefix (entry m) (entry values) t c m.width v (λ j. []) 0 (λ r x. 0 ≤ r)) (sym (same_progress walk2 first (set (replicate (length walk.places.items) 4294967295) c 0) walk2.used.items steps2 places2 refl))
-        (begin (entry m) (entry values) t c m.width (progress first (set (replicate (length walk.places.items) 4294967295) c 0) walk2.used.items) (λ r x. 0 ≤ r) l refl refl refl
-        (get_or-set_same (replicate (length walk.places.items) 4294967295) c 0 4294967295 (let e = length-replicate {A = ℕ} (length walk.places.items) 4294967295 in let g = f.places in omega arith))
+    prefix = subst (λ (v : Progress). IsPrefix (entry m) (entry values) t c m.width v (λ j. []) 0 (λ r x. 0 ≤ r)) (sym (same_progress walk2 first (set (replicate (length walk.places.items) 4294967295) c 0) walk2.used.words steps2 places2 refl))
+        (begin (entry m) (entry values) t c m.width (progress first (set (replicate (length walk.places.items) 4294967295) c 0) walk2.used.words) (λ r x. 0 ≤ r) l refl refl refl
+        (get_or-set_same (replicate (length walk.places.items) 4294967295) c 0 4294967295 (omega (arith, length-replicate {A = ℕ} (length walk.places.items) 4294967295, f.in_step.one_each, f.columns)))
         (λ z q. get_or-set_other (replicate (length walk.places.items) 4294967295) c z 0 4294967295 q ∙ get_or-replicated (length walk.places.items) z 4294967295)
         unused);
   });
@@ -369,7 +367,7 @@ is_walking m values t c h pending walk g l = elim g.state [ inl w ↦ w | inr s 
 pub smaller : (m values : Matrix) (t c h pending : ℕ) (walk : Walk) → IsGoing m values t c h pending walk → pending < m.width → h < length walk.steps.items → m.width - (h + 1) < m.width - h
 smaller m values t c h pending walk g l k =
     let w = is_walking m values t c h pending walk g l in
-    let f = few (entry m) (entry values) t c m.width (progress walk.steps.items walk.places.items walk.used.items) w.key w.prefix.queue in omega arith
+    let f = few (entry m) (entry values) t c m.width (progress walk.steps.items walk.places.items walk.used.words) w.key w.prefix.queue in omega arith
 
 -- a trail cannot go on through a column in which row t is not 0
 pub skip_place : (m values : Matrix) (t c h pending pending2 : ℕ) (walk walk2 : Walk) (step : ReachedColumn) → IsGoing m values t c h pending walk → pending < m.width → h < length walk.steps.items → h ≢ 0 → step ≡ get_or walk.steps.items h step → entry m t step.column ≢ pos 0
@@ -379,7 +377,7 @@ skip_place m values t c h pending pending2 walk walk2 step g l k other step_is' 
       state = inl (subst (λ (v : ℕ). IsWalking m values t c v 0 walk) (sym (add-one h)) (record {
         fits = w.fits;
         key = w.key;
-        prefix = next (entry m) (entry values) t c m.width (progress walk.steps.items walk.places.items walk.used.items) w.key h 0 0 (λ r x. 0 ≤ r) (λ r x. 0 ≤ r) w.prefix k (omega arith)
+        prefix = next (entry m) (entry values) t c m.width (progress walk.steps.items walk.places.items walk.used.words) w.key h 0 0 (λ r x. 0 ≤ r) (λ r x. 0 ≤ r) w.prefix k (omega arith)
             (λ r goes early leads. absurd (elim goes [ inl z ↦ other z | inr z ↦ n (ap (λ (v : ReachedColumn). entry m t v.column) (sym (step_is walk.steps.items h step k step_is')) ∙ z) ]));
       }));
       pending_in = g.pending_in;
@@ -402,19 +400,19 @@ pub end_walk : (m values : Matrix) (t c h pending : ℕ) (walk : Walk) → IsGoi
 end_walk m values t c h pending walk g tall end = elim g.state [
   | inl w ↦ elim (cases_lt h (length walk.steps.items)) [
     | inl lt ↦ from_settled w.fits w.key w.prefix.queue
-        (settles (entry m) (entry values) t c m.width (progress walk.steps.items walk.places.items walk.used.items) w.key h 0 0 (λ r x. 0 ≤ r) w.prefix lt (omega arith) (λ r x early leads. inr (omega arith)))
+        (settles (entry m) (entry values) t c m.width (progress walk.steps.items walk.places.items walk.used.words) w.key h 0 0 (λ r x. 0 ≤ r) w.prefix lt (omega arith) (λ r x early leads. inr (omega arith)))
         (elim end [ inl l ↦ absurd (omega arith) | inr l ↦ l ])
     | inr ge ↦ from_all w (let k = w.prefix.fits in omega arith)
   ]
   | inr s ↦ from_settled s.1.fits s.1.key s.1.queue s.1.settled (let e = s.0 in omega arith)
 ]
   where
-    from_settled : HasPlacesAndMarks m walk → (key : ℕ → List ℕ) → IsQueue (entry m) (entry values) t c m.width (progress walk.steps.items walk.places.items walk.used.items) key → IsSettled (entry m) (entry values) t c m.width (progress walk.steps.items walk.places.items walk.used.items) key → m.width ≤ pending → HasWalked m values t c walk
+    from_settled : HasPlacesAndMarks m walk → (key : ℕ → List ℕ) → IsQueue (entry m) (entry values) t c m.width (progress walk.steps.items walk.places.items walk.used.words) key → IsSettled (entry m) (entry values) t c m.width (progress walk.steps.items walk.places.items walk.used.words) key → m.width ≤ pending → HasWalked m values t c walk
     from_settled fits key queue settled wide = record {
       fits = fits;
       key = key;
       queue = queue;
-      least = least (entry m) (entry values) t c m.width (progress walk.steps.items walk.places.items walk.used.items) key queue settled;
+      least = least (entry m) (entry values) t c m.width (progress walk.steps.items walk.places.items walk.used.words) key queue settled;
       none = λ d lines order n unmet h. elim (g.waits d order (let a = within m t d fits.matrix tall n in omega arith) n) [
         | inl met ↦ met unmet
         | inr u ↦ let v = path_touches m t c d lines h in u v.0 v.1 v.2
@@ -423,14 +421,14 @@ end_walk m values t c h pending walk g tall end = elim g.state [
 
     from_all : IsWalking m values t c h 0 walk → h ≡ length walk.steps.items → HasWalked m values t c walk
     from_all w e =
-        let prefix = subst (λ (v : ℕ). IsPrefix (entry m) (entry values) t c m.width (progress walk.steps.items walk.places.items walk.used.items) w.key v (λ r x. 0 ≤ r)) e w.prefix in
+        let prefix = subst (λ (v : ℕ). IsPrefix (entry m) (entry values) t c m.width (progress walk.steps.items walk.places.items walk.used.words) w.key v (λ r x. 0 ≤ r)) e w.prefix in
         record {
           fits = w.fits;
           key = w.key;
           queue = w.prefix.queue;
-          least = least (entry m) (entry values) t c m.width (progress walk.steps.items walk.places.items walk.used.items) w.key w.prefix.queue (all_settled (entry m) (entry values) t c m.width (progress walk.steps.items walk.places.items walk.used.items) w.key (λ r x. 0 ≤ r) prefix);
+          least = least (entry m) (entry values) t c m.width (progress walk.steps.items walk.places.items walk.used.words) w.key w.prefix.queue (all_settled (entry m) (entry values) t c m.width (progress walk.steps.items walk.places.items walk.used.words) w.key (λ r x. 0 ≤ r) prefix);
           none = λ d lines order n unmet h.
               let v = path_trail (entry m) t c d lines h in
-              let met = all_met (entry m) (entry values) t c m.width (progress walk.steps.items walk.places.items walk.used.items) w.key (λ r x. 0 ≤ r) prefix (lines ++ d ∷ []) v.0 in
+              let met = all_met (entry m) (entry values) t c m.width (progress walk.steps.items walk.places.items walk.used.words) w.key (λ r x. 0 ≤ r) prefix (lines ++ d ∷ []) v.0 in
               let q = ap (place_in walk.places.items) v.1 in omega arith;
         }

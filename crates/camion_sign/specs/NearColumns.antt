@@ -1,8 +1,7 @@
 -- Columns of a row that share an earlier row.
-use Rattle.std.specs.Prelude.{◌≡◌, ◌≢◌, ◌<◌, ◌≤◌, ℕ, Bool, true, pos, length}
+use Rattle.std.specs.Prelude.{◌≡◌, ◌≢◌, ◌<◌, ◌≤◌, ℕ, Bool, true, pos}
 use Rattle.cmr_base.specs.Matrix.{Matrix, entry, IsMatrix}
 use Rattle.cmr_base.specs.ColumnSets.{has_column}
-use Rattle.cmr_base.specs.Planes.{words_for}
 use Rattle.camion_sign.specs.RowSigns.{AgreesBefore}
 use Rattle.camion_sign.specs.declared.near_columns.NearColumns.{NearColumns}
 
@@ -17,8 +16,8 @@ AllShareEarlier m t c columns = (d : ℕ) → columns d ≡ true → ShareEarlie
 -- sets of columns of the matrix
 pub record HasNearRoom (m : Matrix) (sets : NearColumns) : Type 0 where
   pub matrix : IsMatrix m
-  pub waiting : length sets.waiting.items ≡ words_for m.width
-  pub near : length sets.near.items ≡ words_for m.width
+  pub waiting : sets.waiting.size ≡ m.width
+  pub near : sets.near.size ≡ m.width
 
 -- the columns from `from` on that row t and an earlier row meet are waiting
 abbrev pub AreWaiting : Matrix → ℕ → ℕ → (ℕ → Bool) → Type 0
@@ -28,4 +27,4 @@ AreWaiting m t from columns = (d r : ℕ) → from ≤ d → entry m t d ≢ pos
 pub record KnowsNear (m : Matrix) (t from : ℕ) (sets : NearColumns) : Type 0 where
   pub room : HasNearRoom m sets
   pub agrees : sets.agrees ≡ true → AgreesBefore m t
-  pub waits : AreWaiting m t from (has_column sets.waiting.items)
+  pub waits : AreWaiting m t from (has_column sets.waiting.words)

@@ -1,9 +1,9 @@
 -- Breadth-first walks from a column over the rows before t. The walk reaches columns in the order of their least trails.
 use Rattle.std.specs.Prelude.{ℕ, List, [], ◌∷◌, ◌++◌, Bool, true, false, not, ◌&&◌, ℤ, pos, ◌+ℤ◌, ◌≡◌, ◌≢◌, ◌<◌, ◌≤◌, ◌⊎◌, length, slice_index_or}
+use Rattle.cmr_base.specs.BitSets.{Bits}
 use Rattle.cmr_base.specs.Matrix.{Matrix, height, entry, IsMatrix, IsEntry}
 use Rattle.cmr_base.specs.ColumnSets.{has_column}
 use Rattle.cmr_base.specs.CyclePlaces.{IsPath}
-use Rattle.cmr_base.specs.Planes.{words_for}
 use Rattle.cmr_base.specs.Sums.{IsTwoModFour}
 use Rattle.camion_sign.specs.declared.walk.ReachedColumn.{ReachedColumn}
 use Rattle.camion_sign.specs.declared.walk.TheConstants.{UNREACHED}
@@ -97,24 +97,24 @@ abbrev pub IsFirstFresh : List ℕ → List ℕ → ℕ → ℕ → Type 0
 IsFirstFresh set other from next = (from ≤ next) × (is_fresh set other next ≡ true) × ((x : ℕ) → from ≤ x → x < next → is_fresh set other x ≡ false)
 
 -- a set with one line added
-pub record HasOneMore (old : List ℕ) (line : ℕ) (new : List ℕ) : Type 0 where
-  pub size : length new ≡ length old
-  pub only : (x : ℕ) → has_column new x ≡ true → (x ≡ line) ⊎ (has_column old x ≡ true)
-  pub here : has_column new line ≡ true
-  pub kept : (x : ℕ) → has_column old x ≡ true → has_column new x ≡ true
+pub record HasOneMore (old : Bits) (line : ℕ) (new : Bits) : Type 0 where
+  pub size : new.size ≡ old.size
+  pub only : (x : ℕ) → has_column new.words x ≡ true → (x ≡ line) ⊎ (has_column old.words x ≡ true)
+  pub here : has_column new.words line ≡ true
+  pub kept : (x : ℕ) → has_column old.words x ≡ true → has_column new.words x ≡ true
 
 -- the set of reached columns has the columns with a position, and no others
-pub record AreInStep (positions reached : List ℕ) : Type 0 where
-  pub has : (x : ℕ) → has_column reached x ≡ true → place_in positions x < UNREACHED
-  pub lacks : (x : ℕ) → has_column reached x ≡ false → place_in positions x ≡ UNREACHED
+pub record AreInStep (positions : List ℕ) (reached : Bits) : Type 0 where
+  pub one_each : length positions ≡ reached.size
+  pub has : (x : ℕ) → has_column reached.words x ≡ true → place_in positions x < UNREACHED
+  pub lacks : (x : ℕ) → has_column reached.words x ≡ false → place_in positions x ≡ UNREACHED
 
--- as many positions as columns, a set of rows, and the set of the columns with a position
+-- a set of rows, and the set of the columns with a position
 pub record HasPlacesAndMarks (m : Matrix) (walk : Walk) : Type 0 where
   pub matrix : IsMatrix m
-  pub places : length walk.places.items ≡ m.width
-  pub used : length walk.used.items ≡ words_for (height m)
-  pub reached : length walk.reached.items ≡ words_for m.width
-  pub in_step : AreInStep walk.places.items walk.reached.items
+  pub rows : walk.used.size ≡ height m
+  pub columns : walk.reached.size ≡ m.width
+  pub in_step : AreInStep walk.places.items walk.reached
 
 -- values that are not 0 in the nonzeros of the rows before t
 pub record HasValuesBefore (m values : Matrix) (t : ℕ) : Type 0 where
@@ -127,7 +127,7 @@ pub record HasValuesBefore (m values : Matrix) (t : ℕ) : Type 0 where
 pub record IsWalking (m values : Matrix) (t c h low : ℕ) (walk : Walk) : Type 0 where
   pub fits : HasPlacesAndMarks m walk
   pub key : ℕ → List ℕ
-  pub prefix : IsPrefix (entry m) (entry values) t c m.width (progress walk.steps.items walk.places.items walk.used.items) key h (λ r x. low ≤ r)
+  pub prefix : IsPrefix (entry m) (entry values) t c m.width (progress walk.steps.items walk.places.items walk.used.words) key h (λ r x. low ≤ r)
 
 -- position h is in the walk, and a trail may continue from it
 pub record IsOpen (m : Matrix) (t h : ℕ) (walk : Walk) : Type 0 where
@@ -144,12 +144,12 @@ pub record GrowsFrom (old new : Walk) : Type 0 where
 pub record IsReaching (m values : Matrix) (t c h r low : ℕ) (from : ReachedColumn) (old walk : Walk) : Type 0 where
   pub fits : HasPlacesAndMarks m walk
   pub grows : GrowsFrom old walk
-  pub used : walk.used.items ≡ old.used.items
+  pub used : walk.used ≡ old.used
   pub within : h < length walk.steps.items
   pub from_is : step_at walk.steps.items h ≡ from
   pub key : ℕ → List ℕ
-  pub prefix : IsPrefix (entry m) (entry values) t c m.width (progress walk.steps.items walk.places.items walk.used.items) key h (λ s x. (r < s) ⊎ ((r ≡ s) × (low ≤ x)))
-  pub met : (x : ℕ) → x < low → entry m r x ≢ pos 0 → IsMet (entry m) (entry values) t c m.width (progress walk.steps.items walk.places.items walk.used.items) key x (key h ++ r ∷ x ∷ [])
+  pub prefix : IsPrefix (entry m) (entry values) t c m.width (progress walk.steps.items walk.places.items walk.used.words) key h (λ s x. (r < s) ⊎ ((r ≡ s) × (low ≤ x)))
+  pub met : (x : ℕ) → x < low → entry m r x ≢ pos 0 → IsMet (entry m) (entry values) t c m.width (progress walk.steps.items walk.places.items walk.used.words) key x (key h ++ r ∷ x ∷ [])
 
 -- no row before t meets the column
 abbrev pub IsUntouched : Matrix → ℕ → ℕ → Type 0
@@ -163,7 +163,7 @@ NoneWaits m t c pending places = (d : ℕ) → c < d → d < pending → entry m
 pub record IsSpreading (m values : Matrix) (t c h low pending : ℕ) (old walk : Walk) : Type 0 where
   pub walking : IsWalking m values t c h low walk
   pub low_in : low ≤ t
-  pub gone : (r : ℕ) → r < low → entry m r (step_at old.steps.items h).column ≢ pos 0 → has_column walk.used.items r ≡ true
+  pub gone : (r : ℕ) → r < low → entry m r (step_at old.steps.items h).column ≢ pos 0 → has_column walk.used.words r ≡ true
   pub open_is : IsOpen m t h walk
   pub column_is : (step_at walk.steps.items h).column ≡ (step_at old.steps.items h).column
   pub pending_in : pending ≤ m.width
@@ -173,8 +173,8 @@ pub record IsSpreading (m values : Matrix) (t c h low pending : ℕ) (old walk :
 pub record HasSettled (m values : Matrix) (t c : ℕ) (walk : Walk) : Type 0 where
   pub fits : HasPlacesAndMarks m walk
   pub key : ℕ → List ℕ
-  pub queue : IsQueue (entry m) (entry values) t c m.width (progress walk.steps.items walk.places.items walk.used.items) key
-  pub settled : IsSettled (entry m) (entry values) t c m.width (progress walk.steps.items walk.places.items walk.used.items) key
+  pub queue : IsQueue (entry m) (entry values) t c m.width (progress walk.steps.items walk.places.items walk.used.words) key
+  pub settled : IsSettled (entry m) (entry values) t c m.width (progress walk.steps.items walk.places.items walk.used.words) key
 
 -- between two positions
 pub record IsGoing (m values : Matrix) (t c h pending : ℕ) (walk : Walk) : Type 0 where
@@ -186,7 +186,7 @@ pub record IsGoing (m values : Matrix) (t c h pending : ℕ) (walk : Walk) : Typ
 pub record HasWalked (m values : Matrix) (t c : ℕ) (walk : Walk) : Type 0 where
   pub fits : HasPlacesAndMarks m walk
   pub key : ℕ → List ℕ
-  pub queue : IsQueue (entry m) (entry values) t c m.width (progress walk.steps.items walk.places.items walk.used.items) key
+  pub queue : IsQueue (entry m) (entry values) t c m.width (progress walk.steps.items walk.places.items walk.used.words) key
   pub least : (d : ℕ) (lines : List ℕ) → place_in walk.places.items d < UNREACHED → IsTrail (entry m) t c lines → trail_end c lines ≡ d → IsUpTo (key (place_in walk.places.items d)) lines
   pub none : (d : ℕ) (lines : List ℕ) → c < d → entry m t d ≢ pos 0 → place_in walk.places.items d ≡ UNREACHED → IsPath (entry m) t c d lines → ⊥
 

@@ -1,5 +1,5 @@
 // Columns that the rows before a given row connect.
-ghost use Rattle.std.specs.Prelude.{◌<◌, ◌+◌, ℕ, List, false, IfOk, ◌≡◌};
+ghost use Rattle.std.specs.Prelude.{◌≡◌, ◌<◌, ◌+◌, ℕ, List, false, length, IfOk};
 ghost use Rattle.cmr_base.specs.Matrix.{height, entry};
 ghost use Rattle.cmr_base.specs.CyclePlaces.{IsPath};
 ghost use Rattle.camion_sign.specs.ColumnParts.{HasPartsBefore};
@@ -16,11 +16,11 @@ pub struct ColumnParts {
 
 impl ColumnParts {
     /// A separate label for each column. No rows are before the first one.
-    pub fn new(alloc: Global, matrix: &ListedMatrix<'_>) -> Result<ColumnParts, Memory>
-        ensures { IfOk result (HasPartsBefore matrix.now 0) }
+    pub fn new(alloc: Global, columns: u32) -> Result<ColumnParts, Memory>
+        ensures { IfOk result (λ parts. length parts.labels.items ≡ columns) }
     {
         Ok(ColumnParts {
-            labels: own_labels(alloc, matrix.columns())?,
+            labels: own_labels(alloc, columns)?,
         })
     }
 

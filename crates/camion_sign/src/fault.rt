@@ -44,7 +44,7 @@ pub fn first_fault(
     }
     let listed = ListedMatrix::new(alloc, matrix)?;
     let mut walk = Walk::new(alloc, listed.rows(), listed.columns())?;
-    let mut near = NearColumns::new(alloc, &listed)?;
+    let mut near = NearColumns::new(alloc, listed.columns())?;
     let early = early_end(first, listed.rows());
     if let Some(fault) = fault_in_rows(alloc, &listed, &mut walk, &mut near, first, early)? {
         return Ok(Some(fault));

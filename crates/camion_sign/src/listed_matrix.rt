@@ -1,10 +1,13 @@
 // A matrix with lists of its nonzeros.
-ghost use Rattle.std.specs.Prelude.{◌≡◌, ◌<◌, IfOk};
-ghost use Rattle.cmr_base.specs.Matrix.{Matrix, height, entry, transposed, IsMatrix, IsEntry};
+ghost use Rattle.std.specs.Prelude.{◌≡◌, ◌<◌, ℕ, IfOk};
+ghost use Rattle.cmr_base.specs.BitSets.{AreWordsOf};
+ghost use Rattle.cmr_base.specs.ColumnSets.{has_column};
+ghost use Rattle.cmr_base.specs.Matrix.{Matrix, height, entry, IsMatrix, IsEntry};
+ghost use Rattle.cmr_base.specs.Trees.{support};
 ghost use Rattle.camion_sign.specs.Nonzeros.{AreNonzeros};
 
 use crate::nonzeros::Nonzeros;
-use cmr_base::{Matrix, Memory, RowsAndColumns};
+use cmr_base::{Matrix, Memory, RowsAndColumns, columns_of};
 use std::alloc::Global;
 use std::marker::Model;
 
@@ -78,15 +81,6 @@ impl<'a> ListedMatrix<'a> {
         self.matrix
     }
 
-    /// The transposed matrix, whose rows are the columns.
-    pub fn by_columns(&self) -> &Matrix
-        ensures value { result.now ≡ transposed self.now }
-        ensures shape { IsMatrix self.now }
-    {
-        let _rows = self.matrix.rows();
-        self.transposed
-    }
-
     /// The columns in which a row is not 0.
     pub fn row(&self, row: u32) -> &[u32]
         requires { row < height self.now }
@@ -101,5 +95,24 @@ impl<'a> ListedMatrix<'a> {
         ensures { AreNonzeros (λ row. entry self.now row column) result.now }
     {
         self.columns.of(column)
+    }
+
+    /// The columns in which a row is not 0, as words.
+    pub fn row_words(&self, row: u32) -> &[u64]
+        requires { row < height self.now }
+        ensures columns { (column : ℕ)
+            → has_column result.now column ≡ support self.now row column }
+        ensures whole { AreWordsOf self.now.width result.now }
+    {
+        columns_of(self.matrix, row)
+    }
+
+    /// The rows in which a column is not 0, as words.
+    pub fn column_words(&self, column: u32) -> &[u64]
+        requires { column < self.now.width }
+        ensures rows { (row : ℕ) → has_column result.now row ≡ support self.now row column }
+        ensures whole { AreWordsOf (height self.now) result.now }
+    {
+        columns_of(self.transposed, column)
     }
 }

@@ -1,7 +1,6 @@
 // First columns of a row that have no fault, because each later column of the row shares an earlier row with them.
-ghost use Rattle.std.specs.Prelude.{◌≡◌, ◌<◌, ◌+◌, ℕ, length, IfOk, IsTrue};
+ghost use Rattle.std.specs.Prelude.{◌≡◌, ◌<◌, ◌≤◌, ◌+◌, ℕ, IfOk, IsTrue};
 ghost use Rattle.cmr_base.specs.Matrix.{height, IsMatrix};
-ghost use Rattle.cmr_base.specs.Planes.{words_for};
 ghost use Rattle.cmr_base.specs.ColumnSets.{has_column};
 ghost use Rattle.camion_sign.specs.FaultLines.{HasNoFaultAt};
 ghost use Rattle.camion_sign.specs.NearColumns.{AllShareEarlier, AreWaiting, HasNearRoom, KnowsNear};
@@ -10,10 +9,7 @@ ghost use Rattle.camion_sign.specs.RowSigns.{AgreesBefore};
 use crate::listed_matrix::ListedMatrix;
 use crate::reach::{Start, is_touched};
 use crate::row_signs::agrees_with_earlier;
-use cmr_base::Memory;
-use cmr_base::columns::{
-    add_column, add_set, clear_set, empty_set, is_empty, is_within, remove_column,
-};
+use cmr_base::{BitSet, MAX_COLUMNS, Memory};
 use std::alloc::Global;
 
 // Rows with fewer nonzeros are not compared with the rows before them: their walks are few.
@@ -26,20 +22,22 @@ pub struct NearColumns {
     // Whether the row agrees with each earlier row, up to the sign of the row.
     agrees: bool,
     // The later columns of the row that some earlier row meets.
-    waiting: Vec<u64>,
+    waiting: BitSet,
     // The columns that share an earlier row with a column.
-    near: Vec<u64>,
+    near: BitSet,
 }
 
 impl NearColumns {
-    /// Room for the rows of a matrix.
-    pub fn new(alloc: Global, matrix: &ListedMatrix<'_>) -> Result<NearColumns, Memory>
-        ensures { IfOk result (HasNearRoom matrix.now) }
+    /// Room for the rows of a matrix with `columns` columns.
+    pub fn new(alloc: Global, columns: u32) -> Result<NearColumns, Memory>
+        requires { columns ≤ MAX_COLUMNS }
+        ensures waiting { IfOk result (λ sets. sets.waiting.size ≡ columns) }
+        ensures near { IfOk result (λ sets. sets.near.size ≡ columns) }
     {
         Ok(NearColumns {
             agrees: false,
-            waiting: empty_set(alloc, matrix.columns())?,
-            near: empty_set(alloc, matrix.columns())?,
+            waiting: BitSet::new(alloc, columns)?,
+            near: BitSet::new(alloc, columns)?,
         })
     }
 
@@ -51,7 +49,7 @@ impl NearColumns {
     {
         let agrees = agrees_if_many(matrix, row);
         self.agrees = agrees;
-        clear_set(&mut self.waiting);
+        self.waiting.clear();
         add_touched(matrix, row, &mut self.waiting);
     }
 
@@ -65,8 +63,8 @@ impl NearColumns {
             → (y : ℕ) → HasNoFaultAt matrix.now start.row start.column y }
         ensures knows { KnowsNear matrix.now start.row (start.column + 1) self.new }
     {
-        remove_column(&mut self.waiting, start.column);
-        self.agrees && are_near(matrix, start, self.waiting.as_slice(), &mut self.near)
+        self.waiting.remove(start.column);
+        self.agrees && are_near(matrix, start, &self.waiting, &mut self.near)
     }
 }
 
@@ -83,41 +81,41 @@ fn agrees_if_many(matrix: &ListedMatrix<'_>, row: u32) -> bool
 }
 
 // Adds the columns of a row that some earlier row meets.
-fn add_touched(matrix: &ListedMatrix<'_>, row: u32, set: &mut Vec<u64>)
+fn add_touched(matrix: &ListedMatrix<'_>, row: u32, columns: &mut BitSet)
     requires row { row < height matrix.now }
     requires shape { IsMatrix matrix.now }
-    requires size { length set.old.items ≡ words_for matrix.now.width }
-    ensures size { length set.new.items ≡ words_for matrix.now.width }
-    ensures waits { AreWaiting matrix.now row 0 (has_column set.new.items) }
+    requires size { columns.old.size ≡ matrix.now.width }
+    ensures size { columns.new.size ≡ columns.old.size }
+    ensures waits { AreWaiting matrix.now row 0 (has_column columns.new.words) }
 {
     for column in matrix.row(row) {
         if is_touched(matrix, row, *column) {
-            add_column(set, *column);
+            columns.insert(*column);
         }
     }
 }
 
 // Whether each waiting column shares an earlier row with the first column. `near` is memory for the columns of these rows.
-fn are_near(matrix: &ListedMatrix<'_>, start: Start, waiting: &[u64], near: &mut Vec<u64>) -> bool
+fn are_near(matrix: &ListedMatrix<'_>, start: Start, waiting: &BitSet, near: &mut BitSet) -> bool
     requires row { start.row < height matrix.now }
     requires column { start.column < matrix.now.width }
     requires shape { IsMatrix matrix.now }
-    requires waiting { length waiting.now ≡ words_for matrix.now.width }
-    requires size { length near.old.items ≡ words_for matrix.now.width }
+    requires waiting { waiting.now.size ≡ matrix.now.width }
+    requires size { near.old.size ≡ matrix.now.width }
     ensures near { IsTrue result
-        → AllShareEarlier matrix.now start.row start.column (has_column waiting.now) }
-    ensures size { length near.new.items ≡ words_for matrix.now.width }
+        → AllShareEarlier matrix.now start.row start.column (has_column waiting.now.words) }
+    ensures size { near.new.size ≡ near.old.size }
 {
-    clear_set(near);
-    if is_empty(waiting) {
+    near.clear();
+    if waiting.is_empty() {
         return true;
     }
     for row in matrix.column(start.column) {
         if *row >= start.row {
             return false;
         }
-        add_set(near, matrix.by_rows().support_words(*row));
-        if is_within(waiting, near.as_slice()) {
+        near.add_words(matrix.row_words(*row));
+        if waiting.is_within(near) {
             return true;
         }
     }

@@ -5,7 +5,6 @@ ghost use Rattle.camion_sign.specs.Walks.{HasPlacesAndMarks, HasValuesBefore, Is
 
 use crate::listed_matrix::ListedMatrix;
 use crate::walk::{ReachedColumn, UNREACHED, Walk};
-use cmr_base::columns::add_column;
 use cmr_base::{Matrix, Memory};
 use std::alloc::Global;
 
@@ -66,7 +65,7 @@ fn reach_rows(
     ensures waits { IfOk result (λ pending.
         NoneWaits matrix.now start.row start.column pending walk.new.places.items) }
 {
-    let rows = matrix.by_columns().support_words(walk.steps[head].column);
+    let rows = matrix.column_words(walk.steps[head].column);
     let mut pending = pending;
     let mut low = 0;
     while let Some(row) = walk.next_unused(rows, low) {
@@ -101,11 +100,11 @@ fn reach_row(
     ensures walking { OnOk result
         (IsWalking matrix.now values.now start.row start.column head (row + 1) walk.new) }
     ensures grows { OnOk result (GrowsFrom walk.old walk.new) }
-    ensures used { OnOk result (HasOneMore walk.old.used.items row walk.new.used.items) }
+    ensures used { OnOk result (HasOneMore walk.old.used row walk.new.used) }
 {
     let from = walk.steps[head];
     let sign = values.entry(row, from.column);
-    let columns = matrix.by_rows().support_words(row);
+    let columns = matrix.row_words(row);
     let mut low = 0;
     while let Some(column) = walk.next_unreached(columns, low) {
         let is_same = sign == values.entry(row, column);
@@ -117,7 +116,7 @@ fn reach_row(
         })?;
         low = column + 1;
     }
-    add_column(&mut walk.used, row);
+    walk.used.insert(row);
     Ok(())
 }
 

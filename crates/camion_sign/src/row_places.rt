@@ -45,7 +45,7 @@ impl RowPlaces {
     {
         let columns = matrix.columns();
         Ok(RowPlaces {
-            parts: ColumnParts::new(alloc, matrix)?,
+            parts: ColumnParts::new(alloc, columns)?,
             walk: Walk::new(alloc, matrix.rows(), columns)?,
             walked: None,
             links: Matrix::zero(alloc, columns, columns)?,

@@ -1,11 +1,11 @@
 // The state of a breadth-first walk.
-ghost use Rattle.std.specs.Prelude.{◌≡◌, ◌<◌, ◌≤◌, ◌/◌, ◌++◌, [], ◌∷◌, ℕ, IfOk, OnOk, IsTrue, MatchOption, length, replicate, slice_set, false};
+ghost use Rattle.std.specs.Prelude.{◌≡◌, ◌<◌, ◌≤◌, ◌++◌, [], ◌∷◌, ℕ, IfOk, OnOk, IsTrue, MatchOption, length, replicate, slice_set, false};
+ghost use Rattle.cmr_base.specs.BitSets.{AreWordsOf};
 ghost use Rattle.cmr_base.specs.ColumnSets.{has_column};
-ghost use Rattle.cmr_base.specs.Planes.{words_for};
 ghost use Rattle.camion_sign.specs.Walks.{AreInStep, IsFirstFresh, is_fresh, place_in};
 
-use cmr_base::columns::{add_column, clear_set, empty_set, outside};
-use cmr_base::{MAX_COLUMNS, Memory};
+use cmr_base::columns::outside;
+use cmr_base::{BitSet, MAX_COLUMNS, Memory};
 use std::alloc::Global;
 
 /// The position of a column that the walk has not reached.
@@ -29,8 +29,8 @@ pub struct ReachedColumn {
 pub struct Walk {
     pub steps: Vec<ReachedColumn>,
     pub places: Vec<u32>,
-    pub used: Vec<u64>,
-    pub reached: Vec<u64>,
+    pub used: BitSet,
+    pub reached: BitSet,
 }
 
 impl Walk {
@@ -38,39 +38,37 @@ impl Walk {
     pub fn new(alloc: Global, rows: u32, columns: u32) -> Result<Walk, Memory>
         requires rows { rows ≤ MAX_COLUMNS }
         requires columns { columns ≤ MAX_COLUMNS }
-        ensures places { IfOk result (λ walk. length walk.places.items ≡ columns) }
-        ensures used { IfOk result (λ walk. length walk.used.items ≡ words_for rows) }
-        ensures reached { IfOk result (λ walk. length walk.reached.items ≡ words_for columns) }
-        ensures in_step { IfOk result (λ walk. AreInStep walk.places.items walk.reached.items) }
+        ensures rows { IfOk result (λ walk. walk.used.size ≡ rows) }
+        ensures columns { IfOk result (λ walk. walk.reached.size ≡ columns) }
+        ensures in_step { IfOk result (λ walk. AreInStep walk.places.items walk.reached) }
     {
         Ok(Walk {
             steps: Vec::with_capacity(alloc, columns as usize)?,
             places: vec![in alloc; UNREACHED; columns as usize]?,
-            used: empty_set(alloc, rows)?,
-            reached: empty_set(alloc, columns)?,
+            used: BitSet::new(alloc, rows)?,
+            reached: BitSet::new(alloc, columns)?,
         })
     }
 
     /// Begins a walk from a column.
     pub fn begin(&mut self, column: u32) -> Result<(), Memory>
-        requires column { column < length self.old.places.items }
-        requires word { column / 64 < length self.old.reached.items }
+        requires column { column < self.old.reached.size }
+        requires in_step { AreInStep self.old.places.items self.old.reached }
         ensures steps { OnOk result (self.new.steps.items
             ≡ record { column = column; row = 0; before = 0; is_two = false } ∷ []) }
         ensures places { OnOk result (self.new.places.items
             ≡ slice_set (replicate (length self.old.places.items) UNREACHED) column 0) }
-        ensures used { OnOk result (length self.new.used.items ≡ length self.old.used.items) }
-        ensures unused { OnOk result ((row : ℕ) → has_column self.new.used.items row ≡ false) }
-        ensures reached { OnOk result (length self.new.reached.items
-            ≡ length self.old.reached.items) }
-        ensures in_step { OnOk result (AreInStep self.new.places.items self.new.reached.items) }
+        ensures rows { OnOk result (self.new.used.size ≡ self.old.used.size) }
+        ensures unused { OnOk result ((row : ℕ) → has_column self.new.used.words row ≡ false) }
+        ensures columns { OnOk result (self.new.reached.size ≡ self.old.reached.size) }
+        ensures in_step { OnOk result (AreInStep self.new.places.items self.new.reached) }
     {
         self.steps.clear();
         self.places.fill(UNREACHED);
-        clear_set(&mut self.used);
+        self.used.clear();
         self.places[column as usize] = 0;
-        clear_set(&mut self.reached);
-        add_column(&mut self.reached, column);
+        self.reached.clear();
+        self.reached.insert(column);
         self.steps.push(ReachedColumn {
             column,
             row: 0,
@@ -89,64 +87,61 @@ impl Walk {
         self.places[column as usize] < UNREACHED
     }
 
-    /// The first column of a set that is at least `from` and that the walk has not reached.
-    pub fn next_unreached(&self, set: &[u64], from: u32) -> Option<u32>
-        requires size { length set.now ≤ 16 }
-        requires reached { length self.now.reached.items ≡ length set.now }
+    /// The first column of a set that is at least `from` and that the walk has not reached. The set is given as words.
+    pub fn next_unreached(&self, columns: &[u64], from: u32) -> Option<u32>
+        requires columns { AreWordsOf self.now.reached.size columns.now }
         requires from { from ≤ MAX_COLUMNS }
         ensures { MatchOption result
-            ((x : ℕ) → from ≤ x → is_fresh set.now self.now.reached.items x ≡ false)
-            (IsFirstFresh set.now self.now.reached.items from) }
+            ((x : ℕ) → from ≤ x → is_fresh columns.now self.now.reached.words x ≡ false)
+            (IsFirstFresh columns.now self.now.reached.words from) }
     {
-        first_outside(set, self.reached.as_slice(), from)
+        first_outside(columns, &self.reached, from)
     }
 
-    /// The first row of a set that is at least `from` and that the walk has not taken.
-    pub fn next_unused(&self, set: &[u64], from: u32) -> Option<u32>
-        requires size { length set.now ≤ 16 }
-        requires used { length self.now.used.items ≡ length set.now }
+    /// The first row of a set that is at least `from` and that the walk has not taken. The set is given as words.
+    pub fn next_unused(&self, rows: &[u64], from: u32) -> Option<u32>
+        requires rows { AreWordsOf self.now.used.size rows.now }
         requires from { from ≤ MAX_COLUMNS }
         ensures { MatchOption result
-            ((x : ℕ) → from ≤ x → is_fresh set.now self.now.used.items x ≡ false)
-            (IsFirstFresh set.now self.now.used.items from) }
+            ((x : ℕ) → from ≤ x → is_fresh rows.now self.now.used.words x ≡ false)
+            (IsFirstFresh rows.now self.now.used.words from) }
     {
-        first_outside(set, self.used.as_slice(), from)
+        first_outside(rows, &self.used, from)
     }
 
     /// Adds a reached column.
     pub fn reach(&mut self, step: ReachedColumn) -> Result<(), Memory>
-        requires column { step.column < length self.old.places.items }
+        requires column { step.column < self.old.reached.size }
         requires few { length self.old.steps.items ≤ MAX_COLUMNS }
-        requires word { step.column / 64 < length self.old.reached.items }
-        requires in_step { AreInStep self.old.places.items self.old.reached.items }
+        requires in_step { AreInStep self.old.places.items self.old.reached }
         ensures steps { OnOk result (self.new.steps.items ≡ self.old.steps.items ++ step ∷ []) }
         ensures places { OnOk result (self.new.places.items
             ≡ slice_set self.old.places.items step.column (length self.old.steps.items)) }
-        ensures used { OnOk result (self.new.used.items ≡ self.old.used.items) }
-        ensures reached { OnOk result (length self.new.reached.items
-            ≡ length self.old.reached.items) }
-        ensures in_step { OnOk result (AreInStep self.new.places.items self.new.reached.items) }
+        ensures used { OnOk result (self.new.used ≡ self.old.used) }
+        ensures columns { OnOk result (self.new.reached.size ≡ self.old.reached.size) }
+        ensures in_step { OnOk result (AreInStep self.new.places.items self.new.reached) }
     {
         self.places[step.column as usize] = self.steps.len() as u32;
-        add_column(&mut self.reached, step.column);
+        self.reached.insert(step.column);
         self.steps.push(step)?;
         Ok(())
     }
 }
 
-// The first line of a set that is at least `from` and is not in another set. The search reads 64 lines at a time.
-fn first_outside(set: &[u64], other: &[u64], from: u32) -> Option<u32>
-    requires size { length set.now ≤ 16 }
-    requires other { length other.now ≡ length set.now }
+// The first line of a set that is at least `from` and is not in another set. The first set is given as words, and the search
+// reads one word at a time.
+fn first_outside(lines: &[u64], other: &BitSet, from: u32) -> Option<u32>
+    requires lines { AreWordsOf other.now.size lines.now }
     requires from { from ≤ MAX_COLUMNS }
     ensures { MatchOption result
-        ((x : ℕ) → from ≤ x → is_fresh set.now other.now x ≡ false)
-        (IsFirstFresh set.now other.now from) }
+        ((x : ℕ) → from ≤ x → is_fresh lines.now other.now.words x ≡ false)
+        (IsFirstFresh lines.now other.now.words from) }
 {
+    let others = other.words();
     let mut line = from;
-    while (line as usize) < 64 * set.len() {
+    while (line as usize) < 64 * lines.len() {
         let chunk = line as usize / 64;
-        let word = outside(set[chunk], other[chunk]) >> (line % 64);
+        let word = outside(lines[chunk], others[chunk]) >> (line % 64);
         if word != 0 {
             return Some(line + word.trailing_zeros());
         }

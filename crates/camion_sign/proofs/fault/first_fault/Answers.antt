@@ -10,6 +10,9 @@ returns-then-first-rows c = λ t x y path fault.
     let low = row_in c.args.matrix.now t x fault.place.first in
     c.requires.passed t x y path (omega (arith, low, c.if-first-rows.true, c.rows.ensures.rows)) fault
 
+pub fault_in_rows-requires-clause-passed : goal.fault_in_rows-requires-clause-passed
+fault_in_rows-requires-clause-passed c = subst (λ (x : Matrix). HasNoFaultBefore x c.args.first) (sym c.in_ok-listed.ensures) c.requires.passed
+
 pub passed_prefix-requires : goal.passed_prefix-requires
 passed_prefix-requires c = none_before c.in_ok-listed.listed c.args.matrix.now c.early_end-early.result c.in_ok-fault.field-0 c.in_ok-listed.ensures c.in_default.is c.in_ok-fault.ensures.found
 

@@ -1,10 +1,10 @@
-use Rattle.std.proofs.Common.{◌≢◌, ◌<◌, ◌+◌, ◌-◌, ◌∙◌, ◌++◌, ◌∷◌, [], ℕ, List, Bool, pos, subst, arith, ap, sym, refl, of_z, w8, nat_eq}
+use Rattle.std.proofs.Common.{◌≢◌, ◌<◌, ◌+◌, ◌-◌, ◌∙◌, ◌++◌, ◌∷◌, [], ℕ, Bool, pos, subst, arith, ap, sym, refl, of_z, w8, nat_eq}
 use Rattle.camion_sign.specs.declared.walk.ReachedColumn.{ReachedColumn}
 use Rattle.camion_sign.specs.Walks.{HasOneMore, progress}
 use Rattle.camion_sign.proofs.EntryTests.{test_two}
-use Rattle.cmr_base.specs.Matrix.{entry, height}
-use Rattle.cmr_base.proofs.ColumnWords.{words_long}
-use Rattle.camion_sign.proofs.FreshColumns.{words_of_row, fresh_in, fresh_is, not_fresh}
+use Rattle.cmr_base.specs.BitSets.{Bits, AreWordsOf}
+use Rattle.cmr_base.specs.Matrix.{entry}
+use Rattle.camion_sign.proofs.FreshColumns.{fresh_in, fresh_is, not_fresh}
 use Rattle.camion_sign.proofs.Walks.{few}
 use Rattle.camion_sign.proofs.Steps.{start_row, pass_columns, reach_column, end_row, same_goes, step_is}
 use Rattle.camion_sign.proofs.reach.reach_row.Goals as goal
@@ -15,53 +15,39 @@ loop-column-init c = record {
   low_in = omega arith;
 }
 
-pub next_unreached-requires-clause-size : goal.next_unreached-requires-clause-size
-next_unreached-requires-clause-size c =
-    let words = c.support_words-columns.result.now in
-    let is = words_of_row c.by_rows.result.now c.args.matrix.now c.args.row words c.by_rows.ensures.value c.support_words-columns.ensures in
-    omega (arith, words_long c.args.matrix.now c.args.row words is, c.by_rows.ensures.shape.width_in)
-
-pub next_unreached-requires-clause-reached : goal.next_unreached-requires-clause-reached
-next_unreached-requires-clause-reached c =
-    let words = c.support_words-columns.result.now in
-    let is = words_of_row c.by_rows.result.now c.args.matrix.now c.args.row words c.by_rows.ensures.value c.support_words-columns.ensures in
-    c.loop-column.invariant.state.fits.reached ∙ sym (words_long c.args.matrix.now c.args.row words is)
+pub next_unreached-requires-clause-columns : goal.next_unreached-requires-clause-columns
+next_unreached-requires-clause-columns c = subst (λ (size : ℕ). AreWordsOf size c.row_words-columns.result.now) (sym c.loop-column.invariant.state.fits.columns) c.row_words-columns.ensures.whole
 
 pub entry-requires-clause-column : goal.entry-requires-clause-column
 entry-requires-clause-column c =
-    let low = fresh_in c.by_rows.result.now c.args.matrix.now c.args.row c.args.start.row c.support_words-columns.result.now c.loop-column.walk.reached.items c.by_rows.ensures.value c.support_words-columns.ensures c.by_rows.ensures.shape c.requires.early c.requires.row c.in-Some.column c.in-Some.ensures.1 in
+    let low = fresh_in c.row_words-columns.result.now c.loop-column.walk.reached.words c.args.matrix.now.width c.row_words-columns.ensures.whole c.in-Some.column c.in-Some.ensures.1 in
     omega (arith, low, c.requires.values.same_width)
 
 pub overflow_cast-head : goal.overflow_cast-head
 overflow_cast-head c =
     let w = c.loop-column.invariant.state in
     let m = c.args.matrix.now in
-    omega (arith, w.within, w.fits.matrix.width_in, few (entry m) (entry c.args.values.now) c.args.start.row c.args.start.column m.width (progress c.loop-column.walk.steps.items c.loop-column.walk.places.items c.loop-column.walk.used.items) w.key w.prefix.queue)
+    omega (arith, w.within, w.fits.matrix.width_in, few (entry m) (entry c.args.values.now) c.args.start.row c.args.start.column m.width (progress c.loop-column.walk.steps.items c.loop-column.walk.places.items c.loop-column.walk.used.words) w.key w.prefix.queue)
 
 pub reach-requires-clause-column : goal.reach-requires-clause-column
 reach-requires-clause-column c =
-    let low = fresh_in c.by_rows.result.now c.args.matrix.now c.args.row c.args.start.row c.support_words-columns.result.now c.loop-column.walk.reached.items c.by_rows.ensures.value c.support_words-columns.ensures c.by_rows.ensures.shape c.requires.early c.requires.row c.in-Some.column c.in-Some.ensures.1 in
-    omega (arith, c.loop-column.invariant.state.fits.places, low)
+    let low = fresh_in c.row_words-columns.result.now c.loop-column.walk.reached.words c.args.matrix.now.width c.row_words-columns.ensures.whole c.in-Some.column c.in-Some.ensures.1 in
+    omega (arith, c.loop-column.invariant.state.fits.columns, low)
 
 pub reach-requires-clause-few : goal.reach-requires-clause-few
 reach-requires-clause-few c =
     let w = c.loop-column.invariant.state in
     let m = c.args.matrix.now in
-    omega (arith, w.fits.matrix.width_in, few (entry m) (entry c.args.values.now) c.args.start.row c.args.start.column m.width (progress c.loop-column.walk.steps.items c.loop-column.walk.places.items c.loop-column.walk.used.items) w.key w.prefix.queue)
-
-pub reach-requires-clause-word : goal.reach-requires-clause-word
-reach-requires-clause-word c =
-    let low = fresh_in c.by_rows.result.now c.args.matrix.now c.args.row c.args.start.row c.support_words-columns.result.now c.loop-column.walk.reached.items c.by_rows.ensures.value c.support_words-columns.ensures c.by_rows.ensures.shape c.requires.early c.requires.row c.in-Some.column c.in-Some.ensures.1 in
-    omega (arith, c.loop-column.invariant.state.fits.reached, low)
+    omega (arith, w.fits.matrix.width_in, few (entry m) (entry c.args.values.now) c.args.start.row c.args.start.column m.width (progress c.loop-column.walk.steps.items c.loop-column.walk.places.items c.loop-column.walk.used.words) w.key w.prefix.queue)
 
 pub overflow_add-low : goal.overflow_add-low
 overflow_add-low c =
-    let low = fresh_in c.by_rows.result.now c.args.matrix.now c.args.row c.args.start.row c.support_words-columns.result.now c.loop-column.walk.reached.items c.by_rows.ensures.value c.support_words-columns.ensures c.by_rows.ensures.shape c.requires.early c.requires.row c.in-Some.column c.in-Some.ensures.1 in
-    omega (arith, low, c.by_rows.ensures.shape.width_in)
+    let low = fresh_in c.row_words-columns.result.now c.loop-column.walk.reached.words c.args.matrix.now.width c.row_words-columns.ensures.whole c.in-Some.column c.in-Some.ensures.1 in
+    omega (arith, low, c.loop-column.invariant.state.fits.matrix.width_in)
 
 pub loop-column-smaller : goal.loop-column-smaller
 loop-column-smaller c =
-    let low = fresh_in c.by_rows.result.now c.args.matrix.now c.args.row c.args.start.row c.support_words-columns.result.now c.loop-column.walk.reached.items c.by_rows.ensures.value c.support_words-columns.ensures c.by_rows.ensures.shape c.requires.early c.requires.row c.in-Some.column c.in-Some.ensures.1 in
+    let low = fresh_in c.row_words-columns.result.now c.loop-column.walk.reached.words c.args.matrix.now.width c.row_words-columns.ensures.whole c.in-Some.column c.in-Some.ensures.1 in
     let less : c.args.matrix.now.width - (c.in-Some.column + 1) < c.args.matrix.now.width - c.loop-column.low = omega (arith, low, c.in-Some.ensures.0) in
     less
 
@@ -74,23 +60,21 @@ loop-column-preserved c =
     let r = c.args.row in
     let walk = c.loop-column.walk in
     let state = c.loop-column.invariant.state in
-    let words = c.support_words-columns.result.now in
-    let shape = c.by_rows.ensures.shape in
-    let tall : r < height m = omega (arith, c.requires.early, c.requires.row) in
-    let is = words_of_row c.by_rows.result.now m r words c.by_rows.ensures.value c.support_words-columns.ensures in
+    let words = c.row_words-columns.result.now in
+    let are = c.row_words-columns.ensures.columns in
     let from = c.index-from.result.now in
     let x = c.in-Some.column in
-    let low = fresh_in c.by_rows.result.now c.args.matrix.now c.args.row c.args.start.row c.support_words-columns.result.now c.loop-column.walk.reached.items c.by_rows.ensures.value c.support_words-columns.ensures c.by_rows.ensures.shape c.requires.early c.requires.row c.in-Some.column c.in-Some.ensures.1 in
-    let fresh = fresh_is m r words walk.places.items walk.reached.items is shape tall state.fits.in_step x c.in-Some.ensures.1 in
+    let low = fresh_in c.row_words-columns.result.now c.loop-column.walk.reached.words c.args.matrix.now.width c.row_words-columns.ensures.whole c.in-Some.column c.in-Some.ensures.1 in
+    let fresh = fresh_is m r words walk.places.items walk.reached are state.fits.in_step x c.in-Some.ensures.1 in
     let passed = pass_columns m c.args.values.now t first h r c.loop-column.low from c.args.walk.now walk state x c.in-Some.ensures.0
-    (λ y up below n. not_fresh m r words walk.places.items walk.reached.items is shape tall state.fits.in_step y (c.in-Some.ensures.2 y up below) n) in
+    (λ y up below n. not_fresh m r words walk.places.items walk.reached are state.fits.in_step y (c.in-Some.ensures.2 y up below) n) in
     let leads = subst (λ (v : ReachedColumn). entry m r v.column ≢ pos 0) (step_is c.args.walk.now.steps.items h from c.requires.open.within c.index-from.ensures) c.requires.leads in
     record {
       state = reach_column m c.args.values.now t first h r x from c.args.walk.now walk passed c.reach.new.self (nat_eq (of_z w8 c.entry-sign.result) (of_z w8 c.entry.result)) low fresh.0 fresh.1
           (same_goes m c.args.values.now t first h r x from c.args.walk.now walk passed c.requires.open) c.requires.early leads
           (test_two c.args.values.now r from.column r x c.entry-sign.result c.entry.result c.requires.values.small c.entry-sign.ensures.value c.entry.ensures.value c.entry-sign.ensures.small c.entry.ensures.small (c.requires.values.nonzero r from.column c.requires.early leads) (c.requires.values.nonzero r x c.requires.early fresh.0))
           (c.in_ok-reach.ensures.steps ∙ ap (λ (b : Bool). walk.steps.items ++ record { column = x; row = r; before = h; is_two = b } ∷ []) c.flipped.ensures)
-          c.in_ok-reach.ensures.places c.in_ok-reach.ensures.used c.in_ok-reach.ensures.reached c.in_ok-reach.ensures.in_step;
+          c.in_ok-reach.ensures.places c.in_ok-reach.ensures.used c.in_ok-reach.ensures.columns c.in_ok-reach.ensures.in_step;
       low_in = omega (arith, low);
     }
 
@@ -100,21 +84,16 @@ returns-clause-walking c =
     let r = c.args.row in
     let walk = c.loop-column.walk in
     let state = c.loop-column.invariant.state in
-    let words = c.support_words-columns.result.now in
-    let shape = c.by_rows.ensures.shape in
-    let tall : r < height m = omega (arith, c.requires.early, c.requires.row) in
-    let is = words_of_row c.by_rows.result.now m r words c.by_rows.ensures.value c.support_words-columns.ensures in
-    let one : HasOneMore walk.used.items r c.add_column.new.set.items = record { size = c.add_column.ensures.size; only = c.add_column.ensures.only; here = c.add_column.ensures.here; kept = c.add_column.ensures.kept } in
+    let words = c.row_words-columns.result.now in
+    let are = c.row_words-columns.ensures.columns in
+    let one : HasOneMore walk.used r c.insert.new.self = record { size = c.insert.ensures.size; only = c.insert.ensures.only; here = c.insert.ensures.here; kept = c.insert.ensures.kept } in
     end_row m c.args.values.now c.args.start.row c.args.start.column c.args.head r c.loop-column.low c.index-from.result.now c.args.walk.now walk _ state
-    (λ x up n. not_fresh m r words walk.places.items walk.reached.items is shape tall state.fits.in_step x (c.in_default.ensures x up) n) refl refl one refl
+    (λ x up n. not_fresh m r words walk.places.items walk.reached are state.fits.in_step x (c.in_default.ensures x up) n) refl refl one refl
 
 pub returns-clause-used : goal.returns-clause-used
 returns-clause-used c =
     let state = c.loop-column.invariant.state in
-    subst (λ (v : List ℕ). HasOneMore v c.args.row c.add_column.new.set.items) state.used
-    (record { size = c.add_column.ensures.size; only = c.add_column.ensures.only; here = c.add_column.ensures.here; kept = c.add_column.ensures.kept })
+    subst (λ (v : Bits). HasOneMore v c.args.row c.insert.new.self) state.used (record { size = c.insert.ensures.size; only = c.insert.ensures.only; here = c.insert.ensures.here; kept = c.insert.ensures.kept })
 
-pub add_column-requires : goal.add_column-requires
-add_column-requires c =
-    let state = c.loop-column.invariant.state in
-    omega (arith, state.fits.used, c.requires.early, c.requires.row, c.by_rows.ensures.shape.height_in)
+pub insert-requires : goal.insert-requires
+insert-requires c = omega (arith, c.loop-column.invariant.state.fits.rows, c.requires.early, c.requires.row)

@@ -1,38 +1,31 @@
 use Rattle.std.proofs.Common.{◌≢◌, ◌<◌, ◌-◌, ◌∙◌, ℕ, ◌+◌, pos, ap, sym, subst, inl, inr, arith}
-use Rattle.cmr_base.specs.Matrix.{entry, height}
-use Rattle.cmr_base.proofs.Parts.{height-transposed}
-use Rattle.camion_sign.proofs.FreshColumns.{column_long, unused_meets, used_if_meets}
+use Rattle.cmr_base.specs.BitSets.{AreWordsOf}
+use Rattle.cmr_base.specs.Matrix.{entry}
+use Rattle.camion_sign.proofs.FreshColumns.{unused_meets, used_if_meets}
 use Rattle.camion_sign.proofs.Steps.{start_rows, walks_from, take_row, end_rows, settle_rows, step_is}
 use Rattle.camion_sign.proofs.reach.reach_rows.Goals as goal
 
-pub support_words-rows-requires : goal.support_words-rows-requires
-support_words-rows-requires c =
+pub column_words-rows-requires : goal.column_words-rows-requires
+column_words-rows-requires c =
     let is = step_is c.args.walk.now.steps.items c.args.head c.index.result.now c.requires.open.within c.index.ensures in
-    let wide = subst (λ (j : ℕ). j < c.args.matrix.now.width) (ap (λ v. v.column) is) (c.requires.walking.prefix.queue.inside c.args.head c.requires.open.within) in
-    omega (arith, wide, ap height c.by_columns.ensures.value, height-transposed c.args.matrix.now)
+    subst (λ (j : ℕ). j < c.args.matrix.now.width) (ap (λ v. v.column) is) (c.requires.walking.prefix.queue.inside c.args.head c.requires.open.within)
 
 pub loop-row-init : goal.loop-row-init
 loop-row-init c = start_rows c.args.matrix.now c.args.values.now c.args.start.row c.args.start.column c.args.head c.args.pending c.args.walk.now c.requires.walking c.requires.open c.requires.pending c.requires.waits
 
-pub next_unused-requires-clause-size : goal.next_unused-requires-clause-size
-next_unused-requires-clause-size c =
-    omega (arith, column_long c.by_columns.result.now c.args.matrix.now c.index.result.now.column c.support_words-rows.result.now c.loop-row.walk.used.items c.by_columns.ensures.value c.support_words-rows.ensures, c.by_columns.ensures.shape.height_in)
-
-pub next_unused-requires-clause-used : goal.next_unused-requires-clause-used
-next_unused-requires-clause-used c =
-    c.loop-row.invariant.walking.fits.used ∙ sym (column_long c.by_columns.result.now c.args.matrix.now c.index.result.now.column c.support_words-rows.result.now c.loop-row.walk.used.items c.by_columns.ensures.value c.support_words-rows.ensures)
+pub next_unused-requires-clause-rows : goal.next_unused-requires-clause-rows
+next_unused-requires-clause-rows c = subst (λ (size : ℕ). AreWordsOf size c.column_words-rows.result.now) (sym c.loop-row.invariant.walking.fits.rows) c.column_words-rows.ensures.whole
 
 pub next_unused-requires-clause-from : goal.next_unused-requires-clause-from
-next_unused-requires-clause-from c = omega (arith, c.loop-row.invariant.low_in, c.requires.row, c.by_columns.ensures.shape.height_in)
+next_unused-requires-clause-from c = omega (arith, c.loop-row.invariant.low_in, c.requires.row, c.loop-row.invariant.walking.fits.matrix.height_in)
 
 pub returns-then-row-start-clause-walk : goal.returns-then-row-start-clause-walk
 returns-then-row-start-clause-walk c =
     let m = c.args.matrix.now in
     let walk = c.loop-row.walk in
     let is = step_is c.args.walk.now.steps.items c.args.head c.index.result.now c.requires.open.within c.index.ensures in
-    let wide = subst (λ (j : ℕ). j < m.width) (ap (λ v. v.column) is) (c.requires.walking.prefix.queue.inside c.args.head c.requires.open.within) in
     inl (end_rows m c.args.values.now c.args.start.row c.args.start.column c.args.head c.loop-row.low c.args.walk.now walk c.loop-row.invariant
-    (λ r up early leads. used_if_meets c.by_columns.result.now m c.index.result.now.column c.support_words-rows.result.now walk.used.items c.by_columns.ensures.value c.support_words-rows.ensures c.by_columns.ensures.shape wide r
+    (λ r up early leads. used_if_meets m c.index.result.now.column c.column_words-rows.result.now walk.used.words c.column_words-rows.ensures.rows r
     (c.in-Some.ensures.2 r up (let late = c.if-row-start.true in omega arith)) (subst (λ (y : ℕ). entry m r y ≢ pos 0) (ap (λ v. v.column) is) leads)))
 
 pub returns-then-row-start-clause-pending : goal.returns-then-row-start-clause-pending
@@ -48,10 +41,9 @@ pub reach_row-requires-clause-leads : goal.reach_row-requires-clause-leads
 reach_row-requires-clause-leads c =
     let m = c.args.matrix.now in
     let is = step_is c.args.walk.now.steps.items c.args.head c.index.result.now c.requires.open.within c.index.ensures in
-    let wide = subst (λ (j : ℕ). j < m.width) (ap (λ v. v.column) is) (c.requires.walking.prefix.queue.inside c.args.head c.requires.open.within) in
     let column_is = c.loop-row.invariant.column_is ∙ ap (λ v. v.column) is in
     subst (λ (y : ℕ). entry m c.in-Some.row y ≢ pos 0) (sym column_is)
-    (unused_meets c.by_columns.result.now m c.index.result.now.column c.support_words-rows.result.now c.loop-row.walk.used.items c.by_columns.ensures.value c.support_words-rows.ensures c.by_columns.ensures.shape wide c.in-Some.row c.in-Some.ensures.1)
+    (unused_meets m c.index.result.now.column c.column_words-rows.result.now c.loop-row.walk.used.words c.column_words-rows.ensures.rows c.in-Some.row c.in-Some.ensures.1)
 
 pub reach_row-requires-clause-walking : goal.reach_row-requires-clause-walking
 reach_row-requires-clause-walking c =
@@ -68,9 +60,8 @@ returns-then-pending-columns-clause-walk c =
     let m = c.args.matrix.now in
     let walk = c.loop-row.walk in
     let is = step_is c.args.walk.now.steps.items c.args.head c.index.result.now c.requires.open.within c.index.ensures in
-    let wide = subst (λ (j : ℕ). j < m.width) (ap (λ v. v.column) is) (c.requires.walking.prefix.queue.inside c.args.head c.requires.open.within) in
     let taken = take_row m c.args.values.now c.args.start.row c.args.start.column c.args.head c.loop-row.low c.args.walk.now walk c.loop-row.invariant c.in-Some.row c.reach_row.new.walk c.first_waiting-pending.result c.if-row-start.false
-    (λ r up below leads. used_if_meets c.by_columns.result.now m c.index.result.now.column c.support_words-rows.result.now walk.used.items c.by_columns.ensures.value c.support_words-rows.ensures c.by_columns.ensures.shape wide r
+    (λ r up below leads. used_if_meets m c.index.result.now.column c.column_words-rows.result.now walk.used.words c.column_words-rows.ensures.rows r
     (c.in-Some.ensures.2 r up below) (subst (λ (y : ℕ). entry m r y ≢ pos 0) (ap (λ v. v.column) is) leads))
     c.in_ok-reach_row.ensures.walking c.in_ok-reach_row.ensures.grows c.in_ok-reach_row.ensures.used c.first_waiting-pending.ensures.from c.first_waiting-pending.ensures.width c.first_waiting-pending.ensures.waits in
     inr (c.if-pending-columns.true ∙ c.columns.ensures.columns, settle_rows m c.args.values.now c.args.start.row c.args.start.column c.args.head (c.in-Some.row + 1) c.args.walk.now c.reach_row.new.walk taken)
@@ -83,15 +74,14 @@ returns-then-pending-columns-clause-waits c =
     let m = c.args.matrix.now in
     let walk = c.loop-row.walk in
     let is = step_is c.args.walk.now.steps.items c.args.head c.index.result.now c.requires.open.within c.index.ensures in
-    let wide = subst (λ (j : ℕ). j < m.width) (ap (λ v. v.column) is) (c.requires.walking.prefix.queue.inside c.args.head c.requires.open.within) in
     let taken = take_row m c.args.values.now c.args.start.row c.args.start.column c.args.head c.loop-row.low c.args.walk.now walk c.loop-row.invariant c.in-Some.row c.reach_row.new.walk c.first_waiting-pending.result c.if-row-start.false
-    (λ r up below leads. used_if_meets c.by_columns.result.now m c.index.result.now.column c.support_words-rows.result.now walk.used.items c.by_columns.ensures.value c.support_words-rows.ensures c.by_columns.ensures.shape wide r
+    (λ r up below leads. used_if_meets m c.index.result.now.column c.column_words-rows.result.now walk.used.words c.column_words-rows.ensures.rows r
     (c.in-Some.ensures.2 r up below) (subst (λ (y : ℕ). entry m r y ≢ pos 0) (ap (λ v. v.column) is) leads))
     c.in_ok-reach_row.ensures.walking c.in_ok-reach_row.ensures.grows c.in_ok-reach_row.ensures.used c.first_waiting-pending.ensures.from c.first_waiting-pending.ensures.width c.first_waiting-pending.ensures.waits in
     taken.waits
 
 pub overflow_add-low : goal.overflow_add-low
-overflow_add-low c = omega (arith, c.if-row-start.false, c.requires.row, c.by_columns.ensures.shape.height_in)
+overflow_add-low c = omega (arith, c.if-row-start.false, c.requires.row, c.loop-row.invariant.walking.fits.matrix.height_in)
 
 pub loop-row-smaller : goal.loop-row-smaller
 loop-row-smaller c =
@@ -103,9 +93,8 @@ loop-row-preserved c =
     let m = c.args.matrix.now in
     let walk = c.loop-row.walk in
     let is = step_is c.args.walk.now.steps.items c.args.head c.index.result.now c.requires.open.within c.index.ensures in
-    let wide = subst (λ (j : ℕ). j < m.width) (ap (λ v. v.column) is) (c.requires.walking.prefix.queue.inside c.args.head c.requires.open.within) in
     take_row m c.args.values.now c.args.start.row c.args.start.column c.args.head c.loop-row.low c.args.walk.now walk c.loop-row.invariant c.in-Some.row c.reach_row.new.walk c.first_waiting-pending.result c.if-row-start.false
-    (λ r up below leads. used_if_meets c.by_columns.result.now m c.index.result.now.column c.support_words-rows.result.now walk.used.items c.by_columns.ensures.value c.support_words-rows.ensures c.by_columns.ensures.shape wide r
+    (λ r up below leads. used_if_meets m c.index.result.now.column c.column_words-rows.result.now walk.used.words c.column_words-rows.ensures.rows r
     (c.in-Some.ensures.2 r up below) (subst (λ (y : ℕ). entry m r y ≢ pos 0) (ap (λ v. v.column) is) leads))
     c.in_ok-reach_row.ensures.walking c.in_ok-reach_row.ensures.grows c.in_ok-reach_row.ensures.used c.first_waiting-pending.ensures.from c.first_waiting-pending.ensures.width c.first_waiting-pending.ensures.waits
 
@@ -114,9 +103,8 @@ returns-clause-walk c =
     let m = c.args.matrix.now in
     let walk = c.loop-row.walk in
     let is = step_is c.args.walk.now.steps.items c.args.head c.index.result.now c.requires.open.within c.index.ensures in
-    let wide = subst (λ (j : ℕ). j < m.width) (ap (λ v. v.column) is) (c.requires.walking.prefix.queue.inside c.args.head c.requires.open.within) in
     inl (end_rows m c.args.values.now c.args.start.row c.args.start.column c.args.head c.loop-row.low c.args.walk.now walk c.loop-row.invariant
-    (λ r up early leads. used_if_meets c.by_columns.result.now m c.index.result.now.column c.support_words-rows.result.now walk.used.items c.by_columns.ensures.value c.support_words-rows.ensures c.by_columns.ensures.shape wide r
+    (λ r up early leads. used_if_meets m c.index.result.now.column c.column_words-rows.result.now walk.used.words c.column_words-rows.ensures.rows r
     (c.in_default.ensures r up) (subst (λ (y : ℕ). entry m r y ≢ pos 0) (ap (λ v. v.column) is) leads)))
 
 pub returns-clause-pending : goal.returns-clause-pending

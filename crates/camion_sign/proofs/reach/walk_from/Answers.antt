@@ -7,7 +7,7 @@ use Rattle.camion_sign.proofs.reach.walk_from.Goals as goal
 use Rattle.camion_sign.proofs.reach.walk_from.Goals.{then-head-eq0+in_ok-pending, else-head-eq0+else-entry-eq0, then-head-eq0-via-then-head-eq0, then-head-eq0-via-else-head-eq0+then-entry-eq0}
 
 pub loop-head-init : goal.loop-head-init
-loop-head-init c = begin_walk c.args.matrix.now c.args.values.now c.args.start.row c.args.start.column c.args.walk.now c.begin.new.self c.requires.fits c.requires.column c.in_ok-begin.ensures.steps c.in_ok-begin.ensures.places c.in_ok-begin.ensures.used c.in_ok-begin.ensures.unused c.in_ok-begin.ensures.reached c.in_ok-begin.ensures.in_step
+loop-head-init c = begin_walk c.args.matrix.now c.args.values.now c.args.start.row c.args.start.column c.args.walk.now c.begin.new.self c.requires.fits c.requires.column c.in_ok-begin.ensures.steps c.in_ok-begin.ensures.places c.in_ok-begin.ensures.rows c.in_ok-begin.ensures.unused c.in_ok-begin.ensures.columns c.in_ok-begin.ensures.in_step
 
 pub loop-head-smaller : goal.loop-head-smaller
 loop-head-smaller c =

@@ -1,7 +1,6 @@
 use Rattle.std.proofs.Common.{◌≡◌, ◌≤◌, ◌∙◌, pos, replicate, false, rules, length, ap, sym, subst, arith}
 use Rattle.std.proofs.lemmas.List.{length-replicate}
 use Rattle.cmr_base.specs.Matrix.{Matrix, height, IsMatrix}
-use Rattle.cmr_base.specs.Planes.{words_for}
 use Rattle.cmr_base.proofs.PlaneSteps.{is_matrix-zero}
 use Rattle.camion_sign.proofs.row_places.RowPlaces.new.Goals as goal
 
@@ -14,12 +13,11 @@ returns c =
     let few : size ≤ 1000 = let most = shape.width_in in omega (arith, wide, most) in
     let known : c.in_ok-vec.field-0.items ≡ replicate size false = search rules in
     record {
-      parts = c.in_ok-new.ensures;
+      parts = record { matrix = shape; one_each = c.in_ok-new.ensures ∙ wide; joined = λ r x y l. absurd (omega (arith, l)) };
       fits = record {
         matrix = shape;
-        places = c.in_ok-new-2.ensures.places ∙ wide;
-        used = c.in_ok-new-2.ensures.used ∙ ap words_for c.rows.ensures.rows;
-        reached = c.in_ok-new-2.ensures.reached ∙ ap words_for wide;
+        rows = c.in_ok-new-2.ensures.rows ∙ c.rows.ensures.rows;
+        columns = c.in_ok-new-2.ensures.columns ∙ wide;
         in_step = c.in_ok-new-2.ensures.in_step;
       };
       square = record {

@@ -4,6 +4,6 @@ use Rattle.camion_sign.proofs.walk.Walk.begin.Goals as goal
 
 pub returns-clause-in_step : goal.returns-clause-in_step
 returns-clause-in_step c =
-    let places = c.args.self.now.places in
-    begins_in_step c.fill.new.self.items places.len c.args.column c.clear_set-2.new.set.items c.add_column.new.set.items (c.fill.ensures.items (λ y e. e)) (omega (arith, c.requires.column, places.ok.0))
-    c.clear_set-2.ensures.none c.add_column.ensures.only c.add_column.ensures.here
+    let self = c.args.self.now in
+    begins_in_step c.fill.new.self.items self.places.len c.args.column self.reached c.clear-3.new.self c.insert.new.self (c.fill.ensures.items (λ y e. e)) (omega (arith, c.requires.in_step.one_each, self.places.ok.0)) c.requires.column
+    c.clear-3.ensures.size c.insert.ensures.size c.clear-3.ensures.none c.insert.ensures.only c.insert.ensures.here
