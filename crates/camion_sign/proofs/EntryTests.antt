@@ -10,10 +10,10 @@ use Rattle.camion_sign.specs.Walks.{TwoIf}
 use Rattle.cmr_base.proofs.RowLists.{eq_of, ne_of}
 use Rattle.cmr_base.proofs.EntryBytes.{same_bytes}
 
-sign_of : (m : Matrix) (i j : ℕ) → ((i j : ℕ) → IsEntry (entry m i j)) → entry m i j ≢ pos 0 → IsSign (entry m i j)
+pub sign_of : (m : Matrix) (i j : ℕ) → ((i j : ℕ) → IsEntry (entry m i j)) → entry m i j ≢ pos 0 → IsSign (entry m i j)
 sign_of m i j small h = elim (zero_or_sign (entry m i j) (small i j)) [ inl z ↦ absurd (h z) | inr u ↦ u ]
 
-pair_two : (x y : ℤ) (b : Bool) → IsSign x → IsSign y → (b ≡ true → x ≡ y) → (b ≡ false → x ≢ y) → TwoIf b (x +ℤ y)
+pub pair_two : (x y : ℤ) (b : Bool) → IsSign x → IsSign y → (b ≡ true → x ≡ y) → (b ≡ false → x ≢ y) → TwoIf b (x +ℤ y)
 pair_two x y true (inl e) (inl f) s d = (pos 0, rw (e, f) refl)
 pair_two x y true (inr e) (inr f) s d = (negsuc 0, rw (e, f) refl)
 pair_two x y true (inl e) (inr f) s d = absurd (let g = s refl in omega (arith, sums))

@@ -127,6 +127,13 @@ one_more_last m t c d before here y l = elim (cases_lt y d) [
   | inr ge ↦ let q : d ≡ y = omega arith in subst (HasNoFaultAt m t c) q here
 ]
 
+-- columns in which the row is 0 are no first columns
+pub zeros_first : (m a : Matrix) (t from first : ℕ) → a ≡ m → ((x y : ℕ) → x < from → HasNoFaultAt m t x y) → ((x : ℕ) → from ≤ x → x < first → support a t x ≡ false) → (x y : ℕ) → x < first → HasNoFaultAt m t x y
+zeros_first m a t from first is before zeros x y l path f = elim (cases_lt x from) [
+  | inl low ↦ before x y low path f
+  | inr high ↦ f.place.first (zero_is (entry m t x) (sym (ap (λ (b : Matrix). support b t x) is) ∙ zeros x high l))
+]
+
 -- columns in which the row is 0 are last columns of no place
 pub zeros_last : (m a : Matrix) (t c from last : ℕ) → a ≡ m → ((y : ℕ) → y < from → HasNoFaultAt m t c y) → ((y : ℕ) → from ≤ y → y < last → support a t y ≡ false) → (y : ℕ) → y < last → HasNoFaultAt m t c y
 zeros_last m a t c from last is before zeros y l path f = elim (cases_lt y from) [

@@ -1,5 +1,5 @@
 -- Columns that share an earlier row have no fault in a row that agrees with all rows before it.
-use Rattle.std.proofs.Common.{ℕ, ℤ, pos, negsuc, Bool, true, false, ◌||◌, List, [], ◌∷◌, length, ◌≡◌, ◌≢◌, ◌<◌, ◌+◌, ◌+ℤ◌, ◌⊎◌, inl, inr, ◌∙◌, sym, arith, subst}
+use Rattle.std.proofs.Common.{ℕ, ℤ, pos, negsuc, Bool, true, false, ◌||◌, List, [], ◌∷◌, length, ◌≡◌, ◌≢◌, ◌<◌, ◌≤◌, ◌+◌, ◌+ℤ◌, ◌⊎◌, inl, inr, ◌∙◌, sym, arith, subst}
 use Rattle.std.proofs.lemmas.Bool.{cases_lt}
 use Rattle.cmr_base.specs.CyclePlaces.{IsNotAfter, IsFaultAt}
 use Rattle.cmr_base.specs.Matrix.{Matrix, entry, IsMatrix}
@@ -25,8 +25,8 @@ row_agrees m t other before here r l = elim (cases_lt r other) [
 ]
 
 -- fewer columns are later columns
-pub knows_more : (m : Matrix) (t from : ℕ) (near : NearColumns) → KnowsNear m t from near → KnowsNear m t (from + 1) near
-knows_more m t from near k = record { room = k.room; agrees = k.agrees; waits = λ d r l. k.waits d r (omega arith) }
+pub knows_later : (m : Matrix) (t from later : ℕ) (near : NearColumns) → from ≤ later → KnowsNear m t from near → KnowsNear m t later near
+knows_later m t from later near up k = record { room = k.room; agrees = k.agrees; waits = λ d r l. k.waits d r (omega (arith, up, l)) }
 
 -- ---- the sum of four entries
 

@@ -1,11 +1,11 @@
 -- Rows that agree in signs, word by word.
-use Rattle.std.proofs.Common.{◌≡◌, ◌≢◌, ◌<◌, ◌+◌, ◌*◌, ◌/◌, ◌%◌, ◌^◌, ◌&&◌, ◌∙◌, ℕ, ℤ, pos, Bool, true, false, eqb, List, length, get_or, sym, ap, ap₂, refl, arith, w64, ◌⊎◌, inl, inr}
+use Rattle.std.proofs.Common.{◌≡◌, ◌≢◌, ◌<◌, ◌+◌, ◌*◌, ◌/◌, ◌%◌, ◌^◌, ◌&&◌, ◌∙◌, ℕ, ℤ, pos, ◌+ℤ◌, Bool, true, false, eqb, List, length, get_or, sym, ap, ap₂, refl, arith, w64, ◌⊎◌, inl, inr}
 use Rattle.std.specs.Int.{bit_at, bit_not}
 use Rattle.std.specs.Int.Bits.{bit_and, bit_xor}
 use Rattle.std.proofs.lemmas.Bool.{cases_lt, true≢false}
 use Rattle.std.proofs.lemmas.Nat.{xor_lt}
 use Rattle.std.proofs.lemmas.Nat.Bits.{bit_at-lt, bit_at_xor}
-use Rattle.cmr_base.specs.Matrix.{Matrix, height, entry, row_of, is_nonzero, IsMatrix}
+use Rattle.cmr_base.specs.Matrix.{Matrix, height, entry, row_of, is_nonzero, IsEntry, IsMatrix}
 use Rattle.cmr_base.specs.Planes.{has_bit, is_minus, words_for, words_of}
 use Rattle.cmr_base.specs.ColumnSets.{has_column}
 use Rattle.cmr_base.specs.Signing.{IsSign}
@@ -14,8 +14,10 @@ use Rattle.cmr_base.proofs.ColumnWords.{column_at, in_chunk, words_columns, no_b
 use Rattle.cmr_base.proofs.PlaneWords.{length-words_of, word-words_of, bit-word_of, one_bit}
 use Rattle.cmr_base.proofs.WordBits.{has_bit-and, zero_or_one}
 use Rattle.ghouila.proofs.SignedSums.{zero_or_sign}
+use Rattle.camion_sign.proofs.EntryTests.{pair_two, sign_of}
 use Rattle.camion_sign.proofs.Steps.{within}
 use Rattle.camion_sign.specs.RowSigns.{AgreeInSigns, HaveEqualSigns, HaveOppositeSigns}
+use Rattle.camion_sign.specs.Walks.{TwoIf}
 
 -- ---- bits of two words
 
@@ -105,6 +107,18 @@ same_sign a b (inl e) (inl f) n = e ∙ sym f
 same_sign a b (inr e) (inr f) n = e ∙ sym f
 same_sign a b (inl e) (inr f) n = absurd (true≢false (sym (ap is_minus f) ∙ sym n ∙ ap is_minus e))
 same_sign a b (inr e) (inl f) n = absurd (true≢false (sym (ap is_minus e) ∙ n ∙ ap is_minus f))
+
+-- the sum of two nonzeros of a row, by their signs
+pub signs_two : (m : Matrix) (row x y : ℕ) (words : List ℕ) (same : Bool) → words ≡ words_of (words_for m.width) is_minus (row_of m row) → ((i j : ℕ) → IsEntry (entry m i j)) → x < m.width → y < m.width → entry m row x ≢ pos 0 → entry m row y ≢ pos 0
+    → (same ≡ true → has_column words x ≡ has_column words y) → (has_column words x ≡ has_column words y → same ≡ true) → TwoIf same (entry m row x +ℤ entry m row y)
+signs_two m row x y words same is small low high from to equal back =
+    let one = sign_of m row x small from in
+    let other = sign_of m row y small to in
+    let minus_x = minus_columns m row x words is low in
+    let minus_y = minus_columns m row y words is high in
+    pair_two (entry m row x) (entry m row y) same one other
+    (λ t. same_sign (entry m row x) (entry m row y) one other (sym minus_x ∙ equal t ∙ minus_y))
+    (λ f e. true≢false (sym (back (minus_x ∙ ap is_minus e ∙ sym minus_y)) ∙ f))
 
 module _ (m : Matrix) (one two : ℕ) (shape : IsMatrix m) (tall_one : one < height m) (tall_two : two < height m) (support minus other other_minus : List ℕ)
     (is_support : support ≡ words_of (words_for m.width) is_nonzero (row_of m one)) (is_minus_words : minus ≡ words_of (words_for m.width) is_minus (row_of m one))

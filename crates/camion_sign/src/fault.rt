@@ -108,13 +108,13 @@ fn fault_of_row(
     ensures room { IfOk result (λ found. HasNearRoom matrix.now near.new) }
 {
     near.begin(matrix, row);
-    for column in 0..matrix.columns() {
-        if matrix.entry(row, column) != 0 {
-            let start = Start { row, column };
-            if let Some(fault) = fault_at(alloc, matrix, walk, near, start)? {
-                return Ok(Some(fault));
-            }
+    let mut from = 0;
+    while let Some(column) = matrix.by_rows().next_nonzero(row, from) {
+        let start = Start { row, column };
+        if let Some(fault) = fault_at(alloc, matrix, walk, near, start)? {
+            return Ok(Some(fault));
         }
+        from = column + 1;
     }
     Ok(None)
 }

@@ -4,6 +4,7 @@ ghost use Rattle.cmr_base.specs.Matrix.{height, entry};
 ghost use Rattle.camion_sign.specs.Walks.{HasPlacesAndMarks, HasValuesBefore, IsWalking, IsOpen, GrowsFrom, HasSettled, HasWalked, IsUntouched, HasOneMore, NoneWaits, step_at, place_in, flip};
 
 use crate::listed_matrix::ListedMatrix;
+use crate::row_signs::has_one_sign;
 use crate::walk::{ReachedColumn, UNREACHED, Walk};
 use cmr_base::{Matrix, Memory};
 use std::alloc::Global;
@@ -103,11 +104,11 @@ fn reach_row(
     ensures used { OnOk result (HasOneMore walk.old.used row walk.new.used) }
 {
     let from = walk.steps[head];
-    let sign = values.entry(row, from.column);
+    let minus = values.minus_words(row);
     let columns = matrix.row_words(row);
     let mut low = 0;
     while let Some(column) = walk.next_unreached(columns, low) {
-        let is_same = sign == values.entry(row, column);
+        let is_same = has_one_sign(minus, from.column, column);
         walk.reach(ReachedColumn {
             column,
             row,

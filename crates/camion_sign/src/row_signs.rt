@@ -1,10 +1,11 @@
 // Rows whose signs agree in their common columns.
-ghost use Rattle.std.specs.Prelude.{◌≡◌, ◌≢◌, ◌<◌, ◌⊎◌, ℕ, true, length, IsTrue};
+ghost use Rattle.std.specs.Prelude.{◌≡◌, ◌≢◌, ◌<◌, ◌⊎◌, ◌↔◌, ◌/◌, ℕ, true, length, IsTrue};
+ghost use Rattle.cmr_base.specs.ColumnSets.{has_column};
 ghost use Rattle.cmr_base.specs.Matrix.{height, IsMatrix};
 ghost use Rattle.cmr_base.specs.Planes.{has_bit};
 ghost use Rattle.camion_sign.specs.RowSigns.{AgreeInSigns, AgreesBefore, HaveEqualSigns, HaveOppositeSigns};
 
-use cmr_base::Matrix;
+use cmr_base::{Matrix, has_bit};
 
 /// Whether a row agrees with each row before it, up to the sign of the row, in the columns in which both are not 0.
 pub fn agrees_with_earlier(matrix: &Matrix, row: u32) -> bool
@@ -18,6 +19,23 @@ pub fn agrees_with_earlier(matrix: &Matrix, row: u32) -> bool
         }
     }
     true
+}
+
+/// Whether a row has the same sign in two columns in which it is not 0. The columns in which it is -1 are given as words.
+pub fn has_one_sign(minus: &[u64], one: u32, other: u32) -> bool
+    requires one { one / 64 < length minus.now }
+    requires other { other / 64 < length minus.now }
+    ensures { IsTrue result ↔ (has_column minus.now one ≡ has_column minus.now other) }
+{
+    has_minus(minus, one) == has_minus(minus, other)
+}
+
+// Whether a row is -1 in a column.
+fn has_minus(minus: &[u64], column: u32) -> bool
+    requires { column / 64 < length minus.now }
+    ensures { result ≡ has_column minus.now column }
+{
+    has_bit(minus[column as usize / 64], column % 64)
 }
 
 // Whether two rows agree, up to the sign of a row, in the columns in which both are not 0.

@@ -1,17 +1,13 @@
-use Rattle.std.proofs.Common.{◌≡◌, ◌<◌, ◌+◌, ◌∙◌, ℕ, inl, inr, sym, subst, arith}
+use Rattle.std.proofs.Common.{◌≡◌, ◌<◌, ◌+◌, ◌∙◌, ℕ, inl, inr, ap, sym, subst, arith}
 use Rattle.std.proofs.lemmas.Bool.{cases_lt}
-use Rattle.cmr_base.specs.Matrix.{Matrix}
-use Rattle.cmr_base.proofs.EntryBytes.{zero_byte}
+use Rattle.cmr_base.specs.Matrix.{Matrix, entry}
+use Rattle.cmr_base.specs.Trees.{support}
+use Rattle.cmr_base.proofs.Booleans.{nonzero_is}
 use Rattle.camion_sign.specs.declared.fault.Fault.{Fault}
 use Rattle.camion_sign.specs.FaultLines.{HasNoFaultAt, IsColumnFault}
-use Rattle.camion_sign.specs.Walks.{HasPlacesAndMarks}
-use Rattle.camion_sign.proofs.EntryTests.{zero_as_byte}
-use Rattle.camion_sign.proofs.Steps.{within}
+use Rattle.camion_sign.proofs.FirstFaults.{zeros_first}
+use Rattle.camion_sign.proofs.NearFaults.{knows_later}
 use Rattle.camion_sign.proofs.fault.fault_of_row.Goals as goal
-use Rattle.camion_sign.proofs.fault.fault_of_row.Goals.{then-entry-ne0+in_ok-fault+in_default, else-entry-ne0}
-use Rattle.camion_sign.specs.NearColumns.{KnowsNear}
-use Rattle.camion_sign.specs.declared.near_columns.NearColumns.{NearColumns}
-use Rattle.camion_sign.proofs.NearFaults.{knows_more}
 
 module _ (m : Matrix) (t column : ℕ) (before : (x y : ℕ) → x < column → HasNoFaultAt m t x y) where
   -- another column has no fault
@@ -31,43 +27,47 @@ module _ (m : Matrix) (t column : ℕ) (before : (x y : ℕ) → x < column → 
   )
 
 pub loop-column-init : goal.loop-column-init
-loop-column-init c = record { fits = c.requires.fits; passed = λ x y l path fault. omega (arith, l); knows = c.begin.ensures }
+loop-column-init c = record { fits = c.requires.fits; passed = λ x y l path fault. omega (arith, l); knows = c.begin.ensures; inside = omega arith }
+
+pub fault_at-requires-clause-column : goal.fault_at-requires-clause-column
+fault_at-requires-clause-column c = subst (λ (a : Matrix). c.in-Some.column < a.width) c.by_rows.ensures.value c.in-Some.ensures.first.1
 
 pub fault_at-requires-clause-first : goal.fault_at-requires-clause-first
-fault_at-requires-clause-first c z = c.if-entry-ne0.true (zero_as_byte c.entry.result (c.entry.ensures.value ∙ z))
+fault_at-requires-clause-first c =
+    nonzero_is (entry c.args.matrix.now c.args.row c.in-Some.column) (sym (ap (λ (a : Matrix). support a c.args.row c.in-Some.column) c.by_rows.ensures.value) ∙ c.in-Some.ensures.first.2)
 
 pub fault_at-requires-clause-fits : goal.fault_at-requires-clause-fits
 fault_at-requires-clause-fits c = c.loop-column.invariant.fits
 
-pub returns-in-Some-clause-found : goal.returns-in-Some-clause-found
-returns-in-Some-clause-found c =
-    let found = rw c.in-Some.is at c.in_ok-fault.ensures.found in
-    column_found c.args.matrix.now c.args.row c.loop-column.column c.loop-column.invariant.passed c.in-Some.fault found
+pub fault_at-requires-clause-knows : goal.fault_at-requires-clause-knows
+fault_at-requires-clause-knows c = knows_later c.args.matrix.now c.args.row c.loop-column.from c.in-Some.column c.loop-column.near c.in-Some.ensures.first.0 c.loop-column.invariant.knows
 
-pub returns-in-Some-clause-fits : goal.returns-in-Some-clause-fits
-returns-in-Some-clause-fits c = c.in_ok-fault.ensures.fits
+pub returns-in-Some-2-clause-found : goal.returns-in-Some-2-clause-found
+returns-in-Some-2-clause-found c =
+    let m = c.args.matrix.now in
+    let none = zeros_first m c.by_rows.result.now c.args.row c.loop-column.from c.in-Some.column c.by_rows.ensures.value c.loop-column.invariant.passed c.in-Some.ensures.first.3 in
+    let found = rw c.in-Some-2.is at c.in_ok-fault.ensures.found in
+    column_found m c.args.row c.in-Some.column none c.in-Some-2.fault found
+
+pub returns-in-Some-2-clause-fits : goal.returns-in-Some-2-clause-fits
+returns-in-Some-2-clause-fits c = c.in_ok-fault.ensures.fits
 
 pub loop-column-preserved : goal.loop-column-preserved
 loop-column-preserved c =
     let m = c.args.matrix.now in
-    let before = c.loop-column.invariant.passed in
-    elim c.if-entry-ne0.branch [
-      | then-entry-ne0+in_ok-fault+in_default w ↦ record {
-        fits = subst (HasPlacesAndMarks m) (sym w.walk-is) w.in_ok-fault.ensures.fits;
-        passed = column_passed m c.args.row c.loop-column.column before (rw w.in_default.is at w.in_ok-fault.ensures.found);
-        knows = subst (λ (v : NearColumns). KnowsNear m c.args.row (c.loop-column.column + 1) v) (sym w.near-is) w.in_ok-fault.ensures.knows;
-      }
-      | else-entry-ne0 w ↦ record {
-        fits = subst (HasPlacesAndMarks m) (sym w.walk-is) c.loop-column.invariant.fits;
-        passed = column_passed m c.args.row c.loop-column.column before (λ y path fault. fault.place.first (sym c.entry.ensures.value ∙ zero_byte c.entry.result c.entry.ensures.small w.if-entry-ne0.false));
-        knows = subst (λ (v : NearColumns). KnowsNear m c.args.row (c.loop-column.column + 1) v) (sym w.near-is) (knows_more m c.args.row c.loop-column.column c.loop-column.near c.loop-column.invariant.knows);
-      }
-    ]
+    let none = zeros_first m c.by_rows.result.now c.args.row c.loop-column.from c.in-Some.column c.by_rows.ensures.value c.loop-column.invariant.passed c.in-Some.ensures.first.3 in
+    let inside : c.in-Some.column < m.width = subst (λ (a : Matrix). c.in-Some.column < a.width) c.by_rows.ensures.value c.in-Some.ensures.first.1 in
+    record {
+      fits = c.in_ok-fault.ensures.fits;
+      passed = column_passed m c.args.row c.in-Some.column none (rw c.in_default-2.is at c.in_ok-fault.ensures.found);
+      knows = c.in_ok-fault.ensures.knows;
+      inside = omega (arith, inside);
+    }
 
 pub returns-clause-found : goal.returns-clause-found
-returns-clause-found c x y path fault =
-    let inside = within c.args.matrix.now c.args.row x c.requires.fits.matrix c.requires.row fault.place.first in
-    c.loop-column.invariant.passed x y (omega (arith, inside, c.loop-column-test.false, c.columns-column-end.ensures.columns)) path fault
+returns-clause-found c x y =
+    let m = c.args.matrix.now in
+    zeros_first m c.by_rows.result.now c.args.row c.loop-column.from (x + 1) c.by_rows.ensures.value c.loop-column.invariant.passed (λ z up below. c.in_default.ensures.first z up) x y (omega arith)
 
 pub returns-clause-fits : goal.returns-clause-fits
 returns-clause-fits c = c.loop-column.invariant.fits
@@ -75,5 +75,5 @@ returns-clause-fits c = c.loop-column.invariant.fits
 pub returns-clause-room : goal.returns-clause-room
 returns-clause-room c = c.loop-column.invariant.knows.room
 
-pub returns-in-Some-clause-room : goal.returns-in-Some-clause-room
-returns-in-Some-clause-room c = c.in_ok-fault.ensures.knows.room
+pub returns-in-Some-2-clause-room : goal.returns-in-Some-2-clause-room
+returns-in-Some-2-clause-room c = c.in_ok-fault.ensures.knows.room

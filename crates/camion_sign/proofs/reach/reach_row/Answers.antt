@@ -1,7 +1,7 @@
-use Rattle.std.proofs.Common.{◌≢◌, ◌<◌, ◌+◌, ◌-◌, ◌∙◌, ◌++◌, ◌∷◌, [], ℕ, Bool, pos, subst, arith, ap, sym, refl, of_z, w8, nat_eq}
+use Rattle.std.proofs.Common.{◌≢◌, ◌<◌, ◌+◌, ◌-◌, ◌∙◌, ◌++◌, ◌∷◌, [], ℕ, Bool, pos, subst, arith, ap, sym, refl}
 use Rattle.camion_sign.specs.declared.walk.ReachedColumn.{ReachedColumn}
 use Rattle.camion_sign.specs.Walks.{HasOneMore, progress}
-use Rattle.camion_sign.proofs.EntryTests.{test_two}
+use Rattle.camion_sign.proofs.SignWords.{minus_long, signs_two}
 use Rattle.cmr_base.specs.BitSets.{Bits, AreWordsOf}
 use Rattle.cmr_base.specs.Matrix.{entry}
 use Rattle.camion_sign.proofs.FreshColumns.{fresh_in, fresh_is, not_fresh}
@@ -18,10 +18,19 @@ loop-column-init c = record {
 pub next_unreached-requires-clause-columns : goal.next_unreached-requires-clause-columns
 next_unreached-requires-clause-columns c = subst (λ (size : ℕ). AreWordsOf size c.row_words-columns.result.now) (sym c.loop-column.invariant.state.fits.columns) c.row_words-columns.ensures.whole
 
-pub entry-requires-clause-column : goal.entry-requires-clause-column
-entry-requires-clause-column c =
+pub minus_words-minus-requires : goal.minus_words-minus-requires
+minus_words-minus-requires c = omega (arith, c.requires.early, c.requires.row, c.requires.values.same_height)
+
+pub has_one_sign-is_same-requires-clause-one : goal.has_one_sign-is_same-requires-clause-one
+has_one_sign-is_same-requires-clause-one c =
+    let is = step_is c.args.walk.now.steps.items c.args.head c.index-from.result.now c.requires.open.within c.index-from.ensures in
+    let wide = subst (λ (step : ReachedColumn). step.column < c.args.matrix.now.width) is (c.requires.walking.prefix.queue.inside c.args.head c.requires.open.within) in
+    omega (arith, wide, c.requires.values.same_width, minus_long c.args.values.now c.args.row c.minus_words-minus.result.now c.minus_words-minus.ensures)
+
+pub has_one_sign-is_same-requires-clause-other : goal.has_one_sign-is_same-requires-clause-other
+has_one_sign-is_same-requires-clause-other c =
     let low = fresh_in c.row_words-columns.result.now c.loop-column.walk.reached.words c.args.matrix.now.width c.row_words-columns.ensures.whole c.in-Some.column c.in-Some.ensures.1 in
-    omega (arith, low, c.requires.values.same_width)
+    omega (arith, low, c.requires.values.same_width, minus_long c.args.values.now c.args.row c.minus_words-minus.result.now c.minus_words-minus.ensures)
 
 pub overflow_cast-head : goal.overflow_cast-head
 overflow_cast-head c =
@@ -68,11 +77,14 @@ loop-column-preserved c =
     let fresh = fresh_is m r words walk.places.items walk.reached are state.fits.in_step x c.in-Some.ensures.1 in
     let passed = pass_columns m c.args.values.now t first h r c.loop-column.low from c.args.walk.now walk state x c.in-Some.ensures.0
     (λ y up below n. not_fresh m r words walk.places.items walk.reached are state.fits.in_step y (c.in-Some.ensures.2 y up below) n) in
-    let leads = subst (λ (v : ReachedColumn). entry m r v.column ≢ pos 0) (step_is c.args.walk.now.steps.items h from c.requires.open.within c.index-from.ensures) c.requires.leads in
+    let step = step_is c.args.walk.now.steps.items h from c.requires.open.within c.index-from.ensures in
+    let leads = subst (λ (v : ReachedColumn). entry m r v.column ≢ pos 0) step c.requires.leads in
+    let wide = subst (λ (v : ReachedColumn). v.column < m.width) step (c.requires.walking.prefix.queue.inside h c.requires.open.within) in
     record {
-      state = reach_column m c.args.values.now t first h r x from c.args.walk.now walk passed c.reach.new.self (nat_eq (of_z w8 c.entry-sign.result) (of_z w8 c.entry.result)) low fresh.0 fresh.1
+      state = reach_column m c.args.values.now t first h r x from c.args.walk.now walk passed c.reach.new.self c.has_one_sign-is_same.result low fresh.0 fresh.1
           (same_goes m c.args.values.now t first h r x from c.args.walk.now walk passed c.requires.open) c.requires.early leads
-          (test_two c.args.values.now r from.column r x c.entry-sign.result c.entry.result c.requires.values.small c.entry-sign.ensures.value c.entry.ensures.value c.entry-sign.ensures.small c.entry.ensures.small (c.requires.values.nonzero r from.column c.requires.early leads) (c.requires.values.nonzero r x c.requires.early fresh.0))
+          (signs_two c.args.values.now r from.column x c.minus_words-minus.result.now c.has_one_sign-is_same.result c.minus_words-minus.ensures c.requires.values.small (omega (arith, wide, c.requires.values.same_width)) (omega (arith, low, c.requires.values.same_width))
+          (c.requires.values.nonzero r from.column c.requires.early leads) (c.requires.values.nonzero r x c.requires.early fresh.0) c.has_one_sign-is_same.ensures.0 c.has_one_sign-is_same.ensures.1)
           (c.in_ok-reach.ensures.steps ∙ ap (λ (b : Bool). walk.steps.items ++ record { column = x; row = r; before = h; is_two = b } ∷ []) c.flipped.ensures)
           c.in_ok-reach.ensures.places c.in_ok-reach.ensures.used c.in_ok-reach.ensures.columns c.in_ok-reach.ensures.in_step;
       low_in = omega (arith, low);
