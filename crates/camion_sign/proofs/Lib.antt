@@ -23,3 +23,4 @@ pub mod RegularSignings
 pub mod SignWords
 pub mod NearFaults
 pub mod PrefixFaults
+pub mod UnsignedOnes

@@ -80,6 +80,12 @@ pub record IsFirstUnsigned (a s : Matrix) (row column : ℕ) : Type 0 where
   pub here : IsUnsignedOne a s row column
   pub least : (d : ℕ) → d < column → ¬ (IsUnsignedOne a s row d)
 
+-- the first one of the row without sign that is in column `from` or a later one
+pub record IsNextUnsigned (a s : Matrix) (row from column : ℕ) : Type 0 where
+  pub low : from ≤ column
+  pub here : IsUnsignedOne a s row column
+  pub least : (d : ℕ) → from ≤ d → d < column → ¬ (IsUnsignedOne a s row d)
+
 -- the least signed column of the row that makes a place with a column
 pub record IsPartner (a s : Matrix) (row column partner : ℕ) : Type 0 where
   pub forces : IsForcedBy a s row column partner

@@ -1,5 +1,5 @@
 // Camion's signing of a 0/1 matrix, row by row.
-ghost use Rattle.std.specs.Prelude.{◌≡◌, ◌<◌, ◌≤◌, ◌+◌, ◌*◌, ◌+ℤ◌, ◌↔◌, ℕ, ℤ, List, length, IsTrue, IfOk, OnOk, MatchOption};
+ghost use Rattle.std.specs.Prelude.{◌≡◌, ◌<◌, ◌≤◌, ◌+◌, ◌*◌, ◌+ℤ◌, ℕ, ℤ, List, length, IfOk, OnOk, MatchOption};
 ghost use Rattle.cmr_base.specs.Matrix.{height, entry, IsMatrix};
 ghost use Rattle.cmr_base.specs.Signing.{IsSign};
 ghost use Rattle.cmr_base.specs.Supports.{HaveOneSupport};
@@ -13,7 +13,7 @@ ghost use Rattle.chains.specs.Chains.{KeepsRule};
 ghost use Rattle.std.specs.List.{AllByRecursion};
 ghost use Rattle.chains.specs.ChainTexts.{IsStepIn};
 ghost use Rattle.camion_sign.specs.declared.row_places.RowPlaces.{RowPlaces};
-ghost use Rattle.camion_sign.specs.Signings.{HasRoomForPlaces, KnowsPlaces, KnowsSigned, IsAtRow, IsFirstUnsigned, IsPartner, IsForcedColumn, NoneForced, unsigned_before};
+ghost use Rattle.camion_sign.specs.Signings.{HasRoomForPlaces, KnowsPlaces, KnowsSigned, IsAtRow, IsFirstUnsigned, IsNextUnsigned, IsPartner, IsForcedColumn, NoneForced, unsigned_before};
 
 use crate::kept_steps::KeptSteps;
 use crate::listed_matrix::ListedMatrix;
@@ -193,23 +193,33 @@ fn forced_one(
     ensures places { IfOk result (λ found. KnowsPlaces matrix.now signs.now row places.new) }
     ensures signed { IfOk result (λ found. KnowsSigned matrix.now signs.now row signed.new) }
 {
-    for column in first..matrix.columns() {
-        if is_unsigned_one(matrix, row, column, signs) {
-            if let Some(partner) = partner_of(matrix, places, row, column, signs, signed)? {
-                return Ok(Some(ForcedOne { column, partner }));
-            }
+    let mut from = first;
+    while let Some(column) = next_unsigned(matrix, row, from, signs) {
+        if let Some(partner) = partner_of(matrix, places, row, column, signs, signed)? {
+            return Ok(Some(ForcedOne { column, partner }));
         }
+        from = column + 1;
     }
     Ok(None)
 }
 
-fn is_unsigned_one(matrix: &ListedMatrix<'_>, row: u32, column: u32, signs: &Matrix) -> bool
+// The first column that is at least `from` and in which a row has a one without sign.
+fn next_unsigned(matrix: &ListedMatrix<'_>, row: u32, from: u32, signs: &Matrix) -> Option<u32>
     requires row { row < height matrix.now }
-    requires column { column < matrix.now.width }
+    requires from { from ≤ matrix.now.width }
     requires signs { AreSigns matrix.now signs.now }
-    ensures { IsTrue result ↔ IsUnsignedOne matrix.now signs.now row column }
+    ensures { MatchOption result
+        ((d : ℕ) → from ≤ d → ¬ (IsUnsignedOne matrix.now signs.now row d))
+        (IsNextUnsigned matrix.now signs.now row from) }
 {
-    matrix.entry(row, column) != 0 && signs.entry(row, column) == 0
+    let mut low = from;
+    while let Some(column) = matrix.by_rows().next_nonzero(row, low) {
+        if signs.entry(row, column) == 0 {
+            return Some(column);
+        }
+        low = column + 1;
+    }
+    None
 }
 
 // The least signed column of a row that makes a cycle place with a column.
@@ -274,16 +284,12 @@ fn least_partner(
 fn first_unsigned(matrix: &ListedMatrix<'_>, row: u32, from: u32, signs: &Matrix) -> Option<u32>
     requires row { row < height matrix.now }
     requires signs { AreSigns matrix.now signs.now }
+    requires from { from ≤ matrix.now.width }
     requires before { (d : ℕ) → d < from → ¬ (IsUnsignedOne matrix.now signs.now row d) }
     ensures { MatchOption result ((d : ℕ) → ¬ (IsUnsignedOne matrix.now signs.now row d))
         (IsFirstUnsigned matrix.now signs.now row) }
 {
-    for column in from..matrix.columns() {
-        if is_unsigned_one(matrix, row, column, signs) {
-            return Some(column);
-        }
-    }
-    None
+    next_unsigned(matrix, row, from, signs)
 }
 
 fn sign_free(
