@@ -1,15 +1,14 @@
 -- The tests of cuts, and their table.
 use Rattle.std.proofs.Common.{ℕ, ◌+◌, ◌*◌, Bool, true, false, List, [], ◌∷◌, ◌++◌, ◌≡◌, ◌<◌, ◌∙◌, sym, refl, arith, subst, ◌⊎◌, inl, inr, length, get_or, ◌&&◌}
-use Rattle.std.specs.Prelude.{◌↔◌}
 use Rattle.std.proofs.lemmas.Bool.{cases_lt}
 use Rattle.std.proofs.lemmas.List.{get_or_append_left}
 use Rattle.std.proofs.lemmas.Nat.{mul-add-lt}
 use Rattle.std.proofs.Math.Seq.{get_or-append_seam}
-use Rattle.cmr_base.specs.Splits.{IsCommon, IsUncut, IsUncutBy, Agree}
+use Rattle.cmr_base.specs.Splits.{IsUncut, IsUncutBy, Agree}
 use Rattle.cmr_base.proofs.Booleans.{and_is, is_and}
 use Rattle.cmr_base.proofs.Lists.{length-more}
 use Rattle.cmr_base.specs.ColumnSets.{has_column, Denies, IsApart, IsWithin}
-use Rattle.bridge_split.specs.Cutting.{IsUncutIn, AreUncutIn, rows_at_part, IsCutTable, HasCutsOfParts, disagree}
+use Rattle.bridge_split.specs.Cutting.{AreCommonColumns, IsUncutIn, AreUncutIn, rows_at_part, IsCutTable, HasCutsOfParts, disagree}
 
 module _ (M : ℕ → ℕ → Bool) where
   -- the columns of a row as a set
@@ -45,14 +44,14 @@ module _ (M : ℕ → ℕ → Bool) where
   denied true P Q f g n = λ q. n (g q)
   denied false P Q f g p = f p
 
-  pub uncut_by : (i : ℕ) (Q P : List ℕ) (columns : ℕ → Bool) → ((column : ℕ) → (columns column ≡ true) ↔ IsCommon M i Q column) → AreUncutIn M columns P → IsUncutBy M i Q P
+  pub uncut_by : (i : ℕ) (Q P : List ℕ) (columns : ℕ → Bool) → AreCommonColumns M i Q columns → AreUncutIn M columns P → IsUncutBy M i Q P
   uncut_by i Q P columns same all j h = go (all j h)
     where
       go : IsUncutIn M columns j → IsUncut M i Q j
       go (inl f) = inl (λ column c. f column ((same column).1 c))
       go (inr f) = inr (λ column c. f column ((same column).1 c))
 
-  pub by_uncut : (i : ℕ) (Q P : List ℕ) (columns : ℕ → Bool) → ((column : ℕ) → (columns column ≡ true) ↔ IsCommon M i Q column) → IsUncutBy M i Q P → AreUncutIn M columns P
+  pub by_uncut : (i : ℕ) (Q P : List ℕ) (columns : ℕ → Bool) → AreCommonColumns M i Q columns → IsUncutBy M i Q P → AreUncutIn M columns P
   by_uncut i Q P columns same all j h = go (all j h)
     where
       go : IsUncut M i Q j → IsUncutIn M columns j
@@ -64,7 +63,7 @@ module _ (M : ℕ → ℕ → Bool) where
     table_starts cuts e = rw e (record { size = omega arith; right = λ a b l. absurd (omega arith) })
 
     pub table_more : (upto : ℕ) (columns : ℕ → Bool) (cuts cuts' : List Bool) → IsCutTable M i parts upto cuts → HasCutsOfParts M columns parts (length parts) cuts cuts'
-        → ((column : ℕ) → (columns column ≡ true) ↔ IsCommon M i (rows_at_part parts upto) column) → IsCutTable M i parts (upto + 1) cuts'
+        → AreCommonColumns M i (rows_at_part parts upto) columns → IsCutTable M i parts (upto + 1) cuts'
     table_more upto columns cuts cuts' w h common = record {
       size = let s = w.size in let t = h.size in omega arith;
       right = λ a b l m. elim (cases_lt a upto) [

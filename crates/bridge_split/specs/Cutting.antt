@@ -2,10 +2,25 @@
 use Rattle.std.specs.Prelude.{◌≡◌, ◌<◌, ◌+◌, ◌*◌, ◌&&◌, ◌⊎◌, ◌↔◌, ℕ, Bool, true, false, List, [], length, slice_index, slice_index_or}
 use Rattle.cmr_base.specs.Members.{IsIn}
 use Rattle.cmr_base.specs.Splits.{IsCommon, IsUncutBy}
-use Rattle.cmr_base.specs.Matrix.{Matrix}
-use Rattle.cmr_base.specs.Planes.{has_bit, words_for}
-use Rattle.cmr_base.specs.Trees.{support}
+use Rattle.cmr_base.specs.BitSets.{Bits}
 use Rattle.cmr_base.specs.ColumnSets.{has_column, Denies}
+use Rattle.cmr_base.specs.Matrix.{Matrix}
+use Rattle.cmr_base.specs.Trees.{support}
+
+-- the columns that row i has in common with at least one of the rows
+abbrev pub AreCommonColumns : (ℕ → ℕ → Bool) → ℕ → List ℕ → (ℕ → Bool) → Type 0
+AreCommonColumns M i rows columns = (column : ℕ) → (columns column ≡ true) ↔ IsCommon M i rows column
+
+-- the columns of row i
+pub record AreColumnsOfRow (m : Matrix) (i : ℕ) (set : Bits) : Type 0 where
+  pub size : set.size ≡ m.width
+  pub exact : (column : ℕ) → has_column set.words column ≡ support m i column
+
+-- a loop invariant: columns that row i has in common with the part, among them all that it has in common with the rows before `place`
+pub record HasCommonBefore (m : Matrix) (i : ℕ) (part : List ℕ) (place : ℕ) (set : Bits) : Type 0 where
+  pub size : set.size ≡ m.width
+  pub into : (column : ℕ) → has_column set.words column ≡ true → IsCommon (support m) i part column
+  pub from : (p column : ℕ) → p < place → support m i column ≡ true → support m (slice_index part p) column ≡ true → has_column set.words column ≡ true
 
 -- all columns of the set are in row j, or none is
 abbrev pub IsUncutIn : (ℕ → ℕ → Bool) → (ℕ → Bool) → ℕ → Type 0
@@ -13,21 +28,6 @@ IsUncutIn M columns j = ((column : ℕ) → columns column ≡ true → M j colu
 
 abbrev pub AreUncutIn : (ℕ → ℕ → Bool) → (ℕ → Bool) → List ℕ → Type 0
 AreUncutIn M columns rows = (j : ℕ) → IsIn j rows → IsUncutIn M columns j
-
--- within the rows of a part: the bits of the word are common columns of a chunk, among them all common columns with the rows
--- before `place`
-pub record IsCollectingWord (M : ℕ → ℕ → Bool) (i : ℕ) (part : List ℕ) (chunk word place : ℕ) : Type 0 where
-  pub into : (k : ℕ) → k < 64 → has_bit word k ≡ true → IsCommon M i part (64 * chunk + k)
-  pub from : (p k : ℕ) → p < place → k < 64 → M i (64 * chunk + k) ≡ true → M (slice_index part p) (64 * chunk + k) ≡ true → has_bit word k ≡ true
-
--- the bits of a word are the common columns of a chunk
-abbrev pub IsCommonWord : (ℕ → ℕ → Bool) → ℕ → List ℕ → ℕ → ℕ → Type 0
-IsCommonWord M i part chunk word = (k : ℕ) → k < 64 → (has_bit word k ≡ true) ↔ IsCommon M i part (64 * chunk + k)
-
--- the first words of a set have the common columns of their chunks
-pub record AreCommonWords (m : Matrix) (i : ℕ) (part set : List ℕ) (chunk : ℕ) : Type 0 where
-  pub size : length set ≡ words_for m.width
-  pub right : (column : ℕ) → column < 64 * chunk → (has_column set column ≡ true) ↔ IsCommon (support m) i part column
 
 abbrev pub rows_at_part : List (List ℕ) → ℕ → List ℕ
 rows_at_part parts a = slice_index_or parts a []
@@ -38,8 +38,8 @@ pub record IsCutTable (M : ℕ → ℕ → Bool) (i : ℕ) (parts : List (List �
   pub right : (a b : ℕ) → a < upto → b < length parts → Denies (slice_index_or cuts (a * length parts + b) false) (IsUncutBy M i (rows_at_part parts a) (rows_at_part parts b))
 
 -- the table is complete for the parts before `upto`, and `common` is a set of the right size
-pub record IsTableBefore (m : Matrix) (i : ℕ) (parts : List (List ℕ)) (upto : ℕ) (common : List ℕ) (cuts : List Bool) : Type 0 where
-  pub size : length common ≡ words_for m.width
+pub record IsTableBefore (m : Matrix) (i : ℕ) (parts : List (List ℕ)) (upto : ℕ) (common : Bits) (cuts : List Bool) : Type 0 where
+  pub size : common.size ≡ m.width
   pub table : IsCutTable (support m) i parts upto cuts
 
 -- the cells after `before`, one for each of the first `upto` parts, say whether a row of the part cuts the columns

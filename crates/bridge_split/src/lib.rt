@@ -11,7 +11,7 @@ mod sides;
 mod splitting;
 mod stars;
 
-pub use cuts::{part_cuts, set_common};
+pub use cuts::part_cuts;
 pub use sides::{PartSides, sides_at};
 pub use splitting::{SplitCase, SplitRow, first_splitting_row, split};
 pub use stars::has_column_with_three;

@@ -2,7 +2,7 @@
 ghost use Rattle.std.specs.Prelude.{◌≡◌, ◌<◌, ◌≤◌, ◌⊎◌, ◌↔◌, ◌&&◌, ◌||◌, ◌==◌, not, filter, ℕ, true, false, length, IfOk, IsTrue, MatchOption};
 ghost use Rattle.std.specs.List.{list_any};
 ghost use Rattle.cmr_base.specs.BitSets.{IsBitSet, IsNextOf, AreWordsOf};
-ghost use Rattle.cmr_base.specs.ColumnSets.{has_column, HasCommon, IsWithin};
+ghost use Rattle.cmr_base.specs.ColumnSets.{has_column, Denies, HasCommon, IsApart, IsWithin};
 ghost use Rattle.cmr_base.specs.LineSets.{AllBelow, first_lines};
 ghost use Rattle.cmr_base.specs.Matrix.{height};
 ghost use Rattle.cmr_base.specs.Seeds.{count};
@@ -10,7 +10,7 @@ ghost use Rattle.cmr_base.specs.Trees.{support};
 
 use crate::columns::{
     add_column, add_common, add_outside, add_set, clear_set, count_below, empty_set, has_column,
-    is_empty, is_within, meets, next_column, remove_column,
+    is_cut, is_empty, is_within, meets, next_column, remove_column,
 };
 use crate::{Indices, MAX_COLUMNS, Matrix, Memory};
 use std::alloc::Global;
@@ -297,5 +297,14 @@ impl BitSet {
         ensures { IsTrue result ↔ HasCommon self.now.words words.now }
     {
         meets(&self.words, words)
+    }
+
+    /// Whether a set that is given as words has some numbers of the set, but not all.
+    pub fn is_cut_by_words(&self, words: &[u64]) -> bool
+        requires { AreWordsOf self.now.size words.now }
+        ensures { Denies result
+            (IsWithin self.now.words words.now ⊎ IsApart self.now.words words.now) }
+    {
+        is_cut(&self.words, words)
     }
 }

@@ -1,18 +1,19 @@
 -- The parts of rows and of columns.
-use Rattle.std.proofs.Common.{true, ◌≡◌, ◌≢◌, ◌<◌, ◌≤◌, ◌+◌, ◌++◌, ◌∙◌, ◌↔◌, ℕ, ◌&&◌, ◌||◌, not, refl, Bool, false, List, [], ◌∷◌, length, get_or, sym, ap, ap₂, subst, arith, ◌⊎◌, inl, inr, Option, Some, None}
+use Rattle.std.proofs.Common.{true, ◌≡◌, ◌≢◌, ◌<◌, ◌≤◌, ◌+◌, ◌++◌, ◌∙◌, ◌↔◌, ℕ, ◌&&◌, ◌||◌, not, refl, Bool, false, List, [], ◌∷◌, length, length-append, get_or, sym, ap, ap₂, subst, arith, ◌⊎◌, inl, inr, Option, Some, None}
 use Rattle.std.specs.Prelude.{slice_index_or}
 use Rattle.std.proofs.lemmas.Bool.{cases_lt}
-use Rattle.std.proofs.lemmas.List.{get_or_past}
+use Rattle.std.proofs.lemmas.List.{get_or_append_left, get_or_at, get_or_past}
+use Rattle.cmr_base.specs.BitSets.{Bits}
 use Rattle.cmr_base.specs.Members.{IsIn}
 use Rattle.cmr_base.specs.Splits.{AreParts}
 use Rattle.bridge_split.proofs.PartWalks.{no_number, same_number}
 use Rattle.cmr_base.proofs.Booleans.{and_is, not_is, or_is, or_true}
 use Rattle.cmr_base.proofs.Members.{in-append, in_at}
 use Rattle.cmr_base.proofs.RowLists.{not_both, in_or_not, is_eq, is_ne, same_or_not}
-use Rattle.graph_realise.specs.Joints.{ArePartMarks, AreColumnsOf, AreNumbered, AreOfRows, IsPartNumber, IsPartTouched, is_part, number_at}
+use Rattle.graph_realise.specs.Joints.{ArePartMarks, AreColumnsOf, AreColumnsOfParts, IsSetOfPart, set_at, AreNumbered, AreOfRows, IsPartNumber, IsPartTouched, is_part, number_at}
 use Rattle.graph_realise.specs.BitTables.{Grid, cell, IsCellSet}
 use Rattle.graph_realise.specs.RowNumbers.{AreDisjoint}
-use Rattle.cmr_base.proofs.Places.{found_at}
+use Rattle.cmr_base.proofs.Places.{each_more, found_at}
 
 -- ---- the columns of the rows of a part
 
@@ -37,6 +38,16 @@ module _ (M : ℕ → ℕ → Bool) (rows : List ℕ) where
       from p c l on (inr k) =
           let e : p ≡ place = omega arith in
           ap (λ t. columns c || t) (ap (λ (z : ℕ). M (get_or rows z 0) c) (sym e) ∙ on) ∙ or_true (columns c)
+
+-- one more part
+pub sets_more : (M : ℕ → ℕ → Bool) (n : ℕ) (parts : List (List ℕ)) (count : ℕ) (sets : List Bits) (set : Bits) → AreColumnsOfParts M n parts count sets → IsSetOfPart M n (slice_index_or parts count []) set
+    → AreColumnsOfParts M n parts (count + 1) (sets ++ set ∷ [])
+sets_more M n parts count sets set so here = record {
+  many = length-append sets (set ∷ []) ∙ ap (λ (z : ℕ). z + 1) so.many;
+  each = each_more (λ a. IsSetOfPart M n (slice_index_or parts a []) (set_at (sets ++ set ∷ []) a)) count
+      (λ a l. subst (IsSetOfPart M n (slice_index_or parts a [])) (sym (get_or_append_left sets (set ∷ []) (set_at [] 0) a (let k = so.many in omega arith))) (so.each a l))
+      (subst (IsSetOfPart M n (slice_index_or parts count [])) (sym (get_or_at sets set [] (set_at [] 0) count so.many)) here);
+}
 
 module _ (M : ℕ → ℕ → Bool) (i : ℕ) where
   -- those in which row i is 0

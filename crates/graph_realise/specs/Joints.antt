@@ -1,6 +1,8 @@
 -- A row and the parts of the other rows: their properties, and the tree of all rows.
 use Rattle.std.specs.Prelude.{◌≡◌, ◌≢◌, ◌<◌, ◌≤◌, ◌⊎◌, ◌==◌, ◌&&◌, ◌||◌, not, nat_lt, if◌then◌else◌, ℕ, Bool, true, false, List, [], length, slice_index, slice_index_or, Option, Some, None}
 use Rattle.cmr_base.specs.declared.limits.TheConstants.{MAX_ROWS}
+use Rattle.cmr_base.specs.BitSets.{Bits}
+use Rattle.cmr_base.specs.ColumnSets.{has_column}
 use Rattle.cmr_base.specs.Cuts.{differ}
 use Rattle.cmr_base.specs.LineSets.{AllBelow}
 use Rattle.cmr_base.specs.Matrix.{Matrix, height}
@@ -56,6 +58,19 @@ IsPartNumber M i parts count column found =
 pub record AreColumnsOf (M : ℕ → ℕ → Bool) (rows : List ℕ) (place : ℕ) (columns : ℕ → Bool) : Type 0 where
   pub into : (column : ℕ) → columns column ≡ true → (p : ℕ) × (p < place) × (M (slice_index rows p) column ≡ true)
   pub from : (p column : ℕ) → p < place → M (slice_index rows p) column ≡ true → columns column ≡ true
+
+-- the columns of the rows of a part, out of n columns
+pub record IsSetOfPart (M : ℕ → ℕ → Bool) (n : ℕ) (rows : List ℕ) (set : Bits) : Type 0 where
+  pub size : set.size ≡ n
+  pub columns : AreColumnsOf M rows (length rows) (has_column set.words)
+
+abbrev pub set_at : List Bits → ℕ → Bits
+set_at sets part = slice_index_or sets part (record { size = 0; words = [] })
+
+-- the columns of each of the first parts
+pub record AreColumnsOfParts (M : ℕ → ℕ → Bool) (n : ℕ) (parts : List (List ℕ)) (count : ℕ) (sets : List Bits) : Type 0 where
+  pub many : length sets ≡ count
+  pub each : (a : ℕ) → a < count → IsSetOfPart M n (slice_index_or parts a []) (set_at sets a)
 
 -- the columns of the rows before `place` in which row i is 0
 pub record AreOfRows (M : ℕ → ℕ → Bool) (i : ℕ) (rows : List ℕ) (place : ℕ) (columns : ℕ → Bool) : Type 0 where

@@ -6,7 +6,7 @@ ghost use Rattle.cmr_base.specs.Matrix.{height, IsMatrix};
 ghost use Rattle.cmr_base.specs.Members.{IsIn};
 ghost use Rattle.cmr_base.specs.Trees.{support};
 ghost use Rattle.cmr_base.specs.ColumnSets.{has_column};
-ghost use Rattle.graph_realise.specs.Joints.{AreInRows, ArePartMarks, AreNumbered, AreColumnsOf, IsJointOf, IsPartNumber, number_at};
+ghost use Rattle.graph_realise.specs.Joints.{AreColumnsOfParts, AreInRows, ArePartMarks, AreNumbered, IsJointOf, IsPartNumber, IsSetOfPart, number_at};
 ghost use Rattle.graph_realise.specs.RowNumbers.{AreDisjoint};
 ghost use Rattle.graph_realise.specs.BitTables.{AreChunksOf};
 
@@ -50,8 +50,9 @@ impl Joint {
             matrix.now.width row parts.now ends.now) }
     {
         let part_of = parts_of_rows(alloc, matrix, parts)?;
-        let part_with = parts_with_columns(alloc, matrix, row, parts)?;
-        let branches = branches_at(alloc, matrix, row, parts, ends)?;
+        let columns = columns_of_parts(alloc, matrix, parts)?;
+        let part_with = parts_with_columns(alloc, matrix, row, parts, &columns)?;
+        let branches = branches_at(alloc, matrix, row, parts, &columns, ends)?;
         let row_chunks = chunks_of_row(alloc, matrix, row)?;
         let row_marks = marks_of(alloc, &part_of, parts.len())?;
         let column_marks = marks_of(alloc, &part_with, parts.len())?;
@@ -125,27 +126,53 @@ fn number_rows(numbers: &mut Vec<Option<usize>>, part: &Indices, number: usize)
     }
 }
 
+// The columns of each part.
+fn columns_of_parts(alloc: Global, matrix: &Matrix, parts: &PartList) -> Result<Vec<BitSet>, Memory>
+    requires { AreInRows (height matrix.now) parts.now }
+    ensures { IfOk result (λ sets. AreColumnsOfParts (support matrix.now) matrix.now.width parts.now
+        (length parts.now) sets.items) }
+{
+    let mut sets = Vec::new(alloc);
+    for place in 0..parts.len() {
+        let columns = columns_of_part(alloc, matrix, parts.get(place))?;
+        sets.push(columns)?;
+    }
+    Ok(sets)
+}
+
+// The columns in which some row of the part is not 0.
+fn columns_of_part(alloc: Global, matrix: &Matrix, part: &Indices) -> Result<BitSet, Memory>
+    requires { AllBelow (height matrix.now) part.now }
+    ensures { IfOk result (IsSetOfPart (support matrix.now) matrix.now.width part.now) }
+{
+    let mut columns = BitSet::new(alloc, matrix.columns())?;
+    for row in part.as_slice() {
+        columns.add_words(columns_of(matrix, *row));
+    }
+    Ok(columns)
+}
+
 // For each column in which `row` is 0 the part with its nonzeros.
 fn parts_with_columns(
     alloc: Global,
     matrix: &Matrix,
     row: u32,
     parts: &PartList,
+    sets: &[BitSet],
 ) -> Result<Vec<Option<usize>>, Memory>
     requires row { row < height matrix.now }
-    requires parts { AreInRows (height matrix.now) parts.now }
+    requires sets { AreColumnsOfParts (support matrix.now) matrix.now.width parts.now
+        (length parts.now) sets.now }
     ensures size { IfOk result (λ numbers. length numbers.items ≡ matrix.now.width) }
     ensures parts { IfOk result (λ numbers. (column : ℕ)
         → IsPartNumber (support matrix.now) row parts.now (length parts.now) column
         (number_at numbers.items column)) }
 {
     let mut numbers = no_numbers(alloc, matrix.columns())?;
-    let mut met = BitSet::new(alloc, matrix.columns())?;
     let mut columns = BitSet::new(alloc, matrix.columns())?;
     for place in 0..parts.len() {
-        set_columns_of_part(matrix, parts.get(place), &mut met);
         columns.clear();
-        columns.add_outside_words(&met, columns_of(matrix, row));
+        columns.add_outside_words(&sets[place], columns_of(matrix, row));
         number_columns(&columns, Some(place), &mut numbers);
     }
     Ok(numbers)
@@ -171,20 +198,6 @@ fn no_numbers(alloc: Global, columns: u32) -> Result<Vec<Option<usize>>, Memory>
     ensures none { IfOk result (λ numbers. (column : ℕ) → number_at numbers.items column ≡ None) }
 {
     Ok(vec![in alloc; None; columns as usize]?)
-}
-
-// Sets the columns of the rows of a part.
-fn set_columns_of_part(matrix: &Matrix, part: &Indices, columns: &mut BitSet)
-    requires rows { AllBelow (height matrix.now) part.now }
-    requires size { columns.old.size ≡ matrix.now.width }
-    ensures size { columns.new.size ≡ matrix.now.width }
-    ensures columns { AreColumnsOf (support matrix.now) part.now (length part.now)
-        (has_column columns.new.words) }
-{
-    columns.clear();
-    for row in part.as_slice() {
-        columns.add_words(columns_of(matrix, *row));
-    }
 }
 
 // Gives the columns of a set one number.

@@ -50,8 +50,7 @@ fn draw_ray(matrix: &Matrix, row: u32, seen: &BitSet, sides: &mut ArcSides)
 {
     let _rows = matrix.rows();
     let columns = columns_of(matrix, row);
-    let before = seen.words();
     sides.arcs.clear(row);
-    sides.first.fill_outside(row, columns, before);
-    sides.last.fill_common(row, columns, before);
+    sides.first.fill_outside(row, columns, seen);
+    sides.last.fill_common(row, columns, seen);
 }

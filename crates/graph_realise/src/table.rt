@@ -3,11 +3,12 @@ ghost use Rattle.std.specs.Prelude.{◌≡◌, ◌<◌, ◌≤◌, ◌+◌, ◌*
 ghost use Rattle.cmr_base.specs.Matrix.{height};
 ghost use Rattle.cmr_base.specs.Planes.{has_bit, words_for};
 ghost use Rattle.cmr_base.specs.Trees.{support};
+ghost use Rattle.cmr_base.specs.BitSets.{AreWordsOf};
 ghost use Rattle.cmr_base.specs.ColumnSets.{has_column};
 ghost use Rattle.graph_realise.specs.BitTables.{cell, AreChunksOf, IsCellSet, IsRowFilled, IsWordSet};
 
 use cmr_base::columns::outside;
-use cmr_base::{MAX_COLUMNS, MAX_ROWS, Matrix, Memory, has_bit, with_bit, words_for};
+use cmr_base::{BitSet, MAX_COLUMNS, MAX_ROWS, Matrix, Memory, has_bit, with_bit, words_for};
 use std::alloc::Global;
 use std::marker::Model;
 
@@ -148,30 +149,32 @@ impl Table {
         }
     }
 
-    /// Sets the values of a row in the columns that are in both sets, and clears the rest.
-    pub fn fill_common(&mut self, row: u32, one: &[u64], two: &[u64])
+    /// Sets the values of a row in the columns that are in both sets, the first of them given as words, and clears the rest.
+    pub fn fill_common(&mut self, row: u32, one: &[u64], two: &BitSet)
         requires row { row < self.old.height }
-        requires one { length one.now ≡ words_for self.old.width }
-        requires two { length two.now ≡ words_for self.old.width }
+        requires one { AreWordsOf self.old.width one.now }
+        requires two { two.now.size ≡ self.old.width }
         ensures { IsRowFilled
-            (λ column. has_column one.now column && has_column two.now column)
+            (λ column. has_column one.now column && has_column two.now.words column)
             self.old self.new row self.old.width }
     {
+        let two = two.words();
         for chunk in 0..self.chunks() {
             let word = one[chunk as usize] & two[chunk as usize];
             self.set_word(row, chunk, word);
         }
     }
 
-    /// Sets the values of a row in the columns that are in `one` and not in `other`, and clears the rest.
-    pub fn fill_outside(&mut self, row: u32, one: &[u64], other: &[u64])
+    /// Sets the values of a row in the columns that are in `one`, given as words, and not in `other`, and clears the rest.
+    pub fn fill_outside(&mut self, row: u32, one: &[u64], other: &BitSet)
         requires row { row < self.old.height }
-        requires one { length one.now ≡ words_for self.old.width }
-        requires other { length other.now ≡ words_for self.old.width }
+        requires one { AreWordsOf self.old.width one.now }
+        requires other { other.now.size ≡ self.old.width }
         ensures { IsRowFilled
-            (λ column. has_column one.now column && not (has_column other.now column))
+            (λ column. has_column one.now column && not (has_column other.now.words column))
             self.old self.new row self.old.width }
     {
+        let other = other.words();
         for chunk in 0..self.chunks() {
             let word = one[chunk as usize] & !other[chunk as usize];
             self.set_word(row, chunk, word);

@@ -19,5 +19,5 @@ loop-part-preserved c =
     let M = support c.args.matrix.now in
     let p = c.loop-part.part-index in
     let item : c.part-item.result ≡ rows_at_part c.args.parts.now p = c.part-item.is ∙ get_or_default c.args.parts.now p c.part-item.result [] c.loop-part-test.true in
-    line_more M (has_column c.args.columns.now) c.args.parts.now p c.args.cuts.now.items c.loop-part.cuts.items c.push.new.self.items c.part_cuts.result c.loop-part.invariant c.in_ok-push.ensures.items
-    (subst (λ (rows : List ℕ). Denies c.part_cuts.result (AreUncutIn M (has_column c.args.columns.now) rows)) (c.as_slice.ensures.items ∙ item) c.part_cuts.ensures)
+    line_more M (has_column c.args.columns.now.words) c.args.parts.now p c.args.cuts.now.items c.loop-part.cuts.items c.push.new.self.items c.part_cuts.result c.loop-part.invariant c.in_ok-push.ensures.items
+    (subst (λ (rows : List ℕ). Denies c.part_cuts.result (AreUncutIn M (has_column c.args.columns.now.words) rows)) (c.as_slice.ensures.items ∙ item) c.part_cuts.ensures)

@@ -1,5 +1,5 @@
-use Rattle.bridge_split.specs.Cutting.{AreCommonWords}
+use Rattle.bridge_split.specs.Cutting.{HasCommonBefore}
 use Rattle.bridge_split.proofs.cuts.set_common.Given as goal
 
-abbrev pub invariant-loop-chunk : goal.invariant-loop-chunk
-invariant-loop-chunk l = AreCommonWords l.matrix l.row l.part l.common.items l.chunk
+abbrev pub invariant-loop-other : goal.invariant-loop-other
+invariant-loop-other l = HasCommonBefore l.matrix l._row l.part l.other-index l.common

@@ -5,7 +5,6 @@ use Rattle.graph_realise.proofs.joint.parts_with_columns.Given as goal
 
 abbrev pub invariant-loop-place : goal.invariant-loop-place
 invariant-loop-place l = record {
-  met_fit : l.met.size ≡ l.matrix.width;
   columns_fit : l.columns.size ≡ l.matrix.width;
   size : length l.numbers.items ≡ l.matrix.width;
   named : (column : ℕ) → IsPartNumber (support l.matrix) l.row l.parts l.place column (number_at l.numbers.items column);

@@ -10,13 +10,13 @@ marked numbers given count many marks e f h = subst (λ (xs : List (Option ℕ))
 
 pub marks_of-requires-clause-numbers : goal.marks_of-requires-clause-numbers
 marks_of-requires-clause-numbers c = λ row part e.
-    let l = (c.in_ok-part_of.ensures.numbered.only part row (ap (λ (xs : List (Option ℕ)). number_at xs row) (sym c.deref.ensures.value) ∙ e)).0 in
+    let l = (c.in_ok-part_of.ensures.numbered.only part row (ap (λ (xs : List (Option ℕ)). number_at xs row) (sym c.deref-3.ensures.value) ∙ e)).0 in
     omega (arith, l, c.len.ensures)
 
 pub marks_of-requires-2-clause-numbers : goal.marks_of-requires-2-clause-numbers
 marks_of-requires-2-clause-numbers c = λ column part e.
     let l = named_number (support c.args.matrix.now) c.args.row c.args.parts.now (length c.args.parts.now) column part _ (c.in_ok-part_with.ensures.parts column)
-    (ap (λ (xs : List (Option ℕ)). number_at xs column) (sym c.deref-2.ensures.value) ∙ e) in
+    (ap (λ (xs : List (Option ℕ)). number_at xs column) (sym c.deref-4.ensures.value) ∙ e) in
     omega (arith, l, c.len-2.ensures)
 
 pub returns-clause-joint : goal.returns-clause-joint
@@ -28,7 +28,7 @@ returns-clause-joint c = record {
   branches = c.in_ok-branches.ensures;
   with_columns = c.in_ok-part_with.ensures.parts;
   own_chunks = c.in_ok-row_chunks.ensures;
-  row_marks = marked c.in_ok-part_of.part_of.items c.deref.result.now c.len.result (length c.args.parts.now) c.in_ok-row_marks.row_marks c.deref.ensures.value c.len.ensures c.in_ok-row_marks.ensures;
-  column_marks = marked c.in_ok-part_with.part_with.items c.deref-2.result.now c.len-2.result (length c.args.parts.now) c.in_ok-column_marks.column_marks c.deref-2.ensures.value c.len-2.ensures c.in_ok-column_marks.ensures;
+  row_marks = marked c.in_ok-part_of.part_of.items c.deref-3.result.now c.len.result (length c.args.parts.now) c.in_ok-row_marks.row_marks c.deref-3.ensures.value c.len.ensures c.in_ok-row_marks.ensures;
+  column_marks = marked c.in_ok-part_with.part_with.items c.deref-4.result.now c.len-2.result (length c.args.parts.now) c.in_ok-column_marks.column_marks c.deref-4.ensures.value c.len-2.ensures c.in_ok-column_marks.ensures;
   few = omega (arith, c.requires.few, c.in_ok-part_of.ensures.shape.height_in);
 }

@@ -1,9 +1,10 @@
-use Rattle.std.proofs.Common.{◌&&◌, ◌∙◌, ℕ, Bool, not, get_or, sym, ap, ap₂, arith, w64}
+use Rattle.std.proofs.Common.{◌&&◌, ◌∙◌, ℕ, Bool, List, not, get_or, subst, sym, ap, ap₂, arith, w64}
 use Rattle.std.specs.Int.{bit_not}
 use Rattle.std.specs.Int.Bits.{bit_and}
 use Rattle.cmr_base.specs.ColumnSets.{has_column}
 use Rattle.cmr_base.proofs.ColumnWords.{column_at}
 use Rattle.cmr_base.proofs.WordBits.{has_bit-and, has_bit-not}
+use Rattle.graph_realise.specs.BitTables.{IsRowFilled}
 use Rattle.graph_realise.proofs.TableLemmas.{filled_word, filled_row}
 use Rattle.graph_realise.proofs.table.Table.fill_outside.Goals as goal
 
@@ -11,7 +12,7 @@ pub loop-chunk-preserved : goal.loop-chunk-preserved
 loop-chunk-preserved c =
     let chunk = c.loop-chunk.chunk in
     let one = c.args.one.now in
-    let other = c.args.other.now in
+    let other = c.words-other.result.now in
     let values : ℕ → Bool = λ column. has_column one column && not (has_column other column) in
     filled_word values c.args.self.now c.loop-chunk.self c.set_word.new.self c.args.row chunk (bit_and (get_or one chunk 0) (bit_not w64 (get_or other chunk 0))) c.loop-chunk.invariant c.set_word.ensures
     (λ k small inside. has_bit-and (get_or one chunk 0) (bit_not w64 (get_or other chunk 0)) k
@@ -20,4 +21,6 @@ loop-chunk-preserved c =
 pub returns : goal.returns
 returns c =
     let end = c.loop-chunk-test.false in
-    filled_row (λ column. has_column c.args.one.now column && not (has_column c.args.other.now column)) c.args.self.now c.loop-chunk.self c.args.row c.loop-chunk.chunk (omega (arith, end, c.chunks-chunk-end.ensures)) c.loop-chunk.invariant
+    let old = c.args.self.now in
+    subst (λ (words : List ℕ). IsRowFilled (λ column. has_column c.args.one.now column && not (has_column words column)) old c.loop-chunk.self c.args.row old.width) c.words-other.ensures.words
+    (filled_row (λ column. has_column c.args.one.now column && not (has_column c.words-other.result.now column)) old c.loop-chunk.self c.args.row c.loop-chunk.chunk (omega (arith, end, c.chunks-chunk-end.ensures)) c.loop-chunk.invariant)

@@ -3,12 +3,12 @@ use Rattle.cmr_base.specs.ColumnSets.{has_column}
 use Rattle.cmr_base.specs.Trees.{support}
 use Rattle.graph_realise.specs.Joints.{AreColumnsOf}
 use Rattle.graph_realise.proofs.JointLemmas.{columns_of_more, columns_of_none}
-use Rattle.graph_realise.proofs.joint.set_columns_of_part.Goals as goal
+use Rattle.graph_realise.proofs.joint.columns_of_part.Goals as goal
 
 pub loop-row-init : goal.loop-row-init
 loop-row-init c = record {
-  size = c.clear.ensures.size ∙ c.requires.size;
-  columns = columns_of_none (support c.args.matrix.now) c.args.part.now (has_column c.clear.new.self.words) c.clear.ensures.none;
+  size = c.in_ok-columns.ensures.size ∙ c.columns.ensures.columns;
+  columns = columns_of_none (support c.args.matrix.now) c.args.part.now (has_column c.in_ok-columns.columns.words) c.in_ok-columns.ensures.none;
 }
 
 pub loop-row-preserved : goal.loop-row-preserved
@@ -24,10 +24,12 @@ loop-row-preserved c =
           ∙ ap (λ (z : ℕ). has_column old column || M z column) at);
     }
 
-pub returns-clause-columns : goal.returns-clause-columns
-returns-clause-columns c =
+pub returns : goal.returns
+returns c =
     let e = ap (λ (xs : List ℕ). length xs) c.as_slice-row-items.ensures.items in
     let l = c.loop-row-test.false in
     let b = c.loop-row.auto.row-index-end in
-    let f : c.loop-row.row-index ≡ length c.args.part.now = omega arith in
-    subst (λ (n : ℕ). AreColumnsOf (support c.args.matrix.now) c.args.part.now n (has_column c.loop-row.columns.words)) f c.loop-row.invariant.columns
+    let f : c.loop-row.row-index ≡ length c.args.part.now = omega arith in record {
+      size = c.loop-row.invariant.size;
+      columns = subst (λ (n : ℕ). AreColumnsOf (support c.args.matrix.now) c.args.part.now n (has_column c.loop-row.columns.words)) f c.loop-row.invariant.columns;
+    }

@@ -2,7 +2,7 @@ use Rattle.std.proofs.Common.{◌≡◌}
 use Rattle.cmr_base.specs.ColumnSets.{has_column}
 use Rattle.cmr_base.specs.Trees.{support}
 use Rattle.graph_realise.specs.Joints.{AreColumnsOf}
-use Rattle.graph_realise.proofs.joint.set_columns_of_part.Given as goal
+use Rattle.graph_realise.proofs.joint.columns_of_part.Given as goal
 
 abbrev pub invariant-loop-row : goal.invariant-loop-row
 invariant-loop-row l = record {
