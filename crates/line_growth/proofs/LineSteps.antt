@@ -1,5 +1,5 @@
 -- Lines added to a set, step by step.
-use Rattle.std.proofs.Common.{ℕ, zero, suc, ◌+◌, ◌*◌, ◌%◌, ◌*ℤ◌, ◌&&◌, ℤ, Bool, true, false, not, cond, nat_eq, List, [], ◌∷◌, ◌++◌, ◌≡◌, ◌<◌, ◌≤◌, ◌∙◌, sym, ap, refl, arith, subst, ◌⊎◌, inl, inr, length, length-append}
+use Rattle.std.proofs.Common.{ℕ, zero, suc, ◌+◌, ◌-◌, ◌*◌, ◌%◌, ◌*ℤ◌, ◌&&◌, ℤ, Bool, true, false, not, cond, nat_eq, List, [], ◌∷◌, ◌++◌, ◌≡◌, ◌<◌, ◌≤◌, ◌∙◌, sym, ap, refl, arith, subst, ◌⊎◌, inl, inr, length, length-append}
 use Rattle.std.specs.Ordering.{int_eq}
 use Rattle.std.proofs.lemmas.Bool.{false≢true, cases_lt, cases_eq}
 use Rattle.std.proofs.lemmas.Bool.Decides.{Decides-int_eq}
@@ -15,7 +15,7 @@ use Rattle.cmr_base.proofs.DifferenceWords.{difference_in}
 use Rattle.cmr_base.proofs.LineCounts.{count_more, count_same, less}
 use Rattle.cmr_base.proofs.Members.{in-append}
 use Rattle.cmr_base.proofs.RowLists.{two_cases}
-use Rattle.cmr_base.proofs.Booleans.{false_is, is_ne, not_both, same_test, self_eq}
+use Rattle.cmr_base.proofs.Booleans.{false_is, is_ne, not_both, not_false, not_is, same_test, self_eq}
 use Rattle.line_growth.specs.GrowingLines.{DecidesUnlike, Growth, is_inside, count_left, IsGrowth, HasGrown, HasAdded, HasTaken}
 
 -- ---- lists of waiting lines
@@ -178,6 +178,19 @@ seen_or_found word false s is e = absurd (false≢true e)
 -- the bits of a word as a set of columns
 pub bit_in : (word k : ℕ) → k < 64 → has_column (word ∷ []) k ≡ has_bit word k
 bit_in word k l = ap (has_column (word ∷ [])) (omega arith) ∙ column_at (word ∷ []) 0 k l
+
+-- the lines of a chunk that are not inside, as the bits of a word
+module _ (lines : Growth) (chunk word : ℕ) (is : (k : ℕ) → k < 64 → has_bit word k ≡ not (is_inside lines (64 * chunk + k))) where
+  pub other_out : (k : ℕ) → k < 64 → has_column (word ∷ []) k ≡ true → is_inside lines (64 * chunk + k) ≡ false
+  other_out k l e = not_is (is_inside lines (64 * chunk + k)) (sym (is k l) ∙ (sym (bit_in word k l) ∙ e))
+
+  -- the lines before the next bit are inside
+  pub others_in : (first next : ℕ) → next ≤ 64 → ((k : ℕ) → first ≤ k → k < next → has_column (word ∷ []) k ≡ false) → (x : ℕ) → 64 * chunk + first ≤ x → x < 64 * chunk + next → is_inside lines x ≡ true
+  others_in first next most none x low high = at (x - 64 * chunk) (omega arith)
+    where
+      at : (k : ℕ) → 64 * chunk + k ≡ x → is_inside lines x ≡ true
+      at k e = subst (λ (z : ℕ). is_inside lines z ≡ true) e
+          (not_false (is_inside lines (64 * chunk + k)) (sym (is k (omega arith)) ∙ (sym (bit_in word k (omega arith)) ∙ none k (omega arith) (omega arith))))
 
 -- the bits up to the next bit are inside
 pub found_until : (bits : List ℕ) (lines after : Growth) (first from next : ℕ) → ((line : ℕ) → is_inside lines line ≡ true → is_inside after line ≡ true) → ((k : ℕ) → k < from → has_column bits k ≡ true → is_inside lines (first + k) ≡ true)

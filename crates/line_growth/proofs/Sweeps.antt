@@ -1,5 +1,5 @@
 -- Lines outside that break a rule with a line inside are added, first the rows and then the columns.
-use Rattle.std.proofs.Common.{◌≡◌, ◌<◌, ◌+◌, ◌∙◌, ℕ, ℤ, true, false, List, ap, sym, subst, refl, arith, inl, inr, ◌⊎◌}
+use Rattle.std.proofs.Common.{◌≡◌, ◌<◌, ◌≤◌, ◌+◌, ◌∙◌, ℕ, ℤ, true, false, not, List, length, ap, sym, subst, refl, arith, inl, inr, ◌⊎◌}
 use Rattle.std.proofs.lemmas.Bool.{cases_lt}
 use Rattle.cmr_base.specs.declared.line.Line.{Line}
 use Rattle.cmr_base.specs.declared.line.Line.TheVariants.{Row, Column}
@@ -8,13 +8,14 @@ use Rattle.cmr_base.specs.ColumnSets.{has_column}
 use Rattle.cmr_base.specs.Matrix.{Matrix, height, entry}
 use Rattle.cmr_base.specs.Members.{IsIn}
 use Rattle.cmr_base.specs.Separations.{Lines}
-use Rattle.cmr_base.specs.Seeds.{HasAll, IsLine}
-use Rattle.cmr_base.proofs.Booleans.{false_is, not_both, true_is}
+use Rattle.cmr_base.specs.Seeds.{HasAll, IsLine, count as number_of_lines}
+use Rattle.cmr_base.proofs.Booleans.{false_is, not_both, not_is, true_is}
 use Rattle.cmr_base.proofs.ListedLines.{contains_first_lines}
 use Rattle.cmr_base.proofs.Lists.{all_weaker}
+use Rattle.cmr_base.proofs.SeedLemmas.{count_grows}
 use Rattle.line_growth.specs.declared.growing_set.GrowingSet.{GrowingSet}
-use Rattle.line_growth.specs.GrowingLines.{Growth, HasAdded, is_inside}
-use Rattle.line_growth.specs.GrowingSets.{HasSweptColumns, HasSweptRows, IsClosedIn, IsGrowing, PullsColumn, PullsRow, set_of}
+use Rattle.line_growth.specs.GrowingLines.{Growth, HasAdded, count_left, is_inside, room}
+use Rattle.line_growth.specs.GrowingSets.{HasSameSizes, HasSwept, HasSweptColumns, HasSweptRows, IsClosedIn, IsGrowing, IsSizedFor, PullsColumn, PullsRow, set_of, work}
 use Rattle.line_growth.proofs.LineSteps.{grown_more, grown_none}
 
 -- ---- the rows
@@ -27,6 +28,17 @@ module _ (m : Matrix) (lower : ℕ → ℕ → ℤ) where
     column_same : (column : ℕ) → set_of set (Column column) ≡ set_of before (Column column)
     column_same column = ap (λ (lines : Growth). is_inside lines column) swept.columns
 
+    -- rows inside are passed
+    pub rows_passed : (next : ℕ) → ((row : ℕ) → most ≤ row → row < next → set_of set (Row row) ≡ true) → HasSweptRows m lower next before set
+    rows_passed next within = record {
+      columns = swept.columns;
+      grown = swept.grown;
+      agree = λ r k low out inside. elim (cases_lt r most) [
+        | inl h ↦ swept.agree r k h out inside
+        | inr h ↦ absurd (not_both (set_of set (Row r)) (within r h low) out)
+      ];
+    }
+
     -- a row that breaks the rule is added
     pub row_swept_in : (after : GrowingSet) → HasAdded most set.rows after.rows → after.columns ≡ set.columns → PullsRow m lower set most → HasSweptRows m lower (most + 1) before after
     row_swept_in after added columns (column, l, e, differs) = record {
@@ -38,15 +50,15 @@ module _ (m : Matrix) (lower : ℕ → ℕ → ℤ) where
       ];
     }
 
-    -- another row is inside, or does not break the rule
-    pub row_left_out : (set_of set (Row most) ≡ false → (column : ℕ) → set_of set (Column column) ≡ true → entry m most column ≡ lower most column) → HasSweptRows m lower (most + 1) before set
+    -- another row does not break the rule
+    pub row_left_out : ((column : ℕ) → set_of set (Column column) ≡ true → entry m most column ≡ lower most column) → HasSweptRows m lower (most + 1) before set
     row_left_out here = record {
       columns = swept.columns;
       grown = swept.grown;
       agree = λ r k low out inside. elim (cases_lt r most) [
         | inl h ↦ swept.agree r k h out inside
         | inr h ↦ let q : r ≡ most = omega arith in
-            subst (λ (z : ℕ). entry m z k ≡ lower z k) (sym q) (here (subst (λ (z : ℕ). set_of set (Row z) ≡ false) q out) k (column_same k ∙ inside))
+            subst (λ (z : ℕ). entry m z k ≡ lower z k) (sym q) (here k (column_same k ∙ inside))
       ];
     }
 
@@ -60,6 +72,17 @@ module _ (m : Matrix) (upper : ℕ → ℕ → ℤ) where
     row_same : (row : ℕ) → set_of set (Row row) ≡ set_of before (Row row)
     row_same row = ap (λ (lines : Growth). is_inside lines row) swept.rows
 
+    -- columns inside are passed
+    pub columns_passed : (next : ℕ) → ((column : ℕ) → most ≤ column → column < next → set_of set (Column column) ≡ true) → HasSweptColumns m upper next before set
+    columns_passed next within = record {
+      rows = swept.rows;
+      grown = swept.grown;
+      agree = λ r k low inside out. elim (cases_lt k most) [
+        | inl h ↦ swept.agree r k h inside out
+        | inr h ↦ absurd (not_both (set_of set (Column k)) (within k h low) out)
+      ];
+    }
+
     -- a column that breaks the rule is added
     pub column_swept_in : (after : GrowingSet) → HasAdded most set.columns after.columns → after.rows ≡ set.rows → PullsColumn m upper set most → HasSweptColumns m upper (most + 1) before after
     column_swept_in after added rows (row, l, e, differs) = record {
@@ -71,15 +94,15 @@ module _ (m : Matrix) (upper : ℕ → ℕ → ℤ) where
       ];
     }
 
-    -- another column is inside, or does not break the rule
-    pub column_left_out : (set_of set (Column most) ≡ false → (row : ℕ) → set_of set (Row row) ≡ true → entry m row most ≡ upper row most) → HasSweptColumns m upper (most + 1) before set
+    -- another column does not break the rule
+    pub column_left_out : ((row : ℕ) → set_of set (Row row) ≡ true → entry m row most ≡ upper row most) → HasSweptColumns m upper (most + 1) before set
     column_left_out here = record {
       rows = swept.rows;
       grown = swept.grown;
       agree = λ r k low inside out. elim (cases_lt k most) [
         | inl h ↦ swept.agree r k h inside out
         | inr h ↦ let q : k ≡ most = omega arith in
-            subst (λ (z : ℕ). entry m r z ≡ upper r z) (sym q) (here (subst (λ (z : ℕ). set_of set (Column z) ≡ false) q out) r (row_same r ∙ inside))
+            subst (λ (z : ℕ). entry m r z ≡ upper r z) (sym q) (here r (row_same r ∙ inside))
       ];
     }
 
@@ -87,8 +110,7 @@ module _ (m : Matrix) (upper : ℕ → ℕ → ℤ) where
 
 -- After the rows and the columns, only the new columns wait.
 module _ (m : Matrix) (upper lower : ℕ → ℕ → ℤ) (before cleared with_rows with_columns after : GrowingSet) (same_rows : cleared.rows ≡ before.rows) (same_columns : cleared.columns.inside ≡ before.columns.inside)
-    (rows : HasSweptRows m lower (height m) cleared with_rows) (columns : HasSweptColumns m upper m.width with_rows with_columns) (after_rows : after.rows.inside ≡ with_columns.rows.inside) (after_columns : after.columns ≡ with_columns.columns)
-    (start : List Line) (g : IsGrowing m upper lower start before) where
+    (rows : HasSweptRows m lower (height m) cleared with_rows) (columns : HasSweptColumns m upper m.width with_rows with_columns) (after_rows : after.rows.inside ≡ with_columns.rows.inside) (after_columns : after.columns ≡ with_columns.columns) where
   row_in : (r : ℕ) → set_of after (Row r) ≡ set_of with_rows (Row r)
   row_in r = ap (λ (b : Bits). has_column b.words r) after_rows ∙ ap (λ (v : Growth). is_inside v r) columns.rows
 
@@ -98,35 +120,98 @@ module _ (m : Matrix) (upper lower : ℕ → ℕ → ℤ) (before cleared with_r
   row_before : (r : ℕ) → set_of cleared (Row r) ≡ set_of before (Row r)
   row_before r = ap (λ (v : Growth). is_inside v r) same_rows
 
+  column_cleared : (k : ℕ) → set_of cleared (Column k) ≡ set_of before (Column k)
+  column_cleared k = ap (λ (b : Bits). has_column b.words k) same_columns
+
   column_before : (k : ℕ) → set_of with_rows (Column k) ≡ set_of before (Column k)
-  column_before k = ap (λ (v : Growth). is_inside v k) rows.columns ∙ ap (λ (b : Bits). has_column b.words k) same_columns
+  column_before k = ap (λ (v : Growth). is_inside v k) rows.columns ∙ column_cleared k
 
   has : (x : Line) → set_of before x ≡ true → set_of after x ≡ true
   has (Row r) e = row_in r ∙ rows.grown.kept r (row_before r ∙ e)
   has (Column k) e = column_in k ∙ columns.grown.kept k (column_before k ∙ e)
 
-  row_least : (T : Lines) → IsClosedIn m upper lower T → HasAll T start → (r : ℕ) → r < height m → set_of with_rows (Row r) ≡ true → T (Row r) ≡ true
-  row_least T closed all r l e = elim (rows.grown.only r e) [
-    | inl h ↦ g.least T closed all (Row r) l (sym (row_before r) ∙ h)
-    | inr (k, lk, inside, differs) ↦ true_is (T (Row r)) (λ out. differs (closed.lower r k (contains_first_lines (height m) r l) (contains_first_lines m.width k lk) out
-        (g.least T closed all (Column k) lk (sym (ap (λ (b : Bits). has_column b.words k) same_columns) ∙ inside))))
+  -- a row is inside if it was inside or breaks the rule
+  row_from : (r : ℕ) → set_of after (Row r) ≡ true → (set_of before (Row r) ≡ true) ⊎ PullsRow m lower before r
+  row_from r e = elim (rows.grown.only r (sym (row_in r) ∙ e)) [
+    | inl h ↦ inl (sym (row_before r) ∙ h)
+    | inr (k, l, inside, differs) ↦ inr (k, l, sym (column_cleared k) ∙ inside, differs)
   ]
 
-  least : (T : Lines) → IsClosedIn m upper lower T → HasAll T start → (x : Line) → IsLine (height m) m.width x → set_of after x ≡ true → T x ≡ true
-  least T closed all (Row r) l e = row_least T closed all r l (sym (row_in r) ∙ e)
-  least T closed all (Column k) l e = elim (columns.grown.only k (sym (column_in k) ∙ e)) [
-    | inl h ↦ g.least T closed all (Column k) l (sym (column_before k) ∙ h)
-    | inr (r, lr, inside, differs) ↦ true_is (T (Column k)) (λ out. differs (closed.upper r k (contains_first_lines (height m) r lr) (contains_first_lines m.width k l) (row_least T closed all r lr inside) out))
+  row_to : (r : ℕ) → r < height m → (set_of before (Row r) ≡ true) ⊎ PullsRow m lower before r → set_of after (Row r) ≡ true
+  row_to r l (inl e) = has (Row r) e
+  row_to r l (inr (k, lk, inside, differs)) = true_is (set_of after (Row r)) (λ out. differs (rows.agree r k l (sym (row_in r) ∙ out) (column_cleared k ∙ inside)))
+
+  column_from : (k : ℕ) → set_of after (Column k) ≡ true → (set_of before (Column k) ≡ true) ⊎ PullsColumn m upper after k
+  column_from k e = elim (columns.grown.only k (sym (column_in k) ∙ e)) [
+    | inl h ↦ inl (sym (column_before k) ∙ h)
+    | inr (r, l, inside, differs) ↦ inr (r, l, row_in r ∙ inside, differs)
   ]
 
-  upper_right : (r k : ℕ) → r < height m → k < m.width → set_of after (Row r) ≡ true → set_of after (Column k) ≡ false → IsIn r after.rows.fresh ⊎ (entry m r k ≡ upper r k)
-  upper_right r k lr lk er ek = inr (columns.agree r k lk (sym (row_in r) ∙ er) (sym (column_in k) ∙ ek))
+  column_to : (k : ℕ) → k < m.width → (set_of before (Column k) ≡ true) ⊎ PullsColumn m upper after k → set_of after (Column k) ≡ true
+  column_to k l (inl e) = has (Column k) e
+  column_to k l (inr (r, lr, inside, differs)) = true_is (set_of after (Column k)) (λ out. differs (columns.agree r k l (sym (row_in r) ∙ inside) (sym (column_in k) ∙ out)))
 
-  lower_right : (r k : ℕ) → r < height m → k < m.width → set_of after (Row r) ≡ false → set_of after (Column k) ≡ true → IsIn k after.columns.fresh ⊎ (entry m r k ≡ lower r k)
-  lower_right r k lr lk er ek = elim (columns.grown.news k (sym (column_in k) ∙ ek)) [
-    | inl h ↦ inr (rows.agree r k lr (sym (row_in r) ∙ er) (ap (λ (b : Bits). has_column b.words k) same_columns ∙ sym (column_before k) ∙ h))
-    | inr h ↦ inl (subst (λ (v : Growth). IsIn k v.fresh) (sym after_columns) h)
+  new_column_waits : (k : ℕ) → set_of after (Column k) ≡ true → (set_of before (Column k) ≡ true) ⊎ IsIn k after.columns.fresh
+  new_column_waits k e = elim (columns.grown.news k (sym (column_in k) ∙ e)) [
+    | inl h ↦ inl (sym (column_before k) ∙ h)
+    | inr h ↦ inr (subst (λ (v : Growth). IsIn k v.fresh) (sym after_columns) h)
   ]
 
-  pub swept : IsGrowing m upper lower start after
-  swept = record { has = all_weaker (λ x. set_of before x ≡ true) (λ x. set_of after x ≡ true) has start g.has; least = least; upper = upper_right; lower = lower_right }
+  waiting_new : length cleared.columns.fresh ≡ 0 → length after.columns.fresh + count_left after.columns ≡ count_left before.columns
+  waiting_new none =
+      let same : room after.columns ≡ room cleared.columns = ap room after_columns ∙ columns.grown.room_same ∙ ap room rows.columns in
+      let left : count_left cleared.columns ≡ count_left before.columns = ap count_of same_columns in
+      omega arith
+    where
+      count_of : Bits → ℕ
+      count_of b = number_of_lines (λ line. not (has_column b.words line)) b.size
+
+  pub exactly_swept : length cleared.columns.fresh ≡ 0 → length after.rows.fresh ≡ 0 → HasSwept m upper lower before after
+  exactly_swept none none_after = record {
+    rows = λ r l. (row_from r, row_to r l);
+    columns = λ k l. (column_from k, column_to k l);
+    no_row_waits = none_after;
+    new_wait = new_column_waits;
+    no_others_wait = waiting_new none;
+  }
+
+  module _ (start : List Line) (g : IsGrowing m upper lower start before) where
+    row_least : (T : Lines) → IsClosedIn m upper lower T → HasAll T start → (r : ℕ) → r < height m → set_of with_rows (Row r) ≡ true → T (Row r) ≡ true
+    row_least T closed all r l e = elim (rows.grown.only r e) [
+      | inl h ↦ g.least T closed all (Row r) l (sym (row_before r) ∙ h)
+      | inr (k, lk, inside, differs) ↦ true_is (T (Row r)) (λ out. differs (closed.lower r k (contains_first_lines (height m) r l) (contains_first_lines m.width k lk) out
+          (g.least T closed all (Column k) lk (sym (column_cleared k) ∙ inside))))
+    ]
+
+    least : (T : Lines) → IsClosedIn m upper lower T → HasAll T start → (x : Line) → IsLine (height m) m.width x → set_of after x ≡ true → T x ≡ true
+    least T closed all (Row r) l e = row_least T closed all r l (sym (row_in r) ∙ e)
+    least T closed all (Column k) l e = elim (columns.grown.only k (sym (column_in k) ∙ e)) [
+      | inl h ↦ g.least T closed all (Column k) l (sym (column_before k) ∙ h)
+      | inr (r, lr, inside, differs) ↦ true_is (T (Column k)) (λ out. differs (closed.upper r k (contains_first_lines (height m) r lr) (contains_first_lines m.width k l) (row_least T closed all r lr inside) out))
+    ]
+
+    upper_right : (r k : ℕ) → r < height m → k < m.width → set_of after (Row r) ≡ true → set_of after (Column k) ≡ false → IsIn r after.rows.fresh ⊎ (entry m r k ≡ upper r k)
+    upper_right r k lr lk er ek = inr (columns.agree r k lk (sym (row_in r) ∙ er) (sym (column_in k) ∙ ek))
+
+    lower_right : (r k : ℕ) → r < height m → k < m.width → set_of after (Row r) ≡ false → set_of after (Column k) ≡ true → IsIn k after.columns.fresh ⊎ (entry m r k ≡ lower r k)
+    lower_right r k lr lk er ek = elim (columns.grown.news k (sym (column_in k) ∙ ek)) [
+      | inl h ↦ inr (rows.agree r k lr (sym (row_in r) ∙ er) (column_cleared k ∙ sym (column_before k) ∙ h))
+      | inr h ↦ inl (subst (λ (v : Growth). IsIn k v.fresh) (sym after_columns) h)
+    ]
+
+    pub still_grows : IsGrowing m upper lower start after
+    still_grows = record { has = all_weaker (λ x. set_of before x ≡ true) (λ x. set_of after x ≡ true) has start g.has; least = least; upper = upper_right; lower = lower_right }
+
+-- ---- the work that is left
+
+-- after a sweep at most as many lines wait or are outside as were outside before
+pub less_work : (m : Matrix) (upper lower : ℕ → ℕ → ℤ) (before after : GrowingSet) → IsSizedFor m before → HasSameSizes before after → 0 < length before.rows.fresh + length before.columns.fresh
+    → HasSwept m upper lower before after → work after < work before
+less_work m upper lower before after sized same waits w =
+    let fewer : count_left after.rows ≤ count_left before.rows =
+    subst (λ (n : ℕ). number_of_lines (λ r. not (is_inside after.rows r)) n ≤ count_left before.rows) (sym same.rows)
+    (count_grows (λ r. not (is_inside after.rows r)) (λ r. not (is_inside before.rows r)) before.rows.inside.size still_out) in
+    omega (arith, fewer, waits, w.no_row_waits, w.no_others_wait)
+  where
+    still_out : (r : ℕ) → r < before.rows.inside.size → not (is_inside after.rows r) ≡ true → not (is_inside before.rows r) ≡ true
+    still_out r l e = ap not (false_is (is_inside before.rows r) (λ h. not_both (is_inside after.rows r) ((w.rows r (subst (λ (n : ℕ). r < n) sized.rows l)).1 (inl h)) (not_is (is_inside after.rows r) e)))

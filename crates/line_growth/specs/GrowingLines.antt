@@ -1,5 +1,5 @@
 -- The rows, or the columns, of a growing set of lines.
-use Rattle.std.specs.Prelude.{◌≡◌, ◌<◌, ◌+◌, ◌⊎◌, ℕ, Bool, true, false, not, List, length}
+use Rattle.std.specs.Prelude.{◌≡◌, ◌<◌, ◌≤◌, ◌+◌, ◌⊎◌, ℕ, Bool, true, false, not, List, length}
 use Rattle.cmr_base.specs.BitSets.{Bits}
 use Rattle.cmr_base.specs.ColumnSets.{has_column}
 use Rattle.cmr_base.specs.Members.{IsIn}
@@ -58,6 +58,13 @@ pub record HasTaken (line : ℕ) (before after : Growth) : Type 0 where
   pub line_in : line < before.inside.size
   pub others : (other : ℕ) → IsIn other before.fresh → (other ≡ line) ⊎ IsIn other after.fresh
   pub room_less : room after + 1 ≡ room before
+
+-- the first line outside that is at least `from`
+pub record IsNextOutside (lines : Growth) (from next : ℕ) : Type 0 where
+  pub low : from ≤ next
+  pub line_in : next < lines.inside.size
+  pub outside : is_inside lines next ≡ false
+  pub between : (line : ℕ) → from ≤ line → line < next → is_inside lines line ≡ true
 
 -- some line of the set fails a test, or none does
 abbrev pub DecidesUnlike : Bool → (agrees : ℕ → Type 0) → Growth → Type 0

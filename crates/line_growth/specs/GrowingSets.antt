@@ -1,5 +1,5 @@
 -- Sets of lines that grow until they are closed.
-use Rattle.std.specs.Prelude.{◌≡◌, ◌<◌, ◌≤◌, ◌+◌, ◌⊎◌, ℕ, ℤ, Bool, true, false, List}
+use Rattle.std.specs.Prelude.{◌≡◌, ◌<◌, ◌≤◌, ◌+◌, ◌⊎◌, ◌↔◌, ℕ, ℤ, Bool, true, false, List, length}
 use Rattle.std.specs.List.{AllByRecursion}
 use Rattle.cmr_base.specs.declared.line.Line.{Line}
 use Rattle.cmr_base.specs.declared.line.Line.TheVariants.{Row, Column}
@@ -10,7 +10,7 @@ use Rattle.cmr_base.specs.Separations.{Lines, count_lines_in, opposite}
 use Rattle.cmr_base.specs.Seeds.{HasAll, IsClosed, IsGrown, IsLine}
 use Rattle.line_growth.specs.declared.growing_set.GrowingSet.{GrowingSet}
 use Rattle.line_growth.specs.declared.rule.GrowthRule.{GrowthRule}
-use Rattle.line_growth.specs.GrowingLines.{HasGrown, is_inside, room}
+use Rattle.line_growth.specs.GrowingLines.{HasGrown, count_left, is_inside, room}
 use Rattle.line_growth.specs.Rules.{lower_of, upper_of}
 
 -- the lines of the set
@@ -75,6 +75,15 @@ pub record HasSweptColumns (m : Matrix) (upper : ℕ → ℕ → ℤ) (most : �
   pub rows : after.rows ≡ before.rows
   pub grown : HasGrown (PullsColumn m upper before) before.columns after.columns
   pub agree : (row column : ℕ) → column < most → set_of before (Row row) ≡ true → set_of after (Column column) ≡ false → entry m row column ≡ upper row column
+
+-- Each row outside that breaks the lower rule with a column of the set is added, and then each column outside that breaks the
+-- upper rule with a row of the new set. No other line is added. No row waits. Each new column waits, and no other column does.
+pub record HasSwept (m : Matrix) (upper lower : ℕ → ℕ → ℤ) (before after : GrowingSet) : Type 0 where
+  pub rows : (row : ℕ) → row < height m → (set_of after (Row row) ≡ true) ↔ ((set_of before (Row row) ≡ true) ⊎ PullsRow m lower before row)
+  pub columns : (column : ℕ) → column < m.width → (set_of after (Column column) ≡ true) ↔ ((set_of before (Column column) ≡ true) ⊎ PullsColumn m upper after column)
+  pub no_row_waits : length after.rows.fresh ≡ 0
+  pub new_wait : (column : ℕ) → set_of after (Column column) ≡ true → (set_of before (Column column) ≡ true) ⊎ IsIn column after.columns.fresh
+  pub no_others_wait : length after.columns.fresh + count_left after.columns ≡ count_left before.columns
 
 -- ---- the lines outside a set
 

@@ -1,5 +1,5 @@
 -- Rules for the blocks between the lines of a set and the other lines.
-use Rattle.std.specs.Prelude.{◌≡◌, ◌<◌, ◌+ℤ◌, ◌-ℤ◌, ◌*ℤ◌, ℕ, ℤ}
+use Rattle.std.specs.Prelude.{◌≡◌, ◌<◌, ◌⊎◌, ◌+ℤ◌, ◌-ℤ◌, ◌*ℤ◌, ℕ, ℤ, pos}
 use Rattle.cmr_base.specs.Cores.{HasEntries, IsBounded, IsCoreAt}
 use Rattle.cmr_base.specs.Matrix.{Matrix, IsEntry, height, entry}
 use Rattle.cmr_base.specs.Separations.{zeros, product_at, spread_at}
@@ -57,6 +57,10 @@ pub record IsSumOf (m : Matrix) (sum : Sum) : Type 0 where
   pub other : sum.other < height m
   pub first_factor : IsBounded 4 sum.factors.first
   pub other_factor : IsBounded 4 sum.factors.other
+
+-- one factor is 0, and the other is -1, 0 or 1
+abbrev pub IsOfOneLine : Sum → Type 0
+IsOfOneLine sum = ((sum.factors.other ≡ pos 0) × IsEntry sum.factors.first) ⊎ ((sum.factors.first ≡ pos 0) × IsEntry sum.factors.other)
 
 -- a multiple that is the sum in each matrix
 pub record IsSumMultiple (sum : Sum) (multiple : Multiple) : Type 0 where

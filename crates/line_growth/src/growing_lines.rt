@@ -5,7 +5,7 @@ ghost use Rattle.cmr_base.specs.Planes.{has_bit, words_for};
 ghost use Rattle.cmr_base.specs.Matrix.{height, entry, IsEntry};
 ghost use Rattle.cmr_base.specs.Trees.{support};
 ghost use Rattle.line_growth.specs.Rules.{IsSumOf, sum_at};
-ghost use Rattle.line_growth.specs.GrowingLines.{DecidesUnlike, HasAdded, HasGrown, HasPulled, HasTaken, IsBitOf, count_left, is_inside};
+ghost use Rattle.line_growth.specs.GrowingLines.{DecidesUnlike, HasAdded, HasGrown, HasPulled, HasTaken, IsBitOf, IsNextOutside, count_left, is_inside};
 
 use crate::rule::{Multiple, Sum};
 use cmr_base::columns::{next_column, outside};
@@ -149,6 +149,40 @@ impl GrowingLines {
             }
         }
         Ok(())
+    }
+
+    /// The first line outside that is at least `from`.
+    pub fn next_outside(&self, from: u32) -> Option<u32>
+        ensures { MatchOption result
+            ((line : ℕ) → from ≤ line → line < self.now.inside.size
+            → is_inside self.now line ≡ true)
+            (IsNextOutside self.now from) }
+    {
+        let size = self.inside.size();
+        let mut line = from;
+        while line < size {
+            let others = [self.others(line as usize / 64)];
+            if let Some(bit) = next_column(&others, line % 64) {
+                let next = line - line % 64 + bit;
+                if next < size {
+                    return Some(next);
+                }
+                return None;
+            }
+            line = line - line % 64 + 64;
+        }
+        None
+    }
+
+    // The lines of a chunk of 64 that are not inside.
+    fn others(&self, chunk: usize) -> u64
+        requires chunk { chunk < words_for self.now.inside.size }
+        ensures { (k : ℕ) → k < 64
+            → has_bit result k ≡ not (is_inside self.now (64 * chunk + k)) }
+    {
+        let _size = self.inside.size();
+        let inside = self.inside.words();
+        !inside[chunk]
     }
 
     /// Counts the pulls of all lines inside as followed.

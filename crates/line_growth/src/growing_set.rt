@@ -7,7 +7,8 @@ ghost use Rattle.cmr_base.specs.Seeds.{IsLine, line_number, count_outside};
 ghost use Rattle.cmr_base.specs.declared.line.Line.{Line};
 ghost use Rattle.cmr_base.specs.declared.line.Line.TheVariants.{Row, Column};
 ghost use Rattle.line_growth.specs.Rules.{IsRuleOf, lower_of, upper_of};
-ghost use Rattle.line_growth.specs.GrowingSets.{DecidesLeaving, HasNone, HasSameSizes, HasSweptColumns, HasSweptRows, IsGrowing, HasRoomFor, IsSizedFor, KeepsGrowing, Leaves, PullsColumn, PullsRow, set_of, work};
+ghost use Rattle.line_growth.specs.GrowingLines.{count_left};
+ghost use Rattle.line_growth.specs.GrowingSets.{DecidesLeaving, HasNone, HasSameSizes, HasSwept, HasSweptColumns, HasSweptRows, IsGrowing, HasRoomFor, IsSizedFor, KeepsGrowing, Leaves, PullsColumn, PullsRow, set_of, work};
 
 use crate::growing_lines::GrowingLines;
 use crate::rule::{Block, GrowthRule};
@@ -91,13 +92,15 @@ impl GrowingSet {
         Ok(())
     }
 
-    /// Adds each line outside that breaks the rule with a line inside. Then the pulls of only these lines are to be followed,
-    /// which is faster than to follow the pulls of all lines if most lines are inside.
-    pub fn sweep(&mut self, matrix: &RowsAndColumns<'_>, rule: GrowthRule) -> Result<(), Memory>
+    // Adds each row outside that breaks the rule with a column inside, and then each column outside that breaks the rule with a
+    // row inside. Then the pulls of only the new columns are to be followed.
+    fn sweep(&mut self, matrix: &RowsAndColumns<'_>, rule: GrowthRule) -> Result<(), Memory>
         requires size { IsSizedFor matrix.now self.old }
         requires rule { IsRuleOf matrix.now rule }
         ensures size { HasSameSizes self.old self.new }
         ensures growing { OnOk result (KeepsGrowing matrix.now (upper_of matrix.now rule)
+            (lower_of matrix.now rule) self.old self.new) }
+        ensures swept { OnOk result (HasSwept matrix.now (upper_of matrix.now rule)
             (lower_of matrix.now rule) self.old self.new) }
     {
         self.columns.forget_waiting();
@@ -115,10 +118,13 @@ impl GrowingSet {
         ensures swept { OnOk result (HasSweptRows matrix.now (lower_of matrix.now rule)
             (height matrix.now) self.old self.new) }
     {
-        for row in 0..matrix.rows() {
+        let _rows = matrix.rows();
+        let mut from = 0;
+        while let Some(row) = self.rows.next_outside(from) {
             if self.pulls_row(matrix, rule, row) {
                 self.rows.add(row)?;
             }
+            from = row + 1;
         }
         Ok(())
     }
@@ -131,46 +137,43 @@ impl GrowingSet {
         ensures swept { OnOk result (HasSweptColumns matrix.now (upper_of matrix.now rule)
             matrix.now.width self.old self.new) }
     {
-        for column in 0..matrix.columns() {
+        let _columns = matrix.columns();
+        let mut from = 0;
+        while let Some(column) = self.columns.next_outside(from) {
             if self.pulls_column(matrix, rule, column) {
                 self.columns.add(column)?;
             }
+            from = column + 1;
         }
         Ok(())
     }
 
-    // Whether a row is outside and breaks the rule with a column inside.
+    // Whether a row breaks the rule with a column inside.
     fn pulls_row(&self, matrix: &RowsAndColumns<'_>, rule: GrowthRule, row: u32) -> bool
         requires size { IsSizedFor matrix.now self.now }
         requires rule { IsRuleOf matrix.now rule }
         requires row { row < height matrix.now }
         ensures yes { result ≡ true
             → PullsRow matrix.now (lower_of matrix.now rule) self.now row }
-        ensures no { result ≡ false → set_of self.now (Row row) ≡ false
-            → (column : ℕ) → set_of self.now (Column column) ≡ true
+        ensures no { result ≡ false → (column : ℕ)
+            → set_of self.now (Column column) ≡ true
             → entry matrix.now row column ≡ lower_of matrix.now rule row column }
     {
-        if self.rows.inside().has(row) {
-            return false;
-        }
         let sum = rule.lower.row(matrix, row);
         self.columns.has_unlike(matrix.by_rows(), row, sum)
     }
 
-    // Whether a column is outside and breaks the rule with a row inside.
+    // Whether a column breaks the rule with a row inside.
     fn pulls_column(&self, matrix: &RowsAndColumns<'_>, rule: GrowthRule, column: u32) -> bool
         requires size { IsSizedFor matrix.now self.now }
         requires rule { IsRuleOf matrix.now rule }
         requires column { column < matrix.now.width }
         ensures yes { result ≡ true
             → PullsColumn matrix.now (upper_of matrix.now rule) self.now column }
-        ensures no { result ≡ false → set_of self.now (Column column) ≡ false
-            → (row : ℕ) → set_of self.now (Row row) ≡ true
+        ensures no { result ≡ false → (row : ℕ)
+            → set_of self.now (Row row) ≡ true
             → entry matrix.now row column ≡ upper_of matrix.now rule row column }
     {
-        if self.columns.inside().has(column) {
-            return false;
-        }
         let sum = rule.upper.column(matrix, column);
         self.rows.has_unlike(matrix.by_columns(), column, sum)
     }
@@ -204,7 +207,7 @@ impl GrowingSet {
             if self.rows.waiting() == 0 && self.columns.waiting() == 0 {
                 return Ok(true);
             }
-            self.follow(matrix, rule)?;
+            self.take_pulls(matrix, rule)?;
         }
         Ok(false)
     }
@@ -239,6 +242,36 @@ impl GrowingSet {
             }
         }
         true
+    }
+
+    // Follows the pulls of one waiting line. If more lines wait than are outside, it is faster to compare each line outside with
+    // the lines inside, so the set then sweeps.
+    fn take_pulls(&mut self, matrix: &RowsAndColumns<'_>, rule: GrowthRule) -> Result<(), Memory>
+        requires size { IsSizedFor matrix.now self.old }
+        requires rule { IsRuleOf matrix.now rule }
+        requires waits { 0
+            < length self.old.rows.fresh + length self.old.columns.fresh }
+        ensures size { HasSameSizes self.old self.new }
+        ensures growing { OnOk result (KeepsGrowing matrix.now (upper_of matrix.now rule)
+            (lower_of matrix.now rule) self.old self.new) }
+        ensures less { OnOk result (work self.new < work self.old) }
+    {
+        if self.has_more_waiting() {
+            self.sweep(matrix, rule)
+        } else {
+            self.follow(matrix, rule)
+        }
+    }
+
+    // Whether more lines wait than are outside.
+    fn has_more_waiting(&self) -> bool
+        ensures { IsTrue result
+            ↔ (count_left self.now.rows + count_left self.now.columns
+            < length self.now.rows.fresh + length self.now.columns.fresh) }
+    {
+        let left = (self.rows.left() + self.columns.left()) as usize;
+        let rows = self.rows.waiting();
+        left < rows || left - rows < self.columns.waiting()
     }
 
     // Follows the pulls of one waiting line.

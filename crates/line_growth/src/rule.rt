@@ -3,7 +3,7 @@ ghost use Rattle.std.specs.Prelude.{◌≡◌, ◌<◌, ◌*ℤ◌, ◌↔◌, �
 ghost use Rattle.cmr_base.specs.Cores.{IsBounded};
 ghost use Rattle.cmr_base.specs.Matrix.{Matrix, height, entry, transposed, IsEntry};
 ghost use Rattle.line_growth.specs.declared.rule.Block.TheVariants.{Spread};
-ghost use Rattle.line_growth.specs.Rules.{IsBlockOf, IsSumMultiple, IsSpreadOf, IsSumOf, block_entry, exchanged, sum_at};
+ghost use Rattle.line_growth.specs.Rules.{IsBlockOf, IsOfOneLine, IsSumMultiple, IsSpreadOf, IsSumOf, block_entry, exchanged, sum_at};
 
 use cmr_base::{Core, Factors, Matrix, Position, RowsAndColumns, product};
 
@@ -163,11 +163,11 @@ impl Sum {
         matrix.entry(row, column) == self.factors.entry(first, other)
     }
 
-    /// The same as a multiple of one line, if one of the factors is 0 and the other is -1, 0 or 1.
+    /// The same as a multiple of one line, if one of the factors is 0 and the other is -1, 0 or 1, and otherwise `None`.
     pub fn as_multiple(self) -> Option<Multiple>
         requires first { IsBounded 4 self.factors.first }
         requires other { IsBounded 4 self.factors.other }
-        ensures { MatchOption result (Unit {0}) (IsSumMultiple self) }
+        ensures { MatchOption result (¬ (IsOfOneLine self)) (IsSumMultiple self) }
     {
         let Factors { first, other } = self.factors;
         if is_zero(other) && is_entry(first) {
@@ -187,13 +187,13 @@ impl Sum {
 }
 
 fn is_zero(factor: i8) -> bool
-    ensures { result ≡ true → factor ≡ pos 0 }
+    ensures { IsTrue result ↔ (factor ≡ pos 0) }
 {
     factor == 0
 }
 
 fn is_entry(factor: i8) -> bool
-    ensures { result ≡ true → IsEntry factor }
+    ensures { IsTrue result ↔ IsEntry factor }
 {
     -1 <= factor && factor <= 1
 }

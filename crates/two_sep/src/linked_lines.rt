@@ -57,14 +57,12 @@ impl LinkedLines {
         )?;
         if self.of_row.left() < self.of_column.left() {
             let exchanged = rule.exchanged();
-            self.of_row.sweep(matrix, exchanged)?;
             let leaves = self.of_row.close(matrix, exchanged, &[], 2)?;
             return Ok(!leaves);
         }
         if self.of_column.left() == rows + matrix.columns() - 1 {
             return Ok(false);
         }
-        self.of_column.sweep(matrix, rule)?;
         let leaves = self.of_column.close(matrix, rule, &[Line::Row(row)], 2)?;
         Ok(!leaves)
     }

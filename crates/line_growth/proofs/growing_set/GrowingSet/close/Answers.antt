@@ -4,7 +4,7 @@ use Rattle.line_growth.proofs.SetSteps.{closed_leaving, few_left, few_shown, lin
 use Rattle.line_growth.proofs.growing_set.GrowingSet.close.Goals as goal
 
 pub lines-preserved : goal.lines-preserved
-lines-preserved c = (same_sizes c.args.self.now c.lines.self c.follow.new.self c.lines.invariant.0 c.follow.ensures.size, λ start g. c.in_ok-follow.ensures.growing start (c.lines.invariant.1 start g))
+lines-preserved c = (same_sizes c.args.self.now c.lines.self c.take_pulls.new.self c.lines.invariant.0 c.take_pulls.ensures.size, λ start g. c.in_ok-take_pulls.ensures.growing start (c.lines.invariant.1 start g))
 
 pub has_none-requires : goal.has_none-requires
 has_none-requires c = lines_for c.args.matrix.now c.lines.self c.args.out.now (still_sized c.args.matrix.now c.args.self.now c.lines.self c.requires.size c.lines.invariant.0) c.requires.out

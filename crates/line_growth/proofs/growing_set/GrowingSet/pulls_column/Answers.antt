@@ -23,7 +23,7 @@ returns-clause-yes c = λ t.
     )
 
 pub returns-clause-no : goal.returns-clause-no
-returns-clause-no c = λ t out row inside.
+returns-clause-no c = λ t row inside.
     let m = c.args.matrix.now in
     let column = c.args.column in
     let sum = c.column-sum.result in

@@ -21,7 +21,7 @@ returns-then-left-clause-none c = λ e.
     let from = c.in_ok-start_with_label.ensures.grows in
     let after = set_of c.close.new.self in
     let leaves = c.in_ok-leaves.leaves in
-    let grown = c.in_ok-sweep.ensures.growing from.start (from.grows (upper_of m rule) (lower_of m rule)) in
+    let grown = from.grows (upper_of m rule) (lower_of m rule) in
     let decided = subst (λ (r : GrowthRule). DecidesLeaving m r from.start [] 2 leaves after) (c.exchanged-exchanged.ensures ∙ ap exchanged c.rule_at-rule.ensures) (c.in_ok-leaves.ensures.closed from.start grown) in
     none_by_row m i j c.requires.row c.requires.column c.requires.nonzero labels c.requires.linked from.start from.labelled
     (decided_no m (exchanged (seed_rule i j)) from.start [] 2 leaves after decided (not_is leaves e))
@@ -36,7 +36,7 @@ returns-clause-none c = λ e.
     let from = c.in_ok-start_with_label-2.ensures.grows in
     let after = set_of c.close-2.new.self in
     let leaves = c.in_ok-leaves-2.leaves in
-    let grown = c.in_ok-sweep-2.ensures.growing from.start (from.grows (upper_of m rule) (lower_of m rule)) in
+    let grown = from.grows (upper_of m rule) (lower_of m rule) in
     let decided = subst (λ (r : GrowthRule). DecidesLeaving m r from.start (Row i ∷ []) 2 leaves after) c.rule_at-rule.ensures (c.in_ok-leaves-2.ensures.closed from.start grown) in
     none_by_column m i j c.requires.row c.requires.column c.requires.nonzero labels c.requires.linked from.start
     (subst (λ (k : ℕ). AllByRecursion (HasLabel m labels (get_or labels (k + j) 0)) from.start) c.rows-rows.ensures.rows from.labelled)
