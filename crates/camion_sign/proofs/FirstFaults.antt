@@ -70,7 +70,7 @@ module _ (m values : Matrix) (t c d : ℕ) (walk : Walk) (w : HasWalked m values
       last = last;
       is_path = path.0;
       least = λ other h. let v = path_trail (entry m) t c d other h in
-          not_after lines other d (subst (λ (k : List ℕ). IsUpTo k (other ++ d ∷ [])) lines_are (w.least d (other ++ d ∷ []) met v.0 v.1));
+          not_after lines other d (subst (λ (k : List ℕ). IsUpTo k (other ++ d ∷ [])) lines_are (w.least d (other ++ d ∷ []) order met v.0 v.1));
     }
 
     -- the sum of the values on it
@@ -163,7 +163,7 @@ first_of_rows m t found f is before h = go (subst (λ (o : Option Fault). MatchO
 pub met_step : (m values : Matrix) (t c d : ℕ) (walk : Walk) (place : ℕ) (step : ReachedColumn) → HasWalked m values t c walk → d < m.width → place ≡ get_or walk.places.items d place → place_in walk.places.items d < 4294967295 → step ≡ get_or walk.steps.items place step
     → step_at walk.steps.items (place_in walk.places.items d) ≡ step
 met_step m values t c d walk place step w l e met f =
-    let a : place_in walk.places.items d ≡ place = any_default walk.places.items d 4294967295 place (omega (arith, w.fits.in_step.one_each, w.fits.columns)) ∙ sym e in
+    let a : place_in walk.places.items d ≡ place = any_default walk.places.items d 4294967295 place (omega (arith, w.fits.one_each, w.fits.columns)) ∙ sym e in
     ap (step_at walk.steps.items) a ∙ step_is walk.steps.items place step (let b = (w.queue.listed d met).0 in omega arith) f
 
 -- ---- the path, backwards

@@ -1,12 +1,14 @@
 -- The marks of pairs of columns that make cycle places, as walks determine them.
-use Rattle.std.proofs.Common.{◌≡◌, ◌≢◌, ◌∙◌, ◌<◌, ◌≤◌, ◌+◌, ◌++◌, ◌+ℤ◌, ℕ, ℤ, pos, Bool, true, false, Some, None, List, [], ◌∷◌, length, replicate, set, get_or, inl, inr, refl, sym, ap, ap₂, subst, arith}
+use Rattle.std.proofs.Common.{◌≡◌, ◌≢◌, ◌∙◌, ◌<◌, ◌≤◌, ◌+◌, ◌++◌, ◌+ℤ◌, ℕ, ℤ, pos, Bool, true, false, Some, None, List, [], ◌∷◌, length, replicate, set, get_or, ◌||◌, inl, inr, refl, sym, ap, ap₂, subst, arith}
 use Rattle.std.proofs.lemmas.Bool.{cases_eq, cases_lt}
 use Rattle.std.proofs.lemmas.List.{get_or-set_other, length-set, length-replicate}
-use Rattle.cmr_base.specs.Matrix.{Matrix, height, entry, with_entry, IsEntry, IsMatrix}
+use Rattle.cmr_base.specs.BitSets.{Bits}
+use Rattle.cmr_base.specs.ColumnSets.{has_column}
+use Rattle.cmr_base.specs.Matrix.{Matrix, height, entry, with_entry, is_nonzero, IsEntry, IsMatrix}
 use Rattle.cmr_base.specs.Planes.{is_minus}
 use Rattle.cmr_base.specs.CyclePlaces.{IsPath, path_sum}
 use Rattle.cmr_base.specs.Trees.{support}
-use Rattle.cmr_base.proofs.Booleans.{true_is_false, zero_is}
+use Rattle.cmr_base.proofs.Booleans.{not_both, not_either, true_is, true_is_false, zero_is}
 use Rattle.cmr_base.proofs.Lists.{get_or-replicated}
 use Rattle.cmr_base.proofs.Entries.{height-with_entry, entry-with_entry_same, entry-with_entry_other_column, entry-with_entry_other_row, is_matrix-with_entry}
 use Rattle.ghouila.proofs.Routes.{reversed}
@@ -16,7 +18,7 @@ use Rattle.camion_sign.specs.ColumnParts.{HasPartsBefore}
 use Rattle.camion_sign.specs.SignOrder.{IsPlaceOf}
 use Rattle.camion_sign.specs.Walks.{HasPlacesAndMarks, HasValuesBefore, HasWalked, TwoIf, step_at, place_in}
 use Rattle.camion_sign.specs.declared.row_places.RowPlaces.{RowPlaces}
-use Rattle.camion_sign.specs.Signings.{HasPathWith, HasRoomForPlaces, ShowsPlace, ShowsPlacesFrom, AreSquare, KnowsPlaces}
+use Rattle.camion_sign.specs.Signings.{HasPathWith, HasRoomForPlaces, HasTouched, ShowsPlace, ShowsPlacesFrom, AreSquare, KnowsPlaces}
 use Rattle.camion_sign.proofs.FirstFaults.{key_is, is_place, sum_two}
 
 module _ (m values : Matrix) (t c d : ℕ) (walk : Walk) (w : HasWalked m values t c walk) (order : c < d) (first : entry m t c ≢ pos 0) (last : entry m t d ≢ pos 0) where
@@ -73,15 +75,40 @@ module _ (m values links : Matrix) (t c last : ℕ) (square : AreSquare m links)
     pub note_others : (a b : ℕ) → a ≢ c → entry (with_entry links c last z) a b ≡ entry links a b
     note_others a b d = entry-with_entry_other_row links c last z a b d
 
+-- ---- the columns that earlier rows meet
+
+meets : (m : Matrix) (row d : ℕ) (words : List ℕ) → ((x : ℕ) → has_column words x ≡ support m row x) → entry m row d ≢ pos 0 → has_column words d ≡ true
+meets m row d words are n = are d ∙ true_is (is_nonzero (entry m row d)) (λ f. n (zero_is (entry m row d) f))
+
+-- the columns of one more row are added
+pub touched_more : (m : Matrix) (row : ℕ) (old new : Bits) (words : List ℕ) → HasTouched m row old → ((x : ℕ) → has_column words x ≡ support m row x) → new.size ≡ old.size
+    → ((x : ℕ) → has_column new.words x ≡ (has_column old.words x || has_column words x)) → HasTouched m (row + 1) new
+touched_more m row old new words touched are size added = record {
+  size = size ∙ touched.size;
+  all = λ d r l n. true_is (has_column new.words d) (λ f.
+      let both = not_either (has_column old.words d) (has_column words d) (sym (added d) ∙ f) in
+      elim (cases_lt r row) [
+        | inl lt ↦ not_both (has_column old.words d) (touched.all d r lt n) both.0
+        | inr ge ↦ let e : r ≡ row = omega arith in not_both (has_column words d) (meets m row d words are (subst (λ (i : ℕ). entry m i d ≢ pos 0) e n)) both.1
+      ]);
+}
+
 -- ---- the known places after another walk
 
 shows_still : (m values old new : Matrix) (t c x : ℕ) → x ≢ c → ((a b : ℕ) → a ≢ c → entry new a b ≡ entry old a b) → ShowsPlacesFrom m values t x m.width old → ShowsPlacesFrom m values t x m.width new
 shows_still m values old new t c x apart others shows d order l one = subst (ShowsPlace m values t x d) (sym (others x d apart)) (shows d order l one)
 
 pub known_more : (m values : Matrix) (t c : ℕ) (old new : RowPlaces) → KnowsPlaces m values t old → HasWalked m values t c new.walk → ShowsPlacesFrom m values t c m.width new.links → ((a b : ℕ) → a ≢ c → entry new.links a b ≡ entry old.links a b) → AreSquare m new.links
-    → new.known.items ≡ set old.known.items c true → new.walked ≡ Some c → new.parts ≡ old.parts → KnowsPlaces m values t new
-known_more m values t c old new knows walked shows others square e is_there parts = record {
-  room = record { parts = subst (HasPartsBefore m t) (sym parts) knows.room.parts; fits = walked.fits; square = square; one_each = ap length e ∙ length-set old.known.items c true ∙ knows.room.one_each };
+    → new.known.items ≡ set old.known.items c true → new.walked ≡ Some c → new.parts ≡ old.parts → new.touched ≡ old.touched → new.waiting.size ≡ old.waiting.size → KnowsPlaces m values t new
+known_more m values t c old new knows walked shows others square e is_there parts touched waiting = record {
+  room = record {
+    parts = subst (HasPartsBefore m t) (sym parts) knows.room.parts;
+    touched = subst (HasTouched m t) (sym touched) knows.room.touched;
+    waiting = waiting ∙ knows.room.waiting;
+    fits = walked.fits;
+    square = square;
+    one_each = ap length e ∙ length-set old.known.items c true ∙ knows.room.one_each;
+  };
   signs = knows.signs;
   shows = λ x yes. elim (cases_eq x c) [
     | inl same ↦ subst (λ y. ShowsPlacesFrom m values t y m.width new.links) (sym same) shows
@@ -94,10 +121,12 @@ known_more m values t c old new knows walked shows others square e is_there part
     some_same a b e = cc
 
 -- nothing is known at the beginning of a row
-pub begin_row : (m values : Matrix) (t : ℕ) (old new : RowPlaces) → HasRoomForPlaces m t old → HasValuesBefore m values t → new.parts ≡ old.parts → new.walk ≡ old.walk → new.links ≡ old.links → new.walked ≡ None → new.known.items ≡ replicate (length old.known.items) false → KnowsPlaces m values t new
-begin_row m values t old new room signs parts walk links walked known = record {
+pub begin_row : (m values : Matrix) (t : ℕ) (old new : RowPlaces) → HasRoomForPlaces m t old → HasValuesBefore m values t → new.parts ≡ old.parts → new.walk ≡ old.walk → new.links ≡ old.links → new.walked ≡ None → new.known.items ≡ replicate (length old.known.items) false → new.touched ≡ old.touched → new.waiting ≡ old.waiting → KnowsPlaces m values t new
+begin_row m values t old new room signs parts walk links walked known touched waiting = record {
   room = record {
     parts = subst (HasPartsBefore m t) (sym parts) room.parts;
+    touched = subst (HasTouched m t) (sym touched) room.touched;
+    waiting = ap (λ (set : Bits). set.size) waiting ∙ room.waiting;
     fits = subst (HasPlacesAndMarks m) (sym walk) room.fits;
     square = subst (AreSquare m) (sym links) room.square;
     one_each = ap length known ∙ length-replicate (length old.known.items) false ∙ room.one_each;

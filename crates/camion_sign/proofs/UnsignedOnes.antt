@@ -1,27 +1,31 @@
 -- The search for the ones of a row that have no sign.
-use Rattle.std.proofs.Common.{◌≡◌, ◌≢◌, ◌<◌, ◌≤◌, ◌+◌, ◌∙◌, ℕ, pos, false, Option, Some, None, MatchOption, inl, inr, sym, ap, subst, arith}
+use Rattle.std.proofs.Common.{◌≡◌, ◌<◌, ◌≤◌, ◌∙◌, ℕ, true, false, not, List, Option, Some, None, MatchOption, inl, inr, sym}
 use Rattle.std.proofs.lemmas.Bool.{cases_lt}
 use Rattle.chains.specs.SignSteps.{IsUnsignedOne}
-use Rattle.cmr_base.specs.Matrix.{Matrix, entry}
+use Rattle.cmr_base.specs.ColumnSets.{has_column}
+use Rattle.cmr_base.specs.Matrix.{Matrix, entry, is_nonzero}
 use Rattle.cmr_base.specs.Trees.{support}
-use Rattle.cmr_base.proofs.Booleans.{zero_is}
+use Rattle.cmr_base.proofs.Booleans.{and_is, and_not, nonzero_is, not_is, true_is, zero_is}
 use Rattle.camion_sign.specs.SignOrder.{IsForcedBy}
 use Rattle.camion_sign.specs.Signings.{IsFirstUnsigned, IsNextUnsigned}
+use Rattle.camion_sign.specs.Walks.{IsFirstFresh, is_fresh}
 
--- zeros of the row are no ones
-pub zeros_unsigned : (a b s : Matrix) (row from low next : ℕ) → b ≡ a → ((d : ℕ) → from ≤ d → d < low → ¬ (IsUnsignedOne a s row d)) → ((d : ℕ) → low ≤ d → d < next → support b row d ≡ false)
-    → (d : ℕ) → from ≤ d → d < next → ¬ (IsUnsignedOne a s row d)
-zeros_unsigned a b s row from low next is before zeros d up below one = elim (cases_lt d low) [
-  | inl early ↦ before d up early one
-  | inr late ↦ one.one (zero_is (entry a row d) (sym (ap (λ (m : Matrix). support m row d) is) ∙ zeros d late below))
-]
+module _ (a s : Matrix) (row : ℕ) (ones signed : List ℕ) (are : (x : ℕ) → has_column ones x ≡ support a row x) (have : (x : ℕ) → has_column signed x ≡ support s row x) where
+  unsigned_is : (x : ℕ) → is_fresh ones signed x ≡ true → IsUnsignedOne a s row x
+  unsigned_is x h =
+      let both = and_is (has_column ones x) (not (has_column signed x)) h in
+      record { one = nonzero_is (entry a row x) (sym (are x) ∙ both.0); no_sign = zero_is (entry s row x) (sym (have x) ∙ not_is (has_column signed x) both.1) }
 
--- a signed one
-pub signed_passed : (a s : Matrix) (row from column : ℕ) → entry s row column ≢ pos 0 → ((d : ℕ) → from ≤ d → d < column → ¬ (IsUnsignedOne a s row d)) → (d : ℕ) → from ≤ d → d < column + 1 → ¬ (IsUnsignedOne a s row d)
-signed_passed a s row from column signed before d up below one = elim (cases_lt d column) [
-  | inl early ↦ before d up early one
-  | inr late ↦ let is : d ≡ column = omega (arith, below, late) in signed (subst (λ (x : ℕ). entry s row x ≡ pos 0) is one.no_sign)
-]
+  not_unsigned : (x : ℕ) → is_fresh ones signed x ≡ false → ¬ (IsUnsignedOne a s row x)
+  not_unsigned x h one =
+      let there = are x ∙ true_is (is_nonzero (entry a row x)) (λ f. one.one (zero_is (entry a row x) f)) in
+      nonzero_is (entry s row x) (sym (have x) ∙ and_not (has_column ones x) (has_column signed x) h there) one.no_sign
+
+  -- the first column with a one and without a sign
+  pub next_is : (from : ℕ) (found : Option ℕ) → MatchOption found ((x : ℕ) → from ≤ x → is_fresh ones signed x ≡ false) (IsFirstFresh ones signed from)
+      → MatchOption found ((d : ℕ) → from ≤ d → ¬ (IsUnsignedOne a s row d)) (IsNextUnsigned a s row from)
+  next_is from None none = λ d up. not_unsigned d (none d up)
+  next_is from (Some column) first = record { low = first.0; here = unsigned_is column first.1; least = λ d up below. not_unsigned d (first.2 d up below) }
 
 -- no one without sign is before `from`
 pub next_is_first : (a s : Matrix) (row from : ℕ) (found : Option ℕ) → ((d : ℕ) → d < from → ¬ (IsUnsignedOne a s row d))

@@ -6,7 +6,7 @@ use Rattle.cmr_base.proofs.Integers.{sums}
 use Rattle.cmr_base.proofs.Members.{distinct_few}
 use Rattle.cmr_base.proofs.Booleans.{is_ne, self_eq, true_is_false}
 use Rattle.camion_sign.specs.Trails.{IsShortlexBefore, IsUpTo, IsTrail, trail_end, trail_sum}
-use Rattle.camion_sign.specs.Walks.{Progress, IsQueue, Goes, IsMet, IsPrefix, IsSettled, TwoIf, flip}
+use Rattle.camion_sign.specs.Walks.{Progress, IsQueue, IsWanted, Goes, IsMet, IsPrefix, IsSettled, TwoIf, flip}
 use Rattle.camion_sign.proofs.Trails.{before_trans, up_to_before, before_up_to, up_to_trans, before_more, up_to_more, next_before, longer_before, length_more, trail_more, end_more, sum_more, last_step, HasLast}
 
 pub two_add : (a b : Bool) (x y : ℤ) → TwoIf a x → TwoIf b y → TwoIf (flip a b) (x +ℤ y)
@@ -79,22 +79,22 @@ module _ (M V : ℕ → ℕ → ℤ) (t c n : ℕ) where
     next h r0 x0 P Q w l p all = record {
       queue = w.queue;
       fits = omega arith;
-      done = λ i r x m goes early from to. elim (cases_lt i h) [
-        | inl lt ↦ w.done i r x lt goes early from to
-        | inr ge ↦ let q : h ≡ i = omega arith in here i q r x (all r (subst (Goes M V t c n s key) (sym q) goes) early (subst (λ (v : ℕ). M r (s.column v) ≢ pos 0) (sym q) from)) to
+      done = λ i r x m goes early from to needed. elim (cases_lt i h) [
+        | inl lt ↦ w.done i r x lt goes early from to needed
+        | inr ge ↦ let q : h ≡ i = omega arith in here i q r x (all r (subst (Goes M V t c n s key) (sym q) goes) early (subst (λ (v : ℕ). M r (s.column v) ≢ pos 0) (sym q) from)) to needed
       ];
-      gone = λ r x u to. let v = w.gone r x u to in (v.0, λ m. inl (up_to_before (key (s.place x)) (key h ++ r ∷ x ∷ []) (key (suc h) ++ r ∷ x ∷ []) (v.1 l) (before_more (key h) (key (suc h)) r x r x (w.queue.sorted h (suc h) (omega arith) m))));
+      gone = λ r x u to needed. let v = w.gone r x u to needed in (v.0, λ m. inl (up_to_before (key (s.place x)) (key h ++ r ∷ x ∷ []) (key (suc h) ++ r ∷ x ∷ []) (v.1 l) (before_more (key h) (key (suc h)) r x r x (w.queue.sorted h (suc h) (omega arith) m))));
       prefix = λ j r x m k q. before_trans (key j) (key h ++ r0 ∷ x0 ∷ []) (key (suc h) ++ r ∷ x ∷ []) (w.prefix j r0 x0 m l p) (before_more (key h) (key (suc h)) r0 x0 r x (w.queue.sorted h (suc h) (omega arith) k));
     }
       where
-        here : (i : ℕ) → h ≡ i → (r x : ℕ) → s.used r ≡ true → M r x ≢ pos 0 → IsMet M V t c n s key x (key i ++ r ∷ x ∷ [])
-        here i q r x u to = let v = w.gone r x u to in (v.0, subst (λ (j : ℕ). IsUpTo (key (s.place x)) (key j ++ r ∷ x ∷ [])) q (v.1 l))
+        here : (i : ℕ) → h ≡ i → (r x : ℕ) → s.used r ≡ true → M r x ≢ pos 0 → IsWanted M t c x → IsMet M V t c n s key x (key i ++ r ∷ x ∷ [])
+        here i q r x u to needed = let v = w.gone r x u to needed in (v.0, subst (λ (j : ℕ). IsUpTo (key (s.place x)) (key j ++ r ∷ x ∷ [])) q (v.1 l))
 
     -- within position h everything is settled, if each row that meets its column is taken or next
     pub settles : (h r0 x0 : ℕ) (P : ℕ → ℕ → Type 0) → IsPrefix M V t c n s key h P → h < s.count → P r0 x0
         → ((r x : ℕ) → r < t → M r (s.column h) ≢ pos 0 → (s.used r ≡ true) ⊎ P r x) → IsSettled M V t c n s key
-    settles h r0 x0 P w l p all i r x lines m goes early from to le = elim (cases_lt i h) [
-      | inl lt ↦ let v = w.done i r x lt goes early from to in inl (v.0, up_to_trans (key (s.place x)) (key i ++ r ∷ x ∷ []) (lines ++ r ∷ x ∷ []) v.1 (up_to_more (key i) lines r x le))
+    settles h r0 x0 P w l p all i r x lines m goes early from to needed le = elim (cases_lt i h) [
+      | inl lt ↦ let v = w.done i r x lt goes early from to needed in inl (v.0, up_to_trans (key (s.place x)) (key i ++ r ∷ x ∷ []) (lines ++ r ∷ x ∷ []) v.1 (up_to_more (key i) lines r x le))
       | inr ge ↦ elim (cases_lt h i) [
         | inl lt ↦ inr (λ j k. before_trans (key j) (key h ++ r0 ∷ x0 ∷ []) (lines ++ r ∷ x ∷ []) (w.prefix j r0 x0 k l p)
             (before_more (key h) lines r0 x0 r x (before_up_to (key h) (key i) lines (w.queue.sorted h i lt m) le)))
@@ -103,53 +103,59 @@ module _ (M V : ℕ → ℕ → ℤ) (t c n : ℕ) where
     ]
       where
         here : IsUpTo (key h) lines → (s.used r ≡ true) ⊎ P r x → IsMet M V t c n s key x (lines ++ r ∷ x ∷ []) ⊎ ((j : ℕ) → j < s.count → IsShortlexBefore (key j) (lines ++ r ∷ x ∷ []))
-        here e (inl u) = let v = w.gone r x u to in inl (v.0, up_to_trans (key (s.place x)) (key h ++ r ∷ x ∷ []) (lines ++ r ∷ x ∷ []) (v.1 l) (up_to_more (key h) lines r x e))
+        here e (inl u) = let v = w.gone r x u to needed in inl (v.0, up_to_trans (key (s.place x)) (key h ++ r ∷ x ∷ []) (lines ++ r ∷ x ∷ []) (v.1 l) (up_to_more (key h) lines r x e))
         here e (inr q) = inr (λ j k. before_up_to (key j) (key h ++ r ∷ x ∷ []) (lines ++ r ∷ x ∷ []) (w.prefix j r x k l q) (up_to_more (key h) lines r x e))
 
     -- each trail ends in a column that is met by a trail that is not after it; or it is late
     compare : (Late : List ℕ → Type 0) → IsQueue M V t c n s key → ((lines : List ℕ) (r x : ℕ) → Late lines → Late (lines ++ r ∷ x ∷ []))
-        → ((i r x : ℕ) (lines : List ℕ) → i < s.count → Goes M V t c n s key i → r < t → M r (s.column i) ≢ pos 0 → M r x ≢ pos 0 → IsUpTo (key i) lines → IsMet M V t c n s key x (lines ++ r ∷ x ∷ []) ⊎ Late (lines ++ r ∷ x ∷ []))
-        → (size : ℕ) (lines : List ℕ) → length lines < size → IsTrail M t c lines → IsMet M V t c n s key (trail_end c lines) lines ⊎ Late lines
-    compare Late w more settle zero lines l h = absurd (omega arith)
-    compare Late w more settle (suc size) lines l h = go (last_step M t c lines h) (λ prefix m g. compare Late w more settle size prefix m g)
+        → ((i r x : ℕ) (lines : List ℕ) → i < s.count → Goes M V t c n s key i → r < t → M r (s.column i) ≢ pos 0 → M r x ≢ pos 0 → IsWanted M t c x → IsUpTo (key i) lines → IsMet M V t c n s key x (lines ++ r ∷ x ∷ []) ⊎ Late (lines ++ r ∷ x ∷ []))
+        → (size : ℕ) (lines : List ℕ) → length lines < size → IsTrail M t c lines → (lines ≡ []) ⊎ IsWanted M t c (trail_end c lines) → IsMet M V t c n s key (trail_end c lines) lines ⊎ Late lines
+    compare Late w more settle zero lines l h ends = absurd (omega arith)
+    compare Late w more settle (suc size) lines l h ends = go (last_step M t c lines h) (λ prefix m g f. compare Late w more settle size prefix m g f)
       where
         at_start : s.place c ≡ 0
         at_start = ap s.place (sym w.first) ∙ w.placed 0 w.some
 
-        go : (lines ≡ []) ⊎ HasLast M t c lines → ((prefix : List ℕ) → length prefix < size → IsTrail M t c prefix → IsMet M V t c n s key (trail_end c prefix) prefix ⊎ Late prefix) → IsMet M V t c n s key (trail_end c lines) lines ⊎ Late lines
+        go : (lines ≡ []) ⊎ HasLast M t c lines → ((prefix : List ℕ) → length prefix < size → IsTrail M t c prefix → (prefix ≡ []) ⊎ IsWanted M t c (trail_end c prefix) → IsMet M V t c n s key (trail_end c prefix) prefix ⊎ Late prefix) → IsMet M V t c n s key (trail_end c lines) lines ⊎ Late lines
         go (inl e) k = subst (λ (v : List ℕ). IsMet M V t c n s key (trail_end c v) v ⊎ Late v) (sym e) (inl (let a = at_start in omega arith, inr (ap key at_start ∙ w.start)))
         go (inr p) k = subst (λ (v : List ℕ). IsMet M V t c n s key (trail_end c v) v ⊎ Late v) (sym p.lines_are)
             (subst (λ (x : ℕ). IsMet M V t c n s key x (p.prefix ++ p.row ∷ p.column ∷ []) ⊎ Late (p.prefix ++ p.row ∷ p.column ∷ [])) (sym (end_more M t c p.prefix p.row p.column p.trail))
-            (elim (k p.prefix (let e = ap length p.lines_are in let f = length_more p.prefix p.row p.column in omega arith) p.trail) [
+            (elim (k p.prefix (let e = ap length p.lines_are in let f = length_more p.prefix p.row p.column in omega arith) p.trail (elim p.goes [ inl e ↦ inl e | inr z ↦ inr (inl z) ])) [
               | inl met ↦ step met
               | inr late ↦ inr (more p.prefix p.row p.column late)
             ]))
           where
+            needed : IsWanted M t c p.column
+            needed = elim ends [
+              | inl e ↦ absurd (let a = ap length e in let b = ap length p.lines_are in let f = length_more p.prefix p.row p.column in omega arith)
+              | inr z ↦ subst (IsWanted M t c) (ap (trail_end c) p.lines_are ∙ end_more M t c p.prefix p.row p.column p.trail) z
+            ]
+
             step : IsMet M V t c n s key (trail_end c p.prefix) p.prefix → IsMet M V t c n s key p.column (p.prefix ++ p.row ∷ p.column ∷ []) ⊎ Late (p.prefix ++ p.row ∷ p.column ∷ [])
             step met =
                 let v = w.listed (trail_end c p.prefix) met.0 in
                 settle (s.place (trail_end c p.prefix)) p.row p.column p.prefix v.0
                 (elim p.goes [ inl e ↦ inl (ap (λ (u : List ℕ). s.place (trail_end c u)) e ∙ at_start) | inr z ↦ inr (ap (M t) v.1 ∙ z) ])
-                p.early (subst (λ (y : ℕ). M p.row y ≢ pos 0) (sym v.1) p.from) p.to met.1
+                p.early (subst (λ (y : ℕ). M p.row y ≢ pos 0) (sym v.1) p.from) p.to needed met.1
 
     -- if everything is settled, the trails to the columns that are met are least
-    pub least : IsQueue M V t c n s key → IsSettled M V t c n s key → (d : ℕ) (lines : List ℕ) → s.place d < 4294967295 → IsTrail M t c lines → trail_end c lines ≡ d → IsUpTo (key (s.place d)) lines
-    least w settled d lines met h e =
-        elim (compare (λ (ls : List ℕ). (j : ℕ) → j < s.count → IsShortlexBefore (key j) ls) w (λ ls r x late j l. before_trans (key j) ls (ls ++ r ∷ x ∷ []) (late j l) (longer_before ls r x)) settled (suc (length lines)) lines (omega arith) h) [
+    pub least : IsQueue M V t c n s key → IsSettled M V t c n s key → (d : ℕ) (lines : List ℕ) → c < d → s.place d < 4294967295 → IsTrail M t c lines → trail_end c lines ≡ d → IsUpTo (key (s.place d)) lines
+    least w settled d lines order met h e =
+        elim (compare (λ (ls : List ℕ). (j : ℕ) → j < s.count → IsShortlexBefore (key j) ls) w (λ ls r x late j l. before_trans (key j) ls (ls ++ r ∷ x ∷ []) (late j l) (longer_before ls r x)) settled (suc (length lines)) lines (omega arith) h (inr (inr (omega (arith, order, e))))) [
           | inl v ↦ subst (λ (y : ℕ). IsUpTo (key (s.place y)) lines) e v.1
           | inr late ↦ inl (late (s.place d) (w.listed d met).0)
         ]
 
     -- if all positions are done, each trail ends in a column that is met
-    pub all_met : (P : ℕ → ℕ → Type 0) → IsPrefix M V t c n s key s.count P → (lines : List ℕ) → IsTrail M t c lines → s.place (trail_end c lines) < 4294967295
-    all_met P w lines h =
+    pub all_met : (P : ℕ → ℕ → Type 0) → IsPrefix M V t c n s key s.count P → (lines : List ℕ) → IsTrail M t c lines → IsWanted M t c (trail_end c lines) → s.place (trail_end c lines) < 4294967295
+    all_met P w lines h ends =
         elim (compare (λ (ls : List ℕ). ⊥) w.queue (λ ls r x late. late)
-        (λ i r x ls l goes early from to le. let v = w.done i r x l goes early from to in inl (v.0, up_to_trans (key (s.place x)) (key i ++ r ∷ x ∷ []) (ls ++ r ∷ x ∷ []) v.1 (up_to_more (key i) ls r x le)))
-        (suc (length lines)) lines (omega arith) h) [ inl v ↦ v.0 | inr late ↦ absurd late ]
+        (λ i r x ls l goes early from to needed le. let v = w.done i r x l goes early from to needed in inl (v.0, up_to_trans (key (s.place x)) (key i ++ r ∷ x ∷ []) (ls ++ r ∷ x ∷ []) v.1 (up_to_more (key i) ls r x le)))
+        (suc (length lines)) lines (omega arith) h (inr ends)) [ inl v ↦ v.0 | inr late ↦ absurd late ]
 
     pub all_settled : (P : ℕ → ℕ → Type 0) → IsPrefix M V t c n s key s.count P → IsSettled M V t c n s key
-    all_settled P w i r x lines l goes early from to le =
-        let v = w.done i r x l goes early from to in
+    all_settled P w i r x lines l goes early from to needed le =
+        let v = w.done i r x l goes early from to needed in
         inl (v.0, up_to_trans (key (s.place x)) (key i ++ r ∷ x ∷ []) (lines ++ r ∷ x ∷ []) v.1 (up_to_more (key i) lines r x le))
 
   -- the walk begins
@@ -280,12 +286,12 @@ module _ (M V : ℕ → ℕ → ℤ) (t c n : ℕ) where
         visit = record {
           queue = queue;
           fits = let e = o.count in omega arith;
-          done = λ i q y m g a f b.
+          done = λ i q y m g a f b z.
               let k : i < s.count = omega arith in
-              let v = w.done i q y m (elim g [ inl z ↦ inl z | inr z ↦ inr (ap (M t) (sym (o.columns i k)) ∙ z) ]) a (subst (λ (u : ℕ). M q u ≢ pos 0) (o.columns i k) f) b in
+              let v = w.done i q y m (elim g [ inl z ↦ inl z | inr z ↦ inr (ap (M t) (sym (o.columns i k)) ∙ z) ]) a (subst (λ (u : ℕ). M q u ≢ pos 0) (o.columns i k) f) b z in
               subst (λ (u : List ℕ). IsMet M V t c n s' with_key y (u ++ q ∷ y ∷ [])) (sym (old_key i k)) (kept y (key i ++ q ∷ y ∷ []) v);
-          gone = λ q y u b.
-              let v = w.gone q y (sym (o.used q) ∙ u) b in
+          gone = λ q y u b z.
+              let v = w.gone q y (sym (o.used q) ∙ u) b z in
               let k = kept_here y q y (v.0, v.1 l) in (k.0, λ m. k.1);
           prefix = λ j q y m k a. each (λ j. IsShortlexBefore (with_key j) (with_key h ++ q ∷ y ∷ []))
               (λ j m. subst (λ (u : List ℕ). IsShortlexBefore u (with_key h ++ q ∷ y ∷ [])) (sym (old_key j m)) (subst (λ (u : List ℕ). IsShortlexBefore (key j) (u ++ q ∷ y ∷ [])) (sym same_head) (w.prefix j q y m l (still q y a).0)))

@@ -1,6 +1,8 @@
 -- The state of a signing.
 use Rattle.std.specs.Prelude.{◌≡◌, ◌≢◌, ◌<◌, ◌≤◌, ◌+◌, ◌⊎◌, if◌then◌else◌, ℕ, zero, suc, Bool, true, false, ℤ, pos, List, Some, length, slice_index, slice_index_or}
 use Rattle.cmr_base.specs.Matrix.{Matrix, height, entry, is_nonzero, IsEntry, IsMatrix}
+use Rattle.cmr_base.specs.BitSets.{Bits}
+use Rattle.cmr_base.specs.ColumnSets.{has_column}
 use Rattle.cmr_base.specs.CyclePlaces.{IsCyclePlace, path_sum}
 use Rattle.cmr_base.specs.Planes.{is_minus}
 use Rattle.camion_sign.specs.Walks.{HasFoundPaths, HasPlacesAndMarks, HasValuesBefore, TwoIf}
@@ -44,9 +46,16 @@ pub record AreSquare (m links : Matrix) : Type 0 where
 abbrev pub ShowsPlacesFrom : Matrix → Matrix → ℕ → ℕ → ℕ → Matrix → Type 0
 ShowsPlacesFrom m s t c bound links = (d : ℕ) → c < d → d < bound → entry m t d ≢ pos 0 → ShowsPlace m s t c d (entry links c d)
 
+-- a set that has the columns that a row before t meets
+pub record HasTouched (m : Matrix) (t : ℕ) (columns : Bits) : Type 0 where
+  pub size : columns.size ≡ m.width
+  pub all : (d r : ℕ) → r < t → entry m r d ≢ pos 0 → has_column columns.words d ≡ true
+
 -- room for the places of row t, and the parts by the rows before it
 pub record HasRoomForPlaces (m : Matrix) (t : ℕ) (places : RowPlaces) : Type 0 where
   pub parts : HasPartsBefore m t places.parts
+  pub touched : HasTouched m t places.touched
+  pub waiting : places.waiting.size ≡ m.width
   pub fits : HasPlacesAndMarks m places.walk
   pub square : AreSquare m places.links
   pub one_each : length places.known.items ≡ m.width

@@ -1,9 +1,10 @@
 -- Breadth-first walks from a column over the rows before t. The walk reaches columns in the order of their least trails.
-use Rattle.std.specs.Prelude.{ℕ, List, [], ◌∷◌, ◌++◌, Bool, true, false, not, ◌&&◌, ℤ, pos, ◌+ℤ◌, ◌≡◌, ◌≢◌, ◌<◌, ◌≤◌, ◌⊎◌, length, slice_index_or}
+use Rattle.std.specs.Prelude.{ℕ, List, [], ◌∷◌, ◌++◌, Bool, true, false, not, ◌&&◌, ℤ, pos, ◌+ℤ◌, ◌+◌, ◌*◌, ◌≡◌, ◌≢◌, ◌<◌, ◌≤◌, ◌⊎◌, length, slice_index_or}
 use Rattle.cmr_base.specs.BitSets.{Bits}
 use Rattle.cmr_base.specs.Matrix.{Matrix, height, entry, IsMatrix, IsEntry}
 use Rattle.cmr_base.specs.ColumnSets.{has_column}
 use Rattle.cmr_base.specs.CyclePlaces.{IsPath}
+use Rattle.cmr_base.specs.Planes.{has_bit}
 use Rattle.cmr_base.specs.Sums.{IsTwoModFour}
 use Rattle.camion_sign.specs.declared.walk.ReachedColumn.{ReachedColumn}
 use Rattle.camion_sign.specs.declared.walk.TheConstants.{UNREACHED}
@@ -49,6 +50,10 @@ progress steps places used = record {
   used = has_column used;
 }
 
+-- the columns that a walk from column c needs: trails go on through columns in which row t is 0, and last columns are after c
+abbrev pub IsWanted : (ℕ → ℕ → ℤ) → ℕ → ℕ → ℕ → Type 0
+IsWanted M t c x = (M t x ≡ pos 0) ⊎ (c < x)
+
 module _ (M V : ℕ → ℕ → ℤ) (t c n : ℕ) (s : Progress) (key : ℕ → List ℕ) where
   -- the reached columns, and their trails
   pub record IsQueue : Type 0 where
@@ -79,13 +84,13 @@ module _ (M V : ℕ → ℕ → ℤ) (t c n : ℕ) (s : Progress) (key : ℕ →
   pub record IsPrefix (h : ℕ) (Next : ℕ → ℕ → Type 0) : Type 0 where
     pub queue : IsQueue
     pub fits : h ≤ s.count
-    pub done : (i r x : ℕ) → i < h → Goes i → r < t → M r (s.column i) ≢ pos 0 → M r x ≢ pos 0 → IsMet x (key i ++ r ∷ x ∷ [])
-    pub gone : (r x : ℕ) → s.used r ≡ true → M r x ≢ pos 0 → (s.place x < UNREACHED) × (h < s.count → IsUpTo (key (s.place x)) (key h ++ r ∷ x ∷ []))
+    pub done : (i r x : ℕ) → i < h → Goes i → r < t → M r (s.column i) ≢ pos 0 → M r x ≢ pos 0 → IsWanted M t c x → IsMet x (key i ++ r ∷ x ∷ [])
+    pub gone : (r x : ℕ) → s.used r ≡ true → M r x ≢ pos 0 → IsWanted M t c x → (s.place x < UNREACHED) × (h < s.count → IsUpTo (key (s.place x)) (key h ++ r ∷ x ∷ []))
     pub prefix : (j r x : ℕ) → j < s.count → h < s.count → Next r x → IsShortlexBefore (key j) (key h ++ r ∷ x ∷ [])
 
   -- a trail that continues a reached trail is met, or after all reached trails
   abbrev pub IsSettled : Type 0
-  IsSettled = (i r x : ℕ) (lines : List ℕ) → i < s.count → Goes i → r < t → M r (s.column i) ≢ pos 0 → M r x ≢ pos 0 → IsUpTo (key i) lines
+  IsSettled = (i r x : ℕ) (lines : List ℕ) → i < s.count → Goes i → r < t → M r (s.column i) ≢ pos 0 → M r x ≢ pos 0 → IsWanted M t c x → IsUpTo (key i) lines
       → IsMet x (lines ++ r ∷ x ∷ []) ⊎ ((j : ℕ) → j < s.count → IsShortlexBefore (key j) (lines ++ r ∷ x ∷ []))
 
 -- in the first set and not in the other set
@@ -103,18 +108,17 @@ pub record HasOneMore (old : Bits) (line : ℕ) (new : Bits) : Type 0 where
   pub here : has_column new.words line ≡ true
   pub kept : (x : ℕ) → has_column old.words x ≡ true → has_column new.words x ≡ true
 
--- the set of reached columns has the columns with a position, and no others
-pub record AreInStep (positions : List ℕ) (reached : Bits) : Type 0 where
-  pub one_each : length positions ≡ reached.size
-  pub has : (x : ℕ) → has_column reached.words x ≡ true → place_in positions x < UNREACHED
+-- among the columns that a walk needs, the set has those with a position
+pub record AreInStep (m : Matrix) (t c : ℕ) (positions : List ℕ) (reached : Bits) : Type 0 where
+  pub has : (x : ℕ) → IsWanted (entry m) t c x → has_column reached.words x ≡ true → place_in positions x < UNREACHED
   pub lacks : (x : ℕ) → has_column reached.words x ≡ false → place_in positions x ≡ UNREACHED
 
--- a set of rows, and the set of the columns with a position
+-- a set of rows, a set of columns, and a position for each column
 pub record HasPlacesAndMarks (m : Matrix) (walk : Walk) : Type 0 where
   pub matrix : IsMatrix m
   pub rows : walk.used.size ≡ height m
   pub columns : walk.reached.size ≡ m.width
-  pub in_step : AreInStep walk.places.items walk.reached
+  pub one_each : length walk.places.items ≡ walk.reached.size
 
 -- values that are not 0 in the nonzeros of the rows before t
 pub record HasValuesBefore (m values : Matrix) (t : ℕ) : Type 0 where
@@ -126,6 +130,7 @@ pub record HasValuesBefore (m values : Matrix) (t : ℕ) : Type 0 where
 -- a walk from column c over the rows before t, at position h; it examines no row below `low` again for this position
 pub record IsWalking (m values : Matrix) (t c h low : ℕ) (walk : Walk) : Type 0 where
   pub fits : HasPlacesAndMarks m walk
+  pub in_step : AreInStep m t c walk.places.items walk.reached
   pub key : ℕ → List ℕ
   pub prefix : IsPrefix (entry m) (entry values) t c m.width (progress walk.steps.items walk.places.items walk.used.words) key h (λ r x. low ≤ r)
 
@@ -140,16 +145,26 @@ pub record GrowsFrom (old new : Walk) : Type 0 where
   pub steps : (j : ℕ) → j < length old.steps.items → step_at new.steps.items j ≡ step_at old.steps.items j
   pub places : (x : ℕ) → place_in old.places.items x < UNREACHED → place_in new.places.items x < UNREACHED
 
--- among the columns that row r meets, from the step at position h: those below `low` are reached
+-- among the needed columns that row r meets, from the step at position h: those below `low` are reached
 pub record IsReaching (m values : Matrix) (t c h r low : ℕ) (from : ReachedColumn) (old walk : Walk) : Type 0 where
   pub fits : HasPlacesAndMarks m walk
+  pub in_step : AreInStep m t c walk.places.items walk.reached
   pub grows : GrowsFrom old walk
   pub used : walk.used ≡ old.used
   pub within : h < length walk.steps.items
   pub from_is : step_at walk.steps.items h ≡ from
   pub key : ℕ → List ℕ
   pub prefix : IsPrefix (entry m) (entry values) t c m.width (progress walk.steps.items walk.places.items walk.used.words) key h (λ s x. (r < s) ⊎ ((r ≡ s) × (low ≤ x)))
-  pub met : (x : ℕ) → x < low → entry m r x ≢ pos 0 → IsMet (entry m) (entry values) t c m.width (progress walk.steps.items walk.places.items walk.used.words) key x (key h ++ r ∷ x ∷ [])
+  pub met : (x : ℕ) → x < low → entry m r x ≢ pos 0 → IsWanted (entry m) t c x → IsMet (entry m) (entry values) t c m.width (progress walk.steps.items walk.places.items walk.used.words) key x (key h ++ r ∷ x ∷ [])
+
+-- the same within the columns of a word, where `rest` has the needed columns that are not reached
+pub record IsReachingChunk (m values : Matrix) (t c h r chunk rest : ℕ) (from : ReachedColumn) (old walk : Walk) : Type 0 where
+  pub low : ℕ
+  pub up : 64 * chunk ≤ low
+  pub inside : low ≤ 64 * chunk + 64
+  pub state : IsReaching m values t c h r low from old walk
+  pub open_bit : (k : ℕ) → k < 64 → has_bit rest k ≡ true → (low ≤ 64 * chunk + k) × (entry m r (64 * chunk + k) ≢ pos 0) × (place_in walk.places.items (64 * chunk + k) ≡ UNREACHED)
+  pub closed_bit : (k : ℕ) → k < 64 → has_bit rest k ≡ false → low ≤ 64 * chunk + k → entry m r (64 * chunk + k) ≢ pos 0 → IsWanted (entry m) t c (64 * chunk + k) → place_in walk.places.items (64 * chunk + k) < UNREACHED
 
 -- no row before t meets the column
 abbrev pub IsUntouched : Matrix → ℕ → ℕ → Type 0
@@ -182,12 +197,12 @@ pub record IsGoing (m values : Matrix) (t c h pending : ℕ) (walk : Walk) : Typ
   pub pending_in : pending ≤ m.width
   pub waits : NoneWaits m t c pending walk.places.items
 
--- the result of a walk: the least trails to the reached columns, the sums of the values on them, and no paths to the others
+-- the result of a walk: the least trails to the reached columns after c, the sums of the values on them, and no paths to the others
 pub record HasWalked (m values : Matrix) (t c : ℕ) (walk : Walk) : Type 0 where
   pub fits : HasPlacesAndMarks m walk
   pub key : ℕ → List ℕ
   pub queue : IsQueue (entry m) (entry values) t c m.width (progress walk.steps.items walk.places.items walk.used.words) key
-  pub least : (d : ℕ) (lines : List ℕ) → place_in walk.places.items d < UNREACHED → IsTrail (entry m) t c lines → trail_end c lines ≡ d → IsUpTo (key (place_in walk.places.items d)) lines
+  pub least : (d : ℕ) (lines : List ℕ) → c < d → place_in walk.places.items d < UNREACHED → IsTrail (entry m) t c lines → trail_end c lines ≡ d → IsUpTo (key (place_in walk.places.items d)) lines
   pub none : (d : ℕ) (lines : List ℕ) → c < d → entry m t d ≢ pos 0 → place_in walk.places.items d ≡ UNREACHED → IsPath (entry m) t c d lines → ⊥
 
 -- the same for some values

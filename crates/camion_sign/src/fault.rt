@@ -4,7 +4,7 @@ ghost use Rattle.cmr_base.specs.Matrix.{height, entry};
 ghost use Rattle.cmr_base.specs.CyclePlaces.{HasNoCycleFault, IsCyclePlace, IsFaultAt};
 ghost use Rattle.camion_sign.specs.Walks.{HasFoundPaths, HasPlacesAndMarks, HasWalked, place_in};
 ghost use Rattle.camion_sign.specs.FaultLines.{HasNoFaultAt, IsColumnFault, IsFirstFault};
-ghost use Rattle.camion_sign.specs.NearColumns.{HasNearRoom, KnowsNear};
+ghost use Rattle.camion_sign.specs.NearColumns.{HasNearRoom, HasWaiting, KnowsNear};
 ghost use Rattle.network_orient.specs.FirstRows.{HasNoFaultBefore};
 
 use crate::listed_matrix::ListedMatrix;
@@ -12,7 +12,7 @@ use crate::near_columns::NearColumns;
 use crate::network_rows::passed_prefix;
 use crate::reach::{Start, flipped, walk_from};
 use crate::walk::{UNREACHED, Walk};
-use cmr_base::{Memory, RowsAndColumns};
+use cmr_base::{BitSet, Memory, RowsAndColumns};
 use std::alloc::Global;
 
 // A search for a tree begins after this number of rows, so that an early fault is found without it.
@@ -144,7 +144,7 @@ fn fault_at(
     if near.has_no_fault(matrix, start) {
         return Ok(None);
     }
-    fault_from(alloc, matrix, walk, start)
+    fault_from(alloc, matrix, walk, start, &near.waiting)
 }
 
 // The fault of a row and a first column with the least last column.
@@ -153,11 +153,13 @@ fn fault_from(
     matrix: &ListedMatrix<'_>,
     walk: &mut Walk,
     start: Start,
+    waiting: &BitSet,
 ) -> Result<Option<Fault>, Memory>
     requires row { start.row < height matrix.now }
     requires column { start.column < matrix.now.width }
     requires first { entry matrix.now start.row start.column ≢ pos 0 }
     requires fits { HasPlacesAndMarks matrix.now walk.old }
+    requires waiting { HasWaiting matrix.now start.row start.column waiting.now }
     ensures found { IfOk result (λ found. MatchOption found
         ((y : ℕ) → HasNoFaultAt matrix.now start.row start.column y)
         (λ f. (f.row ≡ start.row)
@@ -165,7 +167,7 @@ fn fault_from(
         × IsColumnFault matrix.now start.row start.column f.last f.lines.items)) }
     ensures fits { IfOk result (λ found. HasPlacesAndMarks matrix.now walk.new) }
 {
-    walk_from(matrix, matrix.by_rows(), walk, start)?;
+    walk_from(matrix, matrix.by_rows(), walk, start, waiting)?;
     let mut from = start.column + 1;
     while let Some(last) = matrix.by_rows().next_nonzero(start.row, from) {
         if is_fault(matrix, walk, start, last) {

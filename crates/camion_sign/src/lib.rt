@@ -18,4 +18,5 @@ mod signing;
 mod walk;
 
 pub use cycle_lines::{cycle_fault, cycle_fault_from, cycle_fault_of};
+pub use network_rows::passed_before;
 pub use signing::{sign, signed_matrix};

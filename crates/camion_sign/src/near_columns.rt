@@ -21,8 +21,8 @@ const MANY: usize = 8;
 pub struct NearColumns {
     // Whether the row agrees with each earlier row, up to the sign of the row.
     agrees: bool,
-    // The later columns of the row that some earlier row meets.
-    waiting: BitSet,
+    /// The later columns of the row that some earlier row meets.
+    pub waiting: BitSet,
     // The columns that share an earlier row with a column.
     near: BitSet,
 }

@@ -10,8 +10,11 @@ use std::alloc::Global;
 // Walks without a search for a tree find the first fault sooner if columns have at most this number of nonzeros on average.
 const FEW: u32 = 8;
 
-// Walks find a fault in this number of rows sooner than a search for a tree of fewer rows.
+// The search tests this number of rows more first.
 const ROWS: u32 = 64;
+
+// Walks find a fault in rows with this number of nonzeros sooner than a search for a tree of fewer rows.
+const NONZEROS: u32 = 1280;
 
 /// The number of first rows that the search skips, since they have no fault.
 pub fn passed_rows(alloc: Global, matrix: &RowsAndColumns<'_>) -> Result<u32, Memory>
@@ -52,9 +55,10 @@ fn passed_between(
     requires inside { rows ≤ height matrix.now }
     ensures { IfOk result (HasNoFaultBefore matrix.now) }
 {
+    let few = few_rows(matrix);
     let mut passed = first;
     let mut end = rows;
-    'halves: while passed < end && end - passed > ROWS {
+    'halves: while passed < end && end - passed > few {
         let middle = passed + (end - passed) / 2;
         let found = prefix_without_fault(alloc, matrix, middle)?;
         if found < middle {
@@ -65,6 +69,29 @@ fn passed_between(
         }
     }
     Ok(passed)
+}
+
+/// The number of first rows, at most a given number, that have no fault because a tree shows it. It is 0 if the given number of
+/// first rows has no tree, and in a sparse matrix, where walks are faster.
+pub fn passed_before(alloc: Global, matrix: &RowsAndColumns<'_>, rows: usize) -> Result<u32, Memory>
+    ensures { IfOk result (HasNoFaultBefore matrix.now) }
+{
+    if is_sparse(matrix) {
+        return Ok(0);
+    }
+    let all = matrix.rows();
+    if rows >= all as usize {
+        return prefix_without_fault(alloc, matrix, all);
+    }
+    prefix_without_fault(alloc, matrix, rows as u32)
+}
+
+// The number of rows in which walks find a fault sooner than a search for a tree of fewer rows.
+fn few_rows(matrix: &RowsAndColumns<'_>) -> u32
+    ensures { 1 ≤ result }
+{
+    let average = matrix.by_rows().nonzeros() / matrix.rows().max(1);
+    (NONZEROS / average.max(1)).max(1)
 }
 
 // Whether columns have few nonzeros on average.

@@ -1,12 +1,16 @@
 // Walks from the first column of the places of a row.
-ghost use Rattle.std.specs.Prelude.{◌≡◌, ◌≢◌, ◌<◌, ◌≤◌, ◌+◌, ◌⊎◌, ℕ, pos, false, IfOk, OnOk};
+ghost use Rattle.std.specs.Prelude.{◌≡◌, ◌≢◌, ◌<◌, ◌≤◌, ◌+◌, ◌*◌, ◌⊎◌, ℕ, pos, true, false, IfOk, OnOk};
 ghost use Rattle.cmr_base.specs.Matrix.{height, entry};
-ghost use Rattle.camion_sign.specs.Walks.{HasPlacesAndMarks, HasValuesBefore, IsWalking, IsOpen, GrowsFrom, HasSettled, HasWalked, IsUntouched, HasOneMore, NoneWaits, step_at, place_in, flip};
+ghost use Rattle.cmr_base.specs.ColumnSets.{has_column};
+ghost use Rattle.cmr_base.specs.Planes.{words_for};
+ghost use Rattle.camion_sign.specs.NearColumns.{HasWaiting};
+ghost use Rattle.camion_sign.specs.Walks.{HasPlacesAndMarks, HasValuesBefore, IsReaching, IsReachingChunk, IsWalking, IsOpen, GrowsFrom, HasSettled, HasWalked, IsUntouched, HasOneMore, NoneWaits, step_at, place_in, flip};
 
 use crate::listed_matrix::ListedMatrix;
-use crate::row_signs::has_one_sign;
+use crate::row_signs::{has_one_sign, is_in};
 use crate::walk::{ReachedColumn, UNREACHED, Walk};
-use cmr_base::{Matrix, Memory};
+use cmr_base::columns::outside;
+use cmr_base::{BitSet, Matrix, Memory, with_bit};
 use std::alloc::Global;
 
 /// The row and the first column of a set of places.
@@ -16,31 +20,55 @@ pub struct Start {
     pub column: u32,
 }
 
-/// Walks until each reachable last column is reached. The walk is breadth-first: it uses the rows before the row of the places,
-/// passes through columns in which that row is 0, and takes lines in increasing order. So it reaches each column by the least
-/// of its shortest paths. The sums are those of the values in the positions of the nonzeros.
+/// Walks until each waiting column after the first one is reached. The walk is breadth-first: it uses the rows before the row of
+/// the places, passes through columns in which that row is 0, and takes lines in increasing order. So it reaches each column by
+/// the least of its shortest paths. The sums are those of the values in the positions of the nonzeros.
 pub fn walk_from(
     matrix: &ListedMatrix<'_>,
     values: &Matrix,
     walk: &mut Walk,
     start: Start,
+    waiting: &BitSet,
 ) -> Result<(), Memory>
     requires row { start.row < height matrix.now }
     requires column { start.column < matrix.now.width }
     requires values { HasValuesBefore matrix.now values.now start.row }
+    requires waiting { HasWaiting matrix.now start.row start.column waiting.now }
     requires fits { HasPlacesAndMarks matrix.now walk.old }
     ensures { OnOk result (HasWalked matrix.now values.now start.row start.column walk.new) }
 {
     walk.begin(start.column)?;
+    pass_earlier(matrix, start, &mut walk.reached);
+    let ends = matrix.row_words(start.row);
     let mut head = 0;
-    let mut pending = start.column + 1;
+    let mut pending = first_waiting(walk, waiting, start.column + 1);
     while head < walk.steps.len() && pending < matrix.columns() {
-        if head == 0 || matrix.entry(start.row, walk.steps[head].column) == 0 {
-            pending = reach_rows(matrix, values, walk, start, head, pending)?;
+        if head == 0 || !is_in(ends, walk.steps[head].column) {
+            pending = reach_rows(matrix, values, walk, start, waiting, head, pending)?;
         }
         head += 1;
     }
     Ok(())
+}
+
+// Adds the columns of the row that are before the first column. No path goes on through them, and none of them is a last column.
+fn pass_earlier(matrix: &ListedMatrix<'_>, start: Start, reached: &mut BitSet)
+    requires row { start.row < height matrix.now }
+    requires size { reached.old.size ≡ matrix.now.width }
+    requires column { start.column < matrix.now.width }
+    ensures size { reached.new.size ≡ reached.old.size }
+    ensures only { (x : ℕ) → has_column reached.new.words x ≡ true
+        → (has_column reached.old.words x ≡ true)
+        ⊎ ((entry matrix.now start.row x ≢ pos 0) × (x < start.column)) }
+    ensures kept { (x : ℕ) → has_column reached.old.words x ≡ true
+        → has_column reached.new.words x ≡ true }
+{
+    for column in matrix.row(start.row) {
+        if *column >= start.column {
+            return;
+        }
+        reached.insert(*column);
+    }
 }
 
 // Takes the rows that meet the column at a position of the walk, until no last column waits.
@@ -49,11 +77,13 @@ fn reach_rows(
     values: &Matrix,
     walk: &mut Walk,
     start: Start,
+    waiting: &BitSet,
     head: usize,
     pending: u32,
 ) -> Result<u32, Memory>
     requires row { start.row < height matrix.now }
     requires values { HasValuesBefore matrix.now values.now start.row }
+    requires waiting { HasWaiting matrix.now start.row start.column waiting.now }
     requires open { IsOpen matrix.now start.row head walk.old }
     requires walking { IsWalking matrix.now values.now start.row start.column head 0 walk.old }
     requires pending { pending ≤ matrix.now.width }
@@ -74,7 +104,7 @@ fn reach_rows(
             return Ok(pending);
         }
         reach_row(matrix, values, walk, start, head, row)?;
-        pending = first_waiting(matrix, walk, start, pending);
+        pending = first_waiting(walk, waiting, pending);
         if pending == matrix.columns() {
             return Ok(pending);
         }
@@ -83,7 +113,7 @@ fn reach_rows(
     Ok(pending)
 }
 
-// Reaches the columns of a row that the walk has not reached before.
+// Reaches the columns of a row that the walk needs and has not reached before.
 fn reach_row(
     matrix: &ListedMatrix<'_>,
     values: &Matrix,
@@ -103,11 +133,45 @@ fn reach_row(
     ensures grows { OnOk result (GrowsFrom walk.old walk.new) }
     ensures used { OnOk result (HasOneMore walk.old.used row walk.new.used) }
 {
+    let columns = matrix.row_words(row);
+    for chunk in 0..columns.len() {
+        let fresh = outside(columns[chunk], walk.reached.words()[chunk]);
+        if fresh != 0 {
+            reach_chunk(matrix, values, walk, start, head, row, chunk, fresh)?;
+        }
+    }
+    walk.used.insert(row);
+    Ok(())
+}
+
+// The same for the columns of one word of the row. The word has those that the walk has not reached.
+fn reach_chunk(
+    matrix: &ListedMatrix<'_>,
+    values: &Matrix,
+    walk: &mut Walk,
+    start: Start,
+    head: usize,
+    row: u32,
+    chunk: usize,
+    fresh: u64,
+) -> Result<(), Memory>
+    requires row { start.row < height matrix.now }
+    requires early { row < start.row }
+    requires chunk { chunk < words_for matrix.now.width }
+    requires values { HasValuesBefore matrix.now values.now start.row }
+    requires open { IsOpen matrix.now start.row head walk.old }
+    requires leads { entry matrix.now row (step_at walk.old.steps.items head).column ≢ pos 0 }
+    requires reaching { IsReachingChunk matrix.now values.now start.row start.column head row
+        chunk fresh (step_at walk.old.steps.items head) walk.old walk.old }
+    ensures { OnOk result (IsReaching matrix.now values.now start.row start.column head row
+        (64 * chunk + 64) (step_at walk.old.steps.items head) walk.old walk.new) }
+{
     let from = walk.steps[head];
     let minus = values.minus_words(row);
-    let columns = matrix.row_words(row);
-    let mut low = 0;
-    while let Some(column) = walk.next_unreached(columns, low) {
+    let mut rest = fresh;
+    'bits: while rest != 0 {
+        let bit = rest.trailing_zeros();
+        let column = 64 * chunk as u32 + bit;
         let is_same = has_one_sign(minus, from.column, column);
         walk.reach(ReachedColumn {
             column,
@@ -115,31 +179,24 @@ fn reach_row(
             before: head as u32,
             is_two: flipped(from.is_two, is_same),
         })?;
-        low = column + 1;
+        rest = with_bit(rest, bit, false);
     }
-    walk.used.insert(row);
     Ok(())
 }
 
-// The first waiting column that is at least `from`. A column waits if the row of the places meets it and the walk has not
-// reached it but may.
-fn first_waiting(matrix: &ListedMatrix<'_>, walk: &Walk, start: Start, from: u32) -> u32
-    requires row { start.row < height matrix.now }
-    requires fits { HasPlacesAndMarks matrix.now walk.now }
-    requires from { from ≤ matrix.now.width }
+// The first waiting column that is at least `from` and that the walk has not reached. If there is none, the number of columns.
+fn first_waiting(walk: &Walk, waiting: &BitSet, from: u32) -> u32
+    requires size { waiting.now.size ≡ walk.now.reached.size }
+    requires from { from ≤ waiting.now.size }
     ensures from { from ≤ result }
-    ensures width { result ≤ matrix.now.width }
-    ensures waits { (d : ℕ) → from ≤ d → d < result → entry matrix.now start.row d ≢ pos 0
-        → (place_in walk.now.places.items d ≢ UNREACHED) ⊎ IsUntouched matrix.now start.row d }
+    ensures width { result ≤ waiting.now.size }
+    ensures reached { (d : ℕ) → from ≤ d → d < result → has_column waiting.now.words d ≡ true
+        → has_column walk.now.reached.words d ≡ true }
 {
-    let mut low = from;
-    while let Some(column) = matrix.by_rows().next_nonzero(start.row, low) {
-        if !walk.has_reached(column) && is_touched(matrix, start.row, column) {
-            return column;
-        }
-        low = column + 1;
+    match walk.next_unreached(waiting.words(), from) {
+        Some(column) => column,
+        None => waiting.size(),
     }
-    matrix.columns()
 }
 
 /// Whether an earlier row meets the column.

@@ -12,7 +12,7 @@ use crate::fault::path_to;
 use crate::listed_matrix::ListedMatrix;
 use crate::reach::{Start, walk_from};
 use crate::walk::Walk;
-use cmr_base::{LineSet, Matrix, Memory};
+use cmr_base::{BitSet, LineSet, Matrix, Memory};
 use std::alloc::Global;
 
 /// A forced one: its column, and the signed column with which it makes a cycle place.
@@ -28,6 +28,10 @@ pub struct ForcedOne {
 pub struct RowPlaces {
     /// The parts of the columns, by the rows before this one.
     pub parts: ColumnParts,
+    /// The columns that the rows before this one meet.
+    pub touched: BitSet,
+    /// The columns of the row that some earlier row meets, for the last walk.
+    pub waiting: BitSet,
     pub walk: Walk,
     /// The column at which the last walk began.
     pub walked: Option<u32>,
@@ -46,6 +50,8 @@ impl RowPlaces {
         let columns = matrix.columns();
         Ok(RowPlaces {
             parts: ColumnParts::new(alloc, columns)?,
+            touched: BitSet::new(alloc, columns)?,
+            waiting: BitSet::new(alloc, columns)?,
             walk: Walk::new(alloc, matrix.rows(), columns)?,
             walked: None,
             links: Matrix::zero(alloc, columns, columns)?,
@@ -69,6 +75,7 @@ impl RowPlaces {
         ensures { HasRoomForPlaces matrix.now (row + 1) self.new }
     {
         self.parts.join_row(matrix, row);
+        self.touched.add_words(matrix.row_words(row));
     }
 
     /// Whether two columns make a cycle place with the row.
@@ -193,7 +200,10 @@ impl RowPlaces {
         ensures walked { OnOk result
             (HasFoundPaths matrix.now start.row start.column self.new.walk) }
     {
-        walk_from(matrix, signs, &mut self.walk, start)?;
+        self.waiting.clear();
+        self.waiting
+            .add_common_words(&self.touched, matrix.row_words(start.row));
+        walk_from(matrix, signs, &mut self.walk, start, &self.waiting)?;
         note_places(matrix, signs, &self.walk, start, &mut self.links);
         self.known[start.column as usize] = true;
         self.walked = Some(start.column);

@@ -27,15 +27,15 @@ pub fn has_one_sign(minus: &[u64], one: u32, other: u32) -> bool
     requires other { other / 64 < length minus.now }
     ensures { IsTrue result ↔ (has_column minus.now one ≡ has_column minus.now other) }
 {
-    has_minus(minus, one) == has_minus(minus, other)
+    is_in(minus, one) == is_in(minus, other)
 }
 
-// Whether a row is -1 in a column.
-fn has_minus(minus: &[u64], column: u32) -> bool
-    requires { column / 64 < length minus.now }
-    ensures { result ≡ has_column minus.now column }
+/// Whether a column is in a set that is given as words.
+pub fn is_in(columns: &[u64], column: u32) -> bool
+    requires { column / 64 < length columns.now }
+    ensures { result ≡ has_column columns.now column }
 {
-    has_bit(minus[column as usize / 64], column % 64)
+    has_bit(columns[column as usize / 64], column % 64)
 }
 
 // Whether two rows agree, up to the sign of a row, in the columns in which both are not 0.
@@ -62,28 +62,28 @@ fn signs_agree(support: &[u64], minus: &[u64], other: &[u64], other_minus: &[u64
         → HaveEqualSigns support.now minus.now other.now other_minus.now
         ⊎ HaveOppositeSigns support.now minus.now other.now other_minus.now }
 {
-    let mut may_be_equal = true;
-    let mut may_be_opposite = true;
+    let mut opposite = 0;
+    let mut equal = 0;
     for chunk in 0..support.len() {
         let common = support[chunk] & other[chunk];
-        may_be_equal = may_be_equal && are_equal(common, minus[chunk], other_minus[chunk]);
-        may_be_opposite = may_be_opposite && are_opposite(common, minus[chunk], other_minus[chunk]);
+        opposite |= opposite_bits(common, minus[chunk], other_minus[chunk]);
+        equal |= equal_bits(common, minus[chunk], other_minus[chunk]);
     }
-    may_be_equal || may_be_opposite
+    opposite == 0 || equal == 0
 }
 
-// Whether two words are equal in the bits of `common`.
-fn are_equal(common: u64, word: u64, other: u64) -> bool
-    ensures { IsTrue result
+// The bits of `common` in which two words differ.
+fn opposite_bits(common: u64, word: u64, other: u64) -> u64
+    ensures { result ≡ 0
         → (k : ℕ) → k < 64 → has_bit common k ≡ true → has_bit word k ≡ has_bit other k }
 {
-    common & (word ^ other) == 0
+    common & (word ^ other)
 }
 
-// Whether two words differ in all bits of `common`.
-fn are_opposite(common: u64, word: u64, other: u64) -> bool
-    ensures { IsTrue result
+// The bits of `common` in which two words are equal.
+fn equal_bits(common: u64, word: u64, other: u64) -> u64
+    ensures { result ≡ 0
         → (k : ℕ) → k < 64 → has_bit common k ≡ true → has_bit word k ≢ has_bit other k }
 {
-    common & !(word ^ other) == 0
+    common & !(word ^ other)
 }

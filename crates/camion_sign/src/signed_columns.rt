@@ -1,5 +1,5 @@
 // The signed columns of a row, and the columns that make no cycle place with them.
-ghost use Rattle.std.specs.Prelude.{◌≡◌, ◌<◌, ℕ, [], false, length, slice_index, IfOk};
+ghost use Rattle.std.specs.Prelude.{◌≡◌, ◌<◌, ℕ, [], length, slice_index, IfOk, MatchOption};
 ghost use Rattle.cmr_base.specs.Matrix.{height};
 ghost use Rattle.chains.specs.SignSteps.{AreSigns, IsUnsignedOne};
 ghost use Rattle.camion_sign.specs.SignOrder.{IsForcedBy};
@@ -42,36 +42,38 @@ impl SignedColumns {
         self.passed.fill(0);
     }
 
-    /// Whether some signed column makes a cycle place with a column. Signed columns that are known to make none with it are
+    /// The first signed column that makes a cycle place with a column. Signed columns that are known to make none with it are
     /// skipped.
-    pub fn force(
+    pub fn first_forcing(
         &mut self,
         matrix: &ListedMatrix<'_>,
         places: &mut RowPlaces,
         row: u32,
         column: u32,
         signs: &Matrix,
-    ) -> Result<bool, Memory>
+    ) -> Result<Option<u32>, Memory>
         requires row { row < height matrix.now }
         requires column { column < matrix.now.width }
         requires places { KnowsPlaces matrix.now signs.now row places.old }
         requires signs { AreSigns matrix.now signs.now }
         requires signed { KnowsSigned matrix.now signs.now row self.old }
         requires here { IsUnsignedOne matrix.now signs.now row column }
-        ensures none { IfOk result (λ forced. forced ≡ false
-            → (c : ℕ) → ¬ (IsForcedBy matrix.now signs.now row column c)) }
-        ensures places { IfOk result (λ forced. KnowsPlaces matrix.now signs.now row places.new) }
-        ensures signed { IfOk result (λ forced. KnowsSigned matrix.now signs.now row self.new) }
+        ensures found { IfOk result (λ found. MatchOption found
+            ((c : ℕ) → ¬ (IsForcedBy matrix.now signs.now row column c))
+            (IsForcedBy matrix.now signs.now row column)) }
+        ensures places { IfOk result (λ found. KnowsPlaces matrix.now signs.now row places.new) }
+        ensures signed { IfOk result (λ found. KnowsSigned matrix.now signs.now row self.new) }
     {
         let mut place = self.passed[column as usize];
         'signed: while place < self.columns.len() {
-            let is_place = places.make_place(matrix, signs, row, column, self.columns[place])?;
+            let partner = self.columns[place];
+            let is_place = places.make_place(matrix, signs, row, column, partner)?;
             if is_place {
-                return Ok(true);
+                return Ok(Some(partner));
             }
             place += 1;
         }
         self.passed[column as usize] = place;
-        Ok(false)
+        Ok(None)
     }
 }

@@ -1,5 +1,5 @@
 // Camion's signing of a 0/1 matrix, row by row.
-ghost use Rattle.std.specs.Prelude.{◌≡◌, ◌<◌, ◌≤◌, ◌+◌, ◌*◌, ◌+ℤ◌, ℕ, ℤ, List, length, IfOk, OnOk, MatchOption};
+ghost use Rattle.std.specs.Prelude.{◌≡◌, ◌<◌, ◌≤◌, ◌+◌, ◌*◌, ◌+ℤ◌, ℕ, ℤ, pos, List, length, IfOk, OnOk, IsTrue, MatchOption};
 ghost use Rattle.cmr_base.specs.Matrix.{height, entry, IsMatrix};
 ghost use Rattle.cmr_base.specs.Signing.{IsSign};
 ghost use Rattle.cmr_base.specs.Supports.{HaveOneSupport};
@@ -19,8 +19,9 @@ use crate::kept_steps::KeptSteps;
 use crate::listed_matrix::ListedMatrix;
 use crate::row_places::{ForcedOne, RowPlaces};
 use crate::signed_columns::SignedColumns;
+use crate::walk::first_outside;
 use chains::SignStepList;
-use cmr_base::{Matrix, Memory, RowsAndColumns};
+use cmr_base::{Matrix, Memory, RowsAndColumns, columns_of};
 use std::alloc::Global;
 
 /// The signs given so far, and 0 without a sign; the steps that gave them, if they are kept; and the signed columns of the
@@ -205,6 +206,7 @@ fn forced_one(
 
 // The first column that is at least `from` and in which a row has a one without sign.
 fn next_unsigned(matrix: &ListedMatrix<'_>, row: u32, from: u32, signs: &Matrix) -> Option<u32>
+    requires shape { IsMatrix matrix.now }
     requires row { row < height matrix.now }
     requires from { from ≤ matrix.now.width }
     requires signs { AreSigns matrix.now signs.now }
@@ -212,14 +214,7 @@ fn next_unsigned(matrix: &ListedMatrix<'_>, row: u32, from: u32, signs: &Matrix)
         ((d : ℕ) → from ≤ d → ¬ (IsUnsignedOne matrix.now signs.now row d))
         (IsNextUnsigned matrix.now signs.now row from) }
 {
-    let mut low = from;
-    while let Some(column) = matrix.by_rows().next_nonzero(row, low) {
-        if signs.entry(row, column) == 0 {
-            return Some(column);
-        }
-        low = column + 1;
-    }
-    None
+    first_outside(matrix.row_words(row), columns_of(signs, row), from)
 }
 
 // The least signed column of a row that makes a cycle place with a column.
@@ -243,32 +238,36 @@ fn partner_of(
     ensures places { IfOk result (λ found. KnowsPlaces matrix.now signs.now row places.new) }
     ensures signed { IfOk result (λ found. KnowsSigned matrix.now signs.now row signed.new) }
 {
-    let is_forced = signed.force(matrix, places, row, column, signs)?;
-    if is_forced {
-        least_partner(matrix, places, row, column, signs)
-    } else {
-        Ok(None)
+    match signed.first_forcing(matrix, places, row, column, signs)? {
+        Some(found) => least_partner(matrix, places, row, column, signs, found),
+        None => Ok(None),
     }
 }
 
-// The least signed column that makes a cycle place with a column. The search visits all ones of the row.
+// The least signed column that makes a cycle place with a column. One such column is known. If it is not the first one of the
+// row, the search visits all ones of the row.
 fn least_partner(
     matrix: &ListedMatrix<'_>,
     places: &mut RowPlaces,
     row: u32,
     column: u32,
     signs: &Matrix,
+    found: u32,
 ) -> Result<Option<u32>, Memory>
     requires row { row < height matrix.now }
     requires column { column < matrix.now.width }
     requires places { KnowsPlaces matrix.now signs.now row places.old }
     requires signs { AreSigns matrix.now signs.now }
     requires here { IsUnsignedOne matrix.now signs.now row column }
-    ensures partner { IfOk result (λ found. MatchOption found
+    requires found { IsForcedBy matrix.now signs.now row column found }
+    ensures partner { IfOk result (λ partner. MatchOption partner
         ((c : ℕ) → ¬ (IsForcedBy matrix.now signs.now row column c))
         (IsPartner matrix.now signs.now row column)) }
-    ensures places { IfOk result (λ found. KnowsPlaces matrix.now signs.now row places.new) }
+    ensures places { IfOk result (λ partner. KnowsPlaces matrix.now signs.now row places.new) }
 {
+    if is_first(matrix, row, found) {
+        return Ok(Some(found));
+    }
     for partner in matrix.row(row) {
         if signs.entry(row, *partner) != 0 {
             let is_place = places.make_place(matrix, signs, row, column, *partner)?;
@@ -280,8 +279,18 @@ fn least_partner(
     Ok(None)
 }
 
+// Whether a column is the first one in which a row is not 0.
+fn is_first(matrix: &ListedMatrix<'_>, row: u32, column: u32) -> bool
+    requires { row < height matrix.now }
+    ensures { IsTrue result → (c : ℕ) → c < column → entry matrix.now row c ≡ pos 0 }
+{
+    let columns = matrix.row(row);
+    columns.len() > 0 && columns[0] == column
+}
+
 // The first column at or after `from` in which a row has a one without sign.
 fn first_unsigned(matrix: &ListedMatrix<'_>, row: u32, from: u32, signs: &Matrix) -> Option<u32>
+    requires shape { IsMatrix matrix.now }
     requires row { row < height matrix.now }
     requires signs { AreSigns matrix.now signs.now }
     requires from { from ≤ matrix.now.width }

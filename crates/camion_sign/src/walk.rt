@@ -2,6 +2,8 @@
 ghost use Rattle.std.specs.Prelude.{◌≡◌, ◌<◌, ◌≤◌, ◌++◌, [], ◌∷◌, ℕ, IfOk, OnOk, IsTrue, MatchOption, length, replicate, slice_set, false};
 ghost use Rattle.cmr_base.specs.BitSets.{AreWordsOf};
 ghost use Rattle.cmr_base.specs.ColumnSets.{has_column};
+ghost use Rattle.cmr_base.specs.Matrix.{Matrix};
+ghost use Rattle.cmr_base.specs.Planes.{words_for};
 ghost use Rattle.camion_sign.specs.Walks.{AreInStep, IsFirstFresh, is_fresh, place_in};
 
 use cmr_base::columns::outside;
@@ -24,7 +26,7 @@ pub struct ReachedColumn {
 }
 
 /// The reached columns in order, the position of each column, the set of the rows that the walk has taken, and the set of the
-/// reached columns. All walks share one allocation.
+/// columns that it has reached or does not need. All walks share one allocation.
 #[derive(Drop)]
 pub struct Walk {
     pub steps: Vec<ReachedColumn>,
@@ -40,7 +42,7 @@ impl Walk {
         requires columns { columns ≤ MAX_COLUMNS }
         ensures rows { IfOk result (λ walk. walk.used.size ≡ rows) }
         ensures columns { IfOk result (λ walk. walk.reached.size ≡ columns) }
-        ensures in_step { IfOk result (λ walk. AreInStep walk.places.items walk.reached) }
+        ensures one_each { IfOk result (λ walk. length walk.places.items ≡ walk.reached.size) }
     {
         Ok(Walk {
             steps: Vec::with_capacity(alloc, columns as usize)?,
@@ -53,7 +55,7 @@ impl Walk {
     /// Begins a walk from a column.
     pub fn begin(&mut self, column: u32) -> Result<(), Memory>
         requires column { column < self.old.reached.size }
-        requires in_step { AreInStep self.old.places.items self.old.reached }
+        requires one_each { length self.old.places.items ≡ self.old.reached.size }
         ensures steps { OnOk result (self.new.steps.items
             ≡ record { column = column; row = 0; before = 0; is_two = false } ∷ []) }
         ensures places { OnOk result (self.new.places.items
@@ -61,7 +63,8 @@ impl Walk {
         ensures rows { OnOk result (self.new.used.size ≡ self.old.used.size) }
         ensures unused { OnOk result ((row : ℕ) → has_column self.new.used.words row ≡ false) }
         ensures columns { OnOk result (self.new.reached.size ≡ self.old.reached.size) }
-        ensures in_step { OnOk result (AreInStep self.new.places.items self.new.reached) }
+        ensures in_step { OnOk result ((m : Matrix) (t c : ℕ)
+            → AreInStep m t c self.new.places.items self.new.reached) }
     {
         self.steps.clear();
         self.places.fill(UNREACHED);
@@ -87,7 +90,7 @@ impl Walk {
         self.places[column as usize] < UNREACHED
     }
 
-    /// The first column of a set that is at least `from` and that the walk has not reached. The set is given as words.
+    /// The first column of a set that is at least `from` and that the walk needs and has not reached. The set is given as words.
     pub fn next_unreached(&self, columns: &[u64], from: u32) -> Option<u32>
         requires columns { AreWordsOf self.now.reached.size columns.now }
         requires from { from ≤ MAX_COLUMNS }
@@ -95,7 +98,7 @@ impl Walk {
             ((x : ℕ) → from ≤ x → is_fresh columns.now self.now.reached.words x ≡ false)
             (IsFirstFresh columns.now self.now.reached.words from) }
     {
-        first_outside(columns, &self.reached, from)
+        first_outside(columns, self.reached.words(), from)
     }
 
     /// The first row of a set that is at least `from` and that the walk has not taken. The set is given as words.
@@ -106,20 +109,22 @@ impl Walk {
             ((x : ℕ) → from ≤ x → is_fresh rows.now self.now.used.words x ≡ false)
             (IsFirstFresh rows.now self.now.used.words from) }
     {
-        first_outside(rows, &self.used, from)
+        first_outside(rows, self.used.words(), from)
     }
 
     /// Adds a reached column.
     pub fn reach(&mut self, step: ReachedColumn) -> Result<(), Memory>
         requires column { step.column < self.old.reached.size }
         requires few { length self.old.steps.items ≤ MAX_COLUMNS }
-        requires in_step { AreInStep self.old.places.items self.old.reached }
+        requires one_each { length self.old.places.items ≡ self.old.reached.size }
         ensures steps { OnOk result (self.new.steps.items ≡ self.old.steps.items ++ step ∷ []) }
         ensures places { OnOk result (self.new.places.items
             ≡ slice_set self.old.places.items step.column (length self.old.steps.items)) }
         ensures used { OnOk result (self.new.used ≡ self.old.used) }
         ensures columns { OnOk result (self.new.reached.size ≡ self.old.reached.size) }
-        ensures in_step { OnOk result (AreInStep self.new.places.items self.new.reached) }
+        ensures in_step { OnOk result ((m : Matrix) (t c : ℕ)
+            → AreInStep m t c self.old.places.items self.old.reached
+            → AreInStep m t c self.new.places.items self.new.reached) }
     {
         self.places[step.column as usize] = self.steps.len() as u32;
         self.reached.insert(step.column);
@@ -128,16 +133,16 @@ impl Walk {
     }
 }
 
-// The first line of a set that is at least `from` and is not in another set. The first set is given as words, and the search
-// reads one word at a time.
-fn first_outside(lines: &[u64], other: &BitSet, from: u32) -> Option<u32>
-    requires lines { AreWordsOf other.now.size lines.now }
+/// The first line of a set that is at least `from` and is not in another set. Both sets are given as words, and the search reads
+/// one word at a time.
+pub fn first_outside(lines: &[u64], others: &[u64], from: u32) -> Option<u32>
+    requires lines { length lines.now ≤ words_for MAX_COLUMNS }
+    requires others { length others.now ≡ length lines.now }
     requires from { from ≤ MAX_COLUMNS }
     ensures { MatchOption result
-        ((x : ℕ) → from ≤ x → is_fresh lines.now other.now.words x ≡ false)
-        (IsFirstFresh lines.now other.now.words from) }
+        ((x : ℕ) → from ≤ x → is_fresh lines.now others.now x ≡ false)
+        (IsFirstFresh lines.now others.now from) }
 {
-    let others = other.words();
     let mut line = from;
     while (line as usize) < 64 * lines.len() {
         let chunk = line as usize / 64;

@@ -2,7 +2,7 @@ use Rattle.std.proofs.Common.{◌≢◌, ◌<◌, ◌-◌, ◌∙◌, ℕ, ◌+�
 use Rattle.cmr_base.specs.BitSets.{AreWordsOf}
 use Rattle.cmr_base.specs.Matrix.{entry}
 use Rattle.camion_sign.proofs.FreshColumns.{unused_meets, used_if_meets}
-use Rattle.camion_sign.proofs.Steps.{start_rows, walks_from, take_row, end_rows, settle_rows, step_is}
+use Rattle.camion_sign.proofs.Steps.{start_rows, walks_from, take_row, end_rows, settle_rows, step_is, waits_or}
 use Rattle.camion_sign.proofs.reach.reach_rows.Goals as goal
 
 pub column_words-rows-requires : goal.column_words-rows-requires
@@ -49,11 +49,11 @@ pub reach_row-requires-clause-walking : goal.reach_row-requires-clause-walking
 reach_row-requires-clause-walking c =
     walks_from c.args.matrix.now c.args.values.now c.args.start.row c.args.start.column c.args.head c.loop-row.low c.args.walk.now c.loop-row.walk c.loop-row.invariant c.in-Some.row c.in-Some.ensures.0
 
-pub first_waiting-pending-requires-clause-fits : goal.first_waiting-pending-requires-clause-fits
-first_waiting-pending-requires-clause-fits c = c.in_ok-reach_row.ensures.walking.fits
+pub first_waiting-pending-requires-clause-size : goal.first_waiting-pending-requires-clause-size
+first_waiting-pending-requires-clause-size c = c.requires.waiting.size ∙ sym c.in_ok-reach_row.ensures.walking.fits.columns
 
 pub first_waiting-pending-requires-clause-from : goal.first_waiting-pending-requires-clause-from
-first_waiting-pending-requires-clause-from c = c.loop-row.invariant.pending_in
+first_waiting-pending-requires-clause-from c = omega (arith, c.loop-row.invariant.pending_in, c.requires.waiting.size)
 
 pub returns-then-pending-columns-clause-walk : goal.returns-then-pending-columns-clause-walk
 returns-then-pending-columns-clause-walk c =
@@ -63,11 +63,12 @@ returns-then-pending-columns-clause-walk c =
     let taken = take_row m c.args.values.now c.args.start.row c.args.start.column c.args.head c.loop-row.low c.args.walk.now walk c.loop-row.invariant c.in-Some.row c.reach_row.new.walk c.first_waiting-pending.result c.if-row-start.false
     (λ r up below leads. used_if_meets m c.index.result.now.column c.column_words-rows.result.now walk.used.words c.column_words-rows.ensures.rows r
     (c.in-Some.ensures.2 r up below) (subst (λ (y : ℕ). entry m r y ≢ pos 0) (ap (λ v. v.column) is) leads))
-    c.in_ok-reach_row.ensures.walking c.in_ok-reach_row.ensures.grows c.in_ok-reach_row.ensures.used c.first_waiting-pending.ensures.from c.first_waiting-pending.ensures.width c.first_waiting-pending.ensures.waits in
+    c.in_ok-reach_row.ensures.walking c.in_ok-reach_row.ensures.grows c.in_ok-reach_row.ensures.used c.first_waiting-pending.ensures.from (omega (arith, c.first_waiting-pending.ensures.width, c.requires.waiting.size))
+    (waits_or m c.args.start.row c.args.start.column c.loop-row.pending c.first_waiting-pending.result c.reach_row.new.walk.places.items c.args.waiting.now.words c.reach_row.new.walk.reached c.in_ok-reach_row.ensures.walking.in_step c.requires.waiting.waits c.first_waiting-pending.ensures.reached) in
     inr (c.if-pending-columns.true ∙ c.columns.ensures.columns, settle_rows m c.args.values.now c.args.start.row c.args.start.column c.args.head (c.in-Some.row + 1) c.args.walk.now c.reach_row.new.walk taken)
 
 pub returns-then-pending-columns-clause-pending : goal.returns-then-pending-columns-clause-pending
-returns-then-pending-columns-clause-pending c = c.first_waiting-pending.ensures.width
+returns-then-pending-columns-clause-pending c = omega (arith, c.first_waiting-pending.ensures.width, c.requires.waiting.size)
 
 pub returns-then-pending-columns-clause-waits : goal.returns-then-pending-columns-clause-waits
 returns-then-pending-columns-clause-waits c =
@@ -77,7 +78,8 @@ returns-then-pending-columns-clause-waits c =
     let taken = take_row m c.args.values.now c.args.start.row c.args.start.column c.args.head c.loop-row.low c.args.walk.now walk c.loop-row.invariant c.in-Some.row c.reach_row.new.walk c.first_waiting-pending.result c.if-row-start.false
     (λ r up below leads. used_if_meets m c.index.result.now.column c.column_words-rows.result.now walk.used.words c.column_words-rows.ensures.rows r
     (c.in-Some.ensures.2 r up below) (subst (λ (y : ℕ). entry m r y ≢ pos 0) (ap (λ v. v.column) is) leads))
-    c.in_ok-reach_row.ensures.walking c.in_ok-reach_row.ensures.grows c.in_ok-reach_row.ensures.used c.first_waiting-pending.ensures.from c.first_waiting-pending.ensures.width c.first_waiting-pending.ensures.waits in
+    c.in_ok-reach_row.ensures.walking c.in_ok-reach_row.ensures.grows c.in_ok-reach_row.ensures.used c.first_waiting-pending.ensures.from (omega (arith, c.first_waiting-pending.ensures.width, c.requires.waiting.size))
+    (waits_or m c.args.start.row c.args.start.column c.loop-row.pending c.first_waiting-pending.result c.reach_row.new.walk.places.items c.args.waiting.now.words c.reach_row.new.walk.reached c.in_ok-reach_row.ensures.walking.in_step c.requires.waiting.waits c.first_waiting-pending.ensures.reached) in
     taken.waits
 
 pub overflow_add-low : goal.overflow_add-low
@@ -96,7 +98,8 @@ loop-row-preserved c =
     take_row m c.args.values.now c.args.start.row c.args.start.column c.args.head c.loop-row.low c.args.walk.now walk c.loop-row.invariant c.in-Some.row c.reach_row.new.walk c.first_waiting-pending.result c.if-row-start.false
     (λ r up below leads. used_if_meets m c.index.result.now.column c.column_words-rows.result.now walk.used.words c.column_words-rows.ensures.rows r
     (c.in-Some.ensures.2 r up below) (subst (λ (y : ℕ). entry m r y ≢ pos 0) (ap (λ v. v.column) is) leads))
-    c.in_ok-reach_row.ensures.walking c.in_ok-reach_row.ensures.grows c.in_ok-reach_row.ensures.used c.first_waiting-pending.ensures.from c.first_waiting-pending.ensures.width c.first_waiting-pending.ensures.waits
+    c.in_ok-reach_row.ensures.walking c.in_ok-reach_row.ensures.grows c.in_ok-reach_row.ensures.used c.first_waiting-pending.ensures.from (omega (arith, c.first_waiting-pending.ensures.width, c.requires.waiting.size))
+    (waits_or m c.args.start.row c.args.start.column c.loop-row.pending c.first_waiting-pending.result c.reach_row.new.walk.places.items c.args.waiting.now.words c.reach_row.new.walk.reached c.in_ok-reach_row.ensures.walking.in_step c.requires.waiting.waits c.first_waiting-pending.ensures.reached)
 
 pub returns-clause-walk : goal.returns-clause-walk
 returns-clause-walk c =

@@ -65,3 +65,9 @@ returns-then-is_place-clause-places c = c.in_ok-is_place.ensures.places
 
 pub returns-clause-places : goal.returns-clause-places
 returns-clause-places c = c.loop-partner.invariant.knows
+
+pub returns-then-is_first-clause-partner : goal.returns-then-is_first-clause-partner
+returns-then-is_first-clause-partner c = record {
+  forces = c.requires.found;
+  least = λ x less forced. forced.0 (c.requires.signs.inside c.args.row x (c.is_first.ensures c.if-is_first.true x less));
+}

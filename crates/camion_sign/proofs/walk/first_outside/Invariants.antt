@@ -6,7 +6,7 @@ use Rattle.camion_sign.proofs.walk.first_outside.Given as goal
 abbrev pub invariant-loop-line : goal.invariant-loop-line
 invariant-loop-line l = record {
   low : l.from ≤ l.line;
-  none : (x : ℕ) → l.from ≤ x → x < l.line → is_fresh l.lines l.other.words x ≡ false;
+  none : (x : ℕ) → l.from ≤ x → x < l.line → is_fresh l.lines l.others x ≡ false;
   high : l.line ≤ 1087;
 }
 

@@ -6,4 +6,4 @@ pub returns : goal.returns
 returns c signs row room before =
     let old = c.args.self.now in
     let known : c.fill.new.self.items ≡ replicate (length old.known.items) false = search rules in
-    begin_row c.args.matrix.now signs row old (record { parts = old.parts; walk = old.walk; walked = None; links = old.links; known = c.fill.new.self }) room before refl refl refl refl known
+    begin_row c.args.matrix.now signs row old (record { parts = old.parts; touched = old.touched; waiting = old.waiting; walk = old.walk; walked = None; links = old.links; known = c.fill.new.self }) room before refl refl refl refl known refl refl

@@ -14,11 +14,13 @@ returns c =
     let known : c.in_ok-vec.field-0.items ≡ replicate size false = search rules in
     record {
       parts = record { matrix = shape; one_each = c.in_ok-new.ensures ∙ wide; joined = λ r x y l. absurd (omega (arith, l)) };
+      touched = record { size = c.in_ok-new-2.ensures.size ∙ wide; all = λ d r l. absurd (omega (arith, l)) };
+      waiting = c.in_ok-new-3.ensures.size ∙ wide;
       fits = record {
         matrix = shape;
-        rows = c.in_ok-new-2.ensures.rows ∙ c.rows.ensures.rows;
-        columns = c.in_ok-new-2.ensures.columns ∙ wide;
-        in_step = c.in_ok-new-2.ensures.in_step;
+        rows = c.in_ok-new-4.ensures.rows ∙ c.rows.ensures.rows;
+        columns = c.in_ok-new-4.ensures.columns ∙ wide;
+        one_each = c.in_ok-new-4.ensures.one_each;
       };
       square = record {
         matrix = subst IsMatrix (sym links) (is_matrix-zero size size few few);

@@ -1,7 +1,7 @@
 use Rattle.std.proofs.Common.{◌<◌, ◌≤◌, ◌-◌, ℕ, List, length, get_or}
 use Rattle.camion_sign.specs.SignOrder.{IsPlaceOf}
 use Rattle.camion_sign.specs.Signings.{KnowsPlaces}
-use Rattle.camion_sign.proofs.signed_columns.SignedColumns.force.Given as goal
+use Rattle.camion_sign.proofs.signed_columns.SignedColumns.first_forcing.Given as goal
 
 abbrev pub invariant-signed : goal.invariant-signed
 invariant-signed l = record {
