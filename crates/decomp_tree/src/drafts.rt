@@ -9,6 +9,7 @@ ghost use Rattle.decomp_tree.specs.Openings.{IsOpeningOf};
 ghost use Rattle.decomp_tree.specs.Obstructions.{IsKnown};
 ghost use Rattle.decomp_tree.specs.Sketches.{Sketched, sketch_of, sketches_from, is_free_in, lines_of_sketch, IsDrafted, HasOneMoreDraft};
 
+use crate::fault_rows::{FaultRows, fault_rows};
 use crate::faults::keeps_free;
 use crate::looking::look;
 use crate::obstructions::{MORE_LINES, Obstruction};
@@ -35,6 +36,8 @@ pub struct Draft {
     pub children: Vec<Draft>,
     /// Whether its lines are known to contain no violator.
     pub is_free: bool,
+    /// The last rows of a cycle fault that it or a draft below it names, if there is one.
+    pub fault_rows: Option<FaultRows>,
 }
 
 /// The draft of the submatrix on these lines.
@@ -126,10 +129,12 @@ fn push_draft(
         ∷ []) }
 {
     let is_free = keeps_free(&opening.finding) && are_free(children.as_slice());
+    let fault_rows = fault_rows(&opening.finding, children.as_slice());
     drafts.push(Draft {
         opening,
         children,
         is_free,
+        fault_rows,
     })?;
     Ok(())
 }

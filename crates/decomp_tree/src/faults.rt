@@ -10,8 +10,10 @@ ghost use Rattle.decomp_tree.specs.Sketches.{HasNoLateFault};
 ghost use Rattle.network_orient.specs.FirstRows.{HasNoFaultBefore};
 ghost use Rattle.network_orient.specs.Orientations.{IsOrientation};
 
+use crate::fault_rows::FaultRows;
 use crate::naming::named_set;
-use camion_sign::{cycle_fault_from, cycle_fault_of};
+use crate::obstructions::place_from;
+use camion_sign::{cycle_fault_from, cycle_fault_of, passed_before};
 use cmr_base::{LineSet, Matrix, Memory, RowsAndColumns};
 use network_orient::{Orientation, rows_of_transposed};
 use std::alloc::Global;
@@ -85,7 +87,8 @@ pub fn certain_fault_transposed(
     }
 }
 
-/// The cycle fault of a node's submatrix, if the first pass did not search for one and there may be one.
+/// The cycle fault of a node's submatrix, if the first pass did not search for one and there may be one. `below` has the
+/// last rows of a fault of a node below, if there is one: the search begins near them.
 #[inline(never)]
 pub fn late_fault(
     alloc: Global,
@@ -93,6 +96,7 @@ pub fn late_fault(
     lines: &LineSet,
     finding: &Finding,
     is_free: bool,
+    below: Option<FaultRows>,
 ) -> Result<Option<LineSet>, Memory>
     requires shape { IsMatrix matrix.now }
     requires lines { AreLines matrix.now lines.now }
@@ -107,7 +111,47 @@ pub fn late_fault(
     }
     let part = matrix.by_rows().part(alloc, lines)?;
     let columns = matrix.transposed_part(alloc, lines)?;
-    fault_of(alloc, matrix, lines, &RowsAndColumns::of(&part, &columns))
+    let submatrix = RowsAndColumns::of(&part, &columns);
+    match below {
+        Some(rows) => fault_near(alloc, matrix, lines, &submatrix, rows),
+        None => fault_of(alloc, matrix, lines, &submatrix),
+    }
+}
+
+// The cycle fault of the submatrix on these lines, which is expected near these rows of the whole matrix.
+fn fault_near(
+    alloc: Global,
+    matrix: &RowsAndColumns<'_>,
+    lines: &LineSet,
+    submatrix: &RowsAndColumns<'_>,
+    rows: FaultRows,
+) -> Result<Option<LineSet>, Memory>
+    requires shape { IsMatrix matrix.now }
+    requires lines { AreLines matrix.now lines.now }
+    requires submatrix { submatrix.now ≡ part matrix.now lines.now }
+    ensures { IfOk result (λ found. MatchOption found
+        (HasNoCycleFault (entry (part matrix.now lines.now)))
+        (IsNamedFault matrix.now lines.now)) }
+{
+    let first = passed_near(alloc, lines, submatrix, rows)?;
+    fault_from(alloc, matrix.by_rows(), lines, submatrix, first)
+}
+
+// First rows of the submatrix without fault, if a tree has the rows before one of these rows of the whole matrix.
+fn passed_near(
+    alloc: Global,
+    lines: &LineSet,
+    submatrix: &RowsAndColumns<'_>,
+    rows: FaultRows,
+) -> Result<u32, Memory>
+    ensures { IfOk result (HasNoFaultBefore submatrix.now) }
+{
+    let numbers = lines.rows.as_slice();
+    let passed = passed_before(alloc, submatrix, place_from(numbers, 0, rows.last))?;
+    if passed > 0 {
+        return Ok(passed);
+    }
+    passed_before(alloc, submatrix, place_from(numbers, 0, rows.before))
 }
 
 // The cycle fault of the submatrix on these lines, by its numbers in the whole matrix.

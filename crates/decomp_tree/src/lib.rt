@@ -3,6 +3,7 @@
 
 mod decomposing;
 mod drafts;
+mod fault_rows;
 mod faults;
 pub mod laws;
 mod levels;

@@ -145,8 +145,8 @@ fn stands_at(numbers: &[u32], place: usize, line: u32) -> bool
     place < numbers.len() && numbers[place] == line
 }
 
-// The first position from `place` on whose number is not below a line.
-fn place_from(numbers: &[u32], from: usize, line: u32) -> usize
+/// The first position from `place` on whose number is not below a line.
+pub fn place_from(numbers: &[u32], from: usize, line: u32) -> usize
     ensures { result ≤ length numbers.now }
 {
     for place in from..numbers.len() {

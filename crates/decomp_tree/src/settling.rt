@@ -77,6 +77,7 @@ fn settle<R: Threads + Sync>(
         &opening.lines,
         &opening.finding,
         drawn.is_free,
+        drawn.fault_rows,
     )? {
         push_fault(alloc, lines_of(opening), fault, nodes)?;
         return Ok(());
