@@ -10,11 +10,11 @@ use std::alloc::Global;
 // Walks without a search for a tree find the first fault sooner if columns have at most this number of nonzeros on average.
 const FEW: u32 = 8;
 
-// The search tests this number of rows more first.
+// The first prefix that is tested has this number of rows more than those that have no fault.
 const ROWS: u32 = 64;
 
 // Walks find a fault in rows with this number of nonzeros sooner than a search for a tree of fewer rows.
-const NONZEROS: u32 = 1280;
+const NONZEROS: u32 = 20480;
 
 /// The number of first rows that the search skips, since they have no fault.
 pub fn passed_rows(alloc: Global, matrix: &RowsAndColumns<'_>) -> Result<u32, Memory>
@@ -74,7 +74,8 @@ fn passed_between(
 /// The number of first rows, at most a given number, that have no fault because a tree shows it. It is 0 if the given number of
 /// first rows has no tree, and in a sparse matrix, where walks are faster.
 pub fn passed_before(alloc: Global, matrix: &RowsAndColumns<'_>, rows: usize) -> Result<u32, Memory>
-    ensures { IfOk result (HasNoFaultBefore matrix.now) }
+    ensures few { IfOk result (λ passed. passed ≤ rows) }
+    ensures passed { IfOk result (HasNoFaultBefore matrix.now) }
 {
     if is_sparse(matrix) {
         return Ok(0);
