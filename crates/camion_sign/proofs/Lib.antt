@@ -1,7 +1,5 @@
 pub mod FreshColumns
 pub mod FullSquares
-pub mod LineCuts
-pub mod NonzeroLists
 pub mod Trails
 pub mod Walks
 pub mod ColumnParts

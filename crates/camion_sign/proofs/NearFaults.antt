@@ -14,7 +14,7 @@ use Rattle.camion_sign.specs.FaultLines.{HasNoFaultAt}
 use Rattle.camion_sign.specs.NearColumns.{AllShareEarlier, AreWaiting, KnowsNear, ShareEarlier}
 use Rattle.camion_sign.specs.declared.near_columns.NearColumns.{NearColumns}
 use Rattle.camion_sign.specs.RowSigns.{AgreesBefore, AgreeInSigns}
-use Rattle.camion_sign.proofs.Steps.{path_touches}
+use Rattle.camion_sign.proofs.Steps.{path_touches, row_zero}
 
 -- ---- one more row, or one more column
 
@@ -79,6 +79,17 @@ pub shares_more : (m : Matrix) (t c r : ℕ) (old new words : List ℕ) → r < 
 shares_more m t c r old new words early from are added before d h = elim (or_is (has_column old d) (has_column words d) (sym (added d) ∙ h)) [
   | inl o ↦ before d o
   | inr w ↦ (r, early, from, nonzero_is (entry m r d) (sym (are d) ∙ w))
+]
+
+-- a column is in a set if an earlier row meets it
+abbrev pub IsIfTouched : Matrix → ℕ → (ℕ → Bool) → ℕ → Type 0
+IsIfTouched m t columns d = (r : ℕ) → r < t → entry m r d ≢ pos 0 → columns d ≡ true
+
+-- all columns of the row have been visited
+pub all_waiting : (m rows : Matrix) (t from : ℕ) (columns : ℕ → Bool) → rows ≡ m → ((d : ℕ) → from ≤ d → support rows t d ≡ false) → ((d : ℕ) → d < from → entry m t d ≢ pos 0 → IsIfTouched m t columns d) → AreWaiting m t 0 columns
+all_waiting m rows t from columns same zeros added d r low one early touches = elim (cases_lt d from) [
+  | inl before ↦ added d before one r early touches
+  | inr after ↦ absurd (one (row_zero m rows t d same (zeros d after)))
 ]
 
 -- a column is no longer waiting

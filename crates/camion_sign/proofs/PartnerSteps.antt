@@ -1,41 +1,35 @@
--- The search for the signed column that forces an entry, over the ones of its row.
-use Rattle.std.proofs.Common.{◌≡◌, ◌∙◌, ◌<◌, ◌≤◌, ◌+◌, ℕ, ℤ, List, length, get_or, inl, inr, sym, ap, subst, arith}
+-- The search for the signed column that forces an entry, over the signed columns of its row.
+use Rattle.std.proofs.Common.{◌≡◌, ◌≢◌, ◌∙◌, ◌<◌, ◌≤◌, ◌+◌, ℕ, ℤ, pos, false, List, inl, inr, sym, ap, subst, arith}
 use Rattle.std.proofs.lemmas.Bool.{cases_eq, cases_lt}
 use Rattle.cmr_base.specs.Matrix.{Matrix, entry, with_entry, IsMatrix}
 use Rattle.cmr_base.specs.Signing.{IsSign}
-use Rattle.camion_sign.specs.Nonzeros.{AreNonzeros}
+use Rattle.cmr_base.specs.Trees.{support}
+use Rattle.cmr_base.proofs.Booleans.{zero_is}
 use Rattle.chains.specs.SignSteps.{AreSigns, IsUnsignedOne}
-use Rattle.camion_sign.specs.SignOrder.{IsForcedBy}
-use Rattle.camion_sign.specs.Signings.{IsPartner}
+use Rattle.camion_sign.specs.SignOrder.{IsForcedBy, IsPlaceOf}
+use Rattle.camion_sign.specs.Signings.{ShowsPlaceOf}
 use Rattle.chains.proofs.GivenSigns.{HasOneMore, one_more}
 
-module _ (a s : Matrix) (row column : ℕ) (columns : List ℕ) (signs : AreSigns a s) (are : AreNonzeros (entry a row) columns) where
-  -- a signed column is in the list of ones
-  signed_listed : (c : ℕ) → IsForcedBy a s row column c → (i : ℕ) × (i < length columns) × (get_or columns i 0 ≡ c)
-  signed_listed c forced = are.all c (λ z. forced.0 (signs.inside row c z))
+-- two columns whose mark is not 0 make a place
+pub place_of : (a s : Matrix) (row partner column : ℕ) (z : ℤ) → ShowsPlaceOf a s row partner column z → z ≢ pos 0 → (path : List ℕ) × IsPlaceOf a row partner column path
+place_of a s row partner column z shows other = elim (shows.place other) [
+  | inl v ↦ (v.0, inl v.1)
+  | inr v ↦ (v.0, inr v.1)
+]
 
-  pub partner_is : (k : ℕ) → k < length columns → IsForcedBy a s row column (get_or columns k 0) → ((i : ℕ) → i < k → ¬ (IsForcedBy a s row column (get_or columns i 0))) → IsPartner a s row column (get_or columns k 0)
-  partner_is k l forces none = record { forces = forces; least = λ c less forced. earlier c less forced (signed_listed c forced) }
-    where
-      earlier : (c : ℕ) → c < get_or columns k 0 → IsForcedBy a s row column c → (i : ℕ) × (i < length columns) × (get_or columns i 0 ≡ c) → ⊥
-      earlier c less forced (i, inside, e) = elim (cases_lt i k) [
-        | inl before ↦ none i before (subst (IsForcedBy a s row column) (sym e) forced)
-        | inr past ↦ elim (cases_eq i k) [
-          | inl same ↦ let f : get_or columns i 0 ≡ get_or columns k 0 = ap (λ j. get_or columns j 0) same in omega arith
-          | inr apart ↦ let f : get_or columns k 0 < get_or columns i 0 = are.increasing k i (omega arith) inside in omega arith
-        ]
-      ]
+module _ (a s : Matrix) (row column from : ℕ) (none : (c : ℕ) → c < from → ¬ (IsForcedBy a s row column c)) where
+  -- columns without sign force nothing
+  pub none_before : (next : ℕ) → ((c : ℕ) → from ≤ c → c < next → support s row c ≡ false) → (c : ℕ) → c < next → ¬ (IsForcedBy a s row column c)
+  none_before next zeros c l forced = elim (cases_lt c from) [
+    | inl early ↦ none c early forced
+    | inr late ↦ forced.0 (zero_is (entry s row c) (zeros c late l))
+  ]
 
-  pub no_partner : (k : ℕ) → length columns ≤ k → ((i : ℕ) → i < k → ¬ (IsForcedBy a s row column (get_or columns i 0))) → (c : ℕ) → ¬ (IsForcedBy a s row column c)
-  no_partner k l none c forced = go (signed_listed c forced)
-    where
-      go : (i : ℕ) × (i < length columns) × (get_or columns i 0 ≡ c) → ⊥
-      go (i, inside, e) = none i (omega arith) (subst (IsForcedBy a s row column) (sym e) forced)
-
-  pub one_passed : (k : ℕ) → ¬ (IsForcedBy a s row column (get_or columns k 0)) → ((i : ℕ) → i < k → ¬ (IsForcedBy a s row column (get_or columns i 0))) → (i : ℕ) → i < k + 1 → ¬ (IsForcedBy a s row column (get_or columns i 0))
-  one_passed k here none i l = elim (cases_lt i k) [
-    | inl before ↦ none i before
-    | inr past ↦ let e : k ≡ i = omega arith in subst (λ j. ¬ (IsForcedBy a s row column (get_or columns j 0))) e here
+  -- the next signed column forces nothing
+  pub one_passed : (next : ℕ) → ((c : ℕ) → from ≤ c → c < next → support s row c ≡ false) → ¬ (IsForcedBy a s row column next) → (c : ℕ) → c < next + 1 → ¬ (IsForcedBy a s row column c)
+  one_passed next zeros here c l = elim (cases_lt c next) [
+    | inl before ↦ none_before next zeros c before
+    | inr past ↦ let e : next ≡ c = omega arith in subst (λ x. ¬ (IsForcedBy a s row column x)) e here
   ]
 
 pub column_passed : (a s : Matrix) (row column : ℕ) → (IsUnsignedOne a s row column → (c : ℕ) → ¬ (IsForcedBy a s row column c)) → ((d : ℕ) → d < column → IsUnsignedOne a s row d → (c : ℕ) → ¬ (IsForcedBy a s row d c)) → (d : ℕ) → d < column + 1 → IsUnsignedOne a s row d → (c : ℕ) → ¬ (IsForcedBy a s row d c)

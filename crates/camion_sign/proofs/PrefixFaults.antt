@@ -1,6 +1,6 @@
 -- Faults of the first rows, and of the matrix of these rows.
 use Rattle.std.specs.Prelude.{IfOk}
-use Rattle.std.proofs.Common.{Option, Some, None, MatchOption, Result, Ok, Err, ◌≡◌, ◌<◌, ◌≤◌, ◌∙◌, ℕ, pos, List, [], length, map, get_or, inl, inr, sym, ap, ap₂, subst, arith}
+use Rattle.std.proofs.Common.{Option, Some, None, MatchOption, Result, Ok, Err, ◌≡◌, ◌<◌, ◌≤◌, ◌∙◌, ℕ, pos, List, [], length, map, get_or, inl, inr, sym, ap, ap₂, arith}
 use Rattle.std.proofs.lemmas.Bool.{cases_lt}
 use Rattle.std.proofs.lemmas.List.{get_or-map, get_or_past, length-map}
 use Rattle.std.proofs.lemmas.List.FromFn.{length-range_with_len}
@@ -42,14 +42,9 @@ module _ (m : Matrix) (is : IsMatrix m) (count : ℕ) (few : count ≤ height m)
   pub passed_in : (passed least : ℕ) → HasNoFaultBefore prefix passed → least ≤ passed → least ≤ count → HasNoFaultBefore m least
   passed_in passed least none le within t c d path early fault = none t c d path (omega arith) (fault_on (entry m) (entry prefix) count same_entry t c d path (omega arith) fault)
 
--- ---- the search in the first rows, and in the rows after them
-
-pub none_before : (n m : Matrix) (end : ℕ) (found : Option Fault) → n ≡ m → found ≡ None → MatchOption found (HasNoFaultBefore n end) (λ f. IsFirstFault n f.row f.first f.last f.lines.items) → HasNoFaultBefore m end
-none_before n m end found e is h =
-    subst (λ (x : Matrix). HasNoFaultBefore x end) e (subst (λ (o : Option Fault). MatchOption o (HasNoFaultBefore n end) (λ f. IsFirstFault n f.row f.first f.last f.lines.items)) is h)
-
-pub first_of_all : {E : Type 0} (n m : Matrix) (end : ℕ) (result : Result (Option Fault) E) → n ≡ m → end ≡ height n
-    → IfOk result (λ found. MatchOption found (HasNoFaultBefore n end) (λ f. IsFirstFault n f.row f.first f.last f.lines.items)) → IfOk result (λ found. MatchOption found (HasNoCycleFault (entry m)) (λ f. IsFirstFault m f.row f.first f.last f.lines.items))
-first_of_all n m end (Err x) e high h = h
-first_of_all n m end (Ok None) e high h = subst (λ (x : Matrix). HasNoCycleFault (entry x)) e (λ t c d path fault. let low = row_in n t c fault.place.first in h t c d path (omega arith) fault)
-first_of_all n m end (Ok (Some f)) e high h = subst (λ (x : Matrix). IsFirstFault x f.row f.first f.last f.lines.items) e h
+-- a search in all rows
+pub first_of_all : {E : Type 0} (m : Matrix) (end : ℕ) (result : Result (Option Fault) E) → end ≡ height m
+    → IfOk result (λ found. MatchOption found (HasNoFaultBefore m end) (λ f. IsFirstFault m f.row f.first f.last f.lines.items)) → IfOk result (λ found. MatchOption found (HasNoCycleFault (entry m)) (λ f. IsFirstFault m f.row f.first f.last f.lines.items))
+first_of_all m end (Err x) high h = h
+first_of_all m end (Ok None) high h = λ t c d path fault. let low = row_in m t c fault.place.first in h t c d path (omega arith) fault
+first_of_all m end (Ok (Some f)) high h = h

@@ -4,15 +4,15 @@ use Rattle.std.proofs.lemmas.Bool.{cases_lt, cases_eq}
 use Rattle.std.proofs.lemmas.List.{get_or_append_left, get_or_past, length-replicate}
 use Rattle.std.proofs.Math.Seq.{get_or-append_seam}
 use Rattle.cmr_base.specs.BitSets.{Bits}
-use Rattle.cmr_base.specs.Matrix.{Matrix, height, entry, IsMatrix, row_of}
+use Rattle.cmr_base.specs.Matrix.{Matrix, height, entry, IsMatrix, row_of, transposed}
 use Rattle.cmr_base.specs.ColumnSets.{has_column}
 use Rattle.cmr_base.specs.CyclePlaces.{IsPath}
-use Rattle.cmr_base.proofs.Booleans.{not_both, true_is_false, two_cases}
+use Rattle.cmr_base.proofs.Booleans.{nonzero_is, not_both, true_is_false, two_cases, zero_is}
 use Rattle.cmr_base.proofs.Lists.{get_or-replicated, length-more}
+use Rattle.cmr_base.proofs.Parts.{entry-transposed, height-transposed}
 use Rattle.camion_sign.specs.declared.walk.ReachedColumn.{ReachedColumn}
 use Rattle.camion_sign.specs.declared.walk.Walk.{Walk}
 use Rattle.camion_sign.specs.NearColumns.{AreWaiting}
-use Rattle.camion_sign.specs.Nonzeros.{AreNonzeros}
 use Rattle.camion_sign.specs.Trails.{IsUpTo}
 use Rattle.camion_sign.specs.Walks.{IsReachingChunk, is_fresh, Progress, IsQueue, IsWanted, Goes, IsMet, IsPrefix, IsSettled, TwoIf, flip, step_at, place_in, progress, AreInStep, HasOneMore, HasPlacesAndMarks, IsWalking, IsReaching, IsOpen, GrowsFrom, IsUntouched, NoneWaits, IsSpreading, HasSettled, IsGoing, HasWalked}
 use Rattle.cmr_base.specs.Planes.{has_bit}
@@ -27,6 +27,37 @@ within m row x is l h = elim (cases_lt x m.width) [
   | inl lt ↦ lt
   | inr ge ↦ absurd (h (get_or_past (row_of m row) x (pos 0) (let e = is.rectangular row l in omega arith)))
 ]
+
+-- a zero of the matrix by its rows is one of the matrix
+pub row_zero : (m rows : Matrix) (r x : ℕ) → rows ≡ m → support rows r x ≡ false → entry m r x ≡ pos 0
+row_zero m rows r x same none = zero_is (entry m r x) (sym (ap (λ (a : Matrix). support a r x) same) ∙ none)
+
+-- a nonzero of the matrix by its rows is one of the matrix
+pub row_one : (m rows : Matrix) (r x : ℕ) → rows ≡ m → support rows r x ≡ true → entry m r x ≢ pos 0
+row_one m rows r x same one = nonzero_is (entry m r x) (sym (ap (λ (a : Matrix). support a r x) same) ∙ one)
+
+-- what holds for the nonzeros before `from` and for the next one holds for all nonzeros up to the next one
+pub column_after : (m rows : Matrix) (row from column : ℕ) (P : ℕ → Type 0) → rows ≡ m → ((x : ℕ) → from ≤ x → x < column → support rows row x ≡ false) → ((x : ℕ) → x < from → entry m row x ≢ pos 0 → P x) → P column
+    → (x : ℕ) → x < column + 1 → entry m row x ≢ pos 0 → P x
+column_after m rows row from column P same zeros before here x l one = elim (cases_lt x from) [
+  | inl low ↦ before x low one
+  | inr high ↦ elim (cases_lt x column) [
+    | inl between ↦ absurd (one (row_zero m rows row x same (zeros x high between)))
+    | inr last ↦ let is : column ≡ x = omega (arith, l, last) in subst P is here
+  ]
+]
+
+-- a column is a row of the transposed matrix
+pub column_inside : (m columns : Matrix) (x : ℕ) → columns ≡ transposed m → x < m.width → x < height columns
+column_inside m columns x same inside = subst (λ (a : Matrix). x < height a) (sym same) (omega (arith, inside, height-transposed m))
+
+-- a zero of the transposed matrix is one of the matrix
+pub column_zero : (m columns : Matrix) (r x : ℕ) → IsMatrix m → columns ≡ transposed m → support columns x r ≡ false → entry m r x ≡ pos 0
+column_zero m columns r x is same none = sym (entry-transposed m r x is) ∙ zero_is (entry (transposed m) x r) (sym (ap (λ (a : Matrix). support a x r) same) ∙ none)
+
+-- a nonzero of the transposed matrix is one of the matrix
+pub column_one : (m columns : Matrix) (r x : ℕ) → IsMatrix m → columns ≡ transposed m → support columns x r ≡ true → entry m r x ≢ pos 0
+column_one m columns r x is same one zero_there = nonzero_is (entry (transposed m) x r) (sym (ap (λ (a : Matrix). support a x r) same) ∙ one) (entry-transposed m r x is ∙ zero_there)
 
 -- the lists after the walk has reached another column
 one_more : (steps : List ReachedColumn) (places used : List ℕ) (x r h : ℕ) (two : Bool) → x < length places
@@ -415,13 +446,9 @@ module _ (m values : Matrix) (t c h low : ℕ) (old walk : Walk) {pending : ℕ}
 
 -- ---- waiting last columns
 
-pub untouched : (m : Matrix) (t x : ℕ) (rows : List ℕ) → AreNonzeros (λ r. entry m r x) rows → (length rows ≤ 0) ⊎ (t ≤ get_or rows 0 0) → IsUntouched m t x
-untouched m t x rows nonzeros (inl l) r early n = let v = nonzeros.all r n in let a = v.1 in omega arith
-untouched m t x rows nonzeros (inr h) r early n = later (nonzeros.all r n)
-  where
-    later : (k : ℕ) × (k < length rows) × (get_or rows k 0 ≡ r) → ⊥
-    later (zero, l, e) = omega arith
-    later (suc k, l, e) = let d = nonzeros.increasing 0 (suc k) (omega arith) l in omega arith
+-- an earlier row does not meet a column whose first nonzero is in row t or later
+pub untouched : (m columns : Matrix) (t x : ℕ) → IsMatrix m → columns ≡ transposed m → ((r : ℕ) → r < t → support columns x r ≡ false) → IsUntouched m t x
+untouched m columns t x is same zeros r early meets = meets (column_zero m columns r x is same (zeros r early))
 
 -- a column that does not wait is not met by an earlier row
 pub waits_or : (m : Matrix) (t c from end : ℕ) (places columns : List ℕ) (reached : Bits) → AreInStep m t c places reached → AreWaiting m t (c + 1) (has_column columns) → ((d : ℕ) → from ≤ d → d < end → has_column columns d ≡ true → has_column reached.words d ≡ true)

@@ -1,5 +1,5 @@
 -- The search for the ones of a row that have no sign.
-use Rattle.std.proofs.Common.{◌≡◌, ◌<◌, ◌≤◌, ◌∙◌, ℕ, true, false, not, List, Option, Some, None, MatchOption, inl, inr, sym}
+use Rattle.std.proofs.Common.{◌≡◌, ◌<◌, ◌≤◌, ◌∙◌, ℕ, true, false, not, List, Option, Some, None, MatchOption, inl, inr, sym, subst}
 use Rattle.std.proofs.lemmas.Bool.{cases_lt}
 use Rattle.chains.specs.SignSteps.{IsUnsignedOne}
 use Rattle.cmr_base.specs.ColumnSets.{has_column}
@@ -7,7 +7,8 @@ use Rattle.cmr_base.specs.Matrix.{Matrix, entry, is_nonzero}
 use Rattle.cmr_base.specs.Trees.{support}
 use Rattle.cmr_base.proofs.Booleans.{and_is, and_not, nonzero_is, not_is, true_is, zero_is}
 use Rattle.camion_sign.specs.SignOrder.{IsForcedBy}
-use Rattle.camion_sign.specs.Signings.{IsFirstUnsigned, IsNextUnsigned}
+use Rattle.camion_sign.specs.declared.row_places.ForcedOne.{ForcedOne}
+use Rattle.camion_sign.specs.Signings.{IsFirstUnsigned, IsForcedAt, IsForcedColumn, IsForcedNext, IsNextUnsigned, IsPartner, ShowsPlaceOf}
 use Rattle.camion_sign.specs.Walks.{IsFirstFresh, is_fresh}
 
 module _ (a s : Matrix) (row : ℕ) (ones signed : List ℕ) (are : (x : ℕ) → has_column ones x ≡ support a row x) (have : (x : ℕ) → has_column signed x ≡ support s row x) where
@@ -40,3 +41,9 @@ next_is_first a s row from (Some column) before next = record {
 pub none_until : (a s : Matrix) (row from column : ℕ) → ((d : ℕ) → d < from → IsUnsignedOne a s row d → (c : ℕ) → ¬ (IsForcedBy a s row d c)) → IsNextUnsigned a s row from column
     → (d : ℕ) → d < column → IsUnsignedOne a s row d → (c : ℕ) → ¬ (IsForcedBy a s row d c)
 none_until a s row from column before next d below one = elim (cases_lt d from) [ inl early ↦ before d early one | inr late ↦ absurd (next.least d late below one) ]
+
+-- the first one without sign that is forced
+pub forced_next : (a s : Matrix) (row column : ℕ) (forced : ForcedOne) → IsUnsignedOne a s row column → ((d : ℕ) → d < column → IsUnsignedOne a s row d → (c : ℕ) → ¬ (IsForcedBy a s row d c)) → IsForcedAt a s row column forced → IsForcedNext a s row forced
+forced_next a s row column forced here before at =
+    subst (λ (x : ℕ). IsForcedColumn a s row x × IsPartner a s row x forced.partner × ShowsPlaceOf a s row forced.partner x forced.mark → IsForcedNext a s row forced) at.column_is
+    (λ all. record { column = all.0; partner = all.1; mark = all.2 }) (record { here = here; least = before }, at.partner, at.mark)

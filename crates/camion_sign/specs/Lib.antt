@@ -1,6 +1,3 @@
-pub mod Nonzeros
-pub mod NonzerosView
-pub mod ListedMatrixView
 pub mod Trails
 pub mod Walks
 pub mod ColumnParts

@@ -7,6 +7,8 @@ use Rattle.cmr_base.specs.CyclePlaces.{IsCyclePlace, path_sum}
 use Rattle.cmr_base.specs.Planes.{is_minus}
 use Rattle.camion_sign.specs.Walks.{HasFoundPaths, HasPlacesAndMarks, HasValuesBefore, TwoIf}
 use Rattle.camion_sign.specs.ColumnParts.{HasPartsBefore}
+use Rattle.camion_sign.specs.declared.row_places.ForcedOne.{ForcedOne}
+use Rattle.camion_sign.specs.declared.row_places.Partner.{Partner}
 use Rattle.camion_sign.specs.declared.row_places.RowPlaces.{RowPlaces}
 use Rattle.camion_sign.specs.declared.signed_columns.SignedColumns.{SignedColumns}
 use Rattle.camion_sign.specs.declared.signing.Signing.{Signing}
@@ -100,10 +102,30 @@ pub record IsPartner (a s : Matrix) (row column partner : ℕ) : Type 0 where
   pub forces : IsForcedBy a s row column partner
   pub least : (c : ℕ) → c < partner → ¬ (IsForcedBy a s row column c)
 
+-- a signed column that makes a place with a column, and the mark of this place
+abbrev pub IsPlacedPartner : Matrix → Matrix → ℕ → ℕ → Partner → Type 0
+IsPlacedPartner a s row column partner = IsForcedBy a s row column partner.column × ShowsPlaceOf a s row partner.column column partner.mark
+
+-- the least such column, and the mark of its place
+abbrev pub IsLeastPartner : Matrix → Matrix → ℕ → ℕ → Partner → Type 0
+IsLeastPartner a s row column partner = IsPartner a s row column partner.column × ShowsPlaceOf a s row partner.column column partner.mark
+
+-- a column, its least partner, and the mark of their place
+pub record IsForcedAt (a s : Matrix) (row column : ℕ) (forced : ForcedOne) : Type 0 where
+  pub column_is : forced.column ≡ column
+  pub partner : IsPartner a s row column forced.partner
+  pub mark : ShowsPlaceOf a s row forced.partner column forced.mark
+
 -- the least column of the row that is forced
 pub record IsForcedColumn (a s : Matrix) (row column : ℕ) : Type 0 where
   pub here : IsUnsignedOne a s row column
   pub least : (d : ℕ) → d < column → IsUnsignedOne a s row d → (c : ℕ) → ¬ (IsForcedBy a s row d c)
+
+-- the next forced one of the row: the least forced column, its least partner, and the mark of their place
+pub record IsForcedNext (a s : Matrix) (row : ℕ) (forced : ForcedOne) : Type 0 where
+  pub column : IsForcedColumn a s row forced.column
+  pub partner : IsPartner a s row forced.column forced.partner
+  pub mark : ShowsPlaceOf a s row forced.partner forced.column forced.mark
 
 -- no one of the row is forced
 abbrev pub NoneForced : Matrix → Matrix → ℕ → Type 0

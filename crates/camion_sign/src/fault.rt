@@ -7,7 +7,6 @@ ghost use Rattle.camion_sign.specs.FaultLines.{HasNoFaultAt, IsColumnFault, IsFi
 ghost use Rattle.camion_sign.specs.NearColumns.{HasNearRoom, HasWaiting, KnowsNear};
 ghost use Rattle.network_orient.specs.FirstRows.{HasNoFaultBefore};
 
-use crate::listed_matrix::ListedMatrix;
 use crate::near_columns::NearColumns;
 use crate::network_rows::passed_prefix;
 use crate::reach::{Start, flipped, walk_from};
@@ -42,15 +41,14 @@ pub fn first_fault(
     if first >= matrix.rows() {
         return Ok(None);
     }
-    let listed = ListedMatrix::new(alloc, matrix)?;
-    let mut walk = Walk::new(alloc, listed.rows(), listed.columns())?;
-    let mut near = NearColumns::new(alloc, listed.columns())?;
-    let early = early_end(first, listed.rows());
-    if let Some(fault) = fault_in_rows(alloc, &listed, &mut walk, &mut near, first, early)? {
+    let mut walk = Walk::new(alloc, matrix.rows(), matrix.columns())?;
+    let mut near = NearColumns::new(alloc, matrix.columns())?;
+    let early = early_end(first, matrix.rows());
+    if let Some(fault) = fault_in_rows(alloc, matrix, &mut walk, &mut near, first, early)? {
         return Ok(Some(fault));
     }
     let later = passed_prefix(alloc, matrix, early)?;
-    fault_in_rows(alloc, &listed, &mut walk, &mut near, later, listed.rows())
+    fault_in_rows(alloc, matrix, &mut walk, &mut near, later, matrix.rows())
 }
 
 // The end of the first rows that are searched without a search for a tree.
@@ -64,7 +62,7 @@ fn early_end(first: u32, rows: u32) -> u32
 // The first fault, if it is in the rows before `end`. The rows before a given row have none.
 fn fault_in_rows(
     alloc: Global,
-    matrix: &ListedMatrix<'_>,
+    matrix: &RowsAndColumns<'_>,
     walk: &mut Walk,
     near: &mut NearColumns,
     first: u32,
@@ -91,7 +89,7 @@ fn fault_in_rows(
 // The first fault of a row.
 fn fault_of_row(
     alloc: Global,
-    matrix: &ListedMatrix<'_>,
+    matrix: &RowsAndColumns<'_>,
     walk: &mut Walk,
     near: &mut NearColumns,
     row: u32,
@@ -122,7 +120,7 @@ fn fault_of_row(
 // The same as `fault_from`. There is no walk if it is known without it that the first column has no fault.
 fn fault_at(
     alloc: Global,
-    matrix: &ListedMatrix<'_>,
+    matrix: &RowsAndColumns<'_>,
     walk: &mut Walk,
     near: &mut NearColumns,
     start: Start,
@@ -150,7 +148,7 @@ fn fault_at(
 // The fault of a row and a first column with the least last column.
 fn fault_from(
     alloc: Global,
-    matrix: &ListedMatrix<'_>,
+    matrix: &RowsAndColumns<'_>,
     walk: &mut Walk,
     start: Start,
     waiting: &BitSet,
@@ -184,7 +182,7 @@ fn fault_from(
 }
 
 // Whether the cycle of a place has the sum 2 modulo 4.
-fn is_fault(matrix: &ListedMatrix<'_>, walk: &Walk, start: Start, last: u32) -> bool
+fn is_fault(matrix: &RowsAndColumns<'_>, walk: &Walk, start: Start, last: u32) -> bool
     requires row { start.row < height matrix.now }
     requires order { start.column < last }
     requires width { last < matrix.now.width }
@@ -205,7 +203,7 @@ fn is_fault(matrix: &ListedMatrix<'_>, walk: &Walk, start: Start, last: u32) -> 
 // The path of a place, from its last column back to its first.
 pub fn path_to(
     alloc: Global,
-    matrix: &ListedMatrix<'_>,
+    matrix: &RowsAndColumns<'_>,
     walk: &Walk,
     start: Start,
     last: u32,

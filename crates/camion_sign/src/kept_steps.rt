@@ -8,10 +8,9 @@ ghost use Rattle.camion_sign.specs.SignOrder.{IsCycleLines, IsPlaceOf};
 ghost use Rattle.camion_sign.specs.KeptSteps.{HasKept};
 ghost use Rattle.camion_sign.specs.Signings.{KnowsPlaces};
 
-use crate::listed_matrix::ListedMatrix;
 use crate::row_places::{ForcedOne, RowPlaces};
 use chains::{SignStep, SignStepList};
-use cmr_base::{Matrix, Memory};
+use cmr_base::{Matrix, Memory, RowsAndColumns};
 use std::alloc::Global;
 
 /// The steps so far. If they are not kept, the list is empty.
@@ -49,7 +48,7 @@ impl KeptSteps {
     pub fn forced(
         &mut self,
         alloc: Global,
-        matrix: &ListedMatrix<'_>,
+        matrix: &RowsAndColumns<'_>,
         signs: &Matrix,
         places: &mut RowPlaces,
         row: u32,
@@ -69,7 +68,11 @@ impl KeptSteps {
         if !self.are_kept {
             return Ok(());
         }
-        let ForcedOne { column, partner } = forced;
+        let ForcedOne {
+            column,
+            partner,
+            ..
+        } = forced;
         let cycle = places.cycle(alloc, matrix, signs, row, column, partner)?;
         self.list.push(SignStep::Forced { row, column, cycle })?;
         Ok(())

@@ -6,14 +6,15 @@ ghost use Rattle.camion_sign.specs.FaultLines.{HasNoFaultAt};
 ghost use Rattle.camion_sign.specs.NearColumns.{AllShareEarlier, AreWaiting, HasNearRoom, KnowsNear};
 ghost use Rattle.camion_sign.specs.RowSigns.{AgreesBefore};
 
-use crate::listed_matrix::ListedMatrix;
+use crate::line_words::row_words;
 use crate::reach::{Start, is_touched};
 use crate::row_signs::agrees_with_earlier;
-use cmr_base::{BitSet, MAX_COLUMNS, Memory};
+use cmr_base::columns::count_columns;
+use cmr_base::{BitSet, MAX_COLUMNS, Memory, RowsAndColumns};
 use std::alloc::Global;
 
 // Rows with fewer nonzeros are not compared with the rows before them: their walks are few.
-const MANY: usize = 8;
+const MANY: u32 = 8;
 
 /// What is known of a row without walks. If the row agrees with each earlier row up to a sign, then no two columns that share
 /// an earlier row have a fault in it.
@@ -42,7 +43,7 @@ impl NearColumns {
     }
 
     /// Begins a row. All its columns are later columns.
-    pub fn begin(&mut self, matrix: &ListedMatrix<'_>, row: u32)
+    pub fn begin(&mut self, matrix: &RowsAndColumns<'_>, row: u32)
         requires row { row < height matrix.now }
         requires room { HasNearRoom matrix.now self.old }
         ensures { KnowsNear matrix.now row 0 self.new }
@@ -55,7 +56,7 @@ impl NearColumns {
 
     /// Whether it is known that no last column has a fault with this first column. If not, a walk decides it. The columns
     /// after the first are the later columns from now on.
-    pub fn has_no_fault(&mut self, matrix: &ListedMatrix<'_>, start: Start) -> bool
+    pub fn has_no_fault(&mut self, matrix: &RowsAndColumns<'_>, start: Start) -> bool
         requires row { start.row < height matrix.now }
         requires column { start.column < matrix.now.width }
         requires knows { KnowsNear matrix.now start.row start.column self.old }
@@ -69,34 +70,36 @@ impl NearColumns {
 }
 
 // Whether a row with many nonzeros agrees with each earlier row, up to the sign of the row.
-fn agrees_if_many(matrix: &ListedMatrix<'_>, row: u32) -> bool
+fn agrees_if_many(matrix: &RowsAndColumns<'_>, row: u32) -> bool
     requires row { row < height matrix.now }
     requires shape { IsMatrix matrix.now }
     ensures { IsTrue result → AgreesBefore matrix.now row }
 {
-    if matrix.row(row).len() < MANY {
+    if count_columns(row_words(matrix, row)) < MANY {
         return false;
     }
     agrees_with_earlier(matrix.by_rows(), row)
 }
 
 // Adds the columns of a row that some earlier row meets.
-fn add_touched(matrix: &ListedMatrix<'_>, row: u32, columns: &mut BitSet)
+fn add_touched(matrix: &RowsAndColumns<'_>, row: u32, columns: &mut BitSet)
     requires row { row < height matrix.now }
     requires shape { IsMatrix matrix.now }
     requires size { columns.old.size ≡ matrix.now.width }
     ensures size { columns.new.size ≡ columns.old.size }
     ensures waits { AreWaiting matrix.now row 0 (has_column columns.new.words) }
 {
-    for column in matrix.row(row) {
-        if is_touched(matrix, row, *column) {
-            columns.insert(*column);
+    let mut from = 0;
+    while let Some(column) = matrix.by_rows().next_nonzero(row, from) {
+        if is_touched(matrix, row, column) {
+            columns.insert(column);
         }
+        from = column + 1;
     }
 }
 
 // Whether each waiting column shares an earlier row with the first column. `near` is memory for the columns of these rows.
-fn are_near(matrix: &ListedMatrix<'_>, start: Start, waiting: &BitSet, near: &mut BitSet) -> bool
+fn are_near(matrix: &RowsAndColumns<'_>, start: Start, waiting: &BitSet, near: &mut BitSet) -> bool
     requires row { start.row < height matrix.now }
     requires column { start.column < matrix.now.width }
     requires shape { IsMatrix matrix.now }
@@ -110,14 +113,16 @@ fn are_near(matrix: &ListedMatrix<'_>, start: Start, waiting: &BitSet, near: &mu
     if waiting.is_empty() {
         return true;
     }
-    for row in matrix.column(start.column) {
-        if *row >= start.row {
+    let mut from = 0;
+    while let Some(row) = matrix.by_columns().next_nonzero(start.column, from) {
+        if row >= start.row {
             return false;
         }
-        near.add_words(matrix.row_words(*row));
+        near.add_words(row_words(matrix, row));
         if waiting.is_within(near) {
             return true;
         }
+        from = row + 1;
     }
     false
 }

@@ -6,11 +6,11 @@ ghost use Rattle.cmr_base.specs.Planes.{words_for};
 ghost use Rattle.camion_sign.specs.NearColumns.{HasWaiting};
 ghost use Rattle.camion_sign.specs.Walks.{HasPlacesAndMarks, HasValuesBefore, IsReaching, IsReachingChunk, IsWalking, IsOpen, GrowsFrom, HasSettled, HasWalked, IsUntouched, HasOneMore, NoneWaits, step_at, place_in, flip};
 
-use crate::listed_matrix::ListedMatrix;
+use crate::line_words::{column_words, row_words};
 use crate::row_signs::{has_one_sign, is_in};
 use crate::walk::{ReachedColumn, UNREACHED, Walk};
 use cmr_base::columns::outside;
-use cmr_base::{BitSet, Matrix, Memory, with_bit};
+use cmr_base::{BitSet, Matrix, Memory, RowsAndColumns, with_bit};
 use std::alloc::Global;
 
 /// The row and the first column of a set of places.
@@ -24,7 +24,7 @@ pub struct Start {
 /// the places, passes through columns in which that row is 0, and takes lines in increasing order. So it reaches each column by
 /// the least of its shortest paths. The sums are those of the values in the positions of the nonzeros.
 pub fn walk_from(
-    matrix: &ListedMatrix<'_>,
+    matrix: &RowsAndColumns<'_>,
     values: &Matrix,
     walk: &mut Walk,
     start: Start,
@@ -39,7 +39,7 @@ pub fn walk_from(
 {
     walk.begin(start.column)?;
     pass_earlier(matrix, start, &mut walk.reached);
-    let ends = matrix.row_words(start.row);
+    let ends = row_words(matrix, start.row);
     let mut head = 0;
     let mut pending = first_waiting(walk, waiting, start.column + 1);
     while head < walk.steps.len() && pending < matrix.columns() {
@@ -52,7 +52,7 @@ pub fn walk_from(
 }
 
 // Adds the columns of the row that are before the first column. No path goes on through them, and none of them is a last column.
-fn pass_earlier(matrix: &ListedMatrix<'_>, start: Start, reached: &mut BitSet)
+fn pass_earlier(matrix: &RowsAndColumns<'_>, start: Start, reached: &mut BitSet)
     requires row { start.row < height matrix.now }
     requires size { reached.old.size ≡ matrix.now.width }
     requires column { start.column < matrix.now.width }
@@ -63,17 +63,19 @@ fn pass_earlier(matrix: &ListedMatrix<'_>, start: Start, reached: &mut BitSet)
     ensures kept { (x : ℕ) → has_column reached.old.words x ≡ true
         → has_column reached.new.words x ≡ true }
 {
-    for column in matrix.row(start.row) {
-        if *column >= start.column {
+    let mut from = 0;
+    while let Some(column) = matrix.by_rows().next_nonzero(start.row, from) {
+        if column >= start.column {
             return;
         }
-        reached.insert(*column);
+        reached.insert(column);
+        from = column + 1;
     }
 }
 
 // Takes the rows that meet the column at a position of the walk, until no last column waits.
 fn reach_rows(
-    matrix: &ListedMatrix<'_>,
+    matrix: &RowsAndColumns<'_>,
     values: &Matrix,
     walk: &mut Walk,
     start: Start,
@@ -96,7 +98,7 @@ fn reach_rows(
     ensures waits { IfOk result (λ pending.
         NoneWaits matrix.now start.row start.column pending walk.new.places.items) }
 {
-    let rows = matrix.column_words(walk.steps[head].column);
+    let rows = column_words(matrix, walk.steps[head].column);
     let mut pending = pending;
     let mut low = 0;
     while let Some(row) = walk.next_unused(rows, low) {
@@ -115,7 +117,7 @@ fn reach_rows(
 
 // Reaches the columns of a row that the walk needs and has not reached before.
 fn reach_row(
-    matrix: &ListedMatrix<'_>,
+    matrix: &RowsAndColumns<'_>,
     values: &Matrix,
     walk: &mut Walk,
     start: Start,
@@ -133,7 +135,7 @@ fn reach_row(
     ensures grows { OnOk result (GrowsFrom walk.old walk.new) }
     ensures used { OnOk result (HasOneMore walk.old.used row walk.new.used) }
 {
-    let columns = matrix.row_words(row);
+    let columns = row_words(matrix, row);
     for chunk in 0..columns.len() {
         let fresh = outside(columns[chunk], walk.reached.words()[chunk]);
         if fresh != 0 {
@@ -146,7 +148,7 @@ fn reach_row(
 
 // The same for the columns of one word of the row. The word has those that the walk has not reached.
 fn reach_chunk(
-    matrix: &ListedMatrix<'_>,
+    matrix: &RowsAndColumns<'_>,
     values: &Matrix,
     walk: &mut Walk,
     start: Start,
@@ -200,12 +202,14 @@ fn first_waiting(walk: &Walk, waiting: &BitSet, from: u32) -> u32
 }
 
 /// Whether an earlier row meets the column.
-pub fn is_touched(matrix: &ListedMatrix<'_>, row: u32, column: u32) -> bool
+pub fn is_touched(matrix: &RowsAndColumns<'_>, row: u32, column: u32) -> bool
     requires { column < matrix.now.width }
     ensures { result ≡ false → IsUntouched matrix.now row column }
 {
-    let rows = matrix.column(column);
-    rows.len() > 0 && rows[0] < row
+    match matrix.by_columns().next_nonzero(column, 0) {
+        Some(first) => first < row,
+        None => false,
+    }
 }
 
 /// `is_odd`, negated if `is_same`.

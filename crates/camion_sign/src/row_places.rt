@@ -9,17 +9,25 @@ ghost use Rattle.camion_sign.specs.Walks.{HasFoundPaths, HasValuesBefore, HasWal
 use crate::column_parts::ColumnParts;
 use crate::cycle_lines::{columns_of_cycle, rows_of_cycle};
 use crate::fault::path_to;
-use crate::listed_matrix::ListedMatrix;
+use crate::line_words::row_words;
 use crate::reach::{Start, walk_from};
 use crate::walk::Walk;
-use cmr_base::{BitSet, LineSet, Matrix, Memory};
+use cmr_base::{BitSet, LineSet, Matrix, Memory, RowsAndColumns};
 use std::alloc::Global;
 
-/// A forced one: its column, and the signed column with which it makes a cycle place.
+/// A signed column that makes a cycle place with a column, and the mark of this place.
+#[derive(Clone, Copy)]
+pub struct Partner {
+    pub column: u32,
+    pub mark: i8,
+}
+
+/// A forced one: its column, the signed column with which it makes a cycle place, and the mark of this place.
 #[derive(Clone, Copy)]
 pub struct ForcedOne {
     pub column: u32,
     pub partner: u32,
+    pub mark: i8,
 }
 
 /// The cycle places of a row, as far as walks have determined them: the columns that make a place with a first column, if they
@@ -44,7 +52,7 @@ pub struct RowPlaces {
 
 impl RowPlaces {
     /// Room for the places of any row. No rows are before the first one.
-    pub fn new(alloc: Global, matrix: &ListedMatrix<'_>) -> Result<RowPlaces, Memory>
+    pub fn new(alloc: Global, matrix: &RowsAndColumns<'_>) -> Result<RowPlaces, Memory>
         ensures { IfOk result (HasRoomForPlaces matrix.now 0) }
     {
         let columns = matrix.columns();
@@ -60,7 +68,7 @@ impl RowPlaces {
     }
 
     /// Begins a row. Nothing is known of it.
-    pub fn begin(&mut self, matrix: &ListedMatrix<'_>)
+    pub fn begin(&mut self, matrix: &RowsAndColumns<'_>)
         ensures { (signs : Matrix) (row : ℕ) → HasRoomForPlaces matrix.now row self.old
             → HasValuesBefore matrix.now signs row → KnowsPlaces matrix.now signs row self.new }
     {
@@ -69,46 +77,19 @@ impl RowPlaces {
     }
 
     /// Ends a row, which is before the next one.
-    pub fn end(&mut self, matrix: &ListedMatrix<'_>, row: u32)
+    pub fn end(&mut self, matrix: &RowsAndColumns<'_>, row: u32)
         requires row { row < height matrix.now }
         requires room { HasRoomForPlaces matrix.now row self.old }
         ensures { HasRoomForPlaces matrix.now (row + 1) self.new }
     {
         self.parts.join_row(matrix, row);
-        self.touched.add_words(matrix.row_words(row));
-    }
-
-    /// Whether two columns make a cycle place with the row.
-    pub fn make_place(
-        &mut self,
-        matrix: &ListedMatrix<'_>,
-        signs: &Matrix,
-        row: u32,
-        column: u32,
-        partner: u32,
-    ) -> Result<bool, Memory>
-        requires row { row < height matrix.now }
-        requires places { KnowsPlaces matrix.now signs.now row self.old }
-        requires column { column < matrix.now.width }
-        requires partner { partner < matrix.now.width }
-        requires other { partner ≢ column }
-        requires first { entry matrix.now row column ≢ pos 0 }
-        requires last { entry matrix.now row partner ≢ pos 0 }
-        ensures yes { IfOk result (λ makes. IsTrue makes
-            → (path : List ℕ) × IsPlaceOf matrix.now row partner column path) }
-        ensures no { IfOk result (λ makes. makes ≡ false → (path : List ℕ)
-            → ¬ (IsPlaceOf matrix.now row partner column path)) }
-        ensures places { IfOk result (λ makes.
-            KnowsPlaces matrix.now signs.now row self.new) }
-    {
-        let mark = self.mark(matrix, signs, row, column, partner)?;
-        Ok(mark != 0)
+        self.touched.add_words(row_words(matrix, row));
     }
 
     /// The mark of the place that two columns make with the row, and 0 if they make none. Columns of different parts make none.
     pub fn mark(
         &mut self,
-        matrix: &ListedMatrix<'_>,
+        matrix: &RowsAndColumns<'_>,
         signs: &Matrix,
         row: u32,
         column: u32,
@@ -143,7 +124,7 @@ impl RowPlaces {
     // The mark of a first column and a last one.
     fn mark_from(
         &mut self,
-        matrix: &ListedMatrix<'_>,
+        matrix: &RowsAndColumns<'_>,
         signs: &Matrix,
         start: Start,
         last: u32,
@@ -166,7 +147,7 @@ impl RowPlaces {
     // Determines the columns that make a place with a first column, if they are not known.
     fn learn(
         &mut self,
-        matrix: &ListedMatrix<'_>,
+        matrix: &RowsAndColumns<'_>,
         signs: &Matrix,
         start: Start,
     ) -> Result<(), Memory>
@@ -186,7 +167,7 @@ impl RowPlaces {
 
     fn walk_at(
         &mut self,
-        matrix: &ListedMatrix<'_>,
+        matrix: &RowsAndColumns<'_>,
         signs: &Matrix,
         start: Start,
     ) -> Result<(), Memory>
@@ -202,7 +183,7 @@ impl RowPlaces {
     {
         self.waiting.clear();
         self.waiting
-            .add_common_words(&self.touched, matrix.row_words(start.row));
+            .add_common_words(&self.touched, row_words(matrix, start.row));
         walk_from(matrix, signs, &mut self.walk, start, &self.waiting)?;
         note_places(matrix, signs, &self.walk, start, &mut self.links);
         self.known[start.column as usize] = true;
@@ -213,7 +194,7 @@ impl RowPlaces {
     // Walks from a column, unless the last walk began there.
     fn walk_if_needed(
         &mut self,
-        matrix: &ListedMatrix<'_>,
+        matrix: &RowsAndColumns<'_>,
         signs: &Matrix,
         start: Start,
     ) -> Result<(), Memory>
@@ -237,7 +218,7 @@ impl RowPlaces {
     pub fn cycle(
         &mut self,
         alloc: Global,
-        matrix: &ListedMatrix<'_>,
+        matrix: &RowsAndColumns<'_>,
         signs: &Matrix,
         row: u32,
         column: u32,
@@ -264,7 +245,7 @@ impl RowPlaces {
     fn cycle_from(
         &mut self,
         alloc: Global,
-        matrix: &ListedMatrix<'_>,
+        matrix: &RowsAndColumns<'_>,
         signs: &Matrix,
         start: Start,
         last: u32,
@@ -289,7 +270,7 @@ impl RowPlaces {
 
 // Records the marks of the last columns for a walk from the first column.
 fn note_places(
-    matrix: &ListedMatrix<'_>,
+    matrix: &RowsAndColumns<'_>,
     signs: &Matrix,
     walk: &Walk,
     start: Start,
@@ -317,7 +298,13 @@ fn note_places(
 }
 
 // The mark of a last column.
-fn place_mark(matrix: &ListedMatrix<'_>, signs: &Matrix, walk: &Walk, start: Start, last: u32) -> i8
+fn place_mark(
+    matrix: &RowsAndColumns<'_>,
+    signs: &Matrix,
+    walk: &Walk,
+    start: Start,
+    last: u32,
+) -> i8
     requires order { start.column < last }
     requires width { last < matrix.now.width }
     requires first { entry matrix.now start.row start.column ≢ pos 0 }

@@ -3,11 +3,10 @@ ghost use Rattle.std.specs.Prelude.{◌≡◌, ◌<◌, ℕ, [], length, slice_i
 ghost use Rattle.cmr_base.specs.Matrix.{height};
 ghost use Rattle.chains.specs.SignSteps.{AreSigns, IsUnsignedOne};
 ghost use Rattle.camion_sign.specs.SignOrder.{IsForcedBy};
-ghost use Rattle.camion_sign.specs.Signings.{KnowsPlaces, KnowsSigned};
+ghost use Rattle.camion_sign.specs.Signings.{IsPlacedPartner, KnowsPlaces, KnowsSigned};
 
-use crate::listed_matrix::ListedMatrix;
-use crate::row_places::RowPlaces;
-use cmr_base::{Matrix, Memory};
+use crate::row_places::{Partner, RowPlaces};
+use cmr_base::{Matrix, Memory, RowsAndColumns};
 use std::alloc::Global;
 
 /// The signed columns of the current row. With these records a column without sign is compared with each of them once.
@@ -46,12 +45,12 @@ impl SignedColumns {
     /// skipped.
     pub fn first_forcing(
         &mut self,
-        matrix: &ListedMatrix<'_>,
+        matrix: &RowsAndColumns<'_>,
         places: &mut RowPlaces,
         row: u32,
         column: u32,
         signs: &Matrix,
-    ) -> Result<Option<u32>, Memory>
+    ) -> Result<Option<Partner>, Memory>
         requires row { row < height matrix.now }
         requires column { column < matrix.now.width }
         requires places { KnowsPlaces matrix.now signs.now row places.old }
@@ -60,16 +59,19 @@ impl SignedColumns {
         requires here { IsUnsignedOne matrix.now signs.now row column }
         ensures found { IfOk result (λ found. MatchOption found
             ((c : ℕ) → ¬ (IsForcedBy matrix.now signs.now row column c))
-            (IsForcedBy matrix.now signs.now row column)) }
+            (IsPlacedPartner matrix.now signs.now row column)) }
         ensures places { IfOk result (λ found. KnowsPlaces matrix.now signs.now row places.new) }
         ensures signed { IfOk result (λ found. KnowsSigned matrix.now signs.now row self.new) }
     {
         let mut place = self.passed[column as usize];
         'signed: while place < self.columns.len() {
-            let partner = self.columns[place];
-            let is_place = places.make_place(matrix, signs, row, column, partner)?;
-            if is_place {
-                return Ok(Some(partner));
+            let signed = self.columns[place];
+            let mark = places.mark(matrix, signs, row, column, signed)?;
+            if mark != 0 {
+                return Ok(Some(Partner {
+                    column: signed,
+                    mark,
+                }));
             }
             place += 1;
         }

@@ -13,11 +13,11 @@ ghost use Rattle.chains.specs.Chains.{KeepsRule};
 ghost use Rattle.std.specs.List.{AllByRecursion};
 ghost use Rattle.chains.specs.ChainTexts.{IsStepIn};
 ghost use Rattle.camion_sign.specs.declared.row_places.RowPlaces.{RowPlaces};
-ghost use Rattle.camion_sign.specs.Signings.{HasRoomForPlaces, KnowsPlaces, KnowsSigned, IsAtRow, IsFirstUnsigned, IsNextUnsigned, IsPartner, IsForcedColumn, NoneForced, unsigned_before};
+ghost use Rattle.camion_sign.specs.Signings.{HasRoomForPlaces, KnowsPlaces, KnowsSigned, IsAtRow, IsFirstUnsigned, IsForcedAt, IsForcedNext, IsLeastPartner, IsNextUnsigned, IsPlacedPartner, NoneForced, unsigned_before};
 
 use crate::kept_steps::KeptSteps;
-use crate::listed_matrix::ListedMatrix;
-use crate::row_places::{ForcedOne, RowPlaces};
+use crate::line_words::row_words;
+use crate::row_places::{ForcedOne, Partner, RowPlaces};
 use crate::signed_columns::SignedColumns;
 use crate::walk::first_outside;
 use chains::SignStepList;
@@ -80,14 +80,17 @@ fn all_rows_signed(
     ensures flag { IfOk result (λ signing. signing.steps.are_kept ≡ keeps_steps) }
     ensures shape { IfOk result (λ signing. IsMatrix matrix.now) }
 {
-    let listed = ListedMatrix::new(alloc, matrix)?;
-    let mut signing = no_signs(alloc, &listed, keeps_steps)?;
-    sign_rows(alloc, &listed, &mut signing)?;
+    let mut signing = no_signs(alloc, matrix, keeps_steps)?;
+    sign_rows(alloc, matrix, &mut signing)?;
     Ok(signing)
 }
 
 // The state before the first step.
-fn no_signs(alloc: Global, matrix: &ListedMatrix<'_>, keeps_steps: bool) -> Result<Signing, Memory>
+fn no_signs(
+    alloc: Global,
+    matrix: &RowsAndColumns<'_>,
+    keeps_steps: bool,
+) -> Result<Signing, Memory>
     ensures state { IfOk result (IsAtRow matrix.now 0) }
     ensures flag { IfOk result (λ signing. signing.steps.are_kept ≡ keeps_steps) }
 {
@@ -99,7 +102,11 @@ fn no_signs(alloc: Global, matrix: &ListedMatrix<'_>, keeps_steps: bool) -> Resu
 }
 
 // Signs the ones of all rows.
-fn sign_rows(alloc: Global, matrix: &ListedMatrix<'_>, signing: &mut Signing) -> Result<(), Memory>
+fn sign_rows(
+    alloc: Global,
+    matrix: &RowsAndColumns<'_>,
+    signing: &mut Signing,
+) -> Result<(), Memory>
     requires { IsAtRow matrix.now 0 signing.old }
     ensures state { OnOk result (IsAtRow matrix.now (height matrix.now) signing.new) }
     ensures flag { OnOk result (signing.new.steps.are_kept ≡ signing.old.steps.are_kept) }
@@ -117,7 +124,7 @@ fn sign_rows(alloc: Global, matrix: &ListedMatrix<'_>, signing: &mut Signing) ->
 // Signs the ones of a row.
 fn sign_row(
     alloc: Global,
-    matrix: &ListedMatrix<'_>,
+    matrix: &RowsAndColumns<'_>,
     places: &mut RowPlaces,
     row: u32,
     signing: &mut Signing,
@@ -141,7 +148,7 @@ fn sign_row(
 // Signs the next one of a row. The first one without sign is in this column.
 fn sign_next(
     alloc: Global,
-    matrix: &ListedMatrix<'_>,
+    matrix: &RowsAndColumns<'_>,
     places: &mut RowPlaces,
     row: u32,
     first: u32,
@@ -175,7 +182,7 @@ fn sign_next(
 // The least column of a row without sign that makes a cycle place with a signed column, and the least such signed column. The
 // search begins at the first one without sign.
 fn forced_one(
-    matrix: &ListedMatrix<'_>,
+    matrix: &RowsAndColumns<'_>,
     places: &mut RowPlaces,
     row: u32,
     first: u32,
@@ -189,15 +196,14 @@ fn forced_one(
     requires signed { KnowsSigned matrix.now signs.now row signed.old }
     ensures forced { IfOk result (λ found. MatchOption found
         (NoneForced matrix.now signs.now row)
-        (λ forced. IsForcedColumn matrix.now signs.now row forced.column
-        × IsPartner matrix.now signs.now row forced.column forced.partner)) }
+        (IsForcedNext matrix.now signs.now row)) }
     ensures places { IfOk result (λ found. KnowsPlaces matrix.now signs.now row places.new) }
     ensures signed { IfOk result (λ found. KnowsSigned matrix.now signs.now row signed.new) }
 {
     let mut from = first;
     while let Some(column) = next_unsigned(matrix, row, from, signs) {
-        if let Some(partner) = partner_of(matrix, places, row, column, signs, signed)? {
-            return Ok(Some(ForcedOne { column, partner }));
+        if let Some(forced) = forced_at(matrix, places, row, column, signs, signed)? {
+            return Ok(Some(forced));
         }
         from = column + 1;
     }
@@ -205,7 +211,7 @@ fn forced_one(
 }
 
 // The first column that is at least `from` and in which a row has a one without sign.
-fn next_unsigned(matrix: &ListedMatrix<'_>, row: u32, from: u32, signs: &Matrix) -> Option<u32>
+fn next_unsigned(matrix: &RowsAndColumns<'_>, row: u32, from: u32, signs: &Matrix) -> Option<u32>
     requires shape { IsMatrix matrix.now }
     requires row { row < height matrix.now }
     requires from { from ≤ matrix.now.width }
@@ -214,82 +220,79 @@ fn next_unsigned(matrix: &ListedMatrix<'_>, row: u32, from: u32, signs: &Matrix)
         ((d : ℕ) → from ≤ d → ¬ (IsUnsignedOne matrix.now signs.now row d))
         (IsNextUnsigned matrix.now signs.now row from) }
 {
-    first_outside(matrix.row_words(row), columns_of(signs, row), from)
+    first_outside(row_words(matrix, row), columns_of(signs, row), from)
 }
 
-// The least signed column of a row that makes a cycle place with a column.
-fn partner_of(
-    matrix: &ListedMatrix<'_>,
+// A one without sign with the least signed column of its row that makes a cycle place with it.
+fn forced_at(
+    matrix: &RowsAndColumns<'_>,
     places: &mut RowPlaces,
     row: u32,
     column: u32,
     signs: &Matrix,
     signed: &mut SignedColumns,
-) -> Result<Option<u32>, Memory>
+) -> Result<Option<ForcedOne>, Memory>
     requires row { row < height matrix.now }
     requires column { column < matrix.now.width }
     requires places { KnowsPlaces matrix.now signs.now row places.old }
     requires signs { AreSigns matrix.now signs.now }
     requires here { IsUnsignedOne matrix.now signs.now row column }
     requires signed { KnowsSigned matrix.now signs.now row signed.old }
-    ensures partner { IfOk result (λ found. MatchOption found
+    ensures forced { IfOk result (λ found. MatchOption found
         ((c : ℕ) → ¬ (IsForcedBy matrix.now signs.now row column c))
-        (IsPartner matrix.now signs.now row column)) }
+        (IsForcedAt matrix.now signs.now row column)) }
     ensures places { IfOk result (λ found. KnowsPlaces matrix.now signs.now row places.new) }
     ensures signed { IfOk result (λ found. KnowsSigned matrix.now signs.now row signed.new) }
 {
-    match signed.first_forcing(matrix, places, row, column, signs)? {
-        Some(found) => least_partner(matrix, places, row, column, signs, found),
-        None => Ok(None),
-    }
+    let Some(found) = signed.first_forcing(matrix, places, row, column, signs)? else {
+        return Ok(None);
+    };
+    let partner = least_partner(matrix, places, row, column, signs, found)?;
+    Ok(Some(ForcedOne {
+        column,
+        partner: partner.column,
+        mark: partner.mark,
+    }))
 }
 
-// The least signed column that makes a cycle place with a column. One such column is known. If it is not the first one of the
-// row, the search visits all ones of the row.
+// The least signed column that makes a cycle place with a column. One such column is known, so the search visits only the signed
+// columns before it.
 fn least_partner(
-    matrix: &ListedMatrix<'_>,
+    matrix: &RowsAndColumns<'_>,
     places: &mut RowPlaces,
     row: u32,
     column: u32,
     signs: &Matrix,
-    found: u32,
-) -> Result<Option<u32>, Memory>
+    found: Partner,
+) -> Result<Partner, Memory>
     requires row { row < height matrix.now }
     requires column { column < matrix.now.width }
     requires places { KnowsPlaces matrix.now signs.now row places.old }
     requires signs { AreSigns matrix.now signs.now }
     requires here { IsUnsignedOne matrix.now signs.now row column }
-    requires found { IsForcedBy matrix.now signs.now row column found }
-    ensures partner { IfOk result (λ partner. MatchOption partner
-        ((c : ℕ) → ¬ (IsForcedBy matrix.now signs.now row column c))
-        (IsPartner matrix.now signs.now row column)) }
+    requires found { IsPlacedPartner matrix.now signs.now row column found }
+    ensures partner { IfOk result (IsLeastPartner matrix.now signs.now row column) }
     ensures places { IfOk result (λ partner. KnowsPlaces matrix.now signs.now row places.new) }
 {
-    if is_first(matrix, row, found) {
-        return Ok(Some(found));
-    }
-    for partner in matrix.row(row) {
-        if signs.entry(row, *partner) != 0 {
-            let is_place = places.make_place(matrix, signs, row, column, *partner)?;
-            if is_place {
-                return Ok(Some(*partner));
-            }
+    let mut from = 0;
+    while let Some(signed) = signs.next_nonzero(row, from) {
+        if signed >= found.column {
+            return Ok(found);
         }
+        let mark = places.mark(matrix, signs, row, column, signed)?;
+        if mark != 0 {
+            return Ok(Partner {
+                column: signed,
+                mark,
+            });
+        }
+        from = signed + 1;
     }
-    Ok(None)
-}
-
-// Whether a column is the first one in which a row is not 0.
-fn is_first(matrix: &ListedMatrix<'_>, row: u32, column: u32) -> bool
-    requires { row < height matrix.now }
-    ensures { IsTrue result → (c : ℕ) → c < column → entry matrix.now row c ≡ pos 0 }
-{
-    let columns = matrix.row(row);
-    columns.len() > 0 && columns[0] == column
+    Ok(found)
 }
 
 // The first column at or after `from` in which a row has a one without sign.
-fn first_unsigned(matrix: &ListedMatrix<'_>, row: u32, from: u32, signs: &Matrix) -> Option<u32>
+fn first_unsigned(matrix: &RowsAndColumns<'_>, row: u32, from: u32, signs: &Matrix) -> Option<u32>
     requires shape { IsMatrix matrix.now }
     requires row { row < height matrix.now }
     requires signs { AreSigns matrix.now signs.now }
@@ -304,7 +307,7 @@ fn first_unsigned(matrix: &ListedMatrix<'_>, row: u32, from: u32, signs: &Matrix
 fn sign_free(
     row: u32,
     column: u32,
-    matrix: &ListedMatrix<'_>,
+    matrix: &RowsAndColumns<'_>,
     signing: &mut Signing,
 ) -> Result<(), Memory>
     requires matrix { IsMatrix matrix.now }
@@ -330,7 +333,7 @@ fn sign_free(
 
 fn sign_forced(
     alloc: Global,
-    matrix: &ListedMatrix<'_>,
+    matrix: &RowsAndColumns<'_>,
     places: &mut RowPlaces,
     row: u32,
     forced: ForcedOne,
@@ -339,8 +342,7 @@ fn sign_forced(
     requires row { row < height matrix.now }
     requires places { KnowsPlaces matrix.now signing.old.signs row places.old }
     requires state { IsAtRow matrix.now row signing.old }
-    requires here { IsForcedColumn matrix.now signing.old.signs row forced.column }
-    requires partner { IsPartner matrix.now signing.old.signs row forced.column forced.partner }
+    requires forced { IsForcedNext matrix.now signing.old.signs row forced }
     ensures state { OnOk result (IsAtRow matrix.now row signing.new) }
     ensures flag { OnOk result (signing.new.steps.are_kept ≡ signing.old.steps.are_kept) }
     ensures places { OnOk result (KnowsPlaces matrix.now signing.new.signs row places.new) }
@@ -352,8 +354,11 @@ fn sign_forced(
     signing
         .steps
         .forced(alloc, matrix, &signing.signs, places, row, forced)?;
-    let ForcedOne { column, partner } = forced;
-    let mark = places.mark(matrix, &signing.signs, row, column, partner)?;
+    let ForcedOne {
+        column,
+        partner,
+        mark,
+    } = forced;
     let sign = closing_sign(mark, signing.signs.entry(row, partner));
     signing.signs.set(row, column, sign);
     signing.signed.columns.push(column)?;

@@ -30,11 +30,11 @@ pub loop-column-init : goal.loop-column-init
 loop-column-init c = record { fits = c.requires.fits; passed = λ x y l path fault. omega (arith, l); knows = c.begin.ensures; inside = omega arith }
 
 pub fault_at-requires-clause-column : goal.fault_at-requires-clause-column
-fault_at-requires-clause-column c = subst (λ (a : Matrix). c.in-Some.column < a.width) c.by_rows.ensures.value c.in-Some.ensures.first.1
+fault_at-requires-clause-column c = subst (λ (a : Matrix). c.in-Some.column < a.width) c.by_rows.ensures.matrix c.in-Some.ensures.first.1
 
 pub fault_at-requires-clause-first : goal.fault_at-requires-clause-first
 fault_at-requires-clause-first c =
-    nonzero_is (entry c.args.matrix.now c.args.row c.in-Some.column) (sym (ap (λ (a : Matrix). support a c.args.row c.in-Some.column) c.by_rows.ensures.value) ∙ c.in-Some.ensures.first.2)
+    nonzero_is (entry c.args.matrix.now c.args.row c.in-Some.column) (sym (ap (λ (a : Matrix). support a c.args.row c.in-Some.column) c.by_rows.ensures.matrix) ∙ c.in-Some.ensures.first.2)
 
 pub fault_at-requires-clause-fits : goal.fault_at-requires-clause-fits
 fault_at-requires-clause-fits c = c.loop-column.invariant.fits
@@ -45,7 +45,7 @@ fault_at-requires-clause-knows c = knows_later c.args.matrix.now c.args.row c.lo
 pub returns-in-Some-2-clause-found : goal.returns-in-Some-2-clause-found
 returns-in-Some-2-clause-found c =
     let m = c.args.matrix.now in
-    let none = zeros_first m c.by_rows.result.now c.args.row c.loop-column.from c.in-Some.column c.by_rows.ensures.value c.loop-column.invariant.passed c.in-Some.ensures.first.3 in
+    let none = zeros_first m c.by_rows.result.now c.args.row c.loop-column.from c.in-Some.column c.by_rows.ensures.matrix c.loop-column.invariant.passed c.in-Some.ensures.first.3 in
     let found = rw c.in-Some-2.is at c.in_ok-fault.ensures.found in
     column_found m c.args.row c.in-Some.column none c.in-Some-2.fault found
 
@@ -55,8 +55,8 @@ returns-in-Some-2-clause-fits c = c.in_ok-fault.ensures.fits
 pub loop-column-preserved : goal.loop-column-preserved
 loop-column-preserved c =
     let m = c.args.matrix.now in
-    let none = zeros_first m c.by_rows.result.now c.args.row c.loop-column.from c.in-Some.column c.by_rows.ensures.value c.loop-column.invariant.passed c.in-Some.ensures.first.3 in
-    let inside : c.in-Some.column < m.width = subst (λ (a : Matrix). c.in-Some.column < a.width) c.by_rows.ensures.value c.in-Some.ensures.first.1 in
+    let none = zeros_first m c.by_rows.result.now c.args.row c.loop-column.from c.in-Some.column c.by_rows.ensures.matrix c.loop-column.invariant.passed c.in-Some.ensures.first.3 in
+    let inside : c.in-Some.column < m.width = subst (λ (a : Matrix). c.in-Some.column < a.width) c.by_rows.ensures.matrix c.in-Some.ensures.first.1 in
     record {
       fits = c.in_ok-fault.ensures.fits;
       passed = column_passed m c.args.row c.in-Some.column none (rw c.in_default-2.is at c.in_ok-fault.ensures.found);
@@ -67,7 +67,7 @@ loop-column-preserved c =
 pub returns-clause-found : goal.returns-clause-found
 returns-clause-found c x y =
     let m = c.args.matrix.now in
-    zeros_first m c.by_rows.result.now c.args.row c.loop-column.from (x + 1) c.by_rows.ensures.value c.loop-column.invariant.passed (λ z up below. c.in_default.ensures.first z up) x y (omega arith)
+    zeros_first m c.by_rows.result.now c.args.row c.loop-column.from (x + 1) c.by_rows.ensures.matrix c.loop-column.invariant.passed (λ z up below. c.in_default.ensures.first z up) x y (omega arith)
 
 pub returns-clause-fits : goal.returns-clause-fits
 returns-clause-fits c = c.loop-column.invariant.fits

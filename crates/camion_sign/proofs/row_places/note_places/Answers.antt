@@ -17,9 +17,9 @@ loop-last-preserved c =
     let links = c.loop-last.links in
     let before = c.loop-last.invariant in
     let found = c.in-Some.ensures.first in
-    let inside : last < m.width = subst (λ (a : Matrix). last < a.width) c.by_rows.ensures.value found.1 in
-    let one : entry m t last ≢ pos 0 = nonzero_is (entry m t last) (sym (ap (λ (a : Matrix). support a t last) c.by_rows.ensures.value) ∙ found.2) in
-    let here = note_zeros m s links t x c.loop-last.from before.square before.shows c.by_rows.result.now last c.by_rows.ensures.value found.3 in
+    let inside : last < m.width = subst (λ (a : Matrix). last < a.width) c.by_rows.ensures.matrix found.1 in
+    let one : entry m t last ≢ pos 0 = nonzero_is (entry m t last) (sym (ap (λ (a : Matrix). support a t last) c.by_rows.ensures.matrix) ∙ found.2) in
+    let here = note_zeros m s links t x c.loop-last.from before.square before.shows c.by_rows.result.now last c.by_rows.ensures.matrix found.3 in
     let z = c.place_mark.result in
     let small = c.place_mark.ensures.small in
     let low = small.low in
@@ -44,12 +44,12 @@ pub place_mark-requires-clause-order : goal.place_mark-requires-clause-order
 place_mark-requires-clause-order c = omega (arith, c.loop-last.invariant.low, c.in-Some.ensures.first.0)
 
 pub place_mark-requires-clause-width : goal.place_mark-requires-clause-width
-place_mark-requires-clause-width c = subst (λ (a : Matrix). c.in-Some.last < a.width) c.by_rows.ensures.value c.in-Some.ensures.first.1
+place_mark-requires-clause-width c = subst (λ (a : Matrix). c.in-Some.last < a.width) c.by_rows.ensures.matrix c.in-Some.ensures.first.1
 
 pub place_mark-requires-clause-last : goal.place_mark-requires-clause-last
-place_mark-requires-clause-last c = nonzero_is (entry c.args.matrix.now c.args.start.row c.in-Some.last) (sym (ap (λ (a : Matrix). support a c.args.start.row c.in-Some.last) c.by_rows.ensures.value) ∙ c.in-Some.ensures.first.2)
+place_mark-requires-clause-last c = nonzero_is (entry c.args.matrix.now c.args.start.row c.in-Some.last) (sym (ap (λ (a : Matrix). support a c.args.start.row c.in-Some.last) c.by_rows.ensures.matrix) ∙ c.in-Some.ensures.first.2)
 
 pub returns-clause-shows : goal.returns-clause-shows
 returns-clause-shows c =
     let before = c.loop-last.invariant in
-    note_zeros c.args.matrix.now c.args.signs.now c.loop-last.links c.args.start.row c.args.start.column c.loop-last.from before.square before.shows c.by_rows.result.now c.args.matrix.now.width c.by_rows.ensures.value (λ y up below. c.in_default.ensures.first y up)
+    note_zeros c.args.matrix.now c.args.signs.now c.loop-last.links c.args.start.row c.args.start.column c.loop-last.from before.square before.shows c.by_rows.result.now c.args.matrix.now.width c.by_rows.ensures.matrix (λ y up below. c.in_default.ensures.first y up)

@@ -1,73 +1,74 @@
 use Rattle.std.proofs.Common.{◌∙◌, sym, ap, subst, arith}
-use Rattle.cmr_base.proofs.EntryBytes.{zero_byte}
 use Rattle.cmr_base.specs.Matrix.{entry}
-use Rattle.camion_sign.specs.Signings.{KnowsPlaces}
+use Rattle.cmr_base.proofs.Booleans.{nonzero_is}
+use Rattle.cmr_base.proofs.EntryBytes.{zero_byte}
+use Rattle.cmr_base.proofs.SmallEntries.{entry_as_byte}
+use Rattle.camion_sign.specs.Signings.{ShowsPlaceOf}
 use Rattle.camion_sign.proofs.EntryTests.{zero_as_byte}
-use Rattle.camion_sign.proofs.PartnerSteps.{partner_is, no_partner, one_passed}
-use Rattle.camion_sign.proofs.Steps.{within}
+use Rattle.camion_sign.proofs.PartnerSteps.{none_before, one_passed, place_of}
 use Rattle.camion_sign.proofs.signing.least_partner.Goals as goal
-use Rattle.camion_sign.proofs.signing.least_partner.Goals.{then-entry-ne0+in_ok-is_place+else-is_place, else-entry-ne0}
 
-pub returns-then-is_place-clause-partner : goal.returns-then-is_place-clause-partner
-returns-then-is_place-clause-partner c =
-    partner_is c.args.matrix.now c.args.signs.now c.args.row c.args.column c.row-partner-items.result.now c.requires.signs c.row-partner-items.ensures c.loop-partner.partner-index c.loop-partner-test.true
-    ((λ z. c.if-entry-ne0.true (zero_as_byte c.entry.result (c.entry.ensures.value ∙ z))), c.in_ok-is_place.ensures.yes c.if-is_place.true) c.loop-partner.invariant.none
+pub loop-signed-init : goal.loop-signed-init
+loop-signed-init c = record { none = λ x l. absurd (omega (arith, l)); knows = c.requires.places; inside = omega arith }
 
-pub loop-partner-preserved : goal.loop-partner-preserved
-loop-partner-preserved c =
+pub next_nonzero-requires-clause-row : goal.next_nonzero-requires-clause-row
+next_nonzero-requires-clause-row c = omega (arith, c.requires.row, c.requires.signs.same_height)
+
+pub returns-then-signed-found-clause-partner : goal.returns-then-signed-found-clause-partner
+returns-then-signed-found-clause-partner c = (
+  record {
+    forces = c.requires.found.0;
+    least = λ x l. none_before c.args.matrix.now c.args.signs.now c.args.row c.args.column c.loop-signed.from c.loop-signed.invariant.none c.in-Some.signed c.in-Some.ensures.first.3 x (omega (arith, l, c.if-signed-found.true));
+  },
+  c.requires.found.1,
+)
+
+pub mark-requires-clause-partner : goal.mark-requires-clause-partner
+mark-requires-clause-partner c = omega (arith, c.in-Some.ensures.first.1, c.requires.signs.same_width)
+
+pub mark-requires-clause-other : goal.mark-requires-clause-other
+mark-requires-clause-other c e =
+    nonzero_is (entry c.args.signs.now c.args.row c.in-Some.signed) c.in-Some.ensures.first.2 (ap (entry c.args.signs.now c.args.row) e ∙ c.requires.here.no_sign)
+
+pub mark-requires-clause-first : goal.mark-requires-clause-first
+mark-requires-clause-first c = c.requires.here.one
+
+pub mark-requires-clause-last : goal.mark-requires-clause-last
+mark-requires-clause-last c z =
+    nonzero_is (entry c.args.signs.now c.args.row c.in-Some.signed) c.in-Some.ensures.first.2 (c.requires.signs.inside c.args.row c.in-Some.signed z)
+
+pub returns-then-mark-ne0-clause-partner : goal.returns-then-mark-ne0-clause-partner
+returns-then-mark-ne0-clause-partner c =
     let a = c.args.matrix.now in
     let s = c.args.signs.now in
-    let columns = c.row-partner-items.result.now in
-    let k = c.loop-partner.partner-index in
-    elim c.if-entry-ne0.branch [
-      | then-entry-ne0+in_ok-is_place+else-is_place w ↦ record {
-        none = one_passed a s c.args.row c.args.column columns c.requires.signs c.row-partner-items.ensures k (λ forced. w.in_ok-is_place.ensures.no w.if-is_place.false forced.1.0 forced.1.1) c.loop-partner.invariant.none;
-        knows = subst (KnowsPlaces a s c.args.row) (sym w.places-is) w.in_ok-is_place.ensures.places;
-      }
-      | else-entry-ne0 w ↦ record {
-        none = one_passed a s c.args.row c.args.column columns c.requires.signs c.row-partner-items.ensures k (λ forced. forced.0 (sym c.entry.ensures.value ∙ zero_byte c.entry.result c.entry.ensures.small w.if-entry-ne0.false)) c.loop-partner.invariant.none;
-        knows = subst (KnowsPlaces a s c.args.row) (sym w.places-is) c.loop-partner.invariant.knows;
-      }
-    ]
+    let shows = c.in_ok-mark.ensures.mark in
+    let signed = c.in-Some.signed in (
+      record {
+        forces = (
+          nonzero_is (entry s c.args.row signed) c.in-Some.ensures.first.2,
+          place_of a s c.args.row signed c.args.column c.in_ok-mark.mark shows (λ z. c.if-mark-ne0.true (zero_as_byte c.in_ok-mark.mark z)),
+        );
+        least = none_before a s c.args.row c.args.column c.loop-signed.from c.loop-signed.invariant.none signed c.in-Some.ensures.first.3;
+      },
+      subst (ShowsPlaceOf a s c.args.row signed c.args.column) (sym (entry_as_byte c.in_ok-mark.mark shows.small)) shows,
+    )
+
+pub loop-signed-preserved : goal.loop-signed-preserved
+loop-signed-preserved c =
+    let shows = c.in_ok-mark.ensures.mark in
+    let inside = c.in-Some.ensures.first.1 in
+    record {
+      none = one_passed c.args.matrix.now c.args.signs.now c.args.row c.args.column c.loop-signed.from c.loop-signed.invariant.none c.in-Some.signed c.in-Some.ensures.first.3
+          (λ forced. shows.none (zero_byte c.in_ok-mark.mark shows.small c.if-mark-ne0.false) forced.1.0 forced.1.1);
+      knows = c.in_ok-mark.ensures.places;
+      inside = omega (arith, inside, c.requires.signs.same_width);
+    }
 
 pub returns-clause-partner : goal.returns-clause-partner
-returns-clause-partner c = no_partner c.args.matrix.now c.args.signs.now c.args.row c.args.column c.row-partner-items.result.now c.requires.signs c.row-partner-items.ensures c.loop-partner.partner-index c.loop-partner-test.false c.loop-partner.invariant.none
-
-pub loop-partner-init : goal.loop-partner-init
-loop-partner-init c = record { none = λ k l forced. omega (arith, l); knows = c.requires.places }
-
-pub entry-requires-clause-column : goal.entry-requires-clause-column
-entry-requires-clause-column c =
-    let nonzero = c.row-partner-items.ensures.nonzero c.loop-partner.partner-index c.loop-partner-test.true in
-    let inside = within c.args.matrix.now c.args.row _ c.requires.places.room.fits.matrix c.requires.row nonzero in
-    omega (arith, inside, c.requires.signs.same_width)
-
-pub make_place-requires-clause-places : goal.make_place-requires-clause-places
-make_place-requires-clause-places c = c.loop-partner.invariant.knows
-
-pub make_place-requires-clause-partner : goal.make_place-requires-clause-partner
-make_place-requires-clause-partner c =
-    within c.args.matrix.now c.args.row _ c.requires.places.room.fits.matrix c.requires.row
-    (c.row-partner-items.ensures.nonzero c.loop-partner.partner-index c.loop-partner-test.true)
-
-pub make_place-requires-clause-other : goal.make_place-requires-clause-other
-make_place-requires-clause-other c e =
-    c.if-entry-ne0.true (zero_as_byte c.entry.result (c.entry.ensures.value ∙ ap (entry c.args.signs.now c.args.row) e ∙ c.requires.here.no_sign))
-
-pub make_place-requires-clause-first : goal.make_place-requires-clause-first
-make_place-requires-clause-first c = c.requires.here.one
-
-pub make_place-requires-clause-last : goal.make_place-requires-clause-last
-make_place-requires-clause-last c = c.row-partner-items.ensures.nonzero c.loop-partner.partner-index c.loop-partner-test.true
-
-pub returns-then-is_place-clause-places : goal.returns-then-is_place-clause-places
-returns-then-is_place-clause-places c = c.in_ok-is_place.ensures.places
-
-pub returns-clause-places : goal.returns-clause-places
-returns-clause-places c = c.loop-partner.invariant.knows
-
-pub returns-then-is_first-clause-partner : goal.returns-then-is_first-clause-partner
-returns-then-is_first-clause-partner c = record {
-  forces = c.requires.found;
-  least = λ x less forced. forced.0 (c.requires.signs.inside c.args.row x (c.is_first.ensures c.if-is_first.true x less));
-}
+returns-clause-partner c = (
+  record {
+    forces = c.requires.found.0;
+    least = none_before c.args.matrix.now c.args.signs.now c.args.row c.args.column c.loop-signed.from c.loop-signed.invariant.none c.args.found.column (λ x up below. c.in_default.ensures.first x up);
+  },
+  c.requires.found.1,
+)

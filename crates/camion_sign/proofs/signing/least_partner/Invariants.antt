@@ -1,10 +1,14 @@
-use Rattle.std.proofs.Common.{◌<◌, ℕ, get_or}
+use Rattle.std.proofs.Common.{◌<◌, ◌≤◌, ◌-◌, ℕ}
 use Rattle.camion_sign.specs.SignOrder.{IsForcedBy}
 use Rattle.camion_sign.specs.Signings.{KnowsPlaces}
 use Rattle.camion_sign.proofs.signing.least_partner.Given as goal
 
-abbrev pub invariant-loop-partner : goal.invariant-loop-partner
-invariant-loop-partner l = record {
-  none : (k : ℕ) → k < l.partner-index → ¬ (IsForcedBy l.matrix l.signs l.row l.column (get_or l.partner-items k 0));
+abbrev pub invariant-loop-signed : goal.invariant-loop-signed
+invariant-loop-signed l = record {
+  none : (c : ℕ) → c < l.from → ¬ (IsForcedBy l.matrix l.signs l.row l.column c);
   knows : KnowsPlaces l.matrix l.signs l.row l.places;
+  inside : l.from ≤ l.matrix.width;
 }
+
+abbrev pub decreases-loop-signed : goal.decreases-loop-signed
+decreases-loop-signed l = l.matrix.width - l.from

@@ -1,5 +1,5 @@
 use Rattle.std.proofs.Common.{◌∙◌, ◌<◌, ◌+ℤ◌, ℤ, refl, sym, ap, subst, arith}
-use Rattle.cmr_base.specs.Matrix.{entry, with_entry, IsEntry}
+use Rattle.cmr_base.specs.Matrix.{with_entry, IsEntry}
 use Rattle.cmr_base.specs.Planes.{is_minus}
 use Rattle.cmr_base.specs.Signing.{IsSign}
 use Rattle.cmr_base.proofs.SignEntries.{sign_is_entry}
@@ -16,48 +16,30 @@ use Rattle.camion_sign.proofs.SigningStates.{earlier_same, state_more, fewer_mor
 use Rattle.camion_sign.proofs.signing.sign_forced.Goals as goal
 
 pub forced-requires-clause-place : goal.forced-requires-clause-place
-forced-requires-clause-place c = c.requires.partner.forces.1
-
-pub mark-requires-clause-places : goal.mark-requires-clause-places
-mark-requires-clause-places c = c.in_ok-forced.ensures.places
-
-pub mark-requires-clause-column : goal.mark-requires-clause-column
-mark-requires-clause-column c = column_in c.args.matrix.now c.args.row c.args.forced.column c.requires.places.room.fits.matrix.rectangular c.requires.here.here.one
-
-pub mark-requires-clause-partner : goal.mark-requires-clause-partner
-mark-requires-clause-partner c = column_in c.args.matrix.now c.args.row c.args.forced.partner c.requires.places.room.fits.matrix.rectangular (λ z. c.requires.partner.forces.0 (c.requires.state.signs.inside c.args.row c.args.forced.partner z))
-
-pub mark-requires-clause-other : goal.mark-requires-clause-other
-mark-requires-clause-other c e = c.requires.partner.forces.0 (ap (entry c.args.signing.now.signs c.args.row) e ∙ c.requires.here.here.no_sign)
-
-pub mark-requires-clause-first : goal.mark-requires-clause-first
-mark-requires-clause-first c = c.requires.here.here.one
-
-pub mark-requires-clause-last : goal.mark-requires-clause-last
-mark-requires-clause-last c z = c.requires.partner.forces.0 (c.requires.state.signs.inside c.args.row c.args.forced.partner z)
+forced-requires-clause-place c = c.requires.forced.partner.forces.1
 
 pub entry-requires-clause-row : goal.entry-requires-clause-row
 entry-requires-clause-row c = omega (arith, c.requires.row, c.requires.state.signs.same_height)
 
 pub entry-requires-clause-column : goal.entry-requires-clause-column
 entry-requires-clause-column c =
-    let inside : c.args.forced.partner < c.args.matrix.now.width = column_in c.args.matrix.now c.args.row c.args.forced.partner c.requires.places.room.fits.matrix.rectangular (λ z. c.requires.partner.forces.0 (c.requires.state.signs.inside c.args.row c.args.forced.partner z)) in
+    let inside : c.args.forced.partner < c.args.matrix.now.width = column_in c.args.matrix.now c.args.row c.args.forced.partner c.requires.places.room.fits.matrix.rectangular (λ z. c.requires.forced.partner.forces.0 (c.requires.state.signs.inside c.args.row c.args.forced.partner z)) in
     omega (arith, inside, c.requires.state.signs.same_width)
 
 pub closing_sign-sign-requires-clause-mark : goal.closing_sign-sign-requires-clause-mark
 closing_sign-sign-requires-clause-mark c =
-    subst IsSign (sym (entry_as_byte c.in_ok-mark.mark c.in_ok-mark.ensures.mark.small)) (sign_if c.in_ok-mark.mark c.in_ok-mark.ensures.mark.small (λ z. c.in_ok-mark.ensures.mark.none z c.requires.partner.forces.1.0 c.requires.partner.forces.1.1))
+    subst IsSign (sym (entry_as_byte c.args.forced.mark c.requires.forced.mark.small)) (sign_if c.args.forced.mark c.requires.forced.mark.small (λ z. c.requires.forced.mark.none z c.requires.forced.partner.forces.1.0 c.requires.forced.partner.forces.1.1))
 
 pub closing_sign-sign-requires-clause-partner : goal.closing_sign-sign-requires-clause-partner
 closing_sign-sign-requires-clause-partner c =
-    subst IsSign (sym (entry_as_byte c.entry.result c.entry.ensures.small)) (sign_if c.entry.result c.entry.ensures.small (λ z. c.requires.partner.forces.0 (sym c.entry.ensures.value ∙ z)))
+    subst IsSign (sym (entry_as_byte c.entry.result c.entry.ensures.small)) (sign_if c.entry.result c.entry.ensures.small (λ z. c.requires.forced.partner.forces.0 (sym c.entry.ensures.value ∙ z)))
 
 pub set-requires-clause-row : goal.set-requires-clause-row
 set-requires-clause-row c = omega (arith, c.requires.row, c.requires.state.signs.same_height)
 
 pub set-requires-clause-column : goal.set-requires-clause-column
 set-requires-clause-column c =
-    let inside = column_in c.args.matrix.now c.args.row c.args.forced.column c.requires.places.room.fits.matrix.rectangular c.requires.here.here.one in
+    let inside = column_in c.args.matrix.now c.args.row c.args.forced.column c.requires.places.room.fits.matrix.rectangular c.requires.forced.column.here.one in
     omega (arith, inside, c.requires.state.signs.same_width)
 
 pub set-requires-clause-small : goal.set-requires-clause-small
@@ -79,39 +61,39 @@ returns-clause-state c =
     let lines = c.in_ok-forced.ensures.kept.1 in
     let small = sign_is_entry v c.closing_sign-sign.ensures.sign in
     let set = c.set.ensures ∙ ap (with_entry s row column) (entry_as_byte v small) in
-    let mark = c.in_ok-mark.mark in
-    let place = c.in_ok-mark.ensures.mark.place (λ z. c.in_ok-mark.ensures.mark.none z c.requires.partner.forces.1.0 c.requires.partner.forces.1.1) in
+    let mark = c.args.forced.mark in
+    let place = c.requires.forced.mark.place (λ z. c.requires.forced.mark.none z c.requires.forced.partner.forces.1.0 c.requires.forced.partner.forces.1.1) in
     let next : IsNextForced a s row column cycle v = record {
-      here = c.requires.here.here;
+      here = c.requires.forced.column.here;
       partner = partner;
-      signed = c.requires.partner.forces.0;
+      signed = c.requires.forced.partner.forces.0;
       cycle_is = lines;
-      least_column = c.requires.here.least;
-      least_partner = c.requires.partner.least;
+      least_column = c.requires.forced.column.least;
+      least_partner = c.requires.forced.partner.least;
       is_sign = c.closing_sign-sign.ensures.sign;
-      four = forced_four a s is state.signs row partner column state.turn c.requires.here.here c.requires.partner.forces.0 cycle lines v c.closing_sign-sign.ensures.sign (is_minus mark) place
+      four = forced_four a s is state.signs row partner column state.turn c.requires.forced.column.here c.requires.forced.partner.forces.0 cycle lines v c.closing_sign-sign.ensures.sign (is_minus mark) place
           (λ sum two. subst (λ (p : ℤ). IsZeroModFour ((p +ℤ v) +ℤ sum)) (entry_as_byte c.entry.result c.entry.ensures.small ∙ c.entry.ensures.value)
-          (c.closing_sign-sign.ensures.four sum (subst (λ z. TwoIf (is_minus z) sum) (sym (entry_as_byte mark c.in_ok-mark.ensures.mark.small)) two)));
+          (c.closing_sign-sign.ensures.four sum (subst (λ z. TwoIf (is_minus z) sum) (sym (entry_as_byte mark c.requires.forced.mark.small)) two)));
     } in
-    state_more a s is row column v c.closing_sign-sign.ensures.sign state.signs state.turn c.requires.here.here
+    state_more a s is row column v c.closing_sign-sign.ensures.sign state.signs state.turn c.requires.forced.column.here
     state.steps (Forced row column cycle) c.forced.new.self state.lead (state.turn, next) refl (c.in_ok-forced.ensures.kept.2 state.steps state.kept) c.set.new.self set c.args.signing.now.signed _ state.signed c.in_ok-push.ensures.items refl
 
 pub returns-clause-fewer : goal.returns-clause-fewer
 returns-clause-fewer c =
     let v = c.closing_sign-sign.result in
     let set = c.set.ensures ∙ ap (with_entry c.args.signing.now.signs c.args.row c.args.forced.column) (entry_as_byte v (sign_is_entry v c.closing_sign-sign.ensures.sign)) in
-    fewer_more c.args.matrix.now c.args.signing.now.signs c.requires.places.room.fits.matrix c.args.row c.args.forced.column v c.closing_sign-sign.ensures.sign c.requires.state.signs c.requires.state.turn c.requires.here.here c.set.new.self set
+    fewer_more c.args.matrix.now c.args.signing.now.signs c.requires.places.room.fits.matrix c.args.row c.args.forced.column v c.closing_sign-sign.ensures.sign c.requires.state.signs c.requires.state.turn c.requires.forced.column.here c.set.new.self set
 
 pub returns-clause-keeps : goal.returns-clause-keeps
 returns-clause-keeps c =
     let v = c.closing_sign-sign.result in
     let set = c.set.ensures ∙ ap (with_entry c.args.signing.now.signs c.args.row c.args.forced.column) (entry_as_byte v (sign_is_entry v c.closing_sign-sign.ensures.sign)) in
-    ones_kept c.args.matrix.now c.args.signing.now.signs c.set.new.self c.requires.places.room.fits.matrix c.requires.state.signs c.args.row c.args.forced.column v c.closing_sign-sign.ensures.sign c.requires.here.here set
+    ones_kept c.args.matrix.now c.args.signing.now.signs c.set.new.self c.requires.places.room.fits.matrix c.requires.state.signs c.args.row c.args.forced.column v c.closing_sign-sign.ensures.sign c.requires.forced.column.here set
 
 pub returns-clause-places : goal.returns-clause-places
 returns-clause-places c =
     let v = c.closing_sign-sign.result in
     let set = c.set.ensures ∙ ap (with_entry c.args.signing.now.signs c.args.row c.args.forced.column) (entry_as_byte v (sign_is_entry v c.closing_sign-sign.ensures.sign)) in
     let state = returns-clause-state c in
-    known_still c.args.matrix.now c.args.signing.now.signs c.set.new.self c.args.row c.mark.new.self c.in_ok-mark.ensures.places (signs_before c.args.matrix.now c.set.new.self c.args.row state.signs state.turn)
+    known_still c.args.matrix.now c.args.signing.now.signs c.set.new.self c.args.row c.forced.new.places c.in_ok-forced.ensures.places (signs_before c.args.matrix.now c.set.new.self c.args.row state.signs state.turn)
     (earlier_same c.args.signing.now.signs c.set.new.self c.args.row c.args.forced.column v set)
