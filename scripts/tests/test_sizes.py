@@ -36,7 +36,7 @@ WORDED = "".join(
     for kind, (wheres, words) in WORDINGS.items()
 )
 DOCUMENT_WORDS = 42000
-PAGE_WORDS = 26300
+PAGE_WORDS = 26500
 WITHIN = f"""\
      1 of at most  120 lines of README.md
      3 of at most {DOCUMENT_WORDS} words of documents
