@@ -50,7 +50,7 @@ def shortest(words, runs):
 
 
 def main():
-    parser = argparse.ArgumentParser(description="Times the check of decomposition trees.")
+    parser = argparse.ArgumentParser(description=__doc__, formatter_class=argparse.RawDescriptionHelpFormatter)
     parser.add_argument("--program", required=True)
     parser.add_argument("--kinds", choices=KINDS, nargs="+", default=list(KINDS))
     parser.add_argument("--sizes", type=int, nargs="+", default=[100, 300, 997])

@@ -75,7 +75,7 @@ def with_one_turned(entries, draw):
 
 
 def main():
-    parser = argparse.ArgumentParser(description="Times a command on matrices without cycle fault.")
+    parser = argparse.ArgumentParser(description=__doc__, formatter_class=argparse.RawDescriptionHelpFormatter)
     parser.add_argument("--cmd", help="the command, with {file}")
     parser.add_argument("--kinds", choices=KINDS, nargs="+", default=list(KINDS))
     parser.add_argument("--sizes", type=int, nargs="+", help="in place of each kind's own")

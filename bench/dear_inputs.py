@@ -295,7 +295,7 @@ def measure(runner: Runner, pairs: Sequence[tuple[Input, str]], sizes: Sequence[
 
 
 def read_options(arguments: Sequence[str] | None) -> argparse.Namespace:
-    parser = argparse.ArgumentParser(description="Times each tool on matrices of extreme shapes.")
+    parser = argparse.ArgumentParser(description=__doc__, formatter_class=argparse.RawDescriptionHelpFormatter)
     parser.add_argument("--program", type=pathlib.Path, default=Path("crates/cmr/out/cmr"))
     parser.add_argument("--sizes", type=int, nargs="+", default=[250, 500, 1000], help="in increasing order")
     parser.add_argument("--only", metavar="NAME", nargs="+", default=[], help="names of matrices, of tools, or of both (see --list)")

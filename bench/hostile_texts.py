@@ -172,7 +172,7 @@ def write(path, pieces):
 
 
 def main():
-    parser = argparse.ArgumentParser(description="Reads texts that are made to hurt.")
+    parser = argparse.ArgumentParser(description=__doc__, formatter_class=argparse.RawDescriptionHelpFormatter)
     parser.add_argument("--program", type=pathlib.Path, default=pathlib.Path("crates/cmr/out/cmr"))
     parser.add_argument("--only", help="only the cases whose names contain this")
     options = parser.parse_args()

@@ -79,7 +79,7 @@ def matrices(kind, size, seed, is_binary):
 
 
 def main():
-    parser = argparse.ArgumentParser(description="Times the search for excluded minors.")
+    parser = argparse.ArgumentParser(description=__doc__, formatter_class=argparse.RawDescriptionHelpFormatter)
     parser.add_argument("--program", required=True)
     parser.add_argument("--kinds", choices=("random", *KINDS), nargs="+", default=["random", *KINDS])
     parser.add_argument("--sizes", type=int, nargs="+", default=[100, 300, 1000])

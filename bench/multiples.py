@@ -129,7 +129,7 @@ def measure(timer, sizes, kinds):
 
 
 def main():
-    parser = argparse.ArgumentParser(description="Times the tools as multiples of the time for reading.")
+    parser = argparse.ArgumentParser(description=__doc__, formatter_class=argparse.RawDescriptionHelpFormatter)
     parser.add_argument("--program", type=pathlib.Path, default=pathlib.Path("crates/cmr/out/cmr"))
     parser.add_argument("--sizes", type=int, nargs="+", default=[250, 500, 1000])
     parser.add_argument("--kinds", choices=KINDS, nargs="+", default=list(KINDS))

@@ -87,7 +87,7 @@ def with_entry(entries: Matrix, changes: dict[int, int], draw: random.Random) ->
 
 
 def main() -> None:
-    parser = argparse.ArgumentParser(description="Times a command on network matrices.")
+    parser = argparse.ArgumentParser(description=__doc__, formatter_class=argparse.RawDescriptionHelpFormatter)
     parser.add_argument("--cmd", help="the command, with {file}")
     parser.add_argument("--kinds", choices=KINDS, nargs="+", default=list(KINDS))
     parser.add_argument("--sizes", type=int, nargs="+", default=[100, 300, 1000])

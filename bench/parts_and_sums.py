@@ -44,7 +44,7 @@ def measure(program, folder, count, draw, runs):
 
 
 def main():
-    parser = argparse.ArgumentParser(description="Times parts of matrices and their sums.")
+    parser = argparse.ArgumentParser(description=__doc__, formatter_class=argparse.RawDescriptionHelpFormatter)
     parser.add_argument("--program", required=True)
     parser.add_argument("--counts", type=int, nargs="+", default=[24, 74, 249], help="circulants")
     parser.add_argument("--runs", type=int, default=5)

@@ -109,7 +109,7 @@ def sweep(program, case):
 
 
 def main():
-    parser = argparse.ArgumentParser(description="Refuses each request for memory in turn.")
+    parser = argparse.ArgumentParser(description=__doc__, formatter_class=argparse.RawDescriptionHelpFormatter)
     parser.add_argument("--program", type=pathlib.Path, default=pathlib.Path("crates/cmr/out/cmr"))
     parser.add_argument("--tools", nargs="+", help="only the runs of these tools")
     options = parser.parse_args()

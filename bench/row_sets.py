@@ -62,7 +62,7 @@ def open_leaf(program, path, rows):
 
 
 def main():
-    parser = argparse.ArgumentParser(description="Times the search through the row sets of a leaf.")
+    parser = argparse.ArgumentParser(description=__doc__, formatter_class=argparse.RawDescriptionHelpFormatter)
     parser.add_argument("--program", required=True, help="the program")
     parser.add_argument("--rows", type=int, nargs="+", default=[14, 18, 20, 22])
     parser.add_argument("--workers", type=int, nargs="+", default=[1, 2, 4])

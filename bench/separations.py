@@ -71,7 +71,7 @@ def shuffled(entries: Matrix, draw: random.Random) -> Matrix:
 
 
 def main() -> None:
-    parser = argparse.ArgumentParser(description="Times a command on matrices that fall apart.")
+    parser = argparse.ArgumentParser(description=__doc__, formatter_class=argparse.RawDescriptionHelpFormatter)
     parser.add_argument("--cmd", help="the command, with {file}")
     parser.add_argument("--kinds", choices=KINDS, nargs="+", default=list(KINDS))
     parser.add_argument("--counts", type=int, nargs="+", help="circulants, in place of each kind's own counts")

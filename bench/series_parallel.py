@@ -110,7 +110,7 @@ def run(words):
 
 
 def main():
-    parser = argparse.ArgumentParser(description="Times a command on large matrices that are, or nearly are, series-parallel.")
+    parser = argparse.ArgumentParser(description=__doc__, formatter_class=argparse.RawDescriptionHelpFormatter)
     parser.add_argument("--cmd", help="the command, with {binary} and {file}")
     parser.add_argument("--size", type=int, default=1000)
     parser.add_argument("--copies", type=float, nargs="+", default=[0.5, 0.9, 0.99])

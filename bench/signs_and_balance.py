@@ -60,7 +60,7 @@ def time_balance(options, folder):
 
 
 def main():
-    parser = argparse.ArgumentParser(description="Times `sign` and `balanced`.")
+    parser = argparse.ArgumentParser(description=__doc__, formatter_class=argparse.RawDescriptionHelpFormatter)
     parser.add_argument("--program", required=True, help="the program")
     parser.add_argument("--sizes", type=int, nargs="+", default=[100, 300, 1000])
     parser.add_argument("--leaves", type=int, nargs="+", default=[14, 20])

@@ -44,7 +44,7 @@ def run(words):
 
 
 def main():
-    parser = argparse.ArgumentParser(description="Times a command on large matrix texts.")
+    parser = argparse.ArgumentParser(description=__doc__, formatter_class=argparse.RawDescriptionHelpFormatter)
     parser.add_argument("--cmd", help="the command, with {format} and {file}")
     parser.add_argument("--rows", type=int, default=1000)
     parser.add_argument("--columns", type=int, default=1000)

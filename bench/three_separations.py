@@ -126,7 +126,7 @@ def report(name, words, options, file):
 
 
 def main():
-    parser = argparse.ArgumentParser(description="Times a command on matrices with and without a three-separation.")
+    parser = argparse.ArgumentParser(description=__doc__, formatter_class=argparse.RawDescriptionHelpFormatter)
     parser.add_argument("--cmd", help="the command, with {file} and {workers}")
     parser.add_argument("--kinds", choices=KINDS, nargs="+", default=list(KINDS))
     parser.add_argument("--sizes", type=int, nargs="+", help="rows, in place of each kind's own sizes")

@@ -2,7 +2,7 @@
 
 from __future__ import annotations
 
-from collections.abc import Collection, Iterator, Mapping
+from collections.abc import Collection, Iterable, Iterator, Mapping
 from dataclasses import dataclass
 from pathlib import Path
 
@@ -55,6 +55,28 @@ class Plan:
             above = [other for other, used in self.uses.items() if name in used]
             self._ways[name] = self.seconds[name] + max(map(self._find_way, above), default=0.0)
         return self._ways[name]
+
+    def seconds_of(self, names: Iterable[str]) -> float:
+        """The processor seconds of some crates together."""
+        return sum(self.seconds[it] for it in names)
+
+    def above(self, name: str) -> list[str]:
+        """The crates that use a crate, directly or through others, each after those that it uses."""
+        found: set[str] = set()
+        new = {name}
+        while new:
+            new = {it for it, used in self.uses.items() if it not in found and not new.isdisjoint(used)}
+            found |= new
+        return sorted(found, key=lambda it: -self._ways[it])
+
+    def longest_chain(self) -> list[str]:
+        """The crates of the longest chain, each used by the next."""
+        chain: list[str] = []
+        above = list(self.uses)
+        while above:
+            chain.append(max(above, key=lambda it: self._ways[it]))
+            above = [it for it, used in self.uses.items() if chain[-1] in used]
+        return chain
 
     def next(self, built: Collection[str], running: Mapping[str, int], processors: int) -> Iterator[tuple[str, int]]:
         """The crates to begin, and the jobs of each. `running` has the jobs of the running crates.

@@ -13,6 +13,7 @@ import unittest
 from pathlib import Path
 
 from building.clone import PROGRAMS, crates_below, source_files
+from building.costs import costs
 from building.plan import Plan, Running, read_seconds, time_with
 from tests.stand_in import SmallClone
 from tests.support import TOP
@@ -66,6 +67,23 @@ class PlanTest(unittest.TestCase):
         self.assertEqual(self.next(["base"], {"right": 3}, 4), [("left", 2)])
         self.assertEqual(self.next(["base"], {"left": 3}, 4), [("right", 1)])
         self.assertEqual(self.next(["base"], {"right": 2}, 3), [("left", 1)])
+
+    def test_what_a_change_costs(self):
+        self.assertEqual(self.plan.above("left"), ["high", "cmr"])
+        self.assertEqual(self.plan.above("cmr"), [])
+        self.assertEqual(self.plan.longest_chain(), ["base", "left", "high", "cmr"])
+        plan = Plan(self.plan.uses, {name: 60 * seconds for name, seconds in self.plan.seconds.items()})
+        self.assertEqual(
+            list(costs(plan, ["right"])),
+            [
+                "   own  change  above  crate",
+                "   1.0     3.0      2  right",
+                "                       high, cmr",
+                "   6.0  the longest chain: base, left, high, cmr",
+                "   7.0  all crates",
+            ],
+        )
+        self.assertEqual([it.split()[-1] for it in costs(plan)][1:-2], ["base", "left", "right", "high", "cmr"])
 
     def test_a_long_one_gets_two_of_four(self):
         plan = Plan({"long": [], "longer": [], "cmr": ["long", "longer"]}, {"long": 240, "longer": 400, "cmr": 1})

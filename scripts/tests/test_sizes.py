@@ -35,8 +35,12 @@ WORDED = "".join(
     f"     0 of at most {words:4} house words of {kind}\n"
     for kind, (wheres, words) in WORDINGS.items()
 )
+DOCUMENT_WORDS = 42000
+PAGE_WORDS = 26500
 WITHIN = f"""\
-     1 of at most  230 lines of README.md
+     1 of at most  120 lines of README.md
+     3 of at most {DOCUMENT_WORDS} words of documents
+     0 of at most {PAGE_WORDS} words of the pages of crates
     19 of at most  800 lines of a file of code
     36 of at most  100 characters of a line of a clause
      2 of at most   10 clauses of a function
@@ -75,9 +79,21 @@ class SizesTest(ScriptTest):
         listed = sum(it.startswith("    ") and " of at most " not in it for it in lines)
         self.assertEqual(len(run.stdout.splitlines()), len(WITHIN.splitlines()) + listed)
 
-    def test_counts_that_are_kept(self):
+    def test_counts_that_are_kept(self, words=3):
         run = self.run_script("sizes", self.folder)
-        self.assertEqual((run.returncode, run.stdout, run.stderr), (0, WITHIN, ""))
+        within = WITHIN.replace("     3 of", f"{words:6} of", 1)
+        self.assertEqual((run.returncode, run.stdout, run.stderr), (0, within, ""))
+
+    def test_many_words(self):
+        """The documents are listed, the longest first. The list of versions is none of them."""
+        self.put("CHANGELOG.md", "word " * DOCUMENT_WORDS)
+        self.put("crates/low/README.md", "word\n" * PAGE_WORDS)
+        self.put("docs/LONG.md", "| `a b` |\n" * (DOCUMENT_WORDS // 4 - 1))
+        self.assertEqual(self.run_script("sizes", self.folder).returncode, 0)
+        self.put("docs/SHORT.md", "two words")
+        above = DOCUMENT_WORDS + 1
+        long = f"    docs/LONG.md: {DOCUMENT_WORDS - 4}"
+        self.lists(f" {above} of at most {DOCUMENT_WORDS} words of documents", long, "    README.md: 3", "    docs/SHORT.md: 2")
 
     def test_edits_of_private_functions(self):
         """An edit tests the promises of a crate if it changes an exported function, an exported method or a trait's method."""
@@ -96,8 +112,9 @@ class SizesTest(ScriptTest):
     def test_words_of_documents(self):
         """House words count also if they continue on the next line. Code, links and plain English are left."""
         plain = "Neither rows nor columns, in front, leave nothing behind. `but for` [it](nor.md#behind)\n"
-        self.put("docs/PLAIN.md", f"{plain}\n```\nanew, where it is\n```\n\n[it]: nor.md\n")
-        self.test_counts_that_are_kept()
+        text = f"{plain}\n```\nanew, where it is\n```\n\n[it]: nor.md\n"
+        self.put("docs/PLAIN.md", text)
+        self.test_counts_that_are_kept(3 + len(text.split()))
         self.put("docs/HOUSE.md", "It is done Anew, but\nfor two whole numbers.\n")
         self.put("crates/low/README.md", "A front of it.\n")
         self.lists(
@@ -140,8 +157,8 @@ class SizesTest(ScriptTest):
         self.test_counts_that_are_kept()
 
     def test_long_page(self):
-        self.put("README.md", "a line\n" * 231)
-        self.lists("   231 of at most  230 lines of README.md", "    README.md: 231")
+        self.put("README.md", "a line\n" * 121)
+        self.lists("   121 of at most  120 lines of README.md", "    README.md: 121")
 
     def test_long_file(self):
         self.put("crates/low/src/long.rt", "// a line\n" * 801)
