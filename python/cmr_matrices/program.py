@@ -29,6 +29,7 @@ from .errors import (
 )
 from .explained.texts import guess
 from .single_run import single_run
+from .version import __version__
 
 __all__ = [
     "NO",
@@ -50,8 +51,10 @@ YES, NO, UNDECIDED, REFUSED = 0, 1, 6, 7
 
 # The `parent` of the root is the root. `parents` has no such entry.
 _CLONE = Path(__file__).resolve().parent.parent.parent
-# The prefix below which scripts/install has installed the package.
+# The prefix below which pip, apt or scripts/install has installed the package.
 _BESIDE = _CLONE.parent.parent / "bin" / "cmr"
+# Whether `scripts/package --unproved` has packed this package with its program.
+_PACKED_UNPROVED = __version__.endswith("+unproved")
 TEXT_FAULT = re.compile(r"cmr: (?P<name>.*): (?:(?P<kind>[A-Za-z]+) at byte (?P<byte>[0-9]+)|TooLong)", re.DOTALL)
 """The line of the program on the fault of a text."""
 
@@ -80,9 +83,10 @@ class Ran:
 
 
 def find_program(program: StrPath | None = None) -> Path:
-    """The program: the given one, or what `CMR_PROGRAM` names, is on the `PATH`, is built in this clone, or is installed beside.
+    """The program: the given one, or what `CMR_PROGRAM` names, is installed with the package, is on the `PATH`, or is built in this clone.
 
     The last of these is the program that `./try-cmr` has compiled in this clone without proofs, with the warning `UnprovedProgram`.
+    A package of `scripts/package --unproved` gives this warning too.
 
     Raises `ProgramMissing` with the places that were searched. A path that is given, by the argument or `CMR_PROGRAM`, is the only place.
     """
@@ -93,8 +97,8 @@ def find_program(program: StrPath | None = None) -> Path:
 
 
 def unproved() -> Path:
-    """The path of the program that `./try-cmr` has compiled without proofs, in this clone."""
-    return _unproved_in(_CLONE)
+    """The path of the program that was compiled without proofs: by `./try-cmr` in this clone, or for the package that contains it."""
+    return _BESIDE if _PACKED_UNPROVED else _unproved_in(_CLONE)
 
 
 @lru_cache(maxsize=4)
@@ -111,16 +115,23 @@ def _found(program: StrPath | None) -> Path:
         if not _can_be_run(path):
             raise ProgramMissing([f"{'the argument' if program is not None else 'CMR_PROGRAM'} {named}"])
         return path
+    is_clone = _is_clone(_CLONE)
+    if not is_clone and _can_be_run(_BESIDE):
+        return _BESIDE
     found = shutil.which("cmr")
     if found is not None:
         return Path(found).absolute()
     built = _CLONE / "crates" / "cmr" / "out" / "cmr"
-    for path in (built, _BESIDE, unproved()):
+    for path in (built, unproved()):
         if _can_be_run(path):
             return path
-    is_clone = (_CLONE / "crates.txt").exists()
     clone = f"the clone, {built} and {unproved()}" if is_clone else "the clone, but the package is not in a clone"
     raise ProgramMissing(["CMR_PROGRAM, which is not set", "PATH", clone])
+
+
+@lru_cache(maxsize=4)
+def _is_clone(folder: Path) -> bool:
+    return (folder / "crates.txt").exists()
 
 
 @lru_cache(maxsize=16)

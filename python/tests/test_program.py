@@ -134,6 +134,33 @@ class Finding(Folder):
             self.assertEqual(find_program(), built)
 
 
+    def test_the_program_that_is_installed_with_the_package_comes_before_the_path(self) -> None:
+        os.environ.pop("CMR_PROGRAM", None)
+        os.environ["PATH"] = str(self.folder)
+        self.script("exit 0").rename(self.folder / "cmr")
+        beside = self.folder / "bin" / "cmr"
+        with mock.patch("cmr_matrices.program._CLONE", self.folder / "lib" / "cmr"), mock.patch("cmr_matrices.program._BESIDE", beside):
+            self.assertEqual(find_program(), self.folder / "cmr")
+            beside.parent.mkdir()
+            self.script("exit 0").rename(beside)
+            self.assertEqual(find_program(), beside)
+            with mock.patch("cmr_matrices.program._PACKED_UNPROVED", True), self.assertWarns(UnprovedProgram):
+                self.assertEqual(find_program(), beside)
+
+    def test_a_clone_below_a_folder_with_programs_is_not_installed(self) -> None:
+        os.environ.pop("CMR_PROGRAM", None)
+        os.environ["PATH"] = str(self.folder)
+        self.script("exit 0").rename(self.folder / "cmr")
+        clone = self.folder / "src" / "clone"
+        clone.mkdir(parents=True)
+        (clone / "crates.txt").touch()
+        beside = self.folder / "bin" / "cmr"
+        beside.parent.mkdir()
+        self.script("exit 0").rename(beside)
+        with mock.patch("cmr_matrices.program._CLONE", clone), mock.patch("cmr_matrices.program._BESIDE", beside):
+            self.assertEqual(find_program(), self.folder / "cmr")
+
+
 class Statuses(Folder):
     def fault(self, status: int, line: str) -> ProgramFault:
         script = self.script(f"cat > /dev/null; echo '{line}' >&2; exit {status}")

@@ -4,8 +4,9 @@ from __future__ import annotations
 
 import hashlib
 import os
+import subprocess
 import time
-from collections.abc import Iterator
+from collections.abc import Iterable, Iterator
 from contextlib import suppress
 from dataclasses import dataclass
 from pathlib import Path
@@ -45,34 +46,76 @@ def source_files(crate: str, top: Path = TOP) -> Iterator[Path]:
     yield from sorted((top / "crates" / crate / "src").rglob("*.rt"))
 
 
-def _sum_of(file: Path) -> str:
+def _proof_files(crate: str) -> Iterator[Path]:
+    """The definitions and proofs of a crate."""
+    for folder in ("specs", "proofs"):
+        yield from sorted((TOP / "crates" / crate / folder).rglob("*.antt"))
+
+
+def sum_of(file: Path) -> str:
     return hashlib.sha256(file.read_bytes()).hexdigest()
+
+
+def _sums(files: Iterable[Path]) -> list[tuple[str, str]]:
+    return [(str(it.relative_to(TOP)), sum_of(it)) for it in files]
+
+
+def _kit() -> str:
+    """The line in which the `rt` on the `PATH` names its kit and its logic, or nothing."""
+    with suppress(OSError):
+        return subprocess.run(["rt", "version"], capture_output=True, text=True, check=False).stdout.strip()
+    return ""
+
+
+@dataclass(frozen=True)
+class Record:
+    """What a build records beside a program: digests of its sources, of itself, and of its definitions and proofs; and the kit.
+
+    A program that was compiled without proofs has no digest of proofs. Earlier records have neither this digest nor the kit.
+    """
+
+    sources: str
+    program: str
+    proofs: str = ""
+    kit: str = ""
+
+    @classmethod
+    def of(cls, program: Path) -> Record | None:
+        with suppress(FileNotFoundError):
+            first, _, kit = _beside(program).read_text(encoding="utf-8").partition("\n")
+            sources, built, proofs, *_ = [*first.split(), "", "", ""]
+            return cls(sources, built, proofs, kit.strip())
+        return None
+
+    def write(self, program: Path) -> None:
+        _beside(program).write_text(f"{self.sources} {self.program} {self.proofs}\n{self.kit}\n", encoding="utf-8")
 
 
 @dataclass(frozen=True)
 class Sources:
-    """The sources of a program at a time."""
+    """The sources of a program at a time, and if they are proved, the definitions and proofs of its crates."""
 
     read: float
     digest: str
+    proofs: str = ""
 
     @classmethod
-    def now(cls, program: str = PROGRAM) -> Sources:
-        read, digest = time.time(), hashlib.sha256()
+    def now(cls, program: str = PROGRAM, *, proved: bool = False) -> Sources:
+        read, digest, proofs = time.time(), hashlib.sha256(), hashlib.sha256()
         for name, uses in sorted(crates_below(program).items()):
-            files = [(str(it.relative_to(TOP)), _sum_of(it)) for it in source_files(name)]
-            digest.update(repr((name, uses, files)).encode())
-        return cls(read, digest.hexdigest())
+            digest.update(repr((name, uses, _sums(source_files(name)))).encode())
+            if proved:
+                proofs.update(repr((name, _sums(_proof_files(name)))).encode())
+        return cls(read, digest.hexdigest(), proofs.hexdigest() if proved else "")
 
     def made(self, program: Path) -> None:
         """Records next to a program that it was built from these sources, and sets its time to theirs, since the files may have changed."""
-        _beside(program).write_text(f"{self.digest} {_sum_of(program)}\n", encoding="ascii")
+        Record(self.digest, sum_of(program), self.proofs, _kit()).write(program)
         os.utime(program, (self.read, self.read))
 
     def have_made(self, program: Path) -> bool:
-        with suppress(FileNotFoundError):
-            return _beside(program).read_text(encoding="ascii").split() == [self.digest, _sum_of(program)]
-        return False
+        record = Record.of(program)
+        return record is not None and (record.sources, record.program) == (self.digest, sum_of(program))
 
 
 def _beside(program: Path) -> Path:

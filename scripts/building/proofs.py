@@ -183,7 +183,7 @@ def build(progress: Progress, *, anew: bool = True) -> None:
     with folders.opened():
         # Another build may have built it in the meantime.
         if anew or not _are_fresh():
-            sources = {path: Sources.now(name) for name, path in built_programs().items()}
+            sources = {path: Sources.now(name, proved=True) for name, path in built_programs().items()}
             Build(plan, folders, progress).build_all()
             for path, it in sources.items():
                 it.made(path)

@@ -12,10 +12,10 @@ from building.clone import BUILT, TOP, is_fresh
 PYTHON = "/usr/bin/python3"
 
 
-def _has_swiglpk():
-    return (
-        shutil.which(PYTHON) and subprocess.run([PYTHON, "-c", "import swiglpk"], capture_output=True).returncode == 0
-    )
+def _has(*modules):
+    """Whether Debian's Python has all these modules."""
+    words = [PYTHON, "-c", f"import {', '.join(modules)}"]
+    return shutil.which(PYTHON) and subprocess.run(words, capture_output=True, check=False).returncode == 0
 
 
 def _needs(tool, found):
@@ -25,12 +25,16 @@ def _needs(tool, found):
 
 
 needs_python = _needs(PYTHON, shutil.which(PYTHON))
-needs_swiglpk = _needs("python3-swiglpk", _has_swiglpk())
+needs_swiglpk = _needs("python3-swiglpk", _has("swiglpk"))
 needs_glpsol = _needs("glpsol", shutil.which("glpsol"))
 needs_mandoc = _needs("mandoc", shutil.which("mandoc"))
 needs_man = _needs("man", shutil.which("man"))
 needs_zsh = _needs("zsh", shutil.which("zsh"))
 needs_dot = _needs("dot", shutil.which("dot"))
+needs_packers = _needs(
+    "one of dpkg-deb, git, readelf, python3-pip, python3-setuptools, python3-venv and python3-wheel",
+    all(map(shutil.which, ("dpkg-deb", "git", "readelf"))) and _has("setuptools", "wheel", "pip", "venv"),
+)
 needs_program = _needs("the program cmr, built of these sources,", is_fresh(BUILT))
 
 
