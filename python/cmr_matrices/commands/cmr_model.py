@@ -61,6 +61,12 @@ def arguments() -> argparse.Namespace:
         default=8,
         help="end the search after S seconds of processor time, and say which steps it ended (8)",
     )
+    add(
+        "--clock-limit",
+        metavar="S",
+        type=integer_between(1, 2_000_000),
+        help="end the search also after S seconds by the clock (no such limit)",
+    )
     add("--program", metavar="PATH", help="the path of the program cmr")
     chosen = parser.parse_args()
     if chosen.html is not None and (chosen.html in ("", "-") or _is_one_file(chosen.html, chosen.model, chosen.data)):
@@ -122,6 +128,7 @@ def _work(chosen: argparse.Namespace, found: list[ModelReport]) -> None:
             pivots=chosen.pivots,
             questions=chosen.questions,
             time_limit=chosen.time_limit,
+            clock_limit=chosen.clock_limit,
             program=chosen.program,
             tell=progress,
         )

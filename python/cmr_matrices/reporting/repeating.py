@@ -11,7 +11,7 @@ from pathlib import Path
 from ..families import family_of
 from ..submatrices import Submatrix
 from ..words import LIMIT
-from .asking import Asked, Cells
+from .pieces import Asked, Cells
 from .report import ModelReport
 
 __all__ = ["Repeated", "repeated", "row_pattern"]

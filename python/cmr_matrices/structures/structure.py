@@ -9,16 +9,14 @@ from dataclasses import dataclass, field
 from typing import Literal
 
 from ..constraints import Constraints
+from ..errors import ProgramFault
+from ..program import REFUSED
 from .halves import OddCycle, are_halves, has_two_at_most, is_odd_cycle, signs_or_cycle
 from .intervals import are_intervals, interval_signs
 from .paths import Arcs, are_forest, is_path
 from .sparse import Sparse, columns_of, rows_of
 
-__all__ = ["Structure", "StructureFault", "paths_structure", "structure_of"]
-
-
-class StructureFault(Exception):
-    """Evidence of a structure does not hold. That is a fault of this package."""
+__all__ = ["Structure", "paths_structure", "structure_of"]
 
 
 @dataclass(frozen=True)
@@ -56,7 +54,7 @@ def structure_of(constraints: Constraints) -> Structure | OddCycle | None:
             if isinstance(found, tuple):
                 return _held(Structure("halves", is_turned, found), lines)
             if not is_odd_cycle(lines, found):
-                raise StructureFault("an odd cycle is none")
+                raise ProgramFault(REFUSED, "an odd cycle is none")
             if cycle is None or len(found.rows) < len(cycle.rows):
                 cycle = OddCycle(found.columns, found.rows) if is_turned else found
             continue
@@ -80,5 +78,5 @@ def _lines(constraints: Constraints, is_turned: bool) -> Sparse:
 
 def _held(structure: Structure, lines: Sparse) -> Structure:
     if not structure.holds(lines):
-        raise StructureFault(f"the evidence of {structure.kind} does not hold")
+        raise ProgramFault(REFUSED, f"the evidence of {structure.kind} does not hold")
     return structure
