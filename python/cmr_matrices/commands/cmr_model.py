@@ -13,12 +13,13 @@ from __future__ import annotations
 import argparse
 import os
 import sys
+from pathlib import Path
 from typing import Any
 
 from ..errors import BadInput, CmrError
 from ..program import NO, UNDECIDED, YES
 from ..reporting.report import QUESTIONS, ModelReport, model_report
-from .command import command_parser, end, integer_between, status_of, write_text, write_whole
+from .command import BAD_FILE, NO_MEMORY, command_parser, end, integer_between, status_of, write_text, write_whole
 from .signals import end_if_told, end_on_signals
 
 __all__ = ["main"]
@@ -143,6 +144,10 @@ def _work(chosen: argparse.Namespace, found: list[ModelReport]) -> None:
 
 def main() -> int:
     """Runs the command, and gives its status."""
+    end_on_signals()
+    if _is_closed():
+        print(f"{Path(sys.argv[0]).name}: cannot write -: standard output is closed", file=sys.stderr)
+        return BAD_FILE
     chosen = arguments()
     found: list[ModelReport] = []
     faults: list[int] = []
@@ -153,10 +158,22 @@ def main() -> int:
         except CmrError as fault:
             faults.append(status_of(fault))
             raise BadInput(str(fault)) from fault
+        except MemoryError:
+            faults.append(NO_MEMORY)
+            raise BadInput("there is not enough memory") from None
 
-    end_on_signals()
     status = end(work)
     end_if_told()
     if faults:
         return faults[0]
-    return status or _STATUSES[found[0].verdict]
+    # Otherwise the reader of standard output has closed it.
+    return BAD_FILE if status else _STATUSES[found[0].verdict]
+
+
+def _is_closed() -> bool:
+    """Whether there is no standard output."""
+    try:
+        os.fstat(1)
+    except OSError:
+        return True
+    return sys.stdout is None
