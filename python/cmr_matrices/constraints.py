@@ -32,7 +32,7 @@ Entries = dict[tuple[int, int], Fraction]
 class Choice:
     """Which rows of a model are taken, and whether they are scaled.
 
-    The names of these rows have a match of `rows` and none of `without`. With `unit_rows` their coefficients are also -1, 0 and 1, after
+    The names of these rows have a match of `rows` and none of `without`, and are not `omitted`. With `unit_rows` their coefficients are also -1, 0 and 1, after
     the division of rows if they are scaled. If rows are chosen, the columns are those that occur in these rows.
     """
 
@@ -40,16 +40,18 @@ class Choice:
     without: re.Pattern[str] | None = None
     unit_rows: bool = False
     scale: bool = False
+    omitted: frozenset[str] = frozenset()
 
     @property
     def is_all(self) -> bool:
         """Whether all rows are taken."""
-        return self.rows is None and self.without is None and not self.unit_rows
+        return self.rows is None and self.without is None and not self.unit_rows and not self.omitted
 
     def takes(self, name: str) -> bool:
         """Whether a row is taken by its name."""
         wanted = self.rows is None or self.rows.search(name)
-        return bool(wanted) and not (self.without is not None and self.without.search(name))
+        is_omitted = name in self.omitted or (self.without is not None and self.without.search(name))
+        return bool(wanted) and not is_omitted
 
 
 @dataclass(frozen=True)

@@ -18,7 +18,7 @@ from typing import Any
 
 from ..errors import BadInput, CmrError
 from ..program import NO, UNDECIDED, YES
-from ..reporting.report import QUESTIONS, ModelReport, model_report
+from ..reporting.report import PIVOTS, QUESTIONS, ModelReport, model_report
 from .command import BAD_FILE, NO_MEMORY, command_parser, end, integer_between, status_of, write_text, write_whole
 from .signals import end_if_told, end_on_signals
 
@@ -33,6 +33,7 @@ def arguments() -> argparse.Namespace:
     add = parser.add_argument
     add("model", metavar="MODEL", help="the model: free or fixed MPS, GNU MathProg, or the LP format of CPLEX")
     add("--html", metavar="REPORT", help="write the report to this file as one page of HTML")
+    add("--relaxed", metavar="FILE", help="write the names of the rows to relax to this file, a line for each")
     add("--json", action="store_true", help="print one object of JSON in place of the text")
     add(
         "--format",
@@ -45,7 +46,7 @@ def arguments() -> argparse.Namespace:
         "--pivots",
         metavar="K",
         type=integer_between(0, 100),
-        default=20,
+        default=PIVOTS,
         help="make up to K pivots of an open part, 0 to 100 (20)",
     )
     add(
@@ -70,8 +71,11 @@ def arguments() -> argparse.Namespace:
     )
     add("--program", metavar="PATH", help="the path of the program cmr")
     chosen = parser.parse_args()
-    if chosen.html is not None and (chosen.html in ("", "-") or _is_one_file(chosen.html, chosen.model, chosen.data)):
-        parser.error("--html needs a file, and not that of the model")
+    for option, name in (("--html", chosen.html), ("--relaxed", chosen.relaxed)):
+        if name is not None and (name in ("", "-") or _is_one_file(name, chosen.model, chosen.data)):
+            parser.error(f"{option} needs a file, and not that of the model")
+    if chosen.html is not None and _is_one_file(chosen.html, chosen.relaxed):
+        parser.error("--html and --relaxed need two files")
     return chosen
 
 
@@ -138,6 +142,8 @@ def _work(chosen: argparse.Namespace, found: list[ModelReport]) -> None:
     text = report.to_json() if chosen.json else report.to_text()
     if chosen.html is not None:
         write_whole(chosen.html, report.to_html())
+    if chosen.relaxed is not None:
+        write_whole(chosen.relaxed, "".join(f"{name}\n" for name in report.relax))
     write_text("-", text)
     found.append(report)
 

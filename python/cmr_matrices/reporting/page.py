@@ -139,11 +139,15 @@ def _head(report: ModelReport, name: str) -> Iterator[str]:
         (str(nonzeros), f"nonzeros in {sentences.counted(len(report.families), 'family', 'families')} of rows"),
         (f"{whole} of {columns}", "variables are declared as integers"),
         (size if all(left) else "nothing", "is left by the reductions"),
-        ("-" if report.rest is None else str(len(report.relaxed)), f"rows to relax of {rows}"),
+        (str(len(report.relaxed)) if _has_advice(report) else "-", f"rows to relax of {rows}"),
     ]
     yield '<div class="tiles">'
     yield from (f'<div class="tile"><b>{number}</b><span>{words}</span></div>' for number, words in tiles)
     yield "</div>"
+
+
+def _has_advice(report: ModelReport) -> bool:
+    return report.rest is not None and sentences.is_advice(report)
 
 
 def _answer(report: ModelReport) -> Iterator[str]:
@@ -152,7 +156,7 @@ def _answer(report: ModelReport) -> Iterator[str]:
     yield from (f'<p class="warn">{escape(sentence)}</p>' for sentence in sentences.of_limits(report))
     relaxation = sentences.of_relaxation(report) if report.verdict != "yes" else []
     for number, sentence in enumerate(relaxation):
-        look = ' class="relax"' if not number and report.rest is not None and sentences.is_advice(report) else ""
+        look = ' class="relax"' if not number and _has_advice(report) else ""
         yield f"<p{look}>{escape(sentence)}</p>"
     if report.verdict == "yes" or report.rest is not None:
         look = ' class="warn"' if report.not_whole else ""

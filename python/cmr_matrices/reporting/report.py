@@ -32,7 +32,10 @@ from .row_by_row import kept_row_by_row
 from .rows import ModelRows, NotWhole, RowFamily, said_rows
 from .sampling import near_lines
 
-__all__ = ["FamilyLine", "ModelReport", "model_report"]
+__all__ = ["FamilyLine", "ModelReport", "PIVOTS", "QUESTIONS", "model_report"]
+
+PIVOTS = 20
+"""How many pivots are made on the way to a part that is left open."""
 
 QUESTIONS = 300
 """The most questions of each search for rows to keep."""
@@ -170,7 +173,7 @@ def model_report(
     form: Format | None = None,
     data: StrPath | None = None,
     lines: int | None = None,
-    pivots: int = 20,
+    pivots: int = PIVOTS,
     questions: int = QUESTIONS,
     time_limit: float | None = None,
     clock_limit: float | None = None,

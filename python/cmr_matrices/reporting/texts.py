@@ -164,6 +164,7 @@ def _relaxation(report: ModelReport) -> dict[str, Any]:
     model = report.rows.model
     return {
         "said": report.relax_said,
+        "has_reasons": sentences.is_advice(report),
         "rows": [model.rows[row] for row in report.relaxed],
         "largest": report.kept is not None and report.kept.is_largest,
         "rest_is_totally_unimodular": report.rest is not None,
