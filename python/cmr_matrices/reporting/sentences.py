@@ -161,6 +161,8 @@ def of_relaxation(report: ModelReport) -> list[str]:
         said.append(f"By whole families: {'relax' if is_advice(report) else 'without'} {listed(families)}. {_how(report)}")
     said += of_within(report)
     subject = "it" if len(report.relaxed) == 1 else "they"
+    if not is_advice(report):
+        return [sentence for sentence in [*said, *of_left_out(report)] if sentence]
     said.append(
         f"In a Lagrangian relaxation {subject} would move to the objective, and in a decomposition to the master problem. The bound is "
         "that of the linear program, since the remaining rows have integral vertices if their right-hand sides are integers (Geoffrion 1974)."
@@ -222,10 +224,11 @@ def of_arithmetic(report: ModelReport) -> list[str]:
         return []
     sizes = ["x".join(map(str, piece.constraints.names.shape)) for piece in parts]
     others = len(asked.pieces) - len(parts)
-    program = f"; the program decided {counted(others, 'other connected part')}" if others else ""
+    what = "matrix" if not others and len(parts) == 1 else "connected part" if len(parts) == 1 else "connected parts"
+    program = f" The program decided {counted(others, 'other connected part')}." if others else ""
     return [
-        f"Not proved: {'a part' if len(parts) == 1 else 'parts'} of {listed(sizes, _SOME)} {'has' if len(parts) == 1 else 'have'} the "
-        f"structure above by arithmetic of this package, which checked it again line by line{program}."
+        f"Not proved: the {what} of {listed(sizes, _SOME)} {'is' if len(parts) == 1 else 'are'} decided by arithmetic of this package, "
+        f"which checked the structure line by line.{program}"
     ]
 
 
