@@ -4,7 +4,7 @@ from __future__ import annotations
 
 import re
 from collections.abc import Iterable, Iterator, Mapping
-from dataclasses import dataclass
+from dataclasses import dataclass, replace
 from fractions import Fraction
 from math import gcd, lcm
 
@@ -41,6 +41,8 @@ class Choice:
     unit_rows: bool = False
     scale: bool = False
     omitted: frozenset[str] = frozenset()
+    without_columns: re.Pattern[str] | None = None
+    """The columns whose names have a match are omitted after the division of rows."""
 
     @property
     def is_all(self) -> bool:
@@ -115,6 +117,8 @@ def constraints_of_model(model: Model, choice: Choice = Choice()) -> Constraints
         if not taken.rows:
             raise BadInput("there is no row with only the coefficients -1, 0 and 1")
         entries, row_scalings = rows_divided(taken) if choice.scale else (_entries(taken), [])
+    if choice.without_columns is not None:
+        taken, entries = _without_columns(taken, entries, choice.without_columns)
     column_scalings: list[Scaling] = []
     if choice.scale:
         entries, column_scalings = _columns_divided(taken, entries)
@@ -137,6 +141,15 @@ def _only_rows(model: Model, rows: list[int], is_all: bool) -> Model:
         tuple(Coefficient(row_places[at.row], column_places[at.column], at.value) for at in kept),
         tuple(model.sides[row] for row in rows) if model.sides else (),
     )
+
+
+def _without_columns(model: Model, entries: Entries, pattern: re.Pattern[str]) -> tuple[Model, Entries]:
+    """The model and its entries without the columns whose names have a match."""
+    kept = [column for column, name in enumerate(model.columns) if not pattern.search(name)]
+    places = {column: place for place, column in enumerate(kept)}
+    found = tuple(replace(it, column=places[it.column]) for it in model.coefficients if it.column in places)
+    taken = Model(model.rows, tuple(model.columns[column] for column in kept), found, model.sides)
+    return taken, {(row, places[column]): entry for (row, column), entry in entries.items() if column in places}
 
 
 def _entries(model: Model) -> Entries:

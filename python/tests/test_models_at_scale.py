@@ -164,7 +164,7 @@ class Order(ReportTest):
 
         with mock.patch.object(Decider, "cheap", slow):
             report = model_report(self.write("plan.mod", PLAN), pivots=0)
-        self.assertEqual(report.verdict, "undecided")
+        self.assertEqual(report.whole.verdict, "undecided")
         self.assertEqual({family.name: family.state for family in report.families}["balance[..]"], "kept")
         self.assertIn("the whole matrix", report.ended)
 

@@ -83,6 +83,12 @@ def _add_choices(parser: argparse.ArgumentParser) -> None:
         help="omit the rows whose names are the lines of this file, as cmr-model --relaxed writes it",
     )
     parser.add_argument(
+        "--without-columns",
+        metavar="REGEX",
+        type=pattern,
+        help="omit the columns whose names have a match, with --scale after the division of rows",
+    )
+    parser.add_argument(
         "--unit-rows",
         action="store_true",
         help="take only the rows whose coefficients are -1, 0 and 1, with --scale after the division",
@@ -96,7 +102,7 @@ def _add_choices(parser: argparse.ArgumentParser) -> None:
 
 def _work(chosen: argparse.Namespace) -> None:
     omitted = frozenset(read_text(chosen.without_names).splitlines()) if chosen.without_names else frozenset()
-    choice = Choice(chosen.rows, chosen.without, chosen.unit_rows, chosen.scale, omitted)
+    choice = Choice(chosen.rows, chosen.without, chosen.unit_rows, chosen.scale, omitted, chosen.without_columns)
     constraints = constraints_of_file(chosen.model, chosen.format, choice, chosen.data)
     said = [f"{scaling}\n" for scaling in constraints.scalings]
     steps = None

@@ -11,6 +11,7 @@ from pathlib import Path
 from ..families import family_of
 from ..submatrices import Submatrix
 from ..words import LIMIT
+from .integers import Integers
 from .pieces import Asked, Cells, Piece
 from .report import PIVOTS, QUESTIONS, ModelReport
 
@@ -69,6 +70,8 @@ class _Commands:
             yield from self._asked("what is left once these rows are relaxed", name, report.rest, relaxed)
             if report.reason is not None and report.reason.words and not report.rest.is_reduced:
                 yield self._class(name)
+        if report.integers is not None and report.integers.answer is not None:
+            yield from self._variables(report.integers, report.integers.answer)
 
     def _other_violators(self) -> Iterable[Repeated]:
         """The violators that rule out sets with more rows, without those of the families that are relaxed."""
@@ -116,7 +119,20 @@ class _Commands:
             file = f"{self._stem}.relaxed"
             without = ["--without-names", file]
             yield Repeated("the rows to relax, as a file of their names", (self._relaxed(file),), "")
-        first = self._matrix(name, without, asked.is_reduced)
+        yield from self._answers(what, name, asked, self._matrix(name, without, asked.is_reduced))
+
+    def _variables(self, found: Integers, asked: Asked) -> Iterable[Repeated]:
+        """The commands for the columns of the variables that need not be declared as integers."""
+        names = self._report.rows.model.columns
+        name = f"{self._stem}-variables"
+        pattern = row_pattern([names[column] for column in found.fixed], names)
+        scale = ["--scale"] if self._report.rows.divided else []
+        words = ["model_to_matrix", *scale, "--without-columns", pattern, *self._source(), f"{name}.txt", f"{name}.names"]
+        if not asked.is_reduced:
+            yield from self._answers("the columns of the variables that need not be integer", name, asked, shlex.join(words))
+
+    def _answers(self, what: str, name: str, asked: Asked, first: str) -> Iterable[Repeated]:
+        """The commands for the parts of an answer, after the command that writes the matrix."""
         answered = [number for number, piece in enumerate(asked.pieces, 1) if _is_answer_of_tu(piece)]
         if not asked.pieces or (not answered and not asked.is_reduced):
             yield Repeated(what, (first,), "")

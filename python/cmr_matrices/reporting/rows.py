@@ -2,16 +2,17 @@
 
 from __future__ import annotations
 
-from collections.abc import Iterable, Mapping, Sequence
+from collections.abc import Iterable, Iterator, Mapping, Sequence
 from dataclasses import dataclass, field
 from fractions import Fraction
+from math import ceil, floor
 from typing import Literal
 
 from ..constraints import Constraints, Scaling, rows_divided
 from ..errors import BadInput
 from ..families import families_of
 from ..lines import Names
-from ..models import Model
+from ..models import Ends, Model
 
 __all__ = ["Axis", "ModelRows", "NotWhole", "RowFamily", "said_rows"]
 
@@ -36,6 +37,8 @@ class NotWhole:
     kind: str
     name: str
     value: float
+    rounded: int | None = None
+    """The integer to which it can be rounded so that no integral solution is lost: down if it is an upper bound, and up otherwise."""
 
     def __str__(self) -> str:
         what = "right-hand side" if self.kind == "row" else "bound"
@@ -128,16 +131,29 @@ class ModelRows:
         return self.lines("row", rows)
 
     def not_whole(self, rows: Iterable[int], columns: Iterable[int] | None = None) -> tuple[NotWhole, ...]:
-        """The right-hand sides of some rows, and the bounds of some or all columns, that are no integers."""
-        found = []
-        for row in rows if self.model.sides else ():
+        """The right-hand sides of some rows, and the bounds of some or all columns, that are no integers.
+
+        The side of a row can be rounded if all its variables are integer and if its entries are integers. They are, after the division.
+        """
+        model, found = self.model, []
+        whole = {column for column, is_whole in enumerate(model.whole) if is_whole}
+        for row in rows if model.sides else ():
             factor = self.divided[row].factor if row in self.divided else 1
-            sides = (Fraction(f"{side:.15g}") / factor for side in self.model.sides[row].finite)
-            found += [NotWhole("row", self.model.rows[row], float(side)) for side in sides if side.denominator != 1]
-        for column in (range(len(self.model.bounds)) if columns is None else columns) if self.model.bounds else ():
-            ends = self.model.bounds[column].finite
-            found += [NotWhole("column", self.model.columns[column], end) for end in ends if not end.is_integer()]
+            is_whole = all(column in whole for column, _ in self.entries[row])
+            found += [NotWhole("row", model.rows[row], *it) for it in _broken(model.sides[row], factor, is_whole)]
+        for column in (range(len(model.bounds)) if columns is None else columns) if model.bounds else ():
+            ends = _broken(model.bounds[column], 1, column in whole)
+            found += [NotWhole("column", model.columns[column], *it) for it in ends]
         return tuple(found)
+
+
+def _broken(ends: Ends, factor: int | Fraction, is_whole: bool) -> Iterator[tuple[float, int | None]]:
+    """The ends that are no integers after the division, each with the integer to which it can be rounded."""
+    for end in ends.finite:
+        value = Fraction(f"{end:.15g}") / factor
+        if value.denominator != 1:
+            rounded = floor(value) if (end == ends.upper) == (factor > 0) else ceil(value)
+            yield float(value), rounded if is_whole and ends.lower != ends.upper else None
 
 
 def said_rows(family: str, names: Sequence[str]) -> str:

@@ -7,6 +7,7 @@ from collections.abc import Sequence
 from ..model_texts import NONLINEAR_OBJECTIVE, ORDERED_SETS, SEMICONTINUOUS
 from .integers import ColumnFamily
 from .report import FamilyLine, ModelReport
+from .rows import NotWhole
 
 __all__ = [
     "counted",
@@ -98,11 +99,17 @@ def of_sides(report: ModelReport) -> str:
     which = "" if report.verdict == "yes" else " of the remaining rows"
     found = [str(it) for it in report.not_whole]
     if found:
-        said = f"Not integral: {listed(found, _SOME)}."
+        said = f"Not integral: {listed(found, _SOME)}.{_of_rounding(report.not_whole)}"
         return f"{said} The vertices need not be integral unless all right-hand sides and bounds are integers."
     if not report.rows.model.sides:
         return "The right-hand sides are not known. The vertices need not be integral unless they and all bounds are integers."
     return f"All right-hand sides{which} and all bounds are integers."
+
+
+def _of_rounding(found: Sequence[NotWhole]) -> str:
+    """To which integers sides and bounds of integer variables can be rounded."""
+    rounded = [f"that of {it.name} to {it.rounded}" for it in found if it.rounded is not None]
+    return f" Round {listed(rounded, _SOME)}: all variables there are integer, so no integral solution is lost." if rounded else ""
 
 
 def of_coefficients(report: ModelReport) -> list[str]:
@@ -201,7 +208,7 @@ def of_integers(report: ModelReport) -> list[str]:
         f"the columns of the others are totally unimodular, and the coefficients of the {count} are integers."
     )
     if found.not_whole:
-        said.append(f"Not integral: {listed([str(it) for it in found.not_whole], _SOME)}.")
+        said.append(f"Not integral: {listed([str(it) for it in found.not_whole], _SOME)}.{_of_rounding(found.not_whole)}")
     if found.reason is not None:
         said.append(f"Of the other columns: {found.reason.sentence}")
     is_small = "By this rule no choice of families leaves fewer variables integer: each such choice has a violator."

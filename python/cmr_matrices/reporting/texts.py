@@ -214,7 +214,7 @@ def _cells(report: ModelReport, cells: Cells | None) -> dict[str, Iterable[str]]
 
 
 def _not_whole(it: NotWhole) -> dict[str, Any]:
-    return {"kind": it.kind, "name": it.name, "value": it.value}
+    return {"kind": it.kind, "name": it.name, "value": it.value, "rounded": it.rounded}
 
 
 def _outline(asked: Asked) -> list[str]:
