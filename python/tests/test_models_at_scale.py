@@ -82,14 +82,14 @@ class Scale(ReportTest):
         self.assertEqual(json.loads(report.to_json())["why"]["class"], "network")
 
     def test_intervals_in_rows_or_columns(self) -> None:
-        places = [(f"x{at:04}", range(at % 160, at % 160 + 3 + at % 5)) for at in range(1100)]
+        places = [(f"x{at:04}", range(at % 160, at % 160 + 3 + at // 160)) for at in range(1100)]
         intervals = [(f"h{hour:04}", column, 1) for column, hours in places for hour in hours]
         report = model_report(self.write("week.mps", mps_text(sorted(intervals))))
-        self.by_arithmetic(report, "166x1100")
+        self.by_arithmetic(report, "168x1100")
         self.assertIn("the rows of each variable are consecutive", report.to_text())
         turned = [(column, row, entry) for row, column, entry in sorted(intervals)]
         report = model_report(self.write("turned.mps", mps_text(turned)))
-        self.by_arithmetic(report, "1100x166")
+        self.by_arithmetic(report, "1100x168")
         self.assertIn("the variables of each row are consecutive", report.to_text())
 
     def test_an_odd_cycle_of_a_large_model(self) -> None:

@@ -47,6 +47,9 @@ OVER = "the time is over"
 _CHEAP = 0.5
 """The part of the time of a step that a cheap question may take."""
 
+_MANY = 20_000
+"""The most nonzeros of a matrix with a structure that is reduced, so that the program may answer its parts."""
+
 
 class Asker:
     """Puts questions to the program, and has each evidence checked. It counts both.
@@ -141,6 +144,8 @@ class Asker:
             if not asked.is_over:
                 # A later step may have the time that this one had not.
                 self._cheap[key] = asked
+        if asked.verdict == "yes" and asked.is_hasty:
+            asked = self._joined(key, [self._again(piece) for piece in asked.pieces])
         if asked.verdict == "undecided" and pivots and self.pivots:
             asked = self._joined(key, [self._pivoted(piece, share) for piece in asked.pieces])
         if asked.verdict != "undecided" or (pivots and not asked.is_over):
@@ -179,10 +184,13 @@ class Asker:
         if max(constraints.names.shape) <= LIMIT:
             return [self._piece(constraints)]
         found = self._structure(constraints)
-        if isinstance(found, Structure):
+        if isinstance(found, Piece):
+            return [found]
+        if found is not None and len(constraints.entries) > _MANY:
             return [Piece(constraints, None, None, found)]
-        pieces = [found] if found is not None else []
-        parts = [] if found is not None else connected_parts(self.reduced(key[1], key[0])[0])
+        # The program answers the parts that are not too large.
+        pieces: list[Piece] = []
+        parts = connected_parts(self.reduced(key[1], key[0])[0])
         for number, part in enumerate(parts, 1):
             pieces.append(self._piece(part))
             if pieces[-1].answer is not None and pieces[-1].answer.violator is not None:
@@ -230,6 +238,16 @@ class Asker:
             if isinstance(structure, Structure):
                 return Piece(constraints, matrix, None, structure)
             return Piece(constraints, matrix, None, is_over=True)
+
+    def _again(self, piece: Piece) -> Piece:
+        """A part for which the program had no time, with its answer if it has time now. Otherwise its structure has to do."""
+        if piece.structure is None or piece.matrix is None:
+            return piece
+        try:
+            answer = self.ask_matrix(piece.matrix)
+        except TimeLimitReached:
+            return piece
+        return Piece(piece.constraints, piece.matrix, answer) if answer.verdict == "yes" else piece
 
     def _pivoted(self, piece: Piece, share: float) -> Piece:
         """A part that is left open with the answer after pivots. If the time is over, it stays as it is."""

@@ -79,3 +79,8 @@ class Asked:
     def arithmetic(self) -> tuple[Piece, ...]:
         """The parts that have a structure: no proved program has answered them."""
         return tuple(piece for piece in self.pieces if piece.structure is not None)
+
+    @property
+    def is_hasty(self) -> bool:
+        """Whether a part has a structure only because the program had no time for it."""
+        return any(piece.structure is not None and piece.matrix is not None for piece in self.pieces)

@@ -202,7 +202,8 @@ def of_integers(report: ModelReport) -> list[str]:
         f"Declare only {listed(fixed, _FAMILIES)} as integer ({count}); {listed(others, _FAMILIES)} can be continuous "
         f"({counted(len(found.free), 'variable')})."
     )
-    given = "" if not found.not_whole else ", if the right-hand sides and bounds are integers"
+    is_sure = bool(report.rows.model.sides) and not found.not_whole
+    given = "" if is_sure else ", if the right-hand sides and bounds are integers"
     said.append(
         f"For each integral value of the {count}, all vertices of the linear program in the other variables are integral{given}: "
         f"the columns of the others are totally unimodular, and the coefficients of the {count} are integers."
@@ -210,8 +211,11 @@ def of_integers(report: ModelReport) -> list[str]:
     if found.not_whole:
         said.append(f"Not integral: {listed([str(it) for it in found.not_whole], _SOME)}.{_of_rounding(found.not_whole)}")
     if found.reason is not None:
-        said.append(f"Of the other columns: {found.reason.sentence}")
-    is_small = "By this rule no choice of families leaves fewer variables integer: each such choice has a violator."
+        said.append(f"Of the matrix of the other columns: {found.reason.sentence}")
+    is_small = (
+        "By this rule no choice of families leaves fewer variables integer: each such choice has a violator or a coefficient other than "
+        "-1, 0 and 1."
+    )
     said.append(is_small if found.is_smallest else "Another choice may leave fewer variables integer.")
     return said
 
