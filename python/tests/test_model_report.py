@@ -369,6 +369,21 @@ class Pages(ReportTest):
             )
             self.assertIn("default-src 'none'", page)
 
+    def test_labels_are_not_clipped(self) -> None:
+        """Names of 17 wide letters, whose width is 11.3 points each, are within the picture."""
+        wide, width = "W" * 17, 17 * 11.3
+        rows = [f" {wide}{letter}: x1 + {wide} + x{letter} <= 1" for letter in "AB"]
+        text = "\n".join(["Minimize", " cost: x1", "Subject To", *rows, "End", ""])
+        page = model_report(self.write("wide.lp", text)).to_html()
+        picture = page.partition('<svg class="spy"')[2].partition("</svg>")[0]
+        across = float(re.findall(r'viewBox="0 0 (\d+) ', picture)[0])
+        turned = re.findall(r'translate\((\S+) (\S+)\) rotate\(-58\)"><text[^>]*>W', picture)
+        self.assertEqual(len(turned), 1)
+        self.assertLess(float(turned[0][0]) + width * 0.53, across)
+        self.assertGreater(float(turned[0][1]) - width * 0.85, 0)
+        ends = re.findall(r'<text x="(\S+)" y="\S+" text-anchor="end"[^>]*>W', picture)
+        self.assertEqual([float(end) > width for end in ends], [True, True])
+
     @needs_command("chromium")
     def test_a_browser_shows_it_at_two_sizes(self) -> None:
         for name, path in (("hard", self.model()), ("wards", EXAMPLES / "wards.mod"), ("crew", EXAMPLES / "crews.mod")):

@@ -140,12 +140,16 @@ class ModelTest(ScriptTest):
         self.assertEqual((run.returncode, run.stdout), (2, ""))
 
     def test_commands_stay_short(self):
-        """Of 300 rows with names that share no family each second one is relaxed: their names are in a file."""
-        names = ["".join(chr(97 + at // 26**place % 26) for place in range(3)) for at in range(300)]
-        rows = [f" {name}x: x{at // 2} + {'2 ' if at % 2 else ''}y{at // 2} <= 3" for at, name in enumerate(names)]
-        model = self.write("many.lp", "\n".join(["Minimize", " cost: x0", "Subject To", *rows, "End", ""]))
-        report, status = self.report(model)
-        self.assertEqual(status, 1)
+        """One row of each of 40 triangles is relaxed, and no two names are of one family: the names are in a file."""
+        rows = []
+        for at in range(40):
+            name = f"capacity_{chr(97 + at // 7)}{chr(97 + at % 7)}"
+            rows += [f" {name}{'pqr'[row]}: x{at}_{row} + x{at}_{(row + 1) % 3} <= 1" for row in range(3)]
+        model = self.write("many.lp", "\n".join(["Minimize", " cost: x0_0", "Subject To", *rows, "End", ""]))
+        report, status = self.report(model, "--time-limit", "200")
+        self.assertEqual((status, len(report["relax"]["rows"])), (1, 40))
+        self.assertEqual([it["what"] for it in report["commands"] if "--relaxed" in it["commands"][0]], ["the rows to relax, as a file of their names"])
+        self.assertTrue(any("--without-names many.relaxed" in command for it in report["commands"] for command in it["commands"]))
         self.assertLess(max(len(command) for it in report["commands"] for command in it["commands"]), 3001)
 
     def test_the_commands_of_the_variables_that_need_not_be_integer(self):

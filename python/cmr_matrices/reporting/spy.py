@@ -22,8 +22,8 @@ _NAMED = 45
 _LARGEST, _LEAST = 24.0, 1.5
 _TITLED = 1500
 _SHORT = 26
-# The widths of a character in a name, which may be bold, and of one in a turned name: to the right, and upwards.
-_WIDE, _TURNED_WIDE, _TURNED_HIGH = 7.7, 4.1, 6.6
+# The widths of a bold character, of a wide one, and of a name that is turned: to the right, and upwards.
+_WIDE, _WIDEST, _TURNED_WIDE, _TURNED_HIGH = 7.7, 12.2, 0.53, 0.85
 
 
 @dataclass(frozen=True)
@@ -50,8 +50,8 @@ class _Layout:
         self.step = max(1, -int(-_LEAST // fit)) if fit < _LEAST else 1
         self.cell = fit
         names = model.rows if self.has_row_names else [band.name for band in self.row_bands]
-        self.left = 16.0 + _WIDE * min(max(map(len, names), default=0), _SHORT)
-        longest = min(max(map(len, model.columns), default=0), _SHORT)
+        self.left = 16.0 + max(map(_width, names), default=0.0)
+        longest = max(map(_width, model.columns), default=0.0)
         self.top = 16.0 + _TURNED_HIGH * longest if self.has_column_names else 30.0
         self.right = 14.0 + (_TURNED_WIDE * longest if self.has_column_names else 0.0)
 
@@ -60,6 +60,11 @@ class _Layout:
 
     def y(self, place: float) -> float:
         return round(self.top + self.cell * place, 2)
+
+
+def _width(name: str) -> float:
+    """The width of a name that is shown, at most."""
+    return sum(_WIDEST if character in "WMmw@%" else _WIDE for character in name[:_SHORT])
 
 
 def _ordered(names: Sequence[str]) -> tuple[dict[int, int], list[_Band]]:
