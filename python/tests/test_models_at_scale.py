@@ -85,11 +85,11 @@ class Scale(ReportTest):
         places = [(f"x{at:04}", range(at % 160, at % 160 + 3 + at // 160)) for at in range(1100)]
         intervals = [(f"h{hour:04}", column, 1) for column, hours in places for hour in hours]
         report = model_report(self.write("week.mps", mps_text(sorted(intervals))))
-        self.by_arithmetic(report, "168x1100")
+        self.by_arithmetic(report, "166x1099")
         self.assertIn("the rows of each variable are consecutive", report.to_text())
         turned = [(column, row, entry) for row, column, entry in sorted(intervals)]
         report = model_report(self.write("turned.mps", mps_text(turned)))
-        self.by_arithmetic(report, "1100x168")
+        self.by_arithmetic(report, "1099x166")
         self.assertIn("the variables of each row are consecutive", report.to_text())
 
     def test_an_odd_cycle_of_a_large_model(self) -> None:
@@ -185,6 +185,21 @@ class Order(ReportTest):
         if not report.relaxed:
             self.assertEqual({(family.state, family.is_open) for family in report.families}, {("kept", False)})
         self.assertNotIn("keep     b(0..1): not known", report.to_text())
+
+    def test_a_violator_of_rows_closes_a_set_of_families(self) -> None:
+        """The whole matrix is left open, and so is the set of all families. A violator that the search of rows finds excludes it."""
+        cheap = Decider.cheap
+
+        def left_open(self: Decider, matrix: object) -> object:
+            if getattr(matrix, "shape")[0] == 25:
+                raise TimeLimitReached(1.0)
+            return cheap(self, matrix)  # type: ignore[arg-type]
+
+        with mock.patch.object(Decider, "cheap", left_open):
+            report = model_report(self.write("plan.mod", PLAN), pivots=0, time_limit=1000)
+        assert report.kept is not None
+        self.assertTrue(report.kept.is_largest)
+        self.assertIn("No other choice of families keeps more rows", report.to_text())
 
     def test_a_limit_by_the_clock(self) -> None:
         report = model_report(self.write("plan.mod", PLAN), clock_limit=0)

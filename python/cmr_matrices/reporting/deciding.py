@@ -13,6 +13,7 @@ from ..lines import LineSet
 from ..matrix import Matrix
 from ..narrowing import Narrowing
 from ..nodes import Node
+from ..options import budget_words
 from ..program import REFUSED, StrPath
 from ..questions import has_no_cycle_fault, is_network, is_totally_unimodular
 from ..reading import Question
@@ -75,7 +76,7 @@ class Decider:
                 fault = has_no_cycle_fault(order.reordered(), program=self.program, time_limit=self.clock).violator
                 if fault is not None:
                     yield _no(matrix, order.submatrix(fault))
-        question = Question("totally unimodular", ("tu",), {"-D": "tree"})
+        question = Question("totally unimodular", ("tu", *budget_words(self.lines, 0, None)), {"-D": "tree"})
         found = Narrowing(self.clock, self.program).decided(question, matrix)
         if found is not None:
             yield found

@@ -55,6 +55,18 @@ class Kept:
     """Whether a limit ended the search, or the search of all sets before it."""
     violators: tuple[tuple[frozenset[int], Cells], ...] = ()
     """All violators that are known, each with the blocks in which it lies: no set with all of these can be kept."""
+    open: tuple[frozenset[int], ...] = ()
+    """The sets with more lines that are left open, if only they prevent that it is largest."""
+
+    def closed(self, blocks: Sequence[Block], violators: Iterable[Cells]) -> Kept:
+        """The same, after violators of rows that other searches have found. They may exclude the sets that are left open."""
+        owner = {row: place for place, block in enumerate(blocks) for row in block}
+        found = [(frozenset(owner[row] for row in cells.rows), cells) for cells in violators if owner.keys() >= set(cells.rows)]
+        closing = [next((it for it in found if it[0] <= left), None) for left in self.open]
+        if not self.open or None in closing:
+            return self
+        known = dict.fromkeys((*self.violators, *(it for it in closing if it is not None)))
+        return replace(self, is_largest=True, open=(), violators=tuple(known))
 
 
 def keep_blocks(
@@ -119,8 +131,8 @@ class _Work:
         if found is not None:
             chosen, answer = better, found
         kept = chosen if answer is not None and chosen is not None else frozenset[int]()
-        is_largest = all(self._size_of(left) <= self._size_of(kept) or self._violated(left) for left in self._open)
-        return self._kept(kept, answer, is_largest=is_largest)
+        larger = [left for left in self._open if self._size_of(left) > self._size_of(kept) and self._violated(left) is None]
+        return replace(self._kept(kept, answer, is_largest=not larger), open=tuple(larger))
 
     def _first(self, sets: Iterator[frozenset[int]], *, pivots: bool) -> tuple[frozenset[int] | None, Asked | None]:
         """The first of some sets that can be kept, with its answer. The set is None if a limit ends the search, and empty if there is none."""

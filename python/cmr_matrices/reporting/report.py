@@ -332,6 +332,7 @@ class _Work:
         kept = keep_blocks(self._asker, (), blocks, budget, all_sets=True, known=known)
         numbers = [list(families)[at] for at in kept.blocks]
         within = kept_row_by_row(self._asker, families, numbers, self._questions, (_FAMILIES, _ROWS))
+        kept = kept.closed(blocks, (cells for search in within.values() for _, cells in search.violators))
         answers = [search.answer for search in (kept, *within.values()) if search.answer is not None]
         lines = self._lines((list(families), kept), within)
         return kept, lines, within, answers[-1] if answers else None

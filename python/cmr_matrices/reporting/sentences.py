@@ -6,6 +6,7 @@ from collections.abc import Sequence
 
 from ..model_texts import NONLINEAR_OBJECTIVE, ORDERED_SETS, SEMICONTINUOUS
 from .integers import ColumnFamily
+from .pieces import Asked
 from .report import FamilyLine, ModelReport
 from .rows import NotWhole
 
@@ -230,17 +231,25 @@ def _said_fixed(report: ModelReport, family: ColumnFamily) -> str:
 def of_arithmetic(report: ModelReport) -> list[str]:
     """Which parts the program has not answered, but the arithmetic of the package."""
     asked = report.rest if report.rest is not None else report.whole
+    said = [_of_arithmetic(asked, "the matrix")]
+    if report.integers is not None and report.integers.answer is not None:
+        said.append(_of_arithmetic(report.integers.answer, "the matrix of the variables that can be continuous,"))
+    return [sentence for sentence in said if sentence]
+
+
+def _of_arithmetic(asked: Asked, matrix: str) -> str:
     parts = asked.arithmetic
     if not parts:
-        return []
+        return ""
     sizes = ["x".join(map(str, piece.constraints.names.shape)) for piece in parts]
     others = len(asked.pieces) - len(parts)
-    what = "matrix" if not others and len(parts) == 1 else "connected part" if len(parts) == 1 else "connected parts"
+    is_whole = not others and len(parts) == 1
+    what = matrix if is_whole else f"{'a connected part' if len(parts) == 1 else 'connected parts'} of {matrix}"
     program = f" The program decided {counted(others, 'other connected part')}." if others else ""
-    return [
-        f"Not proved: the {what} of {listed(sizes, _SOME)} {'is' if len(parts) == 1 else 'are'} decided by arithmetic of this package, "
-        f"which checked the structure line by line.{program}"
-    ]
+    return (
+        f"Not proved: {what} {'of' if is_whole else 'with'} {listed(sizes, _SOME)} {'is' if len(parts) == 1 else 'are'} decided by "
+        f"arithmetic of this package, which checked the structure line by line.{program}"
+    )
 
 
 def _solves(report: ModelReport) -> str:
