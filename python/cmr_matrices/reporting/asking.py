@@ -129,18 +129,18 @@ class Asker:
         end = inf if self._clock_seconds is None else self._clock_end
         return ProcessorClock(left * share, end)
 
-    def ask(self, lines: Iterable[int], axis: Axis = "row", *, pivots: bool = True, share: float = 1.0) -> Asked:
+    def ask(self, lines: Iterable[int], axis: Axis = "row", *, pivots: bool = True, share: float = 1.0, cheap: float = _CHEAP) -> Asked:
         """Whether some rows with entries -1, 0 and 1, with all columns that are in them, are totally unimodular; or some columns.
 
-        The cheap questions come first. If they decide nothing, and if `pivots` says so, the open parts are asked again with pivots, within a
-        share of the time that is left of the step.
+        The cheap questions come first, within the share `cheap` of the time that is left of the step. If they decide nothing, and if `pivots`
+        says so, the open parts are asked again with pivots, within `share` of the time that is left.
         """
         key = axis, tuple(sorted(lines))
         if key in self._known:
             return self._known[key]
         asked = self._cheap.get(key)
         if asked is None:
-            asked = self._joined(key, self._pieces(key))
+            asked = self._joined(key, self._pieces(key, cheap))
             if not asked.is_over:
                 # A later step may have the time that this one had not.
                 self._cheap[key] = asked
@@ -178,11 +178,11 @@ class Asker:
     def _decider(self, share: float) -> Decider:
         return Decider(self.clock(share), self.program, self.lines)
 
-    def _pieces(self, key: tuple[Axis, tuple[int, ...]]) -> list[Piece]:
+    def _pieces(self, key: tuple[Axis, tuple[int, ...]], cheap: float) -> list[Piece]:
         """The parts, until one of them is not totally unimodular. Later ones are not asked."""
         constraints = self.rows.lines(*key)
         if max(constraints.names.shape) <= LIMIT:
-            return [self._piece(constraints)]
+            return [self._piece(constraints, cheap)]
         found = self._structure(constraints)
         if isinstance(found, Piece):
             return [found]
@@ -219,7 +219,7 @@ class Asker:
         why = f"a part of {len(left.rows)}x{len(left.columns)} is neither recognised nor separated"
         return Asked(rows, "undecided", tuple(pieces), is_reduced, open=left, why_open=why, is_over=is_over)
 
-    def _piece(self, constraints: Constraints) -> Piece:
+    def _piece(self, constraints: Constraints, cheap: float = _CHEAP) -> Piece:
         """The cheap answer on a part, or its structure if it is too large for the program or if the time is over."""
         if max(constraints.names.shape) > LIMIT:
             found = self._structure(constraints)
@@ -232,7 +232,7 @@ class Asker:
                 return Piece(constraints, None, None, is_over=True)
         matrix = matrix_of_constraints(constraints)
         try:
-            return Piece(constraints, matrix, self.ask_matrix(matrix, _CHEAP))
+            return Piece(constraints, matrix, self.ask_matrix(matrix, cheap))
         except TimeLimitReached:
             structure = structure_of(constraints)
             if isinstance(structure, Structure):

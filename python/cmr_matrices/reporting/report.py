@@ -43,7 +43,7 @@ QUESTIONS = 300
 _FEW = 6
 _SAMPLES = (100, 300, 1000)
 # The parts of all time at which the steps end.
-_WHOLE, _SMALLER, _FAMILIES, _ROWS, _COLUMNS, _ALL = 0.35, 0.45, 0.65, 0.8, 0.95, 1.0
+_WHOLE, _SMALLER, _FAMILIES, _ROWS, _COLUMNS, _ALL = 0.4, 0.48, 0.66, 0.8, 0.95, 1.0
 
 State = Literal["kept", "relaxed", "partly", "open"]
 
@@ -295,7 +295,7 @@ class _Work:
         """All that is found."""
         unit = self._rows.unit_rows
         self._asker.begin("the whole matrix", self._questions, _WHOLE)
-        whole = self._asker.ask(unit, pivots=False)
+        whole = self._asker.ask(unit, pivots=False, cheap=1.0)
         violator = whole.violator or (self._near_violator(whole) if whole.verdict == "undecided" else None)
         if violator is None:
             self._asker.begin("the whole matrix", self._questions, _WHOLE)
