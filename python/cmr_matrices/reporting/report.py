@@ -43,7 +43,7 @@ QUESTIONS = 300
 _FEW = 6
 _SAMPLES = (100, 300, 1000)
 # The parts of all time at which the steps end.
-_WHOLE, _SMALLER, _FAMILIES, _ROWS, _COLUMNS, _ALL = 0.4, 0.48, 0.66, 0.8, 0.95, 1.0
+_WHOLE, _NEAR, _SMALLER, _FAMILIES, _ROWS, _COLUMNS, _ALL = 0.4, 0.55, 0.6, 0.72, 0.83, 0.95, 1.0
 
 State = Literal["kept", "relaxed", "partly", "open"]
 
@@ -343,7 +343,7 @@ class _Work:
         if part is None:
             return None
         cells = self._asker.all_cells(part)
-        self._asker.begin("near lines of the matrix", len(_SAMPLES), _WHOLE)
+        self._asker.begin("near lines of the matrix", len(_SAMPLES), _NEAR)
         for most in _SAMPLES:
             rows, columns = near_lines(part, most)
             near = Cells(tuple(cells.rows[row] for row in rows), tuple(cells.columns[column] for column in columns))
