@@ -4,6 +4,7 @@ from __future__ import annotations
 
 import os
 import time
+from math import inf
 from pathlib import Path
 from typing import Any
 
@@ -55,23 +56,26 @@ class ProcessorClock(Clock):
     """The processor seconds that are left of a limit, for this process and the programs that it runs.
 
     So other work of the machine ends no run. If the system does not tell the processor time of a program, the clock counts all its time.
+    There may also be a moment of `time.monotonic` at which it ends in any case.
     """
 
     moment = 0.02
 
-    def __init__(self, limit: float | None) -> None:
+    def __init__(self, limit: float | None, end: float = inf) -> None:
         super().__init__(limit)
+        self._end = end
         self._used = processor_seconds()
         self.counts_kept = _used_by(os.getpid()) is not None
 
     def _left(self, limit: float, process: int | None) -> float:
         used = processor_seconds() - self._used
+        until_end = self._end - time.monotonic()
         if process is not None:
             running = _used_by(process)
             if running is None:
-                return super()._left(limit, process)
+                return min(super()._left(limit, process), until_end)
             used += running
-        return min(limit - used, super()._left(_WAITS * limit, process))
+        return min(limit - used, super()._left(_WAITS * limit, process), until_end)
 
 
 TimeLimit = float | Clock | None

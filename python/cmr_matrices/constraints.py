@@ -4,7 +4,7 @@ from __future__ import annotations
 
 import re
 from collections.abc import Iterable, Iterator, Mapping
-from dataclasses import dataclass
+from dataclasses import dataclass, replace
 from fractions import Fraction
 from math import gcd, lcm
 
@@ -32,7 +32,7 @@ Entries = dict[tuple[int, int], Fraction]
 class Choice:
     """Which rows of a model are taken, and whether they are scaled.
 
-    The names of these rows have a match of `rows` and none of `without`. With `unit_rows` their coefficients are also -1, 0 and 1, after
+    The names of these rows have a match of `rows` and none of `without`, and are not `omitted`. With `unit_rows` their coefficients are also -1, 0 and 1, after
     the division of rows if they are scaled. If rows are chosen, the columns are those that occur in these rows.
     """
 
@@ -40,16 +40,20 @@ class Choice:
     without: re.Pattern[str] | None = None
     unit_rows: bool = False
     scale: bool = False
+    omitted: frozenset[str] = frozenset()
+    without_columns: re.Pattern[str] | None = None
+    """The columns whose names have a match are omitted after the division of rows."""
 
     @property
     def is_all(self) -> bool:
         """Whether all rows are taken."""
-        return self.rows is None and self.without is None and not self.unit_rows
+        return self.rows is None and self.without is None and not self.unit_rows and not self.omitted
 
     def takes(self, name: str) -> bool:
         """Whether a row is taken by its name."""
         wanted = self.rows is None or self.rows.search(name)
-        return bool(wanted) and not (self.without is not None and self.without.search(name))
+        is_omitted = name in self.omitted or (self.without is not None and self.without.search(name))
+        return bool(wanted) and not is_omitted
 
 
 @dataclass(frozen=True)
@@ -113,6 +117,8 @@ def constraints_of_model(model: Model, choice: Choice = Choice()) -> Constraints
         if not taken.rows:
             raise BadInput("there is no row with only the coefficients -1, 0 and 1")
         entries, row_scalings = rows_divided(taken) if choice.scale else (_entries(taken), [])
+    if choice.without_columns is not None:
+        taken, entries = _without_columns(taken, entries, choice.without_columns)
     column_scalings: list[Scaling] = []
     if choice.scale:
         entries, column_scalings = _columns_divided(taken, entries)
@@ -135,6 +141,15 @@ def _only_rows(model: Model, rows: list[int], is_all: bool) -> Model:
         tuple(Coefficient(row_places[at.row], column_places[at.column], at.value) for at in kept),
         tuple(model.sides[row] for row in rows) if model.sides else (),
     )
+
+
+def _without_columns(model: Model, entries: Entries, pattern: re.Pattern[str]) -> tuple[Model, Entries]:
+    """The model and its entries without the columns whose names have a match."""
+    kept = [column for column, name in enumerate(model.columns) if not pattern.search(name)]
+    places = {column: place for place, column in enumerate(kept)}
+    found = tuple(replace(it, column=places[it.column]) for it in model.coefficients if it.column in places)
+    taken = Model(model.rows, tuple(model.columns[column] for column in kept), found, model.sides)
+    return taken, {(row, places[column]): entry for (row, column), entry in entries.items() if column in places}
 
 
 def _entries(model: Model) -> Entries:

@@ -6,6 +6,7 @@ program that is missing a `FileNotFoundError`, a time limit a `TimeoutError`.
 
 from __future__ import annotations
 
+import sys
 from collections.abc import Sequence
 from dataclasses import dataclass
 
@@ -96,7 +97,8 @@ class LibraryMissing(BadInput, ImportError):
         self.debian = debian
 
     def __str__(self) -> str:
-        also = f", or Debian's {self.debian}" if self.debian else ""
+        own = "" if sys.executable in ("/usr/bin/python3", "") else f" for /usr/bin/python3, and this Python is {sys.executable}"
+        also = f", or Debian's {self.debian}{own}" if self.debian else ""
         return f"{self.use} needs {self.package}: `pip install {self.package}`{also}"
 
 

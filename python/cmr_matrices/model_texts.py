@@ -11,6 +11,7 @@ from pathlib import Path
 
 from .errors import BadInput
 from .explained.texts import guess
+from .fixed_mps import distinct_names
 
 __all__ = ["FORMATS", "NONLINEAR_OBJECTIVE", "ORDERED_SETS", "SEMICONTINUOUS", "format_of", "left_out", "plain_text"]
 
@@ -62,7 +63,7 @@ def plain_text(data: bytes, form: str) -> bytes:
     """The text as GLPK reads it. Raises `BadInput` if it has constraints that are not rows of a matrix."""
     text = _unpacked(data).removeprefix(_MARK).decode("utf-8", "surrogateescape").replace("\r\n", "\n")
     if form == "mps":
-        text = "\n".join(_mps_lines(text.split("\n")))
+        text = "\n".join(_mps_lines(distinct_names(text.split("\n"))))
     elif form == "lp":
         text = _lp(text)
     return text.encode("utf-8", "surrogateescape")

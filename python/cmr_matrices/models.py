@@ -19,7 +19,7 @@ from math import ceil, inf, isfinite
 from pathlib import Path
 from typing import Any
 
-from .errors import BadInput, CommandMissing, Unreadable
+from .errors import BadInput, CommandMissing, OutOfMemory, Unreadable
 from .libraries import library
 from .model_texts import format_of, left_out, plain_text
 
@@ -29,6 +29,10 @@ TRANSLATIONS = {"lp": "--lp", "mathprog": "--math"}
 
 # About as many nonzeros as the package can look at in a second on a slow machine.
 _NONZEROS_PER_SECOND = 30_000
+# The most bytes of a file, and the memory that GLPK takes at most for each byte of MPS, and for itself.
+_MOST_BYTES = 256 << 20
+_MEMORY_PER_BYTE, _LEAST_MEMORY = 24, 32 << 20
+_NO_MEMORY, _LACK = 5, "there is not enough memory to read the model"
 _SMALLER = "take a smaller instance or a larger time limit"
 
 
@@ -106,6 +110,8 @@ def _translate(
         status, printed = _run(command, seconds)
     except FileNotFoundError as fault:
         raise CommandMissing(f"reading {name}", "glpsol", "glpk-utils") from fault
+    if status == -signal.SIGABRT:
+        raise OutOfMemory(_NO_MEMORY, _LACK)
     if status in (-signal.SIGXCPU, -signal.SIGKILL) and seconds is not None:
         raise BadInput(f"{name}: GLPK does not generate the model within {seconds:g} seconds; {_SMALLER}")
     if status != 0 or not os.path.exists(translated):
@@ -133,6 +139,7 @@ def _run(command: list[str], seconds: float | None) -> tuple[int, str]:
 def _read_mps(path: str, name: str, most: int | None) -> Model:
     """Reads fixed MPS, and otherwise free MPS. Faults name the file `name`."""
     glpk = _glpk()
+    _must_have_memory(os.path.getsize(path))
     complaints = []
     for kind in (glpk.GLP_MPS_DECK, glpk.GLP_MPS_FILE):
         problem = glpk.glp_create_prob()
@@ -199,9 +206,21 @@ def _glpk() -> Any:
 
 def _read(name: str) -> bytes:
     try:
-        return Path(name).read_bytes()
+        with open(name, "rb") as file:
+            data = file.read(_MOST_BYTES + 1)
     except OSError as fault:
         raise Unreadable(f"cannot read {name}: {fault.strerror}") from fault
+    if len(data) > _MOST_BYTES:
+        raise BadInput(f"{name}: no model, it has more than {_MOST_BYTES >> 20} MB")
+    return data
+
+
+def _must_have_memory(size: int) -> None:
+    """Raises `OutOfMemory` if there is not the memory that GLPK takes for a text. GLPK itself would end the process."""
+    try:
+        bytearray(_MEMORY_PER_BYTE * size + _LEAST_MEMORY)
+    except MemoryError:
+        raise OutOfMemory(_NO_MEMORY, _LACK) from None
 
 
 @contextmanager

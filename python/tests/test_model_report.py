@@ -8,17 +8,18 @@ import re
 import subprocess
 import tempfile
 import unittest
-from collections.abc import Sequence
+from collections.abc import Iterator, Sequence
 from html import unescape
 from itertools import combinations
 from pathlib import Path
 from unittest import mock
 
-from cmr_matrices import BadInput, Matrix, ModelReport, model_report
+from cmr_matrices import Answer, BadInput, Matrix, ModelReport, model_report
 from cmr_matrices.constraints import Choice, Constraints
 from cmr_matrices.lines import Names
 from cmr_matrices.model_texts import NONLINEAR_OBJECTIVE, ORDERED_SETS, SEMICONTINUOUS
 from cmr_matrices.modellers import constraints_of_file
+from cmr_matrices.reporting.deciding import Decider
 from cmr_matrices.reporting.repeating import row_pattern
 from cmr_matrices.reporting.rows import said_rows
 from cmr_matrices.reporting.sampling import near_lines
@@ -89,7 +90,8 @@ class Reports(ReportTest):
         self.assertEqual(report.verdict, "no")
         assert report.kept is not None
         self.assertTrue(report.kept.is_largest)
-        self.assertEqual((report.relax, report.relaxed), (("skill[0..3]", "total", "pay"), tuple(range(8, 14))))
+        self.assertEqual((report.relax_said, report.relaxed), (("skill[0..3]", "total", "pay"), tuple(range(8, 14))))
+        self.assertEqual(report.relax, ("skill[0]", "skill[1]", "skill[2]", "skill[3]", "total", "pay"))
 
     def test_a_yes_and_its_reasons(self) -> None:
         words = {"assignment.mps": "network", "maxflow.mod": "network", "shifts.lp": "sums", "wards.mod": "network"}
@@ -256,17 +258,17 @@ class Reports(ReportTest):
         self.assertEqual(report.ended["rows of 2 other families"], "questions")
 
     def test_a_part_that_is_too_large(self) -> None:
-        """Rows i and i + 1 share a column, in a cycle of odd length with cycles that cross it: nothing is reducible."""
+        """Each column has three nonzeros, each row six, and nothing is reducible: no structure decides it."""
         rows: dict[str, list[str]] = {f"r({at})": [] for at in range(1101)}
         for at in range(1101):
             for step in (1, 2):
-                for row in (at, (at + step) % 1101):
+                for row in (at, (at + step) % 1101, (at + 2 * step + 1) % 1101):
                     rows[f"r({row})"].append(f"c{at}_{step}")
         lines = [f" {name}: {' + '.join(columns)} <= 1" for name, columns in rows.items()]
         path = self.write("large.lp", "\n".join(["Minimize", " cost: c0_1", "Subject To", *lines, "End", ""]))
         report = model_report(path, questions=3)
         self.assertEqual((report.whole.verdict, report.verdict), ("undecided", "no"))
-        self.assertEqual(report.whole.why_open, "1101x2202 is larger than a matrix may be")
+        self.assertEqual(report.whole.why_open, "1101x2202 is larger than a matrix may be, and no structure of it was recognised")
         assert report.minimal is not None
         self.assertEqual(abs(report.minimal.determinant or 0), 2)
         self.assertIn("</html>", report.to_html())
@@ -285,13 +287,39 @@ class Reports(ReportTest):
             model_report(many, time_limit=0.001)
 
     def test_left_open(self) -> None:
-        report = model_report(EXAMPLES / "goods.mod", pivots=0, questions=1)
+        report = self.left_open()
         self.assertEqual(report.verdict, "undecided")
-        self.assertIn("a part of 16x16 is neither recognised nor separated", report.to_text())
-        self.assertIn("</html>", report.to_html())
+        self.assertIn("is neither recognised nor separated", report.to_text())
+
+    def left_open(self) -> ModelReport:
+        """A report of a model that is totally unimodular, which the program does not find without pivots and searches."""
+        return model_report(EXAMPLES / "goods.mod", data=EXAMPLES / "three_places.dat", pivots=0, lines=0)
+
+    def test_nothing_is_to_be_relaxed_if_the_question_is_open(self) -> None:
+        report = self.left_open()
+        self.assertGreater(len(report.relaxed), 0)
+        text, page = report.to_text(), report.to_html()
+        self.assertNotRegex(text, r"(?m)^  Relax |^What to relax")
+        self.assertNotIn('class="relax"', page)
+        for said in (text, page):
+            self.assertIn("It is not known whether a row of balance[..] has to be relaxed. Without ", said)
+            self.assertNotIn("Lagrangian", said)
+        self.assertFalse(json.loads(report.to_json())["relax"]["has_reasons"])
+        crews = model_report(EXAMPLES / "crews.mod")
+        self.assertIn('class="relax"', crews.to_html())
+        self.assertTrue(json.loads(crews.to_json())["relax"]["has_reasons"])
 
     def test_some_rows_decide_what_is_left_open(self) -> None:
-        report = model_report(EXAMPLES / "goods.mod", pivots=0)
+        asked: list[Matrix] = []
+
+        def noes(_: Decider, matrix: Matrix, _answer: Answer) -> Iterator[Answer]:
+            """Of the first matrix, which is the whole one, nothing is found."""
+            asked.append(matrix)
+            return iter(()) if len(asked) == 1 else found_noes(_, matrix, _answer)
+
+        found_noes = Decider._noes
+        with mock.patch.object(Decider, "_noes", noes):
+            report = model_report(EXAMPLES / "goods.mod", pivots=0)
         self.assertEqual((report.whole.verdict, report.verdict), ("undecided", "no"))
         assert report.minimal is not None
         self.assertIn(report.minimal.determinant, (2, -2))
@@ -340,6 +368,21 @@ class Pages(ReportTest):
                 set(re.findall(r"url\([^)]*\)|https?:[^\s\"<]*", page)), {"url(#hatch)"} if "hatch)" in page else set()
             )
             self.assertIn("default-src 'none'", page)
+
+    def test_labels_are_not_clipped(self) -> None:
+        """Names of 17 wide letters, whose width is 11.3 points each, are within the picture."""
+        wide, width = "W" * 17, 17 * 11.3
+        rows = [f" {wide}{letter}: x1 + {wide} + x{letter} <= 1" for letter in "AB"]
+        text = "\n".join(["Minimize", " cost: x1", "Subject To", *rows, "End", ""])
+        page = model_report(self.write("wide.lp", text)).to_html()
+        picture = page.partition('<svg class="spy"')[2].partition("</svg>")[0]
+        across = float(re.findall(r'viewBox="0 0 (\d+) ', picture)[0])
+        turned = re.findall(r'translate\((\S+) (\S+)\) rotate\(-58\)"><text[^>]*>W', picture)
+        self.assertEqual(len(turned), 1)
+        self.assertLess(float(turned[0][0]) + width * 0.53, across)
+        self.assertGreater(float(turned[0][1]) - width * 0.85, 0)
+        ends = re.findall(r'<text x="(\S+)" y="\S+" text-anchor="end"[^>]*>W', picture)
+        self.assertEqual([float(end) > width for end in ends], [True, True])
 
     @needs_command("chromium")
     def test_a_browser_shows_it_at_two_sizes(self) -> None:

@@ -2,9 +2,11 @@
 
 import json
 import os
+import shutil
 import signal
 import subprocess
 import time
+import unittest
 from contextlib import suppress
 from pathlib import Path
 
@@ -22,6 +24,8 @@ two{p in parts, h in hours: h < 130}: x[p,h] + x[p,h+1] >= 1;
 three{p in parts, h in hours: h < 129}: x[p,h] + x[p,h+1] + x[p,h+2] >= 1;
 end;
 """
+
+needs_prlimit = unittest.skipUnless(shutil.which("prlimit"), "there is no prlimit")
 
 
 def _take_signals():
@@ -46,7 +50,7 @@ class ModelTest(ScriptTest):
             ("assignment.mps", [], 0),
             ("crews.mod", [], 1),
             ("goods.mod", [], 1),
-            ("goods.mod", ["--pivots", "0", "--questions", "1"], 6),
+            ("goods.mod", ["--data", EXAMPLES / "three_places.dat", "--pivots", "0", "--lines", "0"], 6),
             ("goods.mod", ["--data", EXAMPLES / "three_places.dat"], 0),
         ):
             with self.subTest(name=name, words=words):
@@ -70,6 +74,106 @@ class ModelTest(ScriptTest):
                 self.assertTrue(run.stderr.startswith(line), run.stderr)
         run = self.run_script("cmr-model", EXAMPLES / "crews.mod", "--pivots", "200")
         self.assertEqual((run.returncode, run.stdout), (2, ""))
+
+    def run_limited(self, command, bytes_of_memory=None):
+        """A run in a shell, whose processes may have a limited memory. Temporary folders are made in `work`."""
+        (self.folder / "work").mkdir(exist_ok=True)
+        limit = [] if bytes_of_memory is None else ["prlimit", f"--as={bytes_of_memory}"]
+        return subprocess.run(
+            [*limit, "bash", "-c", command],
+            cwd=self.folder,
+            capture_output=True,
+            text=True,
+            env=os.environ | {"TMPDIR": str(self.folder / "work"), "MODEL": str(TOP / "scripts" / "cmr-model")},
+        )
+
+    def test_faults_of_standard_output(self):
+        for end in (">&-", "> /dev/full"):
+            with self.subTest(end=end):
+                run = self.run_limited(f'"$MODEL" "{EXAMPLES / "assignment.mps"}" {end}')
+                self.assertEqual((run.returncode, run.stderr.count("\n")), (4, 1), run.stderr)
+                self.assertTrue(run.stderr.startswith("cmr-model: cannot write -: "), run.stderr)
+        # The reader is gone before the report is written.
+        run = self.run_limited(f'("$MODEL" "{EXAMPLES / "crews.mod"}"; echo $? > status) | true')
+        self.assertEqual((self.read("status"), run.stderr), ("4\n", ""))
+
+    def test_reading_is_bounded(self):
+        run = self.run_limited('"$MODEL" /dev/zero')
+        self.assertEqual((run.returncode, run.stderr), (3, "cmr-model: /dev/zero: no model, it has more than 256 MB\n"))
+
+    @needs_prlimit
+    def test_missing_memory(self):
+        """From little memory to much: the status is 5 with one line, or that of the answer, and nothing remains."""
+        rows = "".join(f" L supply[{at}]\n" for at in range(6000))
+        columns = "".join(f" x{at} supply[{at}] 1\n x{at} supply[{(at + 1) % 6000}] 1\n" for at in range(6000))
+        model = self.write("large.mps", f"NAME\nROWS\n N cost\n{rows}COLUMNS\n{columns}RHS\nENDATA\n")
+        statuses = set()
+        for size in (60, 100, 130, 160, 2000):
+            with self.subTest(megabytes=size):
+                run = self.run_limited(f'"$MODEL" --time-limit 100 {model}', size << 20)
+                statuses.add(run.returncode)
+                self.assertIn((run.returncode, run.stderr.count("\n")), ((0, 0), (5, 1)), run.stderr)
+                self.assertIn("" if run.returncode == 0 else "there is not enough memory", run.stderr)
+                self.assertEqual(list((self.folder / "work").iterdir()), [])
+        self.assertEqual(statuses, {0, 5})
+
+    def test_an_early_interrupt_is_quiet(self):
+        for after in (0.0, 0.05, 0.1, 0.2):
+            with self.subTest(after=after):
+                words = [TOP / "scripts" / "cmr-model", EXAMPLES / "assignment.mps"]
+                pipes = {"stdout": subprocess.PIPE, "stderr": subprocess.PIPE}
+                with subprocess.Popen(words, preexec_fn=_take_signals, **pipes) as run:
+                    time.sleep(0.15 + after)
+                    run.send_signal(signal.SIGINT)
+                    _, said = run.communicate(timeout=120)
+                self.assertIn(run.returncode, (0, 130, -signal.SIGINT))
+                self.assertEqual(said, b"")
+
+    def test_the_names_of_the_rows_to_relax(self):
+        run = self.run_script("cmr-model", EXAMPLES / "crews.mod", "--relaxed", "relaxed")
+        self.assertEqual((run.returncode, run.stderr), (1, ""))
+        self.assertEqual(self.read("relaxed").split(), [*(f"skill[{at}]" for at in range(4)), "total", "pay"])
+        run = self.run_script("model_to_matrix", "--without-names", "relaxed", EXAMPLES / "crews.mod", "crews.txt", "crews.names")
+        self.assertEqual((run.returncode, run.stderr), (0, ""))
+        self.assertEqual(self.read("crews.txt").splitlines()[0].split()[0], "8")
+        run = self.run_script("cmr-model", EXAMPLES / "crews.mod", "--relaxed", "one", "--html", "one")
+        self.assertEqual((run.returncode, run.stdout), (2, ""))
+
+    def test_commands_stay_short(self):
+        """One row of each of 40 triangles is relaxed, and no two names are of one family: the names are in a file."""
+        rows = []
+        for at in range(40):
+            name = f"capacity_{chr(97 + at // 7)}{chr(97 + at % 7)}"
+            rows += [f" {name}{'pqr'[row]}: x{at}_{row} + x{at}_{(row + 1) % 3} <= 1" for row in range(3)]
+        model = self.write("many.lp", "\n".join(["Minimize", " cost: x0_0", "Subject To", *rows, "End", ""]))
+        report, status = self.report(model, "--time-limit", "200")
+        self.assertEqual((status, len(report["relax"]["rows"])), (1, 40))
+        self.assertEqual([it["what"] for it in report["commands"] if "--relaxed" in it["commands"][0]], ["the rows to relax, as a file of their names"])
+        self.assertTrue(any("--without-names many.relaxed" in command for it in report["commands"] for command in it["commands"]))
+        self.assertLess(max(len(command) for it in report["commands"] for command in it["commands"]), 3001)
+
+    def test_the_commands_of_the_variables_that_need_not_be_integer(self):
+        report, status = self.report(EXAMPLES / "lots.mod")
+        self.assertEqual((status, len(report["integers"]["declare"])), (1, 12))
+        found = [it for it in report["commands"] if it["what"] == "the columns of the variables that need not be integer"]
+        self.assertEqual([it["says"] for it in found], ["accepted: yes"])
+        self.repeats({"commands": found})
+
+    def test_names_with_blanks(self):
+        """GLPK makes one name of `ROW 1` and `ROW1`."""
+        lines = ["NAME          BLANKS", "ROWS", " N  COST", " L  ROW 1", " L  ROW1", "COLUMNS"]
+        lines += ["    X 1       COST      1.0            ROW 1     1.0", "    X 1       ROW1      1.0"]
+        lines += ["    Y 1       ROW 1     1.0", "RHS", "    RHS 1     ROW 1     4.0", "ENDATA", ""]
+        run = self.run_script("cmr-model", self.write("blanks.mps", "\n".join(lines)))
+        self.assertEqual((run.returncode, run.stderr), (0, ""))
+
+    def test_an_old_python_is_named(self):
+        code = (TOP / "scripts" / "cmr-model").read_text(encoding="utf-8")
+        self.assertIn("sys.version_info < (3, 11)", code)
+        old = self.write("old", code.replace("sys.version_info < (3, 11)", "True"))
+        run = self.run_limited(f"/usr/bin/python3 {old}")
+        self.assertEqual((run.returncode, run.stderr.count("\n")), (70, 1))
+        self.assertIn("cmr-model: Python 3.11 or newer is needed, and this is 3.", run.stderr)
 
     def test_help(self):
         run = self.run_script("cmr-model", "--help")
@@ -137,7 +241,7 @@ class ModelTest(ScriptTest):
 
     def test_the_commands_of_a_report_give_its_answers_again(self):
         commands = 0
-        for name in ("assignment.mps", "crews.mod", "goods.mod", "knapsack.mps", "shifts.lp", "wards.mod"):
+        for name in ("assignment.mps", "crews.mod", "goods.mod", "knapsack.mps", "lots.mod", "shifts.lp", "wards.mod"):
             report, _ = self.report(EXAMPLES / name)
             with self.subTest(name=name):
                 commands += self.repeats(report)

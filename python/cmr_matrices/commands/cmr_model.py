@@ -13,12 +13,13 @@ from __future__ import annotations
 import argparse
 import os
 import sys
+from pathlib import Path
 from typing import Any
 
 from ..errors import BadInput, CmrError
 from ..program import NO, UNDECIDED, YES
-from ..reporting.report import QUESTIONS, ModelReport, model_report
-from .command import command_parser, end, integer_between, status_of, write_text, write_whole
+from ..reporting.report import PIVOTS, QUESTIONS, ModelReport, model_report
+from .command import BAD_FILE, NO_MEMORY, command_parser, end, integer_between, status_of, write_text, write_whole
 from .signals import end_if_told, end_on_signals
 
 __all__ = ["main"]
@@ -32,6 +33,7 @@ def arguments() -> argparse.Namespace:
     add = parser.add_argument
     add("model", metavar="MODEL", help="the model: free or fixed MPS, GNU MathProg, or the LP format of CPLEX")
     add("--html", metavar="REPORT", help="write the report to this file as one page of HTML")
+    add("--relaxed", metavar="FILE", help="write the names of the rows to relax to this file, a line for each")
     add("--json", action="store_true", help="print one object of JSON in place of the text")
     add(
         "--format",
@@ -44,7 +46,7 @@ def arguments() -> argparse.Namespace:
         "--pivots",
         metavar="K",
         type=integer_between(0, 100),
-        default=20,
+        default=PIVOTS,
         help="make up to K pivots of an open part, 0 to 100 (20)",
     )
     add(
@@ -61,10 +63,19 @@ def arguments() -> argparse.Namespace:
         default=8,
         help="end the search after S seconds of processor time, and say which steps it ended (8)",
     )
+    add(
+        "--clock-limit",
+        metavar="S",
+        type=integer_between(1, 2_000_000),
+        help="end the search also after S seconds by the clock (no such limit)",
+    )
     add("--program", metavar="PATH", help="the path of the program cmr")
     chosen = parser.parse_args()
-    if chosen.html is not None and (chosen.html in ("", "-") or _is_one_file(chosen.html, chosen.model, chosen.data)):
-        parser.error("--html needs a file, and not that of the model")
+    for option, name in (("--html", chosen.html), ("--relaxed", chosen.relaxed)):
+        if name is not None and (name in ("", "-") or _is_one_file(name, chosen.model, chosen.data)):
+            parser.error(f"{option} needs a file, and not that of the model")
+    if chosen.html is not None and _is_one_file(chosen.html, chosen.relaxed):
+        parser.error("--html and --relaxed need two files")
     return chosen
 
 
@@ -122,6 +133,7 @@ def _work(chosen: argparse.Namespace, found: list[ModelReport]) -> None:
             pivots=chosen.pivots,
             questions=chosen.questions,
             time_limit=chosen.time_limit,
+            clock_limit=chosen.clock_limit,
             program=chosen.program,
             tell=progress,
         )
@@ -130,12 +142,18 @@ def _work(chosen: argparse.Namespace, found: list[ModelReport]) -> None:
     text = report.to_json() if chosen.json else report.to_text()
     if chosen.html is not None:
         write_whole(chosen.html, report.to_html())
+    if chosen.relaxed is not None:
+        write_whole(chosen.relaxed, "".join(f"{name}\n" for name in report.relax))
     write_text("-", text)
     found.append(report)
 
 
 def main() -> int:
     """Runs the command, and gives its status."""
+    end_on_signals()
+    if _is_closed():
+        print(f"{Path(sys.argv[0]).name}: cannot write -: standard output is closed", file=sys.stderr)
+        return BAD_FILE
     chosen = arguments()
     found: list[ModelReport] = []
     faults: list[int] = []
@@ -146,10 +164,22 @@ def main() -> int:
         except CmrError as fault:
             faults.append(status_of(fault))
             raise BadInput(str(fault)) from fault
+        except MemoryError:
+            faults.append(NO_MEMORY)
+            raise BadInput("there is not enough memory") from None
 
-    end_on_signals()
     status = end(work)
     end_if_told()
     if faults:
         return faults[0]
-    return status or _STATUSES[found[0].verdict]
+    # Otherwise the reader of standard output has closed it.
+    return BAD_FILE if status else _STATUSES[found[0].verdict]
+
+
+def _is_closed() -> bool:
+    """Whether there is no standard output."""
+    try:
+        os.fstat(1)
+    except OSError:
+        return True
+    return sys.stdout is None

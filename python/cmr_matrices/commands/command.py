@@ -139,6 +139,7 @@ def write_text(name: str, text: str) -> None:
     try:
         if name == "-":
             sys.stdout.buffer.write(data)
+            sys.stdout.buffer.flush()
         else:
             Path(name).write_bytes(data)
     except BrokenPipeError:

@@ -19,7 +19,7 @@ from ..matrix import Matrix
 from ..model_reductions import connected_parts, counted, reduced
 from ..modellers import constraints_of_file, matrix_of_part
 from ..words import LIMIT
-from .command import command_parser, end, write_text
+from .command import command_parser, end, read_text, write_text
 
 FAMILIES = 20
 """The most families of rows that are listed."""
@@ -78,6 +78,17 @@ def _add_choices(parser: argparse.ArgumentParser) -> None:
         help="omit the rows whose names have a match, and the columns that occur in no other row",
     )
     parser.add_argument(
+        "--without-names",
+        metavar="FILE",
+        help="omit the rows whose names are the lines of this file, as cmr-model --relaxed writes it",
+    )
+    parser.add_argument(
+        "--without-columns",
+        metavar="REGEX",
+        type=pattern,
+        help="omit the columns whose names have a match, with --scale after the division of rows",
+    )
+    parser.add_argument(
         "--unit-rows",
         action="store_true",
         help="take only the rows whose coefficients are -1, 0 and 1, with --scale after the division",
@@ -90,7 +101,8 @@ def _add_choices(parser: argparse.ArgumentParser) -> None:
 
 
 def _work(chosen: argparse.Namespace) -> None:
-    choice = Choice(chosen.rows, chosen.without, chosen.unit_rows, chosen.scale)
+    omitted = frozenset(read_text(chosen.without_names).splitlines()) if chosen.without_names else frozenset()
+    choice = Choice(chosen.rows, chosen.without, chosen.unit_rows, chosen.scale, omitted, chosen.without_columns)
     constraints = constraints_of_file(chosen.model, chosen.format, choice, chosen.data)
     said = [f"{scaling}\n" for scaling in constraints.scalings]
     steps = None

@@ -1,12 +1,19 @@
-"""Questions on some rows of a model, whose answers count only with evidence that `cmr check` accepts."""
+"""Questions on some rows or columns of a model, whose answers count only with evidence that was checked.
+
+`cmr check` accepts the evidence of the program's answers. Parts that are too large for the program may have a structure, whose evidence is
+checked by plain arithmetic.
+"""
 
 from __future__ import annotations
 
-from collections.abc import Callable, Iterable
-from dataclasses import dataclass, field
+import time
+from collections.abc import Callable, Iterable, Sequence
+from dataclasses import replace
+from functools import partial
+from math import inf
 from typing import Literal
 
-from ..answers import Answer, Verdict
+from ..answers import Answer
 from ..clock import ProcessorClock, processor_seconds
 from ..constraints import Constraints, matrix_of_constraints
 from ..errors import ProgramFault, TimeLimitReached
@@ -14,16 +21,19 @@ from ..lines import Names
 from ..matrix import Matrix
 from ..model_reductions import connected_parts
 from ..program import REFUSED, StrPath
-from ..questions import is_totally_unimodular
 from ..reductions import Reductions
+from ..structures.fitting import fitted
+from ..structures.halves import OddCycle
+from ..structures.paths import Arcs
+from ..structures.structure import Structure, structure_of
 from ..submatrices import Submatrix
-from ..tools import check
-from ..trees import Tree
 from ..words import LIMIT
+from .deciding import Decider
+from .pieces import Asked, Cells, Piece
 from .reducing import reduced_and_checked
-from .rows import ModelRows
+from .rows import Axis, ModelRows
 
-__all__ = ["OVER", "Asked", "Asker", "Cells", "Limit", "Piece", "Tell"]
+__all__ = ["OVER", "Asker", "Limit", "Tell"]
 
 Tell = Callable[[str, int, int], None]
 """Is told the step of the work, how many questions it has put, and how many it may put, 0 for a step without questions."""
@@ -34,55 +44,19 @@ Limit = Literal["time", "questions"]
 OVER = "the time is over"
 """Why a question is open that was not answered in time."""
 
-@dataclass(frozen=True)
-class Cells:
-    """Some rows and columns of a model, counted from 0, in increasing order."""
+_CHEAP = 0.5
+"""The part of the time of a step that a cheap question may take."""
 
-    rows: tuple[int, ...]
-    columns: tuple[int, ...]
-
-    def part(self, part: Submatrix) -> Cells:
-        """The lines of the model that a submatrix of the submatrix on these lines has."""
-        return Cells(tuple(self.rows[at] for at in part.rows), tuple(self.columns[at] for at in part.columns))
-
-
-@dataclass(frozen=True)
-class Piece:
-    """A connected part of a model, and the matrix that was asked, with its answer. Both are None if it was not asked."""
-
-    constraints: Constraints = field(repr=False)
-    matrix: Matrix | None = field(repr=False)
-    answer: Answer | None
-
-    @property
-    def tree(self) -> Tree | None:
-        """The decomposition tree of the answer."""
-        return None if self.answer is None else self.answer.tree
-
-    @property
-    def is_too_large(self) -> bool:
-        """Whether it has more lines than a matrix may have."""
-        return max(self.constraints.names.shape) > LIMIT
-
-
-@dataclass(frozen=True)
-class Asked:
-    """Whether some rows of a model are totally unimodular. A no has a violator, and an undecided answer says why it is open."""
-
-    rows: tuple[int, ...]
-    verdict: Verdict
-    pieces: tuple[Piece, ...] = field(repr=False)
-    is_reduced: bool
-    violator: Cells | None = None
-    open: Cells | None = None
-    why_open: str = ""
+_MANY = 20_000
+"""The most nonzeros of a matrix with a structure that is reduced, so that the program may answer its parts."""
 
 
 class Asker:
     """Puts questions to the program, and has each evidence checked. It counts both.
 
     The work has steps. `seconds` of processor time are for all of them, counted from `start`, so that other work of the machine ends no
-    step. Each step ends at a part of them or at a number of questions. `ended` has the steps that such a limit has ended, with the limit.
+    step. `clock_seconds` are the same by the clock. Each step ends at a part of them or at a number of questions. `ended` has the steps
+    that such a limit has ended, with the limit.
     """
 
     def __init__(
@@ -95,6 +69,8 @@ class Asker:
         program: StrPath | None,
         tell: Tell | None = None,
         start: float | None = None,
+        clock_seconds: float | None = None,
+        clock_start: float | None = None,
     ) -> None:
         self.rows = rows
         self.lines = lines
@@ -105,12 +81,15 @@ class Asker:
         self.ended: dict[str, Limit] = {}
         self._seconds = seconds
         self._start = self._end = processor_seconds() if start is None else start
+        self._clock_seconds = clock_seconds
+        self._clock_start = self._clock_end = time.monotonic() if clock_start is None else clock_start
         self._most = 0
         self._begun = 0
         self._what = ""
         self._tell = tell
-        self._known: dict[tuple[int, ...], Asked] = {}
-        self._reduced: dict[tuple[int, ...], tuple[Constraints, Reductions]] = {}
+        self._known: dict[tuple[Axis, tuple[int, ...]], Asked] = {}
+        self._cheap: dict[tuple[Axis, tuple[int, ...]], Asked] = {}
+        self._reduced: dict[tuple[Axis, tuple[int, ...]], tuple[Constraints, Reductions]] = {}
         self._places = [
             {name: place for place, name in enumerate(names)} for names in (rows.model.rows, rows.model.columns)
         ]
@@ -118,6 +97,7 @@ class Asker:
     def begin(self, what: str, most: int, part: float) -> None:
         """Begins a step with at most `most` questions, which ends when this part of all time is over."""
         self._end = self._start + part * (self._seconds or 0.0)
+        self._clock_end = self._clock_start + part * (self._clock_seconds or 0.0)
         self._what, self._most, self._begun = what, most, self.asked
 
     @property
@@ -133,107 +113,195 @@ class Asker:
         return True
 
     def left(self) -> float | None:
-        """The seconds that are left of the step."""
-        return None if self._seconds is None else self._end - processor_seconds()
+        """The seconds that are left of the step, by the processor or by the clock."""
+        left = inf if self._seconds is None else self._end - processor_seconds()
+        if self._clock_seconds is not None:
+            left = min(left, self._clock_end - time.monotonic())
+        return None if left == inf else left
 
-    def clock(self) -> ProcessorClock:
-        """A clock of the processor seconds that are left of the step. Raises `TimeLimitReached` if none are left."""
+    def clock(self, share: float = 1.0) -> ProcessorClock:
+        """A clock of a share of the seconds that are left of the step. Raises `TimeLimitReached` if none are left."""
         left = self.left()
-        if left is not None and left <= 0:
-            raise TimeLimitReached(self._seconds or 0.0)
-        return ProcessorClock(left)
+        if left is None:
+            return ProcessorClock(None)
+        if left <= 0:
+            raise TimeLimitReached(self._seconds or self._clock_seconds or 0.0)
+        end = inf if self._clock_seconds is None else self._clock_end
+        return ProcessorClock(left * share, end)
 
-    def ask(self, rows: Iterable[int]) -> Asked:
-        """Whether some rows with entries -1, 0 and 1 are totally unimodular, with the columns that are in them."""
-        taken = tuple(sorted(rows))
-        if taken in self._known:
-            return self._known[taken]
-        asked = self._asked(taken)
-        if asked.why_open != OVER:
-            # A later step may have the time that this one had not.
-            self._known[taken] = asked
+    def ask(self, lines: Iterable[int], axis: Axis = "row", *, pivots: bool = True, share: float = 1.0, cheap: float = _CHEAP) -> Asked:
+        """Whether some rows with entries -1, 0 and 1, with all columns that are in them, are totally unimodular; or some columns.
+
+        The cheap questions come first, within the share `cheap` of the time that is left of the step. If they decide nothing, and if `pivots`
+        says so, the open parts are asked again with pivots, within `share` of the time that is left.
+        """
+        key = axis, tuple(sorted(lines))
+        if key in self._known:
+            return self._known[key]
+        asked = self._cheap.get(key)
+        if asked is None:
+            asked = self._joined(key, self._pieces(key, cheap))
+            if not asked.is_over:
+                # A later step may have the time that this one had not.
+                self._cheap[key] = asked
+        if asked.verdict == "yes" and asked.is_hasty:
+            asked = self._joined(key, [self._again(piece) for piece in asked.pieces])
+        if asked.verdict == "undecided" and pivots and self.pivots:
+            asked = self._joined(key, [self._pivoted(piece, share) for piece in asked.pieces])
+        if asked.verdict != "undecided" or (pivots and not asked.is_over):
+            self._known[key] = asked
         return asked
 
-    def reduced(self, rows: Iterable[int]) -> tuple[Constraints, Reductions]:
-        """What the reductions leave of some rows, and their list, of which each step was tested."""
-        taken = tuple(sorted(rows))
-        if taken not in self._reduced:
-            self._reduced[taken] = reduced_and_checked(self.rows.constraints(taken))
-        return self._reduced[taken]
+    def reduced(self, lines: Iterable[int], axis: Axis = "row") -> tuple[Constraints, Reductions]:
+        """What the reductions leave of some rows or columns, and their list, of which each step was tested."""
+        key = axis, tuple(sorted(lines))
+        if key not in self._reduced:
+            self._reduced[key] = reduced_and_checked(self.rows.lines(*key))
+        return self._reduced[key]
 
-    def ask_matrix(self, matrix: Matrix) -> Answer:
-        """The answer on a matrix, whose evidence is checked: the violator of a no, on its lines, and else the tree."""
+    def ask_matrix(self, matrix: Matrix, share: float = 1.0) -> Answer:
+        """The answer of the cheap questions on a matrix, whose evidence is checked: the violator of a no, and otherwise the tree."""
+        return self._told(lambda: self._decider(share).cheap(matrix))
+
+    def _told(self, ask: Callable[[], Answer]) -> Answer:
         self.asked += 1
         if self._tell:
             self._tell(self._what, self.asked - self._begun, self._most)
         try:
-            answer = is_totally_unimodular(
-                matrix,
-                certificate=True,
-                parts=False,
-                lines=self.lines,
-                pivots=self.pivots,
-                time_limit=self.clock(),
-                program=self.program,
-            )
-            self._must_hold(matrix, answer)
+            answer = ask()
         except TimeLimitReached:
             self.ended[self._what] = "time"
             raise
+        self.checked += 1
         return answer
 
-    def _must_hold(self, matrix: Matrix, answer: Answer) -> None:
-        """Raises `ProgramFault` if `cmr check` does not accept the evidence with the verdict of the answer."""
-        if answer.verdict == "no" and answer.violator is not None:
-            matrix = answer.violator.submatrix(matrix)
-            evidence: Tree | Submatrix | None = _all_lines(matrix)
-        else:
-            evidence = answer.tree
-        if evidence is None:
-            raise ProgramFault(REFUSED, f"the answer {answer.verdict} has no evidence")
-        checked = check(matrix, evidence, program=self.program, time_limit=self.clock())
-        if not checked.accepted or checked.says != answer.verdict:
-            raise ProgramFault(REFUSED, f"cmr check refuses the evidence: {checked.rule or checked.says}")
-        self.checked += 1
+    def _decider(self, share: float) -> Decider:
+        return Decider(self.clock(share), self.program, self.lines)
 
-    def _asked(self, rows: tuple[int, ...]) -> Asked:
-        constraints = self.rows.constraints(rows)
-        is_reduced = max(constraints.names.shape) > LIMIT
-        parts = [constraints] if not is_reduced else connected_parts(self.reduced(rows)[0])
+    def _pieces(self, key: tuple[Axis, tuple[int, ...]], cheap: float) -> list[Piece]:
+        """The parts, until one of them is not totally unimodular. Later ones are not asked."""
+        constraints = self.rows.lines(*key)
+        if max(constraints.names.shape) <= LIMIT:
+            return [self._piece(constraints, cheap)]
+        found = self._structure(constraints)
+        if isinstance(found, Piece):
+            return [found]
+        if found is not None and len(constraints.entries) > _MANY:
+            return [Piece(constraints, None, None, found)]
+        # The program answers the parts that are not too large.
         pieces: list[Piece] = []
+        parts = connected_parts(self.reduced(key[1], key[0])[0])
         for number, part in enumerate(parts, 1):
             pieces.append(self._piece(part))
-            answer = pieces[-1].answer
-            if answer is not None and answer.violator is not None:
-                found = self.cells(part, answer.violator)
-                pieces += (Piece(other, None, None) for other in parts[number:])
-                return Asked(rows, "no", tuple(pieces), is_reduced, violator=found)
-        for piece in pieces:
-            if piece.answer is None:
-                size = "x".join(map(str, piece.constraints.names.shape))
-                why = f"{size} is larger than a matrix may be" if piece.is_too_large else OVER
-                return Asked(rows, "undecided", tuple(pieces), is_reduced, why_open=why)
-            if piece.answer.open is not None:
-                left = self.cells(piece.constraints, piece.answer.open)
-                why = f"a part of {len(left.rows)}x{len(left.columns)} is neither recognised nor separated"
-                return Asked(rows, "undecided", tuple(pieces), is_reduced, open=left, why_open=why)
-        if any(piece.answer is None or piece.answer.verdict != "yes" for piece in pieces):
-            raise ProgramFault(REFUSED, "an answer has neither a yes nor a violator nor an open part")
-        return Asked(rows, "yes", tuple(pieces), is_reduced)
+            if pieces[-1].answer is not None and pieces[-1].answer.violator is not None:
+                return pieces + [Piece(other, None, None) for other in parts[number:]]
+        return pieces
 
-    def _piece(self, constraints: Constraints) -> Piece:
+    def _joined(self, key: tuple[Axis, tuple[int, ...]], pieces: Sequence[Piece]) -> Asked:
+        """The answer that the answers on the parts make."""
+        is_reduced = max(self.rows.shape(*key)) > LIMIT
+        rows = key[1] if key[0] == "row" else self.rows.rows_of(key[1])
+        for piece in pieces:
+            if piece.answer is not None and piece.answer.violator is not None:
+                found = self.cells(piece.constraints, piece.answer.violator)
+                return Asked(rows, "no", tuple(pieces), is_reduced, violator=found)
+        if all(piece.is_yes for piece in pieces):
+            return Asked(rows, "yes", tuple(pieces), is_reduced)
+        is_over = any(piece.is_over for piece in pieces)
+        piece = next(piece for piece in pieces if not piece.is_yes)
+        if piece.answer is None:
+            size = "x".join(map(str, piece.constraints.names.shape))
+            why = OVER if piece.is_over else f"{size} is larger than a matrix may be, and no structure of it was recognised"
+            return Asked(rows, "undecided", tuple(pieces), is_reduced, why_open=why, is_over=is_over)
+        if piece.answer.open is None:
+            raise ProgramFault(REFUSED, "an answer has neither a yes nor a violator nor an open part")
+        left = self.cells(piece.constraints, piece.answer.open)
+        why = f"a part of {len(left.rows)}x{len(left.columns)} is neither recognised nor separated"
+        return Asked(rows, "undecided", tuple(pieces), is_reduced, open=left, why_open=why, is_over=is_over)
+
+    def _piece(self, constraints: Constraints, cheap: float = _CHEAP) -> Piece:
+        """The cheap answer on a part, or its structure if it is too large for the program or if the time is over."""
         if max(constraints.names.shape) > LIMIT:
-            return Piece(constraints, None, None)
+            found = self._structure(constraints)
+            if isinstance(found, Piece):
+                return found
+            try:
+                return Piece(constraints, None, None, found or self._fitted(constraints))
+            except TimeLimitReached:
+                self.ended[self._what] = "time"
+                return Piece(constraints, None, None, is_over=True)
         matrix = matrix_of_constraints(constraints)
         try:
-            return Piece(constraints, matrix, self.ask_matrix(matrix))
+            return Piece(constraints, matrix, self.ask_matrix(matrix, cheap))
         except TimeLimitReached:
-            return Piece(constraints, matrix, None)
+            structure = structure_of(constraints)
+            if isinstance(structure, Structure):
+                return Piece(constraints, matrix, None, structure)
+            return Piece(constraints, matrix, None, is_over=True)
+
+    def _again(self, piece: Piece) -> Piece:
+        """A part for which the program had no time, with its answer if it has time now. Otherwise its structure has to do."""
+        if piece.structure is None or piece.matrix is None:
+            return piece
+        try:
+            answer = self.ask_matrix(piece.matrix)
+        except TimeLimitReached:
+            return piece
+        return Piece(piece.constraints, piece.matrix, answer) if answer.verdict == "yes" else piece
+
+    def _pivoted(self, piece: Piece, share: float) -> Piece:
+        """A part that is left open with the answer after pivots. If the time is over, it stays as it is."""
+        matrix = piece.matrix
+        if piece.is_yes or matrix is None or (piece.answer is not None and not piece.answer.is_undecided):
+            return piece
+        ask = partial(Decider.pivoted, matrix=matrix, pivots=self.pivots)
+        try:
+            answer = self._told(lambda: ask(self._decider(share)))
+        except TimeLimitReached:
+            return replace(piece, is_over=True)
+        return replace(piece, answer=answer, is_over=False)
+
+    def _structure(self, constraints: Constraints) -> Structure | Piece | None:
+        """The structure of a part of any size, or the part with the violator that excludes it. The program checks the violator."""
+        found = structure_of(constraints)
+        if not isinstance(found, OddCycle) or len(found.rows) > LIMIT:
+            return found if isinstance(found, Structure) else None
+        cycle = Submatrix(constraints.names.shape, found.rows, found.columns, constraints.names)
+        try:
+            answer = self.ask_matrix(self.matrix_of(self.cells(constraints, cycle)))
+        except TimeLimitReached:
+            return None
+        if answer.violator is None:
+            raise ProgramFault(REFUSED, "an odd cycle is totally unimodular")
+        violator = Submatrix(
+            cycle.shape,
+            tuple(found.rows[row] for row in answer.violator.rows),
+            tuple(found.columns[column] for column in answer.violator.columns),
+            constraints.names,
+        )
+        return Piece(constraints, None, Answer("totally unimodular", "no", violator=violator))
+
+    def _fitted(self, constraints: Constraints) -> Structure | None:
+        """The structure of a tree, if one kind of lines has at most 1,000."""
+        for is_turned in (False, True):
+            if constraints.names.shape[is_turned] > LIMIT:
+                continue
+
+            def tree_of(lines: Sequence[int], turned: bool = is_turned) -> Arcs | None:
+                every = tuple(range(constraints.names.shape[turned]))
+                part = Submatrix(constraints.names.shape, *((tuple(lines), every) if turned else (every, tuple(lines))))
+                matrix = self.matrix_of(self.cells(constraints, part))
+                return self._decider(_CHEAP).arcs(matrix.T if turned else matrix)
+
+            found = fitted(constraints, is_turned, tree_of)
+            if found is not None:
+                return found
+        return None
 
     def violator_in(self, cells: Cells) -> Cells | None:
         """A violator of a submatrix, or None if it has none or is left open."""
         try:
-            part = self.ask_matrix(self.matrix_of(cells)).violator
+            part = self.ask_matrix(self.matrix_of(cells), _CHEAP).violator
         except TimeLimitReached:
             return None
         return None if part is None else cells.part(part)
@@ -260,8 +328,3 @@ class Asker:
         model = self.rows.model
         names = Names(tuple(model.rows[row] for row in cells.rows), tuple(model.columns[it] for it in cells.columns))
         return Matrix((len(cells.rows), len(cells.columns)), tuple(nonzeros), names)
-
-
-def _all_lines(matrix: Matrix) -> Submatrix:
-    rows, columns = matrix.shape
-    return Submatrix(matrix.shape, tuple(range(rows)), tuple(range(columns)))

@@ -5,7 +5,8 @@ from __future__ import annotations
 from dataclasses import dataclass, field
 
 from ..errors import TimeLimitReached
-from .asking import Asker, Cells
+from .asking import Asker
+from .pieces import Cells
 
 __all__ = ["Minimal", "minimal_violator"]
 

@@ -116,6 +116,7 @@ def report_page(report: ModelReport) -> str:
             *_answer(report),
             *_pictures(report),
             *_families(report),
+            *_integers(report),
             *_trees(report),
             *_before(report),
             *_commands(report),
@@ -138,11 +139,15 @@ def _head(report: ModelReport, name: str) -> Iterator[str]:
         (str(nonzeros), f"nonzeros in {sentences.counted(len(report.families), 'family', 'families')} of rows"),
         (f"{whole} of {columns}", "variables are declared as integers"),
         (size if all(left) else "nothing", "is left by the reductions"),
-        ("-" if report.rest is None else str(len(report.relaxed)), f"rows to relax of {rows}"),
+        (str(len(report.relaxed)) if _has_advice(report) else "-", f"rows to relax of {rows}"),
     ]
     yield '<div class="tiles">'
     yield from (f'<div class="tile"><b>{number}</b><span>{words}</span></div>' for number, words in tiles)
     yield "</div>"
+
+
+def _has_advice(report: ModelReport) -> bool:
+    return report.rest is not None and sentences.is_advice(report)
 
 
 def _answer(report: ModelReport) -> Iterator[str]:
@@ -151,7 +156,7 @@ def _answer(report: ModelReport) -> Iterator[str]:
     yield from (f'<p class="warn">{escape(sentence)}</p>' for sentence in sentences.of_limits(report))
     relaxation = sentences.of_relaxation(report) if report.verdict != "yes" else []
     for number, sentence in enumerate(relaxation):
-        look = ' class="relax"' if not number and report.rest is not None else ""
+        look = ' class="relax"' if not number and _has_advice(report) else ""
         yield f"<p{look}>{escape(sentence)}</p>"
     if report.verdict == "yes" or report.rest is not None:
         look = ' class="warn"' if report.not_whole else ""
@@ -247,6 +252,14 @@ def _family(report: ModelReport, number: int, family: FamilyLine) -> str:
     )
 
 
+def _integers(report: ModelReport) -> Iterator[str]:
+    said = sentences.of_integers(report)
+    if said:
+        yield "<section><h2>Which variables have to stay integer</h2>"
+        yield from (f"<p>{escape(sentence)}</p>" for sentence in said)
+        yield "</section>"
+
+
 def _trees(report: ModelReport) -> Iterator[str]:
     asked = report.rest if report.rest is not None else report.whole
     trees = [piece.tree for piece in asked.pieces if piece.tree is not None]
@@ -300,6 +313,6 @@ def _foot(report: ModelReport) -> Iterator[str]:
     checked = sentences.counted(report.checked, "piece of evidence", "pieces of evidence")
     unproved = "" if report.is_proved else " The program was compiled by <code>./try-cmr</code> without proofs."
     yield (
-        f"<footer><p>The program <code>cmr</code> answered {asked}, and <code>cmr check</code> accepted {checked}.{unproved} The Python "
+        f"<footer>{''.join(f'<p>{escape(it)}</p>' for it in sentences.of_arithmetic(report))}<p>The program <code>cmr</code> answered {asked}, and <code>cmr check</code> accepted {checked}.{unproved} The Python "
         "package computed graphs, reductions and determinants again.</p></footer>"
     )

@@ -12,10 +12,11 @@ from ..lines import Line
 from ..matrix import Matrix
 from ..program import REFUSED, StrPath
 from ..questions import is_conetwork, is_network
+from ..structures.structure import Structure
 from ..trees import Tree
 from ..walks import arcs_of_walks
 
-__all__ = ["Reason", "reason_of", "reason_of_tree"]
+__all__ = ["Reason", "reason_of", "reason_of_structure", "reason_of_tree"]
 
 _LEAVES = {
     "network": ("network matrix", "network matrices"),
@@ -24,6 +25,21 @@ _LEAVES = {
     "enumerated": ("small matrix of which every set of lines was tried", "small matrices of which every set of lines was tried"),
 }
 _SUMS = {"twosum": "two-sum", "delta": "three-sum", "y": "three-sum", "mixed": "three-sum", "concentrated": "three-sum"}
+
+_Kind = Literal["zero", "pairs", "intervals", "paths"]
+
+_PLAIN: dict[_Kind, str] = {
+    "zero": "there are no coefficients",
+    "pairs": "each variable is in at most two rows, as in a flow, a transport or an assignment",
+    "intervals": "the rows of each variable are consecutive in the order of the model (intervals)",
+    "paths": "each variable is a path in a tree whose arcs are the rows",
+}
+_TURNED: dict[_Kind, str] = {
+    "zero": "there are no coefficients",
+    "pairs": "each row has at most two variables, as differences have",
+    "intervals": "the variables of each row are consecutive in the order of the model (intervals)",
+    "paths": "each row is a path in a tree whose arcs are the variables",
+}
 
 
 @dataclass(frozen=True)
@@ -38,9 +54,9 @@ class Reason:
 def reason_of(matrix: Matrix, tree: Tree, program: StrPath | None, clock: Clock) -> Reason:
     """Why the matrix of a tree that says yes is totally unimodular. The arcs of each walk in a graph are compared with the matrix."""
     if _is_shown(matrix, is_turned=False, program=program, clock=clock):
-        return Reason("network", _of_network(matrix), ("network",))
+        return _network_reason(_kind_of(matrix), False)
     if _is_shown(matrix, is_turned=True, program=program, clock=clock):
-        return Reason("conetwork", _of_conetwork(matrix), ("network", "-t"))
+        return _network_reason(_kind_of(matrix.T), True)
     return reason_of_tree(tree)
 
 
@@ -66,26 +82,28 @@ def _place(walk: Line, arc: Line) -> tuple[int, int]:
     return (arc.number, walk.number) if arc.kind == "row" else (walk.number, arc.number)
 
 
-def _of_network(matrix: Matrix) -> str:
+def reason_of_structure(structure: Structure) -> Reason:
+    """Why a matrix with a structure is totally unimodular."""
+    kinds: dict[str, _Kind] = {"halves": "pairs", "intervals": "intervals", "paths": "paths"}
+    return _network_reason(kinds[structure.kind], structure.is_turned)
+
+
+def _network_reason(kind: _Kind, is_turned: bool) -> Reason:
+    if is_turned:
+        said = "Its transpose is a network matrix, so the network simplex method solves the dual linear program"
+        return Reason("conetwork", f"{said}: {_TURNED[kind]}.", ("network", "-t"))
     said = "It is a network matrix, so the network simplex method solves the linear program"
-    if not matrix.nonzeros:
-        return f"{said}: there are no coefficients."
+    return Reason("network", f"{said}: {_PLAIN[kind]}.", ("network",))
+
+
+def _kind_of(matrix: Matrix) -> _Kind:
+    """The plainest kind that fits to the columns of a network matrix."""
     counts = Counter(column for _, column, _ in matrix.nonzeros)
+    if not counts:
+        return "zero"
     if max(counts.values()) <= 2:
-        return f"{said}: each variable is in at most two rows, as in a flow, a transport or an assignment."
-    if _are_intervals(matrix):
-        return f"{said}: the rows of each variable are consecutive in the order of the model (intervals)."
-    return f"{said}: each variable is a path in a tree whose arcs are the rows."
-
-
-def _of_conetwork(matrix: Matrix) -> str:
-    said = "Its transpose is a network matrix, so the network simplex method solves the dual linear program"
-    counts = Counter(row for row, _, _ in matrix.nonzeros)
-    if max(counts.values(), default=0) <= 2:
-        return f"{said}: each row has at most two variables, as differences have."
-    if _are_intervals(matrix.T):
-        return f"{said}: the variables of each row are consecutive in the order of the model (intervals)."
-    return f"{said}: each row is a path in a tree whose arcs are the variables."
+        return "pairs"
+    return "intervals" if _are_intervals(matrix) else "paths"
 
 
 def _are_intervals(matrix: Matrix) -> bool:

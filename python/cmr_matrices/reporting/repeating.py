@@ -11,10 +11,17 @@ from pathlib import Path
 from ..families import family_of
 from ..submatrices import Submatrix
 from ..words import LIMIT
-from .asking import Asked, Cells
-from .report import ModelReport
+from .integers import Integers
+from .pieces import Asked, Cells, Piece
+from .report import PIVOTS, QUESTIONS, ModelReport
 
 __all__ = ["Repeated", "repeated", "row_pattern"]
+
+_LONGEST = 3000
+"""The most characters of a command."""
+
+_PATTERN = 300
+"""The most characters of a regular expression of rows. Longer ones are replaced by a file of names."""
 
 _APART = 6
 """The most parts that have commands of their own."""
@@ -30,8 +37,9 @@ class Repeated:
 
 
 def repeated(report: ModelReport) -> tuple[Repeated, ...]:
-    """The commands of all answers, which write files beside one another into one folder."""
-    return tuple(_Commands(report).all())
+    """The commands of all answers, which write files beside one another into one folder. Commands that would be too long are omitted."""
+    found = _Commands(report).all()
+    return tuple(it for it in found if all(len(command) <= _LONGEST for command in it.commands))
 
 
 class _Commands:
@@ -62,6 +70,8 @@ class _Commands:
             yield from self._asked("what is left once these rows are relaxed", name, report.rest, relaxed)
             if report.reason is not None and report.reason.words and not report.rest.is_reduced:
                 yield self._class(name)
+        if report.integers is not None and report.integers.answer is not None:
+            yield from self._variables(report.integers, report.integers.answer)
 
     def _other_violators(self) -> Iterable[Repeated]:
         """The violators that rule out sets with more rows, without those of the families that are relaxed."""
@@ -82,6 +92,15 @@ class _Commands:
         file = f"./{report.file}" if report.file.startswith("-") else report.file
         return [*words, *(["--data", report.data] if report.data else []), file]
 
+    def _relaxed(self, file: str) -> str:
+        """The command that writes the names of the rows to relax. Its first lines are those of this report."""
+        report = self._report
+        words = ["--lines", str(report.lines)] if report.lines is not None else []
+        words += [] if report.pivots == PIVOTS else ["--pivots", str(report.pivots)]
+        words += [] if report.questions == QUESTIONS else ["--questions", str(report.questions)]
+        words += [] if report.time_limit is None else ["--time-limit", f"{report.time_limit:g}"]
+        return shlex.join(["cmr-model", *words, "--relaxed", file, *self._source()])
+
     def _matrix(self, name: str, choice: Sequence[str], reduces: bool) -> str:
         report = self._report
         words = [
@@ -94,10 +113,28 @@ class _Commands:
 
     def _asked(self, what: str, name: str, asked: Asked, relaxed: Sequence[int]) -> Iterable[Repeated]:
         names = self._report.rows.model.rows
-        without = ["--without", row_pattern([names[row] for row in relaxed], names)] if relaxed else []
-        first = self._matrix(name, without, asked.is_reduced)
-        answered = [number for number, piece in enumerate(asked.pieces, 1) if piece.answer is not None]
-        if not asked.pieces:
+        pattern = row_pattern([names[row] for row in relaxed], names) if relaxed else ""
+        without = ["--without", pattern] if pattern else []
+        if len(pattern) > _PATTERN:
+            file = f"{self._stem}.relaxed"
+            without = ["--without-names", file]
+            yield Repeated("the rows to relax, as a file of their names", (self._relaxed(file),), "")
+        yield from self._answers(what, name, asked, self._matrix(name, without, asked.is_reduced))
+
+    def _variables(self, found: Integers, asked: Asked) -> Iterable[Repeated]:
+        """The commands for the columns of the variables that need not be declared as integers."""
+        names = self._report.rows.model.columns
+        name = f"{self._stem}-variables"
+        pattern = row_pattern([names[column] for column in found.fixed], names)
+        scale = ["--scale"] if self._report.rows.divided else []
+        words = ["model_to_matrix", *scale, "--without-columns", pattern, *self._source(), f"{name}.txt", f"{name}.names"]
+        if not asked.is_reduced:
+            yield from self._answers("the columns of the variables that need not be integer", name, asked, shlex.join(words))
+
+    def _answers(self, what: str, name: str, asked: Asked, first: str) -> Iterable[Repeated]:
+        """The commands for the parts of an answer, after the command that writes the matrix."""
+        answered = [number for number, piece in enumerate(asked.pieces, 1) if _is_answer_of_tu(piece)]
+        if not asked.pieces or (not answered and not asked.is_reduced):
             yield Repeated(what, (first,), "")
         elif asked.is_reduced and any(piece.is_too_large for piece in asked.pieces):
             # A part is too large, and model_to_matrix writes none of them.
@@ -160,6 +197,14 @@ class _Commands:
             f"cmr check -i sparse {base}.txt {name}.violator | name_lines {base}.names",
         ]
         return Repeated(what, tuple(commands) if len(columns) <= LIMIT else (), "accepted: no")
+
+
+def _is_answer_of_tu(piece: Piece) -> bool:
+    """Whether `cmr tu` gives the answer on a part again. A no may be that of a violator, which is checked by itself."""
+    answer = piece.answer
+    if answer is None or answer.tree is None or piece.is_over:
+        return False
+    return answer.verdict != "no" or answer.tree.root.kind != "violator"
 
 
 def row_pattern(wanted: Sequence[str], names: Iterable[str]) -> str:

@@ -4,8 +4,9 @@ from __future__ import annotations
 
 import os
 import re
+import time
 from collections.abc import Iterable, Mapping, Sequence
-from dataclasses import dataclass, field
+from dataclasses import dataclass, field, replace
 from typing import Any, Literal, get_args
 
 from ..answers import Verdict
@@ -20,16 +21,21 @@ from ..models import Model, read_model
 from ..mps import model_text
 from ..program import StrPath, find_program, unproved
 from ..trees import Tree
-from .asking import Asked, Asker, Cells, Limit, Tell
+from .asking import Asker, Limit, Tell
+from .integers import Integers, integers_of
 from .keeping import Budget, Kept, keep_blocks
 from .minimal import Minimal, minimal_violator
-from .reasons import Reason, reason_of, reason_of_tree
+from .pieces import Asked, Cells
+from .reasons import Reason, reason_of, reason_of_structure, reason_of_tree
 from .reducing import Reduced, reduced_model
 from .row_by_row import kept_row_by_row
 from .rows import ModelRows, NotWhole, RowFamily, said_rows
 from .sampling import near_lines
 
-__all__ = ["FamilyLine", "ModelReport", "model_report"]
+__all__ = ["FamilyLine", "ModelReport", "PIVOTS", "QUESTIONS", "model_report"]
+
+PIVOTS = 20
+"""How many pivots are made on the way to a part that is left open."""
 
 QUESTIONS = 300
 """The most questions of each search for rows to keep."""
@@ -37,7 +43,7 @@ QUESTIONS = 300
 _FEW = 6
 _SAMPLES = (100, 300, 1000)
 # The parts of all time at which the steps end.
-_WHOLE, _SMALLER, _FAMILIES, _ROWS, _ALL = 0.4, 0.5, 0.75, 0.92, 1.0
+_WHOLE, _NEAR, _SMALLER, _FAMILIES, _ROWS, _COLUMNS, _ALL = 0.4, 0.55, 0.6, 0.72, 0.83, 0.95, 1.0
 
 State = Literal["kept", "relaxed", "partly", "open"]
 
@@ -87,11 +93,14 @@ class ModelReport:
     """What is kept of the families of which single rows were tried, in the order in which they were tried."""
     rest: Asked | None = field(repr=False)
     """The answer on the rows that are kept."""
+    integers: Integers | None = field(repr=False)
+    """Which variables have to stay integer, if the matrix is not totally unimodular."""
     asked: int = field(repr=False)
     checked: int = field(repr=False)
     ended: Mapping[str, Limit] = field(repr=False)
     """The steps that a limit has ended. What `time` has ended may depend on the speed of the machine."""
     time_limit: float | None = field(repr=False)
+    clock_limit: float | None = field(repr=False)
     questions: int = field(repr=False)
 
     @property
@@ -106,6 +115,11 @@ class ModelReport:
 
     @property
     def relax(self) -> tuple[str, ...]:
+        """The names of the rows to relax."""
+        return tuple(self.rows.model.rows[row] for row in self.relaxed)
+
+    @property
+    def relax_said(self) -> tuple[str, ...]:
         """The rows to relax, in few words, family by family."""
         return tuple(self._relaxed(family) for family in self.families if family.relaxed)
 
@@ -159,9 +173,10 @@ def model_report(
     form: Format | None = None,
     data: StrPath | None = None,
     lines: int | None = None,
-    pivots: int = 20,
+    pivots: int = PIVOTS,
     questions: int = QUESTIONS,
     time_limit: float | None = None,
+    clock_limit: float | None = None,
     program: StrPath | None = None,
     tell: Tell | None = None,
 ) -> ModelReport:
@@ -173,18 +188,28 @@ def model_report(
 
     `lines` is the budget of the search, 0 to 24 lines (14); `pivots` how many pivots may be made on the way to a part that is left open,
     0 to 100 (20). `questions`, 1 to 100,000 (300), are the most for each search for rows to keep. `time_limit` is in seconds,
-    0 to 2,000,000, of processor time for the whole call: the search ends then, and `ended` names the steps that are not done. `program` is
-    the program's path. `tell` is called with each question.
+    0 to 2,000,000, of processor time for the whole call: the search ends then, and `ended` names the steps that are not done. `clock_limit`
+    is the same by the clock. `program` is the program's path. `tell` is called with each question.
     """
-    start = processor_seconds()
+    start, clock_start = processor_seconds(), time.monotonic()
     whole_number("questions", questions, 1, 100_000)
-    limit = Clock(time_limit).limit
+    limit, clock_seconds = Clock(time_limit).limit, Clock(clock_limit).limit
     proved = find_program(program) != unproved()
     if tell is not None:
         tell("reading the model", 0, 0)
     source = _source(model, form, data, limit)
     rows = source.rows
-    asker = Asker(rows, lines=lines, pivots=pivots, seconds=limit, program=program, tell=tell, start=start)
+    asker = Asker(
+        rows,
+        lines=lines,
+        pivots=pivots,
+        seconds=limit,
+        program=program,
+        tell=tell,
+        start=start,
+        clock_seconds=clock_seconds,
+        clock_start=clock_start,
+    )
     found = _Work(asker, rows, questions).done()
     return ModelReport(
         model=source.name,
@@ -202,6 +227,7 @@ def model_report(
         checked=asker.checked,
         ended=dict(asker.ended),
         time_limit=limit,
+        clock_limit=clock_seconds,
         questions=questions,
     )
 
@@ -253,6 +279,7 @@ class _Found:
     kept: Kept | None
     within: Mapping[str, Kept]
     rest: Asked | None
+    integers: Integers | None = None
 
 
 class _Work:
@@ -268,12 +295,36 @@ class _Work:
         """All that is found."""
         unit = self._rows.unit_rows
         self._asker.begin("the whole matrix", self._questions, _WHOLE)
-        whole = self._asker.ask(unit)
+        whole = self._asker.ask(unit, pivots=False, cheap=1.0)
+        violator = whole.violator or (self._near_violator(whole) if whole.verdict == "undecided" else None)
+        if violator is None:
+            self._asker.begin("the whole matrix", self._questions, _WHOLE)
+            whole = self._asker.ask(unit)
+            violator = whole.violator
         reduced = reduced_model(self._rows.constraints(unit), *self._asker.reduced(unit))
-        if whole.verdict == "yes":
+        if whole.verdict == "yes" and not self._rows.refused:
             return _Found(whole, reduced, self._reason(whole), None, self._lines(None, {}), None, {}, whole)
-        violator = whole.violator or self._near_violator(whole)
         minimal = minimal_violator(self._asker, violator, _SMALLER) if violator is not None else None
+        kept, lines, within, rest = self._relaxed(whole, minimal)
+        # If the whole matrix is left open, a violator of some of its rows decides it.
+        others = [cells for search in (kept, *within.values()) if search for _, cells in search.violators]
+        if minimal is None and others:
+            smaller = min(others, key=lambda cells: len(cells.rows) + len(cells.columns))
+            minimal = minimal_violator(self._asker, smaller, _ALL)
+        reason = self._reason(rest) if rest is not None else None
+        known = others + ([minimal.cells] if minimal is not None else [])
+        integers = integers_of(self._asker, self._rows, self._questions, _COLUMNS, known)
+        if integers.answer is not None:
+            integers = replace(integers, reason=self._reason(integers.answer))
+        named = {self._families[number].name: search for number, search in within.items()}
+        return _Found(whole, reduced, reason, minimal, lines, kept, named, rest, integers)
+
+    def _relaxed(
+        self, whole: Asked, minimal: Minimal | None
+    ) -> tuple[Kept | None, tuple[FamilyLine, ...], dict[int, Kept], Asked | None]:
+        """What is kept of the rows with entries -1, 0 and 1: the search of families, the families, the searches of rows, and the answer."""
+        if whole.verdict == "yes":
+            return None, self._lines(None, {}), {}, whole
         families = {number: family for number, family in enumerate(self._families) if family.rows}
         budget = Budget("families of rows", self._questions, _FAMILIES)
         known = [minimal.cells] if minimal is not None else []
@@ -281,17 +332,10 @@ class _Work:
         kept = keep_blocks(self._asker, (), blocks, budget, all_sets=True, known=known)
         numbers = [list(families)[at] for at in kept.blocks]
         within = kept_row_by_row(self._asker, families, numbers, self._questions, (_FAMILIES, _ROWS))
-        # If the whole matrix is left open, a violator of some of its rows decides it.
-        others = [cells for search in (kept, *within.values()) for _, cells in search.violators]
-        if minimal is None and others:
-            smaller = min(others, key=lambda cells: len(cells.rows) + len(cells.columns))
-            minimal = minimal_violator(self._asker, smaller, _ALL)
+        kept = kept.closed(blocks, (cells for search in within.values() for _, cells in search.violators))
         answers = [search.answer for search in (kept, *within.values()) if search.answer is not None]
-        rest = answers[-1] if answers else None
-        reason = self._reason(rest) if rest is not None else None
         lines = self._lines((list(families), kept), within)
-        named = {self._families[number].name: search for number, search in within.items()}
-        return _Found(whole, reduced, reason, minimal, lines, kept, named, rest)
+        return kept, lines, within, answers[-1] if answers else None
 
     def _near_violator(self, whole: Asked) -> Cells | None:
         """A violator among near lines of the first part that is too large to be asked."""
@@ -299,7 +343,7 @@ class _Work:
         if part is None:
             return None
         cells = self._asker.all_cells(part)
-        self._asker.begin("near lines of the matrix", len(_SAMPLES), _WHOLE)
+        self._asker.begin("near lines of the matrix", len(_SAMPLES), _NEAR)
         for most in _SAMPLES:
             rows, columns = near_lines(part, most)
             near = Cells(tuple(cells.rows[row] for row in rows), tuple(cells.columns[column] for column in columns))
@@ -311,10 +355,11 @@ class _Work:
     def _reason(self, asked: Asked) -> Reason:
         """Why the rows that are kept are totally unimodular, part by part."""
         self._asker.begin("why they are totally unimodular", self._questions, _ALL)
-        found = [
+        found = [reason_of_structure(piece.structure) for piece in asked.pieces if piece.structure is not None]
+        found += [
             self._reason_of(piece.matrix, piece.tree)
             for piece in asked.pieces
-            if piece.matrix is not None and piece.tree is not None
+            if piece.matrix is not None and piece.tree is not None and piece.structure is None
         ]
         if not found:
             return Reason("network", "It is a network matrix: the reductions remove its rows and columns one by one.")
@@ -359,9 +404,10 @@ class _Work:
             assert place is not None
             # Some rows of the family may have a violator though the family is left open.
             found = [cells for _, cells in within.violators] if within else []
-            violator = kept.refused[place] or next(iter(found), None)
-            is_open = violator is None
             spoiling = [family.rows[at] for at in within.refused] if within else family.rows
+            # If all its rows can be kept one after another, the family is kept.
+            violator = (kept.refused[place] or next(iter(found), None)) if spoiling else None
+            is_open = violator is None and bool(spoiling)
         relaxed = tuple(sorted({*family.refused, *spoiling}))
         count = len(family.rows) + len(family.refused)
         state: State = "kept" if not relaxed else "relaxed" if len(relaxed) == count else "partly"

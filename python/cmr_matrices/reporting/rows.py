@@ -2,17 +2,23 @@
 
 from __future__ import annotations
 
-from collections.abc import Iterable, Mapping, Sequence
+from collections.abc import Iterable, Iterator, Mapping, Sequence
 from dataclasses import dataclass, field
 from fractions import Fraction
+from math import ceil, floor
+from typing import Literal
 
 from ..constraints import Constraints, Scaling, rows_divided
 from ..errors import BadInput
 from ..families import families_of
 from ..lines import Names
-from ..models import Model
+from ..models import Ends, Model
 
-__all__ = ["ModelRows", "NotWhole", "RowFamily", "said_rows"]
+__all__ = ["Axis", "ModelRows", "NotWhole", "RowFamily", "said_rows"]
+
+
+Axis = Literal["row", "column"]
+"""Whether lines are rows with all their columns, or columns with all their rows."""
 
 
 @dataclass(frozen=True)
@@ -31,6 +37,8 @@ class NotWhole:
     kind: str
     name: str
     value: float
+    rounded: int | None = None
+    """The integer to which it can be rounded so that no integral solution is lost: down if it is an upper bound, and up otherwise."""
 
     def __str__(self) -> str:
         what = "right-hand side" if self.kind == "row" else "bound"
@@ -93,28 +101,59 @@ class ModelRows:
             return tuple(range(len(self.model.columns)))
         return tuple(sorted({column for row in taken for column, _ in self.entries[row]}))
 
-    def constraints(self, rows: Sequence[int]) -> Constraints:
-        """Some of the rows with entries -1, 0 and 1, in the order of the model, and the columns that are in them."""
-        columns = self.columns_of(rows)
+    def rows_of(self, columns: Iterable[int]) -> tuple[int, ...]:
+        """The rows that some columns are in."""
+        taken = set(columns)
+        return tuple(row for row, found in self.entries.items() if any(column in taken for column, _ in found))
+
+    def shape(self, axis: Axis, lines: Sequence[int]) -> tuple[int, int]:
+        """The numbers of rows and columns of some rows with their columns, or of some columns with their rows."""
+        if axis == "row":
+            return len(lines), len(self.columns_of(lines))
+        return len(self.rows_of(lines)), len(lines)
+
+    def lines(self, axis: Axis, lines: Sequence[int]) -> Constraints:
+        """Some rows and the columns that are in them, or some columns and the rows that they are in. The entries are -1, 0 and 1."""
+        rows, columns = (lines, self.columns_of(lines)) if axis == "row" else (self.rows_of(lines), lines)
         places = {column: place for place, column in enumerate(columns)}
-        names = Names(
-            tuple(self.model.rows[row] for row in rows), tuple(self.model.columns[column] for column in columns)
-        )
+        model = self.model
+        names = Names(tuple(model.rows[row] for row in rows), tuple(model.columns[column] for column in columns))
         entries = {
-            (at, places[column]): int(entry) for at, row in enumerate(rows) for column, entry in self.entries[row]
+            (at, places[column]): int(entry)
+            for at, row in enumerate(rows)
+            for column, entry in self.entries[row]
+            if column in places
         }
         return Constraints(names, entries)
 
-    def not_whole(self, rows: Iterable[int]) -> tuple[NotWhole, ...]:
-        """The right-hand sides of some rows, and the bounds of all columns, that are no integers."""
-        found = []
-        for row in rows if self.model.sides else ():
+    def constraints(self, rows: Sequence[int]) -> Constraints:
+        """Some of the rows with entries -1, 0 and 1, in the order of the model, and the columns that are in them."""
+        return self.lines("row", rows)
+
+    def not_whole(self, rows: Iterable[int], columns: Iterable[int] | None = None) -> tuple[NotWhole, ...]:
+        """The right-hand sides of some rows, and the bounds of some or all columns, that are no integers.
+
+        The side of a row can be rounded if all its variables are integer and if its entries are integers. They are, after the division.
+        """
+        model, found = self.model, []
+        whole = {column for column, is_whole in enumerate(model.whole) if is_whole}
+        for row in rows if model.sides else ():
             factor = self.divided[row].factor if row in self.divided else 1
-            sides = (Fraction(f"{side:.15g}") / factor for side in self.model.sides[row].finite)
-            found += [NotWhole("row", self.model.rows[row], float(side)) for side in sides if side.denominator != 1]
-        for name, ends in zip(self.model.columns, self.model.bounds):
-            found += [NotWhole("column", name, bound) for bound in ends.finite if not bound.is_integer()]
+            is_whole = all(column in whole for column, _ in self.entries[row])
+            found += [NotWhole("row", model.rows[row], *it) for it in _broken(model.sides[row], factor, is_whole)]
+        for column in (range(len(model.bounds)) if columns is None else columns) if model.bounds else ():
+            ends = _broken(model.bounds[column], 1, column in whole)
+            found += [NotWhole("column", model.columns[column], *it) for it in ends]
         return tuple(found)
+
+
+def _broken(ends: Ends, factor: int | Fraction, is_whole: bool) -> Iterator[tuple[float, int | None]]:
+    """The ends that are no integers after the division, each with the integer to which it can be rounded."""
+    for end in ends.finite:
+        value = Fraction(f"{end:.15g}") / factor
+        if value.denominator != 1:
+            rounded = floor(value) if (end == ends.upper) == (factor > 0) else ceil(value)
+            yield float(value), rounded if is_whole and ends.lower != ends.upper else None
 
 
 def said_rows(family: str, names: Sequence[str]) -> str:

@@ -5,13 +5,19 @@ from __future__ import annotations
 from collections.abc import Sequence
 
 from ..model_texts import NONLINEAR_OBJECTIVE, ORDERED_SETS, SEMICONTINUOUS
+from .integers import ColumnFamily
+from .pieces import Asked
 from .report import FamilyLine, ModelReport
+from .rows import NotWhole
 
 __all__ = [
     "counted",
+    "is_advice",
     "left_open",
     "listed",
+    "of_arithmetic",
     "of_coefficients",
+    "of_integers",
     "of_left_out",
     "of_limits",
     "of_reductions",
@@ -65,8 +71,10 @@ def of_limits(report: ModelReport) -> list[str]:
     counted_out = [what for what, limit in report.ended.items() if limit == "questions"]
     said = []
     if timed:
+        limits = [f"{report.time_limit:g} seconds"] if report.time_limit is not None else []
+        limits += [f"{report.clock_limit:g} seconds by the clock"] if report.clock_limit is not None else []
         said.append(
-            f"The time limit of {report.time_limit or 0:g} seconds ended these steps: {'; '.join(timed)}. Their results depend on the "
+            f"The time limit of {' and '.join(limits)} ended these steps: {'; '.join(timed)}. Their results depend on the "
             "speed of the machine. `--time-limit` sets the limit."
         )
     if counted_out:
@@ -92,11 +100,17 @@ def of_sides(report: ModelReport) -> str:
     which = "" if report.verdict == "yes" else " of the remaining rows"
     found = [str(it) for it in report.not_whole]
     if found:
-        said = f"Not integral: {listed(found, _SOME)}."
+        said = f"Not integral: {listed(found, _SOME)}.{_of_rounding(report.not_whole)}"
         return f"{said} The vertices need not be integral unless all right-hand sides and bounds are integers."
     if not report.rows.model.sides:
         return "The right-hand sides are not known. The vertices need not be integral unless they and all bounds are integers."
     return f"All right-hand sides{which} and all bounds are integers."
+
+
+def _of_rounding(found: Sequence[NotWhole]) -> str:
+    """To which integers sides and bounds of integer variables can be rounded."""
+    rounded = [f"that of {it.name} to {it.rounded}" for it in found if it.rounded is not None]
+    return f" Round {listed(rounded, _SOME)}: all variables there are integer, so no integral solution is lost." if rounded else ""
 
 
 def of_coefficients(report: ModelReport) -> list[str]:
@@ -138,7 +152,13 @@ def of_relaxation(report: ModelReport) -> list[str]:
         return ["No family of rows is totally unimodular by itself." if is_sure else "No rows were found that can be kept."]
     if not report.relaxed:
         return []
-    said = [f"Relax {listed(report.relax)}: the remaining rows are totally unimodular, and {_solves(report)}."]
+    if is_advice(report):
+        said = [f"Relax {listed(report.relax_said)}: the remaining rows are totally unimodular, and {_solves(report)}."]
+    else:
+        said = [
+            f"It is not known whether a row of {listed([family.said for family in report.families if family.is_open])} has to be relaxed. "
+            f"Without {listed(report.relax_said)} the remaining rows are totally unimodular, and {_solves(report)}."
+        ]
     if report.reason:
         said.append(report.reason.sentence)
     kept = report.kept
@@ -146,14 +166,90 @@ def of_relaxation(report: ModelReport) -> list[str]:
         said.append(_how(report))
     elif kept is not None:
         families = [family.said for family in report.families if family.violator is not None or family.is_open]
-        said.append(f"By whole families: relax {listed(families)}. {_how(report)}")
+        said.append(f"By whole families: {'relax' if is_advice(report) else 'without'} {listed(families)}. {_how(report)}")
     said += of_within(report)
     subject = "it" if len(report.relaxed) == 1 else "they"
+    if not is_advice(report):
+        return [sentence for sentence in [*said, *of_left_out(report)] if sentence]
     said.append(
         f"In a Lagrangian relaxation {subject} would move to the objective, and in a decomposition to the master problem. The bound is "
         "that of the linear program, since the remaining rows have integral vertices if their right-hand sides are integers (Geoffrion 1974)."
     )
     return [sentence for sentence in [*said, *of_left_out(report)] if sentence]
+
+
+def is_advice(report: ModelReport) -> bool:
+    """Whether each row to relax has a reason: a violator or its coefficients. If a question is open, nothing is known to need relaxation."""
+    return report.verdict != "undecided" and not any(family.is_open for family in report.families)
+
+
+def of_integers(report: ModelReport) -> list[str]:
+    """Which variables have to stay integer, and under which conditions."""
+    found, names = report.integers, report.rows.model.columns
+    if found is None:
+        return []
+    if found.blocked is not None:
+        name = names[found.blocked]
+        return [f"No answer by this rule: the continuous variable {name} has a coefficient other than -1, 0 and 1."]
+    if found.answer is None:
+        return ["No family of variables was found that can be continuous by this rule."]
+    fixed = [_said_fixed(report, family) for family in found.families if family.fixed]
+    others = [family.said for family in found.families if len(family.fixed) < len(family.columns)]
+    count = counted(len(found.fixed), "variable")
+    said = []
+    if not found.is_declared:
+        said.append("The model declares no variable as integer. If all variables have to be integral:")
+    said.append(
+        f"Declare only {listed(fixed, _FAMILIES)} as integer ({count}); {listed(others, _FAMILIES)} can be continuous "
+        f"({counted(len(found.free), 'variable')})."
+    )
+    is_sure = bool(report.rows.model.sides) and not found.not_whole
+    given = "" if is_sure else ", if the right-hand sides and bounds are integers"
+    said.append(
+        f"For each integral value of the {count}, all vertices of the linear program in the other variables are integral{given}: "
+        f"the columns of the others are totally unimodular, and the coefficients of the {count} are integers."
+    )
+    if found.not_whole:
+        said.append(f"Not integral: {listed([str(it) for it in found.not_whole], _SOME)}.{_of_rounding(found.not_whole)}")
+    if found.reason is not None:
+        said.append(f"Of the matrix of the other columns: {found.reason.sentence}")
+    is_small = (
+        "By this rule no choice of families leaves fewer variables integer: each such choice has a violator or a coefficient other than "
+        "-1, 0 and 1."
+    )
+    said.append(is_small if found.is_smallest else "Another choice may leave fewer variables integer.")
+    return said
+
+
+def _said_fixed(report: ModelReport, family: ColumnFamily) -> str:
+    if len(family.fixed) == len(family.columns):
+        return family.said
+    names = [report.rows.model.columns[column] for column in family.fixed]
+    return f"{len(names)} of the {len(family.columns)} variables of {family.said}" if len(names) > _SOME else listed(names)
+
+
+def of_arithmetic(report: ModelReport) -> list[str]:
+    """Which parts the program has not answered, but the arithmetic of the package."""
+    asked = report.rest if report.rest is not None else report.whole
+    said = [_of_arithmetic(asked, "the matrix")]
+    if report.integers is not None and report.integers.answer is not None:
+        said.append(_of_arithmetic(report.integers.answer, "the matrix of the variables that can be continuous,"))
+    return [sentence for sentence in said if sentence]
+
+
+def _of_arithmetic(asked: Asked, matrix: str) -> str:
+    parts = asked.arithmetic
+    if not parts:
+        return ""
+    sizes = ["x".join(map(str, piece.constraints.names.shape)) for piece in parts]
+    others = len(asked.pieces) - len(parts)
+    is_whole = not others and len(parts) == 1
+    what = matrix if is_whole else f"{'a connected part' if len(parts) == 1 else 'connected parts'} of {matrix}"
+    program = f" The program decided {counted(others, 'other connected part')}." if others else ""
+    return (
+        f"Not proved: {what} {'of' if is_whole else 'with'} {listed(sizes, _SOME)} {'is' if len(parts) == 1 else 'are'} decided by "
+        f"arithmetic of this package, which checked the structure line by line.{program}"
+    )
 
 
 def _solves(report: ModelReport) -> str:
@@ -224,10 +320,14 @@ def of_reductions(report: ModelReport) -> str:
     reasons = ", ".join(f"{count} {_REASONS[reason]}" for reason, count in found.counts.items())
     left = "nothing is left" if 0 in found.left else f"{found.left[0]} rows and {found.left[1]} columns are left"
     parts = f", in {counted(found.parts, 'connected part')}" if found.parts > 1 else ""
-    return (
-        f"{found.rows} of {counted(rows, 'row')} and {found.columns} of {counted(columns, 'column')} are reducible, so they change no "
-        f"verdict ({reasons}): {left}{parts}."
-    )
+    gone = [
+        f"{count} of {counted(all_of, word)}"
+        for count, all_of, word in ((found.rows, rows, "row"), (found.columns, columns, "column"))
+        if count
+    ]
+    is_one = found.rows + found.columns == 1
+    what = f"{listed(gone)} {'is' if is_one else 'are'} reducible, so {'it changes' if is_one else 'they change'} no verdict"
+    return f"{what} ({reasons}): {left}{parts}."
 
 
 _REASONS = {"zero": "zero", "unit": "with one nonzero", "copy": "copies", "negative": "negatives"}

@@ -22,6 +22,8 @@ _NAMED = 45
 _LARGEST, _LEAST = 24.0, 1.5
 _TITLED = 1500
 _SHORT = 26
+# The widths of a bold character, of a wide one, and of a name that is turned: to the right, and upwards.
+_WIDE, _WIDEST, _TURNED_WIDE, _TURNED_HIGH = 7.7, 12.2, 0.53, 0.85
 
 
 @dataclass(frozen=True)
@@ -48,15 +50,21 @@ class _Layout:
         self.step = max(1, -int(-_LEAST // fit)) if fit < _LEAST else 1
         self.cell = fit
         names = model.rows if self.has_row_names else [band.name for band in self.row_bands]
-        self.left = 16.0 + 6.3 * min(max(map(len, names), default=0), _SHORT)
-        longest = min(max(map(len, model.columns), default=0), _SHORT)
-        self.top = 16.0 + 5.2 * longest if self.has_column_names else 30.0
+        self.left = 16.0 + max(map(_width, names), default=0.0)
+        longest = max(map(_width, model.columns), default=0.0)
+        self.top = 16.0 + _TURNED_HIGH * longest if self.has_column_names else 30.0
+        self.right = 14.0 + (_TURNED_WIDE * longest if self.has_column_names else 0.0)
 
     def x(self, place: float) -> float:
         return round(self.left + self.cell * place, 2)
 
     def y(self, place: float) -> float:
         return round(self.top + self.cell * place, 2)
+
+
+def _width(name: str) -> float:
+    """The width of a name that is shown, at most."""
+    return sum(_WIDEST if character in "WMmw@%" else _WIDE for character in name[:_SHORT])
 
 
 def _ordered(names: Sequence[str]) -> tuple[dict[int, int], list[_Band]]:
@@ -78,8 +86,7 @@ def is_titled(report: ModelReport) -> bool:
 def spy(report: ModelReport) -> str:
     """The picture of the matrix."""
     at = _Layout(report)
-    right = 14.0 + (6.3 * 5 if at.has_column_names else 0)
-    width, height = at.x(at.width) + right, at.y(at.height) + 10
+    width, height = at.x(at.width) + at.right, at.y(at.height) + 10
     parts = [
         f'<svg class="spy" viewBox="0 0 {width:.0f} {height:.0f}" width="{width:.0f}" height="{height:.0f}" role="img" '
         f'aria-label="the matrix, {at.height} rows and {at.width} columns">',

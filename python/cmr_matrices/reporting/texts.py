@@ -7,7 +7,8 @@ from collections.abc import Iterable, Iterator
 from typing import Any
 
 from . import sentences
-from .asking import Asked, Cells
+from .pieces import Asked, Cells
+from .integers import ColumnFamily, Integers
 from .minimal import Minimal
 from .repeating import repeated
 from .report import FamilyLine, ModelReport
@@ -40,10 +41,13 @@ def _lines(report: ModelReport) -> Iterator[str]:
     if report.verdict != "yes":
         yield ""
         yield from _families(report)
-        yield from _titled("What to relax", [*sentences.of_relaxation(report), *_sides_of_rest(report)])
+        title = "What to relax" if sentences.is_advice(report) else "What is known to fit together"
+        yield from _titled(title, [*sentences.of_relaxation(report), *_sides_of_rest(report)])
+        yield from _titled("Which variables have to stay integer", sentences.of_integers(report))
     yield from _titled("Reductions", [sentences.of_reductions(report)])
     yield from _tree(report)
     yield ""
+    yield from sentences.of_arithmetic(report)
     checked = sentences.counted(report.checked, "piece of evidence", "pieces of evidence")
     yield f"{sentences.counted(report.asked, 'question')} to cmr; cmr check accepted {checked}."
 
@@ -122,6 +126,8 @@ def _object(report: ModelReport) -> dict[str, Any]:
         "violator": _minimal(report.minimal),
         "families": [_family(report, family) for family in report.families],
         "relax": _relaxation(report),
+        "integers": _integers(report, report.integers),
+        "arithmetic": sentences.of_arithmetic(report),
         "open": None if report.verdict != "undecided" else {"why": report.whole.why_open} | _open(report),
         "ended": dict(report.ended),
         "reduced": _reduced(report),
@@ -157,11 +163,40 @@ def _family(report: ModelReport, family: FamilyLine) -> dict[str, Any]:
 def _relaxation(report: ModelReport) -> dict[str, Any]:
     model = report.rows.model
     return {
-        "said": report.relax,
+        "said": report.relax_said,
+        "has_reasons": sentences.is_advice(report),
         "rows": [model.rows[row] for row in report.relaxed],
         "largest": report.kept is not None and report.kept.is_largest,
         "rest_is_totally_unimodular": report.rest is not None,
         "solves_as_a_linear_program": report.rest is not None and not report.not_whole and not model.left_out,
+    }
+
+
+def _integers(report: ModelReport, found: Integers | None) -> dict[str, Any] | None:
+    if found is None:
+        return None
+    names = report.rows.model.columns
+    return {
+        "declare": [names[column] for column in found.fixed] if found.answer is not None else None,
+        "continuous": [names[column] for column in found.free] if found.answer is not None else None,
+        "smallest": found.is_smallest,
+        "declared_in_model": found.is_declared,
+        "not_whole": [_not_whole(it) for it in found.not_whole],
+        "class": None if found.reason is None else found.reason.word,
+        "families": [_column_family(report, family) for family in found.families],
+        "tree": [] if found.answer is None else _outline(found.answer),
+    }
+
+
+def _column_family(report: ModelReport, family: ColumnFamily) -> dict[str, Any]:
+    names = report.rows.model.columns
+    return {
+        "family": family.name,
+        "said": family.said,
+        "columns": len(family.columns),
+        "declare": [names[column] for column in family.fixed],
+        "coefficients": [names[column] for column in family.coefficients],
+        "violator": _cells(report, family.violator),
     }
 
 
@@ -179,7 +214,7 @@ def _cells(report: ModelReport, cells: Cells | None) -> dict[str, Iterable[str]]
 
 
 def _not_whole(it: NotWhole) -> dict[str, Any]:
-    return {"kind": it.kind, "name": it.name, "value": it.value}
+    return {"kind": it.kind, "name": it.name, "value": it.value, "rounded": it.rounded}
 
 
 def _outline(asked: Asked) -> list[str]:

@@ -12,7 +12,7 @@ from ..trees import Tree
 
 __all__ = ["drawn_tree"]
 
-_CHARACTER, _LINE, _GAP, _LEVEL = 6.1, 14.0, 14.0, 30.0
+_CHARACTER, _LINE, _GAP, _LEVEL = 6.9, 14.0, 14.0, 30.0
 _MOST_LINES = 7
 
 
