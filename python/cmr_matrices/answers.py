@@ -56,6 +56,15 @@ class Answer:
     """Of a yes of `sign`: the signs of the rows."""
     tries: int = field(default=0, repr=False)
     """In how many other orders of the lines the question was asked again."""
+    of_matroid: str | None = field(default=None, repr=False)
+    """Of a question about a `Matroid` its property, such as `regular` if the matrix over GF(3) is totally unimodular."""
+
+    @property
+    def asked(self) -> str:
+        """The property in words, and of a matroid over GF(3) also the property of its matrix that decides."""
+        if self.of_matroid is None or self.of_matroid in self.property_name:
+            return self.of_matroid or self.property_name
+        return f"{self.of_matroid} ({self.property_name} over GF(3))"
 
     @property
     def is_undecided(self) -> bool:
@@ -65,7 +74,7 @@ class Answer:
     def __bool__(self) -> bool:
         if self.is_undecided:
             raise Undecided(
-                f"{self.property_name}: undecided, the open part is larger than the budget; `pivots=100` makes more pivots of it, "
+                f"{self.asked}: undecided, the open part is larger than the budget; `pivots=100` makes more pivots of it, "
                 "`lines` up to 24 is a larger budget, and `tries=20` asks again in other orders of the lines"
             )
         return self.verdict == "yes"
@@ -73,7 +82,7 @@ class Answer:
     def __str__(self) -> str:
         named = (("violator", self.violator), ("open", self.open), ("rest", self.rest), ("minimal", self.minimal))
         lines = [
-            f"{self.property_name}: {self.verdict}",
+            f"{self.asked}: {self.verdict}",
             *(f"{what} {lines}" for what, lines in named if lines is not None),
         ]
         return "\n".join([*lines, *([] if self.tree is None else [str(self.tree)])])
@@ -83,7 +92,7 @@ class Answer:
 
     def _repr_html_(self) -> str:
         named = (("violator", self.violator), ("open", self.open), ("rest", self.rest), ("minimal", self.minimal))
-        parts = [f"<p><b>{escape(self.property_name)}: {self.verdict}</b></p>\n"]
+        parts = [f"<p><b>{escape(self.asked)}: {self.verdict}</b></p>\n"]
         for what, part in named:
             if part is not None:
                 parts += paragraph(f"{what}, {part.lines.size} of {part.shape[0]}x{part.shape[1]}"), part._repr_html_()
