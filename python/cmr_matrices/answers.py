@@ -117,6 +117,18 @@ class Checked:
     """The first step of a chain that breaks a rule, counted from 0. The violator counts as the step after the last."""
     rule: str | None = None
     """The rule of docs/FORMATS.md that the node breaks; of an answer also what its graph, signs or violator lack."""
+    hint: str | None = field(default=None, repr=False)
+    """What to check instead, if refused evidence belongs to another matrix: that of `is_regular` to its signed matrix."""
+
+    def __str__(self) -> str:
+        if self.accepted:
+            return f"accepted: {self.says}"
+        place = "" if self.path is None else f"node {'.'.join(str(child) for child in self.path) or 'root'} "
+        step = "" if self.step is None else f"step {self.step} "
+        return f"refused: {place}{step}{self.rule or ''}".rstrip() + ("" if self.hint is None else f"; {self.hint}")
+
+    def _repr_html_(self) -> str:
+        return paragraph(str(self))
 
     def __bool__(self) -> bool:
         return self.accepted

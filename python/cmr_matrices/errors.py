@@ -148,11 +148,15 @@ class Undecided(CmrError):
 
 
 class Refused(CmrError):
-    """There is no such sum, or a tree does not have two parts. `cause` is what the program says."""
+    """There is no such sum, or a tree does not have two parts. `cause` is what the program says, and `hint` what to do instead."""
 
-    def __init__(self, cause: str) -> None:
-        super().__init__(cause)
+    def __init__(self, cause: str, hint: str | None = None) -> None:
+        super().__init__(cause, hint)
         self.cause = cause
+        self.hint = hint
+
+    def __str__(self) -> str:
+        return self.cause if self.hint is None else f"{self.cause}: {self.hint}"
 
 
 class TimeLimitReached(CmrError, TimeoutError):

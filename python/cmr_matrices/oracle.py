@@ -5,13 +5,14 @@ The connectivity of a set X is lambda(X) = r(X) + r(E - X) - r(M).
 
 from __future__ import annotations
 
-from collections.abc import Iterable, Iterator
+from collections.abc import Iterable, Iterator, Sequence
 
 from .circuits import circuits
 from .connectivity import Crossings
 from .errors import BadInput
 from .matroid_values import Label, MatroidValue
-from .vectors import ZERO, Span
+from .tableaux import Field, Row, bits_of
+from .vectors import ZERO, Span, normal
 
 __all__ = ["MOST_FLATS", "Oracle"]
 
@@ -38,18 +39,19 @@ class Oracle(MatroidValue):
 
     def is_independent(self, elements: Iterable[Label]) -> bool:
         """Whether some elements are independent."""
-        chosen = set(self.numbers(elements))
-        return self.rank([self.elements[number] for number in chosen]) == len(chosen)
+        chosen = self._chosen(elements)
+        return self.rank(chosen) == len(chosen)
 
     def is_basis(self, elements: Iterable[Label]) -> bool:
         """Whether some elements are a basis."""
-        chosen = frozenset(elements)
+        chosen = self._chosen(elements)
         return len(chosen) == self.rank() and self.is_independent(chosen)
 
     def is_circuit(self, elements: Iterable[Label]) -> bool:
         """Whether some elements are a circuit: dependent, and independent without any one of them."""
-        chosen = frozenset(elements)
-        return not self.is_independent(chosen) and all(self.is_independent(chosen - {one}) for one in chosen)
+        chosen = self._chosen(elements)
+        smaller = ([*chosen[:place], *chosen[place + 1 :]] for place in range(len(chosen)))
+        return not self.is_independent(chosen) and all(map(self.is_independent, smaller))
 
     def closure(self, elements: Iterable[Label]) -> Labels:
         """All elements that do not increase the rank of some elements."""
@@ -58,8 +60,8 @@ class Oracle(MatroidValue):
 
     def is_flat(self, elements: Iterable[Label]) -> bool:
         """Whether some elements are all of their closure."""
-        chosen = frozenset(elements)
-        return self.closure(chosen) == chosen
+        chosen = self._chosen(elements)
+        return self.closure(chosen) == set(chosen)
 
     def loops(self) -> Labels:
         """The elements of rank 0."""
@@ -104,21 +106,18 @@ class Oracle(MatroidValue):
 
     def flats(self, rank: int) -> frozenset[Labels]:
         """The flats of a rank. Raises `BadInput` if there are more than 20,000 of one rank up to this one."""
-        found = {self.closure([])}
         if not 0 <= rank <= self.rank():
             return frozenset()
+        vectors = self.vectors()
+        found = {sum(1 << place for place, vector in enumerate(vectors) if vector == ZERO)}
         for _ in range(rank):
-            above: set[Labels] = set()
+            above: set[int] = set()
             for flat in found:
-                left = [element for element in self.elements if element not in flat]
-                while left:
-                    larger = self.closure([*flat, left[0]])
-                    above.add(larger)
-                    left = [element for element in left if element not in larger]
+                above.update(flat | larger for larger in _classes(self.field, vectors, flat))
                 if len(above) > MOST_FLATS:
                     raise BadInput(f"there are more than {MOST_FLATS} flats of one rank")
             found = above
-        return frozenset(found)
+        return frozenset(map(self._labels, found))
 
     def connectivity(self, elements: Iterable[Label]) -> int:
         """lambda(X) = r(X) + r(E - X) - r(M) of some elements X."""
@@ -149,6 +148,10 @@ class Oracle(MatroidValue):
         """Whether there is neither a 1- nor a 2-separation."""
         return self.separation() is None
 
+    def _chosen(self, elements: Iterable[Label]) -> list[Label]:
+        """Some elements, each once, in their order."""
+        return [self.elements[number] for number in dict.fromkeys(self.numbers(elements))]
+
     def _span(self, elements: Iterable[Label]) -> Span:
         vectors, span = self.vectors(), Span(self.field)
         for number in self.numbers(elements):
@@ -160,3 +163,17 @@ class Oracle(MatroidValue):
 
     def _crossings(self) -> Crossings:
         return Crossings.of(self.tableau())
+
+
+def _classes(field: Field, vectors: Sequence[Row], flat: int) -> Iterable[int]:
+    """The classes of elements outside of a flat that are parallel if the flat is contracted, as sets of bits."""
+    span = Span(field)
+    for place in bits_of(flat):
+        span.add(vectors[place])
+    classes: dict[Row, int] = {}
+    for place, vector in enumerate(vectors):
+        if not flat >> place & 1:
+            rest = span.reduced(vector)[0]
+            key = rest if field == 2 else normal(rest)
+            classes[key] = classes.get(key, 0) | 1 << place
+    return classes.values()

@@ -258,7 +258,7 @@ class _Search:
         taken = _taken(given, self.property_name)
         files = _SEARCHES[self.property_name][1] if certificate or self.tries else {}
         answer = self._decided(Question(self.property_name, self.words(self.pivots), files), taken, call)
-        answer = replace(answer, of_matroid=matroid_property(self.property_name, given))
+        answer = replace(_of_signed(answer), of_matroid=matroid_property(self.property_name, given))
         return answer if certificate else replace(answer, tree=None, signed=None, chain=None)
 
     def _decided(self, question: Question, matrix: Matrix, call: Call) -> Answer:
@@ -283,6 +283,14 @@ def _asked(question: Question, given: MatroidLike, time_limit: TimeLimit, progra
     call = Call.begin(program, time_limit)
     answer = question.ask(_taken(given, question.property_name), call.program, call.clock)
     return replace(answer, of_matroid=matroid_property(question.property_name, given))
+
+
+def _of_signed(answer: Answer) -> Answer:
+    """The answer with evidence that names the signed matrix, to which the evidence of regularity belongs."""
+    if answer.property_name != "regular":
+        return answer
+    violator = answer.violator and replace(answer.violator, of_signed=True)
+    return replace(answer, violator=violator, tree=answer.tree and replace(answer.tree, signed=answer.signed))
 
 
 def _taken(given: MatroidLike, property_name: str) -> Matrix:

@@ -24,6 +24,10 @@ class Submatrix:
     names: Names | None = field(default=None, compare=False, repr=False)
     entries: tuple[tuple[int, ...], ...] | None = field(default=None, compare=False, repr=False)
     """The entries of its rows, if it is the violator of an answer and is small."""
+    of_signed: bool = field(default=False, compare=False, repr=False)
+    """Whether it is a violator of the signed matrix of `is_regular`, and not of the 0/1 matrix."""
+    meaning: str | None = field(default=None, compare=False, repr=False)
+    """What it shows, as a notebook says above its entries."""
 
     @property
     def lines(self) -> LineSet:
