@@ -83,7 +83,7 @@ class Answer:
         named = (("violator", self.violator), ("open", self.open), ("rest", self.rest), ("minimal", self.minimal))
         lines = [
             f"{self.asked}: {self.verdict}",
-            *(f"{what} {lines}" for what, lines in named if lines is not None),
+            *(f"{what}{' of the signed matrix' * lines.of_signed} {lines}" for what, lines in named if lines is not None),
         ]
         return "\n".join([*lines, *([] if self.tree is None else [str(self.tree)])])
 
@@ -95,10 +95,11 @@ class Answer:
         parts = [f"<p><b>{escape(self.asked)}: {self.verdict}</b></p>\n"]
         for what, part in named:
             if part is not None:
-                parts += paragraph(f"{what}, {part.lines.size} of {part.shape[0]}x{part.shape[1]}"), part._repr_html_()
+                of = " of the signed matrix" if part.of_signed else ""
+                parts += paragraph(f"{what}{of}, {part.lines.size} of {part.shape[0]}x{part.shape[1]}"), part._repr_html_()
         drawn = self.tree or self.graph
         if drawn is not None:
-            parts.append(drawn._repr_svg_() or drawn._repr_html_() or "")
+            parts.append(drawn._repr_html_() or "")
         return "".join(parts)
 
 

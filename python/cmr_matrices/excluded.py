@@ -34,6 +34,7 @@ from .lines import Line, LineSet, Names
 from .matrix import Matrix
 from .matroid_values import Label, MatroidValue
 from .matroids import field_of_named, named
+from .pages import line_list, paragraph
 from .tableaux import Field
 from .words import LIMIT, Words
 
@@ -233,6 +234,11 @@ class ExcludedMinor:
         sets = (("deleted", self.deleted), ("contracted", self.contracted))
         lines = (f"{what} {self._set_name(lines)}" for what, lines in sets)
         return "\n".join([f"minor {self.name}: {elements}", *lines])
+
+    def _repr_html_(self) -> str:
+        what = [f"excluded minor {self.name} of the class {self.property_name}", *str(self).splitlines()[1:]]
+        pairs = [(element, [self._line_name(line)]) for line, element in self.elements.items()]
+        return "".join(map(paragraph, what)) + line_list(pairs, counts=False)
 
     def _line_name(self, line: Line) -> str:
         return (self.names or Names.numbered(*self.shape)).line(line)

@@ -17,6 +17,7 @@ from .mappings import Automorphisms, automorphisms_of, isomorphism_of
 from .matrix import Matrix
 from .matroid_pages import matroid_page
 from .matroid_sums import Columns, direct_sum, three_sum, two_sum
+from .matroid_trees import Decomposition, decomposed
 from .matroid_values import Label, labels_of, tableau_of_columns
 from .matroids import field_of_named, named
 from .minors import excluded_minor
@@ -237,6 +238,14 @@ class Matroid(Oracle):
     def excluded_minor(self, of: str, **options: Any) -> ExcludedMinor | None:
         """An excluded minor for a class such as `graphic`, or None, with the keywords of the function `excluded_minor`."""
         return excluded_minor(self, of, **options)
+
+    def decomposition(self, *, lines: int = 0, **options: Any) -> Decomposition:
+        """Seymour's decomposition of a regular matroid: its summands as matroids with their elements, their kinds and their graphs.
+
+        `lines` is the budget of exhaustive searches, 0 to 24 lines (0). With 0, every leaf is graphic, cographic or R10. The other
+        keywords are those of the function `is_regular`. Raises `BadInput` if the matroid is not regular, and `Undecided`.
+        """
+        return decomposed(self, lines, **options)
 
     def to_sage(self) -> str:
         """A text that Sage takes for this matroid: `Matroid(groundset=[..], matrix=Matrix(GF(2), [..]))`, with all of `[I A]`."""

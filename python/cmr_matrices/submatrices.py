@@ -7,7 +7,7 @@ from dataclasses import dataclass, field
 from .errors import BadInput
 from .lines import LineSet, Names
 from .matrix import Matrix
-from .pages import SHOWN, line_list, matrix_table
+from .pages import SHOWN, line_list, matrix_table, paragraph
 from .sources import MatrixLike
 from .words import Words
 
@@ -77,6 +77,10 @@ class Submatrix:
         return f"Submatrix(shape={self.shape}, {len(self.rows)} rows, {len(self.columns)} columns)"
 
     def _repr_html_(self) -> str:
+        meaning = "" if self.meaning is None else paragraph(self.meaning)
+        return meaning + self._table()
+
+    def _table(self) -> str:
         if self.entries is None:
             return line_list([("rows", self.row_names), ("columns", self.column_names)])
         names = Names(self.row_names, self.column_names)

@@ -16,7 +16,7 @@ from .libraries import library
 from .lines import LineSet, Names
 from .matrix import Matrix
 from .nodes import LEAVES, Node
-from .pages import no_picture
+from .pages import no_picture, paragraph
 from .separations import Separation, separations_of
 from .sources import MatrixLike
 from .submatrices import Submatrix
@@ -103,7 +103,8 @@ class Tree:
         return svg(self.to_dot())
 
     def _repr_html_(self) -> str | None:
-        return no_picture("the tree")
+        signed = paragraph("the tree of the signed matrix") if self.signed is not None else ""
+        return signed + (self._repr_svg_() or no_picture("the tree") or "")
 
     def to_text(self) -> str:
         """The canonical tree text, with lines counted from 1."""

@@ -72,7 +72,7 @@ class Pictures(unittest.TestCase):
             drawn = value._repr_svg_()
             assert drawn is not None
             self.assertTrue(drawn.startswith("<svg ") and drawn.rstrip().endswith("</svg>"), drawn)
-            self.assertIsNone(value._repr_html_())
+            self.assertIn(drawn, value._repr_html_() or "")
 
     def test_a_reason_where_there_is_no_picture(self) -> None:
         graph = Graph.from_text(STAR, directed=False)
