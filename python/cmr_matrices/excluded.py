@@ -29,7 +29,7 @@ from typing import TYPE_CHECKING
 
 from .asked import MatroidLike, matrix_given
 from .bases import bases, left_after
-from .errors import BadInput
+from .errors import BadEntry, BadInput
 from .lines import Line, LineSet, Names
 from .matrix import Matrix
 from .matroid_values import Label, MatroidValue
@@ -163,14 +163,19 @@ class ExcludedMinor:
         """
         return self.fault(matrix) is None
 
-    def fault(self, matrix: MatroidLike) -> str | None:
-        """What is wrong with it as a minor of the matroid of a matrix, in a few words, or None if nothing is wrong."""
+    def fault(self, matrix: MatroidLike, *, first: int = 0) -> str | None:
+        """What is wrong with it as a minor of the matroid of a matrix, in a few words, or None if nothing is wrong.
+
+        Rows and columns are counted from `first`: from 0 as in Python, or from 1 as in texts.
+        """
         try:
             entries = self._entries(matrix)
             kind = minor_class(self.property_name)
             if self.name not in kind.excluded:
                 return f"{self.name} is no excluded minor of the class {kind.name}"
             left = left_after(entries, kind.field, self.pivots, self.rows, self.columns)
+        except BadEntry as fault:
+            return fault.counted(first)
         except BadInput as fault:
             return str(fault)
         wanted = _named(self.name)

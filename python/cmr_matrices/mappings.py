@@ -2,6 +2,8 @@
 
 from __future__ import annotations
 
+from collections import Counter
+from collections.abc import Hashable
 from dataclasses import dataclass, field
 
 from .circuits import LARGEST, circuits
@@ -12,7 +14,7 @@ from .matroid_values import Label, MatroidValue
 from .questions import is_totally_unimodular
 from .tableaux import Field, Tableau
 
-__all__ = ["Automorphisms", "automorphisms_of", "isomorphism_of"]
+__all__ = ["Automorphisms", "automorphisms_of", "fingerprint", "isomorphism_of"]
 
 
 @dataclass(frozen=True)
@@ -71,6 +73,12 @@ def automorphisms_of(one: MatroidValue, clock: Clock) -> Automorphisms:
         order *= len(orbit)
     labelled = [{one.elements[at]: one.elements[to] for at, to in enumerate(found)} for found in generators]
     return Automorphisms(order, tuple(labelled), one.elements)
+
+
+def fingerprint(one: MatroidValue, clock: Clock) -> Hashable:
+    """What isomorphic matroids over one field have in common: the numbers of their short cycles and cocycles by size."""
+    structure = _search(one, one, clock).structures[0]
+    return one.matrix.shape, frozenset(Counter(kind for kind, _ in structure.sets).items())
 
 
 def _orbit(element: int, generators: list[tuple[int, ...]]) -> set[int]:

@@ -23,6 +23,7 @@ from .matroids import field_of_named, named
 from .minors import excluded_minor
 from .oracle import Oracle
 from .questions import is_cographic, is_graphic, is_regular, is_series_parallel
+from .small_minors import Removed, minor_like
 from .sources import MatrixLike
 from .tableaux import Field, Row, Tableau
 
@@ -214,6 +215,17 @@ class Matroid(Oracle):
     def is_isomorphic(self, other: Matroid, *, time_limit: float | None = None) -> bool:
         """Whether two matroids are the same up to the labels of their elements. `time_limit` is in seconds, 0 to 2,000,000."""
         return self.isomorphism(other, time_limit=time_limit) is not None
+
+    def find_minor(self, other: Matroid, *, time_limit: float | None = None) -> Removed | None:
+        """The elements to delete and to contract for a minor that is isomorphic to another matroid, or None if it has no such minor.
+
+        The matroid has to be small, with up to about 15 elements. `time_limit` is in seconds, 0 to 2,000,000.
+        """
+        return minor_like(self, other, Clock.of(time_limit))
+
+    def has_minor(self, other: Matroid, *, time_limit: float | None = None) -> bool:
+        """Whether a small matroid has a minor that is isomorphic to another matroid. `time_limit` is in seconds, 0 to 2,000,000."""
+        return self.find_minor(other, time_limit=time_limit) is not None
 
     def automorphisms(self, *, time_limit: float | None = None) -> Automorphisms:
         """The group of the automorphisms: its order, generators and orbits. `time_limit` is in seconds, 0 to 2,000,000."""

@@ -183,7 +183,7 @@ class Sums(unittest.TestCase):
             (lambda: k5.two_sum(plane, "x", "1"), "there is no element 'x'"),
             (lambda: k5.three_sum(plane, ["1-2", "1-3", "2-3"]), "there is no element '1-2'"),
             (lambda: k5.three_sum(plane.relabelled({"1": "1-2", "2": "1-3", "3": "2-3"}), ["1-2", "1-3", "2-3"]), "is no circuit"),
-            (lambda: Matroid.from_named("P8").three_sum(Matroid.from_named("T8"), "123"), "two binary matroids"),
+            (lambda: Matroid.from_named("P8").three_sum(Matroid.from_named("T8"), list("123")), "two binary matroids"),
         ]:
             with self.assertRaisesRegex(BadInput, piece):
                 wrong()
