@@ -42,6 +42,7 @@ class Structure:
             for member in members:
                 self.within[member].append(number)
         self.near, self.known = entries_between(vectors, ranks[0], field)
+        self.is_known = self.known == (1 << self.size) - 1
 
     def begins(self) -> list[Hashable]:
         """What an element is by itself."""
@@ -77,6 +78,24 @@ class Structure:
         return told
 
 
+    def by_rest(self, colours: Colours) -> list[Hashable]:
+        """What an element is in the matroid without the elements that have colours of their own, by the entries of `code_forms`.
+
+        They are known at more elements than in the whole matroid, in general at all.
+        """
+        counts = Counter(colours)
+        rest = [at for at in range(self.size) if counts[colours[at]] > 1]
+        if self.is_known or not rest or len(rest) == self.size:
+            return list(colours)
+        near, known = entries_between([self.vectors[at] for at in rest], self.rank, self.field)
+        told: list[Hashable] = list(colours)
+        for place, at in enumerate(rest):
+            others = sorted(colours[rest[other]] for other in bits_of(near[place] & (1 << len(rest)) - 1))
+            own = known >> place & 1, near[place] >> place & 1, near[place] >> len(rest) & 1
+            told[at] = (colours[at], own, tuple(others))
+        return told
+
+
 def refined(one: Structure, two: Structure, colours: tuple[Colours, Colours]) -> tuple[Colours, Colours] | None:
     """Finer colours of two matroids, or None if they then have other numbers of elements of a colour."""
     now: tuple[Colours, Colours] | None = colours
@@ -87,6 +106,8 @@ def refined(one: Structure, two: Structure, colours: tuple[Colours, Colours]) ->
         now = _numbered(*told)
         if now is not None and len(set(now[0])) == len(set(before[0])):
             now = _numbered(one.by_span(now[0]), two.by_span(now[1]))
+        if now is not None and len(set(now[0])) == len(set(before[0])):
+            now = _numbered(one.by_rest(now[0]), two.by_rest(now[1]))
             if now is not None and len(set(now[0])) == len(set(before[0])):
                 return now
     return None
