@@ -114,6 +114,7 @@ class Labels(unittest.TestCase):
             (lambda: Matroid.of([]).delete("x"), "the matroid has no elements"),
             (lambda: plane.relabelled([1]), "there are 1 labels, and 7 elements"),
             (lambda: Matroid(plane.matrix, 2, (1, 2)), "there are 2 labels, and 7 elements"),
+            (lambda: Matrix.of(plane), "an object of type Matroid is none; its `matrix` is one"),  # type: ignore[arg-type]
             (lambda: plane.relabelled([[]] * 7), "a label is a text, a number or another value that can be a key"),
         ]:
             with self.assertRaisesRegex(BadInput, piece):
