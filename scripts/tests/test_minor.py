@@ -41,6 +41,9 @@ class Minors(ScriptTest):
         )
         self.write("other", MINOR.replace("pivots 1 1 1", "pivots 0"))
         self.assertEqual(self.check("check", FANO, "other"), (7, ["refused: what is left is not U2,4"], ""))
+        self.write("zero", MINOR.replace("pivots 1 1 1", "pivots 1 1 3"))
+        refused = "refused: row 1, column 3: the entry 0 is none of the nonzeros, as it has to be at a pivot"
+        self.assertEqual(self.check("check", FANO, "zero"), (7, [refused], ""))
 
     def test_what_is_refused(self):
         self.write("minor", MINOR)
