@@ -241,7 +241,9 @@ class ExcludedMinor:
         return "\n".join([f"minor {self.name}: {elements}", *lines])
 
     def _repr_html_(self) -> str:
-        what = [f"excluded minor {self.name} of the class {self.property_name}", *str(self).splitlines()[1:]]
+        gone = (("deleted", self.deleted_elements), ("contracted", self.contracted_elements))
+        said = (f"{what} {', '.join(map(str, elements)) or 'nothing'}" for what, elements in gone)
+        what = [f"excluded minor {self.name} of the class {self.property_name}", *said]
         pairs = [(element, [self._line_name(line)]) for line, element in self.elements.items()]
         return "".join(map(paragraph, what)) + line_list(pairs, counts=False)
 

@@ -158,13 +158,15 @@ def _tree(graph: Graph, names: Names, *, directed: bool) -> str:
 def _node_labels(graph: Graph, names: Names) -> list[str]:
     """The names of the ends if all edges are named after them, as `1-2` is, and otherwise the numbers of the nodes.
 
-    If edges are named by such pairs and these are not the ends, nodes have no labels, since numbers would contradict the names.
+    If edges are named by such pairs and these are not the ends, or by numbers, nodes have no labels, since their numbers would contradict
+    the names.
     """
     numbers = [str(node) for node in range(len(graph.arcs) + 1)]
     pairs = [(edge, _PAIR.fullmatch(names.line(edge.line))) for edge in graph.edges]
     found = [(edge, {pair[1], pair[2]}) for edge, pair in pairs if pair]
     if len(found) < len(pairs) or not pairs:
-        return ["" for _ in numbers] if found else numbers
+        is_confused = found or any(names.line(edge.line).isdecimal() for edge in graph.edges)
+        return ["" for _ in numbers] if is_confused else numbers
     near: list[list[set[str]]] = [[] for _ in numbers]
     for edge, ends in found:
         for node in {edge.tail, edge.head}:
