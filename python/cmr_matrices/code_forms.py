@@ -1,8 +1,8 @@
 """What two elements of a matroid are for the space of its cocycles, apart from any basis.
 
-The cocycles of a binary or ternary matroid are the rows of `[I A]` and their sums; over GF(3) they are known up to signs of elements. If the
-unit vector of an element is the sum of a cocycle and of a vector that is orthogonal to all cocycles, the cocycle is known up to vectors that
-are both: over GF(2) the bicycles. At an element that is in none of these its entry is known, over GF(3) up to its sign. An isomorphism
+The cocycles of a binary or ternary matroid are the rows of `[I A]` and their sums; over GF(3) they are known up to signs of elements. If
+the unit vector of an element is the sum of a cocycle and of a vector that is orthogonal to all cocycles, the cocycle is known up to vectors
+that are both: over GF(2) the bicycles. At an element that is in none of these its entry is known, over GF(3) up to its sign. An isomorphism
 maps these entries to equal ones. They are told by elimination for matroids of any size, and most often tell all elements apart.
 
 Source: Rosenstiehl and Read 1978 for the bicycles of graphs; Bardet, Otmani and Saeed-Taha 2019 for codes without hull.

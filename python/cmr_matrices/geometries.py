@@ -35,7 +35,7 @@ def affine(name: str, dimension: int, field: Field) -> Matrix:
 
 
 def whirl(name: str, rank: int) -> Matrix:
-    """The whirl of a rank over GF(3): its spokes `s1`, `s2`, .. are the basis, and each rim element `r1`, .. is in the span of two spokes."""
+    """The whirl of a rank over GF(3): its spokes `s1`, `s2`, .. are the basis, and each rim element `r1`, .. is spanned by two."""
     if not 2 <= rank <= LIMIT:
         raise BadInput(f"{name} is no whirl that is known here: its rank is from 2 to {LIMIT}")
     # With -1 in the last place of the first row, all columns would sum to 0, and this would be a wheel.

@@ -25,8 +25,8 @@ def direct_sum(one: Oracle, two: Oracle) -> Columns:
     _must_be_apart(one.elements, two.elements)
     _must_have_one_field(one, two)
     height = one.rank()
-    vectors: list[tuple[Label, Row]] = [*zip(one.elements, one.vectors()), *zip(two.elements, (_shifted(it, height) for it in two.vectors()))]
-    return height + two.rank(), vectors
+    last = (_shifted(vector, height) for vector in two.vectors())
+    return height + two.rank(), [*zip(one.elements, one.vectors()), *zip(two.elements, last)]
 
 
 def two_sum(one: Oracle, two: Oracle, at: Label, other: Label) -> Columns:

@@ -1,8 +1,8 @@
 """Seymour's decomposition of a regular matroid, with matroids as its parts.
 
 Every regular matroid is built by direct sums, 2-sums and 3-sums from graphic matroids, cographic matroids and copies of R10 (Seymour 1980).
-The program returns a tree of submatrices. Here each node is a minor with labels, and its graph. Pivots change the basis and not the matroid,
-so the nodes of pivots are omitted.
+The program returns a tree of submatrices. Here each node is a minor with labels, and its graph. Pivots change the basis and not the
+matroid, so the nodes of pivots are omitted.
 """
 
 from __future__ import annotations

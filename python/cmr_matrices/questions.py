@@ -167,8 +167,8 @@ def is_series_parallel(
 ) -> Answer:
     """Whether removing lines that are zero, have one nonzero, or equal another line or its negative leaves no lines.
 
-    With `binary` the matrix is 0/1, and negatives do not count. Of a `Matroid` the field decides, and not `binary`. A no has the `rest`. With `certificate` there are the
-    `reductions`, and for a no a `minimal` submatrix.
+    With `binary` the matrix is 0/1, and negatives do not count. Of a `Matroid` the field decides, and not `binary`. A no has
+    the `rest`. With `certificate` there are the `reductions`, and for a no a `minimal` submatrix.
 
     `time_limit` is in seconds, 0 to 2,000,000, for the whole call, and `program` the program's path.
 

@@ -43,8 +43,8 @@ class Tree:
     def submatrices(self, matrix: MatrixLike | None = None) -> Iterator[tuple[Node, Matrix]]:
         """Each node in preorder with its submatrix: the submatrix on the node's lines, after the pivots of the nodes above it.
 
-        The matrix may be omitted for a tree of `is_regular`, which has its `signed` matrix. Raises `BadInput` if the matrix has another shape, and `BadEntry` if a pivot is at a zero or gives an entry other than -1, 0 and
-        1; `check` refuses such a tree.
+        The matrix may be omitted for a tree of `is_regular`, which has its `signed` matrix. Raises `BadInput` if the matrix has another
+        shape, and `BadEntry` if a pivot is at a zero or gives an entry other than -1, 0 and 1; `check` refuses such a tree.
         """
         given = self.signed if matrix is None else matrix
         if given is None:

@@ -142,7 +142,8 @@ class Sums(unittest.TestCase):
                     one.two_sum(two, at, other)
                 continue
             made += 1
-            sets = [[{circuit for circuit in it.circuits() if (e in circuit) == inside} for inside in (0, 1)] for it, e in ((one, at), (two, other))]
+            pairs = ((one, at), (two, other))
+            sets = [[{circuit for circuit in it.circuits() if (e in circuit) == inside} for inside in (0, 1)] for it, e in pairs]
             through = {(first - {at}) | (second - {other}) for first, second in itertools.product(sets[0][1], sets[1][1])}
             self.assertEqual(one.two_sum(two, at, other).circuits(), sets[0][0] | sets[1][0] | through)
         self.assertGreater(made, 20)
@@ -195,7 +196,8 @@ class Graphs(unittest.TestCase):
     def test_labels_of_edges(self) -> None:
         import networkx
 
-        for graph, name in ((networkx.petersen_graph(), "Petersen"), (networkx.complete_graph(5), "K5"), (networkx.cubical_graph(), "cube")):
+        graphs = {"Petersen": networkx.petersen_graph(), "K5": networkx.complete_graph(5), "cube": networkx.cubical_graph()}
+        for name, graph in graphs.items():
             for field in (2, 3):
                 matroid = Matroid.from_graph(graph, field)  # type: ignore[arg-type]
                 self.assertEqual(set(matroid.elements), set(graph.edges()))
@@ -248,7 +250,7 @@ class Names(unittest.TestCase):
         """A whirl is the wheel in which the rim is no circuit, but a basis (Oxley, section 8.4)."""
         for rank in (3, 4, 5):
             whirl = Matroid.from_named(f"W^{rank}")
-            wheel = Matroid.of([[abs(entry) for entry in row] for row in whirl.matrix.to_lists()], row_names=whirl.basis, column_names=whirl.others)
+            wheel = Matroid.of(whirl.matrix.support(), row_names=whirl.basis, column_names=whirl.others)
             self.assertTrue(wheel.is_isomorphic(Matroid.from_named(f"W{rank}")))
             rim = frozenset(whirl.others)
             self.assertEqual(set(whirl.bases()) - set(wheel.bases()), {rim})

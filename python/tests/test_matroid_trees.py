@@ -5,6 +5,7 @@ from __future__ import annotations
 import pickle
 import random
 import unittest
+from itertools import combinations
 
 from cmr_matrices import BadInput, Matroid, Refused, check, is_regular, named, parts
 from cmr_matrices.matroid_trees import Decomposition
@@ -64,6 +65,25 @@ class Decompositions(unittest.TestCase):
         self.assertEqual(sorted(leaf.kind for leaf in found.leaves()), ["R10", "cographic", "graphic"])
         self.assertIn("without", str(found))
         self.assertEqual(set(found.matroid.elements), set(whole.elements))
+
+    def test_random_sums_of_known_matroids(self) -> None:
+        """2-sums and 3-sums at random, of which none is left without a kind."""
+        draw, threes = random.Random(5), 0
+        for _ in range(8):
+            names = [draw.choice(("K5", "K5*", "K3,3*", "R10", "R12", "W5", "V8", "K6", "Petersen*")) for _ in range(3)]
+            made = [Matroid.from_named(name) for name in names]
+            whole, *others = (it.relabelled([(at, e) for e in it.elements]) for at, it in enumerate(made))
+            for other in others:
+                triangles = [[three for three in combinations(it.elements, 3) if it.is_circuit(three)] for it in (whole, other)]
+                own, its = (next(iter(draw.sample(found, len(found))), None) for found in triangles)
+                try:
+                    assert own is not None and its is not None
+                    whole = whole.three_sum(other.relabelled(dict(zip(its, own))), own)
+                    threes += 1
+                except (AssertionError, BadInput):
+                    whole = whole.two_sum(other, draw.choice(whole.elements), draw.choice(other.elements))
+            self.holds(whole.decomposition())
+        self.assertGreater(threes, 4)
 
     def test_no_leaf_is_enumerated(self) -> None:
         """Without pivots and with a budget, the program searches through row sets, and does not say what the part is."""

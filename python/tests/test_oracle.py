@@ -76,7 +76,8 @@ class Ranks(unittest.TestCase):
             rows = [[draw.choice((0, 1, 1, -1 if field == 3 else 1)) for _ in range(4)] for _ in range(4)]
             matroid = Matroid.of(rows, field, row_names=range(4), column_names=range(4, 8))
             whole = frozenset(range(8))
-            lambdas = {one: matroid.connectivity(one) for size in (1, 2, 3, 4) for one in map(frozenset, itertools.combinations(range(8), size))}
+            sets = [frozenset(chosen) for size in (1, 2, 3, 4) for chosen in itertools.combinations(range(8), size)]
+            lambdas = {one: matroid.connectivity(one) for one in sets}
             is_separated = any(value < min(2, len(one)) for one, value in lambdas.items())
             self.assertEqual(matroid.is_3connected(), not is_separated, rows)
             found = matroid.separation()
