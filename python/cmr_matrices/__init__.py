@@ -38,6 +38,8 @@ from .excluded import ExcludedMinor
 from .graphs import Edge, Graph
 from .lines import Line, LineSet, Names
 from .matrix import Matrix
+from .mappings import Automorphisms
+from .matroid_trees import Decomposition
 from .matroids import named
 from .minors import excluded_minor
 from .modellers import from_linopy, from_model, from_model_scaled, from_pulp, from_pyomo, from_scipy, reduced_parts
@@ -69,6 +71,7 @@ from .version import __version__
 
 __all__ = [
     "Answer",
+    "Automorphisms",
     "BadCoefficients",
     "BadCommandLine",
     "BadEntry",
@@ -81,6 +84,7 @@ __all__ = [
     "Checked",
     "CmrError",
     "CommandMissing",
+    "Decomposition",
     "Edge",
     "ExcludedMinor",
     "Family",

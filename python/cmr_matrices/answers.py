@@ -56,6 +56,15 @@ class Answer:
     """Of a yes of `sign`: the signs of the rows."""
     tries: int = field(default=0, repr=False)
     """In how many other orders of the lines the question was asked again."""
+    of_matroid: str | None = field(default=None, repr=False)
+    """Of a question about a `Matroid` its property, such as `regular` if the matrix over GF(3) is totally unimodular."""
+
+    @property
+    def asked(self) -> str:
+        """The property in words, and of a matroid over GF(3) also the property of its matrix that decides."""
+        if self.of_matroid is None or self.of_matroid in self.property_name:
+            return self.of_matroid or self.property_name
+        return f"{self.of_matroid} ({self.property_name} over GF(3))"
 
     @property
     def is_undecided(self) -> bool:
@@ -65,7 +74,7 @@ class Answer:
     def __bool__(self) -> bool:
         if self.is_undecided:
             raise Undecided(
-                f"{self.property_name}: undecided, the open part is larger than the budget; `pivots=100` makes more pivots of it, "
+                f"{self.asked}: undecided, the open part is larger than the budget; `pivots=100` makes more pivots of it, "
                 "`lines` up to 24 is a larger budget, and `tries=20` asks again in other orders of the lines"
             )
         return self.verdict == "yes"
@@ -73,8 +82,8 @@ class Answer:
     def __str__(self) -> str:
         named = (("violator", self.violator), ("open", self.open), ("rest", self.rest), ("minimal", self.minimal))
         lines = [
-            f"{self.property_name}: {self.verdict}",
-            *(f"{what} {lines}" for what, lines in named if lines is not None),
+            f"{self.asked}: {self.verdict}",
+            *(f"{what}{' of the signed matrix' * lines.of_signed} {lines}" for what, lines in named if lines is not None),
         ]
         return "\n".join([*lines, *([] if self.tree is None else [str(self.tree)])])
 
@@ -83,13 +92,14 @@ class Answer:
 
     def _repr_html_(self) -> str:
         named = (("violator", self.violator), ("open", self.open), ("rest", self.rest), ("minimal", self.minimal))
-        parts = [f"<p><b>{escape(self.property_name)}: {self.verdict}</b></p>\n"]
+        parts = [f"<p><b>{escape(self.asked)}: {self.verdict}</b></p>\n"]
         for what, part in named:
             if part is not None:
-                parts += paragraph(f"{what}, {part.lines.size} of {part.shape[0]}x{part.shape[1]}"), part._repr_html_()
+                of = " of the signed matrix" if part.of_signed else ""
+                parts += paragraph(f"{what}{of}, {part.lines.size} of {part.shape[0]}x{part.shape[1]}"), part._repr_html_()
         drawn = self.tree or self.graph
         if drawn is not None:
-            parts.append(drawn._repr_svg_() or drawn._repr_html_() or "")
+            parts.append(drawn._repr_html_() or "")
         return "".join(parts)
 
 
@@ -108,6 +118,18 @@ class Checked:
     """The first step of a chain that breaks a rule, counted from 0. The violator counts as the step after the last."""
     rule: str | None = None
     """The rule of docs/FORMATS.md that the node breaks; of an answer also what its graph, signs or violator lack."""
+    hint: str | None = field(default=None, repr=False)
+    """What to check instead, if refused evidence belongs to another matrix: that of `is_regular` to its signed matrix."""
+
+    def __str__(self) -> str:
+        if self.accepted:
+            return f"accepted: {self.says}"
+        place = "" if self.path is None else f"node {'.'.join(str(child) for child in self.path) or 'root'} "
+        step = "" if self.step is None else f"step {self.step} "
+        return f"refused: {place}{step}{self.rule or ''}".rstrip() + ("" if self.hint is None else f"; {self.hint}")
+
+    def _repr_html_(self) -> str:
+        return paragraph(str(self))
 
     def __bool__(self) -> bool:
         return self.accepted

@@ -5,7 +5,7 @@ from __future__ import annotations
 from collections.abc import Iterable, Sequence
 from itertools import combinations
 
-from .errors import BadInput
+from .errors import BadEntry, BadInput
 
 __all__ = ["bases", "left_after"]
 
@@ -36,7 +36,7 @@ def _pivot(made: dict[int, dict[int, int]], of: int, row: int, column: int) -> N
     """Pivots at a nonzero a: beside its lines an entry loses the product of those across over a."""
     own = made[row]
     if not own[column]:
-        raise BadInput(f"there is no pivot at row {row}, column {column}, where the entry is 0")
+        raise BadEntry(row, column, 0, "the nonzeros, as it has to be at a pivot")
     inverse = pow(own[column], -1, of)
     across = [(at, value * inverse % of) for at, value in own.items() if at != column and value]
     for number, other in made.items():

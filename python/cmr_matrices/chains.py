@@ -6,6 +6,7 @@ from dataclasses import dataclass, field
 
 from .errors import BadInput
 from .lines import LineSet, Names
+from .pages import paragraph
 from .words import LIMIT, Words
 
 __all__ = ["Chain", "ChainStep"]
@@ -54,6 +55,15 @@ class Chain:
                 columns.update(lines.columns)
                 pending += ((row, column) for row in lines.rows for column in lines.columns)
         return LineSet(tuple(sorted(rows)), tuple(sorted(columns)))
+
+    def __str__(self) -> str:
+        names = self.names or Names.numbered(*self.shape)
+        free = sum(step.lines is None for step in self.steps)
+        signs = f"{free} free signs and {len(self.steps) - free} forced ones"
+        return f"not regular: {signs} lead to a violator in {names.line_set(self.violator)}"
+
+    def _repr_html_(self) -> str:
+        return paragraph(str(self))
 
     @classmethod
     def from_text(cls, text: str, names: Names | None = None) -> Chain:

@@ -77,11 +77,15 @@ class BadEntry(BadInput):
         return BadEntry(self.row, self.column, self.entry, self.allowed, *names)
 
     def __str__(self) -> str:
-        place = f"row {self.row}, column {self.column}"
+        return self.counted(0)
+
+    def counted(self, first: int) -> str:
+        """What it says with rows and columns counted from 0, as in Python, or from 1, as the commands count them."""
+        place = f"row {self.row + first}, column {self.column + first}"
         if (self.row_name, self.column_name) != (None, None):
             names = (
                 str(number) if name is None else name
-                for number, name in ((self.row, self.row_name), (self.column, self.column_name))
+                for number, name in ((self.row + first, self.row_name), (self.column + first, self.column_name))
             )
             place = "row {}, column {} ({})".format(*names, place)
         return f"{place}: the entry {self.entry!r} is none of {self.allowed}"
@@ -150,11 +154,15 @@ class Undecided(CmrError):
 
 
 class Refused(CmrError):
-    """There is no such sum, or a tree does not have two parts. `cause` is what the program says."""
+    """There is no such sum, or a tree does not have two parts. `cause` is what the program says, and `hint` what to do instead."""
 
-    def __init__(self, cause: str) -> None:
-        super().__init__(cause)
+    def __init__(self, cause: str, hint: str | None = None) -> None:
+        super().__init__(cause, hint)
         self.cause = cause
+        self.hint = hint
+
+    def __str__(self) -> str:
+        return self.cause if self.hint is None else f"{self.cause}: {self.hint}"
 
 
 class TimeLimitReached(CmrError, TimeoutError):

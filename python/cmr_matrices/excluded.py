@@ -25,15 +25,21 @@ from __future__ import annotations
 
 from collections.abc import Iterable, Iterator
 from dataclasses import dataclass, field, replace
+from typing import TYPE_CHECKING
 
+from .asked import MatroidLike, matrix_given
 from .bases import bases, left_after
-from .errors import BadInput
+from .errors import BadEntry, BadInput
 from .lines import Line, LineSet, Names
 from .matrix import Matrix
-from .represented import Matroid
-from .sources import MatrixLike
+from .matroid_values import Label, MatroidValue
+from .matroids import field_of_named, named
+from .pages import line_list, paragraph
 from .tableaux import Field
 from .words import LIMIT, Words
+
+if TYPE_CHECKING:
+    from .represented import Matroid
 
 __all__ = ["CLASSES", "ExcludedMinor", "MinorClass", "elements_after", "minor_class"]
 
@@ -90,10 +96,15 @@ class ExcludedMinor:
     rows: tuple[int, ...]
     columns: tuple[int, ...]
     names: Names | None = field(default=None, compare=False, repr=False)
+    labels: tuple[Label, ...] | None = field(default=None, compare=False, repr=False)
+    """Of a minor of a `Matroid` the elements of the matroid."""
 
     @property
     def matroid(self) -> Matroid:
         """The matroid of the literature, with its own names of elements."""
+        # A matroid offers the search for its excluded minors, so its module is above this one.
+        from .represented import Matroid
+
         return Matroid.from_named(self.name)
 
     @property
@@ -106,7 +117,23 @@ class ExcludedMinor:
         """For each row or column of the matrix that is an element of the minor, the element of the named matroid that it is."""
         rows, columns = elements_after(self.shape, self.pivots)
         lines = [*(rows[row] for row in self.rows), *(columns[column] for column in self.columns)]
-        return dict(zip(lines, self.matroid.elements))
+        names = _named(self.name).names
+        return dict(zip(lines, names.rows + names.columns)) if names else {}
+
+    @property
+    def element_map(self) -> dict[Label, str]:
+        """For each element of the matroid that is an element of the minor, the element of the named matroid that it is."""
+        return {self._label(line): element for line, element in self.elements.items()}
+
+    @property
+    def deleted_elements(self) -> tuple[Label, ...]:
+        """The elements of the matroid that are deleted."""
+        return tuple(self._label(line) for line in self.deleted)
+
+    @property
+    def contracted_elements(self) -> tuple[Label, ...]:
+        """The elements of the matroid that are contracted."""
+        return tuple(self._label(line) for line in self.contracted)
 
     @property
     def contracted(self) -> LineSet:
@@ -120,7 +147,7 @@ class ExcludedMinor:
         _, columns = elements_after(self.shape, self.pivots)
         return _line_set(line for column, line in enumerate(columns) if column not in set(self.columns))
 
-    def displayed(self, matrix: MatrixLike) -> Matrix:
+    def displayed(self, matrix: MatroidLike) -> Matrix:
         """The submatrix that is left after the pivots, with names of elements. Raises `BadInput` if the matrix has another shape."""
         rows, columns = elements_after(self.shape, self.pivots)
         return Matrix.of(
@@ -129,27 +156,32 @@ class ExcludedMinor:
             column_names=[self._line_name(columns[column]) for column in self.columns],
         )
 
-    def verify(self, matrix: MatrixLike) -> bool:
+    def verify(self, matrix: MatroidLike) -> bool:
         """Whether this is a minor of the matroid of the matrix, and one that the class excludes.
 
         This uses neither the program nor the search for minors: it makes the pivots, and tests which sets of elements are a basis.
         """
         return self.fault(matrix) is None
 
-    def fault(self, matrix: MatrixLike) -> str | None:
-        """What is wrong with it as a minor of the matroid of a matrix, in a few words, or None if nothing is wrong."""
+    def fault(self, matrix: MatroidLike, *, first: int = 0) -> str | None:
+        """What is wrong with it as a minor of the matroid of a matrix, in a few words, or None if nothing is wrong.
+
+        Rows and columns are counted from `first`: from 0 as in Python, or from 1 as in texts.
+        """
         try:
             entries = self._entries(matrix)
             kind = minor_class(self.property_name)
             if self.name not in kind.excluded:
                 return f"{self.name} is no excluded minor of the class {kind.name}"
             left = left_after(entries, kind.field, self.pivots, self.rows, self.columns)
+        except BadEntry as fault:
+            return fault.counted(first)
         except BadInput as fault:
             return str(fault)
-        wanted = self.matroid
-        if (len(self.rows), len(self.columns)) != wanted.matrix.shape:
+        wanted = _named(self.name)
+        if (len(self.rows), len(self.columns)) != wanted.shape:
             return f"{self.name} has another rank, or another number of elements"
-        if bases(left, kind.field) != bases(wanted.matrix.to_lists(), wanted.field):
+        if bases(left, kind.field) != bases(wanted.to_lists(), field_of_named(self.name)):
             return f"what is left is not {self.name}"
         return None
 
@@ -164,6 +196,7 @@ class ExcludedMinor:
             rows=self.columns,
             columns=self.rows,
             names=self.names and self.names.transposed(),
+            labels=self.labels and (*self.labels[self.shape[0] :], *self.labels[: self.shape[0]]),
         )
 
     def to_text(self) -> str:
@@ -189,7 +222,7 @@ class ExcludedMinor:
             _expect(words, "cmr-minor", "1")
             kind = minor_class(words.word())
             name, shape = words.word(), words.shape()
-            Matroid.from_named(name)
+            _named(name)
             _expect(words, "pivots")
             pivots = tuple((words.row(shape).number, words.column(shape).number) for _ in range(words.count(2 * LIMIT)))
             _expect(words, "rows")
@@ -207,14 +240,28 @@ class ExcludedMinor:
         lines = (f"{what} {self._set_name(lines)}" for what, lines in sets)
         return "\n".join([f"minor {self.name}: {elements}", *lines])
 
+    def _repr_html_(self) -> str:
+        gone = (("deleted", self.deleted_elements), ("contracted", self.contracted_elements))
+        said = (f"{what} {', '.join(map(str, elements)) or 'nothing'}" for what, elements in gone)
+        what = [f"excluded minor {self.name} of the class {self.property_name}", *said]
+        pairs = [(element, [self._line_name(line)]) for line, element in self.elements.items()]
+        return "".join(map(paragraph, what)) + line_list(pairs, counts=False)
+
     def _line_name(self, line: Line) -> str:
         return (self.names or Names.numbered(*self.shape)).line(line)
+
+    def _label(self, line: Line) -> Label:
+        if self.labels is None:
+            return self._line_name(line)
+        return self.labels[line.number + (self.shape[0] if line.kind == "column" else 0)]
 
     def _set_name(self, lines: LineSet) -> str:
         return (self.names or Names.numbered(*self.shape)).line_set(lines)
 
-    def _entries(self, matrix: MatrixLike) -> list[list[int]]:
-        taken = Matrix.of(matrix)
+    def _entries(self, matrix: MatroidLike) -> list[list[int]]:
+        if isinstance(matrix, MatroidValue) and matrix.field != self.field:
+            raise BadInput(f"the minor is one of a matroid over GF({self.field}), and here it is over GF({matrix.field})")
+        taken = matrix_given(matrix)
         if taken.shape != self.shape:
             raise BadInput(f"the minor is one of a matrix of shape {self.shape}, and here it is {taken.shape}")
         if self.field == 2:
@@ -229,6 +276,10 @@ def elements_after(shape: tuple[int, int], pivots: Iterable[tuple[int, int]]) ->
     for row, column in pivots:
         rows[row], columns[column] = columns[column], rows[row]
     return rows, columns
+
+
+def _named(name: str) -> Matrix:
+    return named(name, field_of_named(name))
 
 
 _DUALS = {"F7": "F7*", "M(K5)": "M*(K5)", "M(K3,3)": "M*(K3,3)"}

@@ -112,7 +112,7 @@ class Graph:
         if len(self.edges) > _DRAWN:
             why = f"more than {_DRAWN} edges are not drawn here; to_dot() writes them for Graphviz"
             return paragraph(f"{self!r}: {why}")
-        return no_picture("the graph")
+        return self._repr_svg_() or no_picture("the graph")
 
     def to_text(self) -> str:
         """The graph text, with lines counted from 1."""

@@ -15,6 +15,7 @@ from itertools import combinations
 from .edge_lists import graph_of_edges
 from .errors import BadInput, shown
 from .forced_signs import forced_signs
+from .geometries import affine, numbered, projective, spike, whirl
 from .lines import Names
 from .matrix import Matrix
 from .tableaux import Field
@@ -23,12 +24,13 @@ from .words import LIMIT
 
 __all__ = ["NAMED", "TERNARY", "field_of_named", "named"]
 
-TERNARY = "U2,4, P8, R9, T8"
+TERNARY = "U2,4, P7, P8, R9, T8, F7- (non-Fano), AG(2,3), W^3 (any whirl)"
 """The matroids that `named` knows over GF(3) and that are not binary, for a person."""
 
 NAMED = (
-    "R10, R12, F7 or PG(2,2), AG(3,2), S8, Z4 (any binary spike with a tip), K5 (any K and number), K3,3 (any two numbers), "
-    f"W4 (any wheel), V8, Petersen, over GF(3) {TERNARY}, and each with * for its dual"
+    "R10, R12, F7 or PG(2,2), PG(3,2) and AG(3,2) (any PG and AG over GF(2) and GF(3)), S8, Z4 (any binary spike with a tip), K5 (any K "
+    f"and number), K3,3 (any two numbers), W4 (any wheel), V8, Petersen, prism, cube, octahedron, over GF(3) {TERNARY}, and each with * "
+    "for its dual"
 )
 """What `named` knows, for a person."""
 
@@ -41,14 +43,21 @@ _BINARY_TABLES = {
 }
 _TERNARY_TABLES = {
     "U2,4": ("11", "1-"),
+    "P7": ("1011", "1101", "-110"),
+    "F7-": ("1101", "1011", "0111"),
     "P8": ("011-", "1011", "1101", "-110"),
     "R9": ("110011", "1011--", "011-1-"),
     "T8": ("0111", "1011", "1101", "1110"),
 }
 _ENTRIES = {"0": 0, "1": 1, "-": -1}
 _REGULAR_TABLES = ("R10", "R12")
-_OTHER_NAMES = {"FANO": "F7", "PG(2,2)": "F7", "U24": "U2,4", "WAGNER": "V8"}
-_OF_GRAPH = re.compile(r"M(?P<dual>\*?)\((?P<graph>.+)\)")
+_OTHER_NAMES = {"FANO": "F7", "PG(2,2)": "F7", "U24": "U2,4", "WAGNER": "V8", "NONFANO": "F7-", "NON-FANO": "F7-"}
+_OTHER_NAMES |= {"K33": "K3,3", "W^2": "U2,4", "Q3": "CUBE", "K2,2,2": "OCTAHEDRON", "UNIFORM(2,4)": "U2,4", "U(2,4)": "U2,4"}
+_SAGE_NAMES = {"WHEEL": "W", "WHIRL": "W^", "COMPLETEGRAPHIC": "K", "Z": "Z"}
+_OF_GRAPH = re.compile(r"M?(?P<dual>\*?)\((?P<graph>.+)\)(?P<duals>\**)")
+_OF_SAGE = re.compile(r"(?P<kind>WHEEL|WHIRL|COMPLETEGRAPHIC|Z)\((?P<number>[0-9]{1,4})\)")
+_GEOMETRY = re.compile(r"(?P<kind>[PA]G)\((?P<dimension>[0-9]{1,3}),(?P<field>[0-9]{1,3})\)")
+_WHIRL = re.compile(r"W\^(?P<rank>[0-9]{1,4})")
 _NAME = re.compile(r"(?P<kind>[KWZ])(?P<first>[0-9]{1,4})(?:,(?P<second>[0-9]{1,4}))?")
 
 Edges = Sequence[tuple[object, object]]
@@ -58,10 +67,12 @@ def named(name: str, field: Field = 2) -> Matrix:
     """The matrix of a matroid by its name, such as `R10`, `F7*`, `K5`, `K3,3*`, `W4` or `AG(3,2)`, with names of its elements.
 
     `K5` and `K3,3` are the matroids of complete graphs, also as `M(K5)` and `M*(K5)`, `W4` is the matroid of the wheel with four spokes,
-    `V8` the matroid of the Möbius ladder on eight nodes, and `Z4` the binary spike of rank 4 with its tip.
+    `V8` the matroid of the Möbius ladder on eight nodes, and `Z4` the binary spike of rank 4 with its tip. `W^3` is a whirl, `F7-` the
+    non-Fano matroid, and `PG(3,2)` and `AG(2,3)` are geometries. Spellings of LaTeX and of Sage are known too: `F_7^*`, `M^*(K_{3,3})`,
+    `\\mathcal{W}^3`, `Whirl(3)`, `NonFano`.
 
-    With `field=3` the matrix represents the matroid over GF(3), and has entries -1, 0 and 1. `U2,4`, `P8`, `R9` and `T8` are not binary,
-    so they have a matrix over GF(3) only.
+    With `field=3` the matrix represents the matroid over GF(3), and has entries -1, 0 and 1. `U2,4`, `F7-`, `P7`, `P8`, `R9`, `T8`, whirls
+    and the geometries over GF(3) are not binary, so they have a matrix over GF(3) only.
 
     Raises `BadInput` if it is no name, if the matroid has no matrix over the field, or if the matrix would have more than 1,000 rows or
     columns.
@@ -73,17 +84,22 @@ def named(name: str, field: Field = 2) -> Matrix:
 
 def field_of_named(name: str) -> Field:
     """The field over which the matroid of a name is meant if none is said: GF(3) if it is not binary."""
-    return 3 if _plain(name)[0] in _TERNARY_TABLES else 2
+    plain = _plain(name)[0]
+    found = _GEOMETRY.fullmatch(plain)
+    return 3 if plain in _TERNARY_TABLES or _WHIRL.fullmatch(plain) or (found and found["field"] == "3") else 2
 
 
 def _plain(name: str) -> tuple[str, bool]:
     """A name as the tables have it, and whether the dual matroid is meant."""
     if not isinstance(name, str):
         raise BadInput(f"a matroid is known by its name, such as {NAMED}, and here it is {shown(name)}")
-    plain = re.sub(r"[ _{}]", "", name).upper()
+    plain = re.sub(r"[ _{}$\\]|MATHCAL|MATHRM|OPERATORNAME", "", name.upper().replace("−", "-"))
+    plain = plain.replace("^*", "*").replace("^-", "-").removesuffix("DUAL") + "*" * plain.endswith("DUAL")
     if of_graph := _OF_GRAPH.fullmatch(plain):
-        plain = of_graph["graph"] + of_graph["dual"]
+        plain = of_graph["graph"] + of_graph["dual"] + of_graph["duals"]
     bare = plain.rstrip("*")
+    if of_sage := _OF_SAGE.fullmatch(bare):
+        return f"{_SAGE_NAMES[of_sage['kind']]}{of_sage['number']}", (len(plain) - len(bare)) % 2 == 1
     return _OTHER_NAMES.get(bare, bare), (len(plain) - len(bare)) % 2 == 1
 
 
@@ -91,10 +107,11 @@ def _over(plain: str, name: str, field: Field) -> Matrix:
     """The matrix over a field, of which the binary one of a regular matroid gets signs over GF(3)."""
     if field not in (2, 3):
         raise BadInput(f"the field has 2 or 3 elements, and here it is {shown(field)}")
-    if plain in _TERNARY_TABLES:
+    ternary = _ternary(plain, name)
+    if ternary is not None:
         if field == 2:
             raise BadInput(f"{name} is not binary, so no 0/1 matrix represents it over GF(2); it has a matrix over GF(3)")
-        return _of_table(_TERNARY_TABLES[plain])
+        return ternary
     matrix, is_regular = _binary(plain, name)
     if field == 2:
         return matrix
@@ -103,28 +120,36 @@ def _over(plain: str, name: str, field: Field) -> Matrix:
     return forced_signs(matrix)[1]
 
 
+def _ternary(plain: str, name: str) -> Matrix | None:
+    """The matrix over GF(3) of a matroid that is not binary, or None for other names."""
+    if plain in _TERNARY_TABLES:
+        return _of_table(_TERNARY_TABLES[plain])
+    if found := _WHIRL.fullmatch(plain):
+        return whirl(name, int(found["rank"]))
+    found = _GEOMETRY.fullmatch(plain)
+    return _geometry(name, found, 3) if found and found["field"] == "3" else None
+
+
+def _geometry(name: str, found: re.Match[str], field: Field) -> Matrix:
+    return (projective if found["kind"] == "PG" else affine)(name, int(found["dimension"]), field)
+
+
 def _binary(plain: str, name: str) -> tuple[Matrix, bool]:
     """The 0/1 matrix of a binary matroid, and whether the matroid is regular."""
     if plain in _BINARY_TABLES:
         return _of_table(_BINARY_TABLES[plain]), plain in _REGULAR_TABLES
     if plain in _GRAPHS:
         return _of_edges(_GRAPHS[plain]()), True
+    if (found := _GEOMETRY.fullmatch(plain)) and found["field"] == "2":
+        # A line has three points, and an affine plane four: they are graphic, and all larger geometries have a minor F7.
+        return _geometry(name, found, 2), int(found["dimension"]) < (2 if found["kind"] == "PG" else 3)
     found = _NAME.fullmatch(plain)
     if not found:
         raise BadInput(f"{name} is no name that is known here: {NAMED}")
     first, second = int(found["first"]), int(found["second"] or 0)
     if found["kind"] == "Z":
-        return _spike(name, first, has_second=bool(found["second"])), False
+        return spike(name, first, has_second=bool(found["second"])), False
     return _of_edges(_named_edges(name, found["kind"], first, second if found["second"] else None)), True
-
-
-def _spike(name: str, rank: int, *, has_second: bool) -> Matrix:
-    """The binary spike of a rank with its tip `t`: each two legs `x1 y1`, .. are a circuit, and `t` is on the line of each leg."""
-    if has_second or not 3 <= rank < LIMIT:
-        raise BadInput(f"{name} is no binary spike that is known here: its rank is from 3 to {LIMIT - 1}")
-    legs = range(1, rank + 1)
-    rows = [[*(int(row != column) for column in legs), 1] for row in legs]
-    return Matrix.of(rows, row_names=[f"x{leg}" for leg in legs], column_names=[*(f"y{leg}" for leg in legs), "t"])
 
 
 def _named_edges(name: str, kind: str, first: int, second: int | None) -> Edges:
@@ -164,14 +189,34 @@ def _petersen() -> Edges:
     return [*((node, node % 5 + 1) for node in outer), *spokes, *((6 + at, 6 + (at + 2) % 5) for at in range(5))]
 
 
-_GRAPHS: dict[str, Callable[[], Edges]] = {"V8": _ladder, "PETERSEN": _petersen}
+def _prism() -> Edges:
+    """Two triangles with an edge between each two corresponding nodes."""
+    return [(1, 2), (2, 3), (1, 3), (4, 5), (5, 6), (4, 6), (1, 4), (2, 5), (3, 6)]
+
+
+def _cube() -> Edges:
+    """Two squares with an edge between each two corresponding nodes."""
+    squares = [(first + node, first + (node + 1) % 4) for first in (1, 5) for node in range(4)]
+    return [*squares, *((node, node + 4) for node in range(1, 5))]
+
+
+def _octahedron() -> Edges:
+    """Six nodes, of which the opposite ones 1 and 4, 2 and 5, 3 and 6 are not joined."""
+    return [(one, two) for one, two in combinations(range(1, 7), 2) if two - one != 3]
+
+
+_GRAPHS: dict[str, Callable[[], Edges]] = {
+    "V8": _ladder,
+    "PETERSEN": _petersen,
+    "PRISM": _prism,
+    "CUBE": _cube,
+    "OCTAHEDRON": _octahedron,
+}
 
 
 def _of_table(rows: Sequence[str]) -> Matrix:
     """The matrix of a table, with the elements 1, 2, .. in the order of the rows and then of the columns."""
-    matrix = Matrix.of([[_ENTRIES[entry] for entry in row] for row in rows])
-    elements = [str(number) for number in range(1, sum(matrix.shape) + 1)]
-    return Matrix.of(matrix, row_names=elements[: matrix.shape[0]], column_names=elements[matrix.shape[0] :])
+    return numbered([[_ENTRIES[entry] for entry in row] for row in rows])
 
 
 def _of_edges(edges: Edges) -> Matrix:

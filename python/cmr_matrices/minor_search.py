@@ -14,8 +14,8 @@ from .errors import ProgramFault, Undecided
 from .excluded import ExcludedMinor, MinorClass, elements_after
 from .lines import Line
 from .matrix import Matrix
+from .matroids import field_of_named, named
 from .program import NO
-from .represented import Matroid
 from .tableaux import Field, Operation, Tableau, bits_of
 
 __all__ = ["Outside", "fewer_lines", "four_points", "least_minor", "line_tableau", "named_minor"]
@@ -113,11 +113,11 @@ def _recognised(tableau: Tableau[Line], kind: MinorClass) -> tuple[str, list[Lin
     """The excluded minor that is left, by its name and with its elements in the order of the named matroid, or None."""
     shape = tableau.shape
     for name in kind.excluded:
-        wanted = Matroid.from_named(name)
-        if wanted.matrix.shape == shape:
+        of = field_of_named(name)
+        wanted = named(name, of)
+        if wanted.shape == shape:
             own = circuits(tableau.matrix().to_lists(), shape[1], tableau.field)
-            named = circuits(wanted.matrix.to_lists(), shape[1], wanted.field)
-            found = isomorphism(named, own, sum(shape))
+            found = isomorphism(circuits(wanted.to_lists(), shape[1], of), own, sum(shape))
             if found is not None:
                 return name, [tableau.elements[place] for place in found]
     return None

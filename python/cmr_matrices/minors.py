@@ -2,23 +2,26 @@
 
 from __future__ import annotations
 
+from dataclasses import replace
+
+from .asked import MatroidLike, asked_property, matrix_given
 from .calls import Call
 from .excluded import ExcludedMinor, MinorClass, minor_class
 from .lines import Line
 from .matrix import Matrix
+from .matroid_values import MatroidValue
 from .minor_search import four_points, least_minor, line_tableau, named_minor
 from .narrowing import GRAPHS, Narrowing
 from .options import budget_words
 from .program import StrPath
 from .reading import Question
-from .sources import MatrixLike
 from .tableaux import Tableau
 
 __all__ = ["excluded_minor"]
 
 
 def excluded_minor(
-    matrix: MatrixLike,
+    matrix: MatroidLike,
     of: str,
     *,
     lines: int | None = None,
@@ -32,7 +35,8 @@ def excluded_minor(
     The classes, each with its excluded minors, are `totally unimodular` (U2,4), `regular` (F7, F7*), `graphic` (F7, F7*, M*(K5),
     M*(K3,3)), `cographic` (F7, F7*, M(K5), M(K3,3)), `network` (U2,4, M*(K5), M*(K3,3)), `conetwork` (U2,4, M(K5), M(K3,3)),
     `series-parallel` (U2,4, M(K4)) and `binary series-parallel` (M(K4)). Regular, graphic, cographic and binary series-parallel matrices
-    are 0/1, and represent a binary matroid; the others represent one over GF(3).
+    are 0/1, and represent a binary matroid; the others represent one over GF(3). A `Matroid` is asked for the class of its field: over
+    GF(3) `regular` is `totally unimodular`, `graphic` is `network` and `cographic` is `conetwork`, and over GF(2) the other way round.
 
     `lines` is the budget of each search, 0 to 24 lines (14); `workers` the threads that share it, 1 to 64 (1); `pivots` the number of
     pivots that may be made on the path to an open part, 0 to 100 (20). `time_limit` is in seconds, 0 to 2,000,000, for the whole call.
@@ -42,18 +46,21 @@ def excluded_minor(
 
     Source: Tutte 1958 and 1959; Oxley, *Matroid Theory*; `cmr_matrices.excluded` says why.
     """
-    kind = minor_class(of)
+    kind = minor_class(asked_property(minor_class(of).name, matrix))
     budget = tuple(budget_words(lines, pivots, workers))
     call = Call.begin(program, time_limit)
-    taken = Matrix.of(matrix)
+    taken = matrix_given(matrix)
     if kind.field == 2:
         taken.must_be_binary()
     narrowing = Narrowing(call.clock, call.program, budget)
     if kind.name in ("cographic", "conetwork"):
         dual = minor_class(kind.name.removeprefix("co"))
-        found = _minor(narrowing, dual, taken.T)
-        return None if found is None else found.transposed()
-    return _minor(narrowing, kind, taken)
+        turned = _minor(narrowing, dual, taken.T)
+        found = None if turned is None else turned.transposed()
+    else:
+        found = _minor(narrowing, kind, taken)
+    labels = matrix.elements if isinstance(matrix, MatroidValue) else None
+    return None if found is None else replace(found, labels=labels)
 
 
 def _minor(narrowing: Narrowing, kind: MinorClass, matrix: Matrix) -> ExcludedMinor | None:

@@ -16,6 +16,7 @@ from typing import TYPE_CHECKING
 from .dot import document, statement
 from .families import families_of, family_of
 from .lines import Line, Names
+from .round_layout import positions
 from .walks import Taken, arcs_of_walks
 
 if TYPE_CHECKING:
@@ -30,6 +31,10 @@ DRAWN = 1000
 _LAYERED = 40
 # The words of a name. The words after the first are its index.
 _INDEX = re.compile(r"[^][(){},;_ ]+")
+# A name that is made of the ends of its edge.
+_PAIR = re.compile(r"([^-]+)-([^-]+)")
+# The radius of the circle of a small graph, in inches.
+_RADIUS = 1.8
 _FONT = {"fontname": "Helvetica"}
 _WALK = {"style": "dashed", "color": "#3060a0", "fontcolor": "#3060a0"}
 # If edges cross, colours show which name belongs to which edge.
@@ -141,10 +146,40 @@ def _rows_as_nodes(graph: Graph, names: Names, taken: Taken, *, directed: bool) 
 
 
 def _tree(graph: Graph, names: Names, *, directed: bool) -> str:
-    nodes = {str(node): str(node) for node in range(len(graph.arcs) + 1)}
+    labels = _node_labels(graph, names)
+    nodes = {str(node): labels[node] for node in range(len(graph.arcs) + 1)}
     edges = [_of_edge(arc, names, {"penwidth": "2"}) for arc in graph.arcs]
     edges += (_of_edge(walk, names, _WALK) for walk in graph.walks)
-    return _document(nodes, [], edges, directed=directed, style=_TREE)
+    ends = [(edge.tail, edge.head) for edge in graph.edges]
+    places = None if directed or len(edges) > _LAYERED else positions(len(nodes), ends)
+    return _document(nodes, [], edges, directed=directed, style=_TREE, places=places)
+
+
+def _node_labels(graph: Graph, names: Names) -> list[str]:
+    """The names of the ends if all edges are named after them, as `1-2` is, and otherwise the numbers of the nodes.
+
+    If edges are named by such pairs and these are not the ends, or by numbers, nodes have no labels, since their numbers would contradict
+    the names.
+    """
+    numbers = [str(node) for node in range(len(graph.arcs) + 1)]
+    pairs = [(edge, _PAIR.fullmatch(names.line(edge.line))) for edge in graph.edges]
+    found = [(edge, {pair[1], pair[2]}) for edge, pair in pairs if pair]
+    if len(found) < len(pairs) or not pairs:
+        is_confused = found or any(names.line(edge.line).isdecimal() for edge in graph.edges)
+        return ["" for _ in numbers] if is_confused else numbers
+    near: list[list[set[str]]] = [[] for _ in numbers]
+    for edge, ends in found:
+        for node in {edge.tail, edge.head}:
+            near[node].append(ends)
+    common = [set.intersection(*sets) if sets else set() for sets in near]
+    for edge, ends in found:
+        # The other end of a node with one edge is known from its neighbour.
+        for one, two in ((edge.tail, edge.head), (edge.head, edge.tail)):
+            if len(common[one]) > 1 and len(common[two]) == 1:
+                common[one] = common[one] - common[two]
+    labels = [next(iter(names_of), "") if len(names_of) == 1 else "" for names_of in common]
+    fits = all({labels[edge.tail], labels[edge.head]} == ends for edge, ends in found)
+    return labels if fits and len(set(labels)) == len(labels) else ["" for _ in numbers]
 
 
 def _of_edge(edge: Edge, names: Names, look: dict[str, str]) -> _Drawn:
@@ -152,12 +187,21 @@ def _of_edge(edge: Edge, names: Names, look: dict[str, str]) -> _Drawn:
 
 
 def _document(
-    nodes: dict[str, str], outside: Sequence[str], edges: Sequence[_Drawn], *, directed: bool, style: _Style
+    nodes: dict[str, str],
+    outside: Sequence[str],
+    edges: Sequence[_Drawn],
+    *,
+    directed: bool,
+    style: _Style,
+    places: dict[int, tuple[float, float]] | None = None,
 ) -> str:
     kind, join = ("digraph", "->") if directed else ("graph", "--")
     labelled = len(edges) <= style.labelled
-    statements = list(_defaults(edges, style))
-    statements += (statement(_id(node), {"label": name} if node != name else {}) for node, name in nodes.items())
+    statements = list(_defaults(edges, style) if places is None else _round_defaults(style))
+    for place, (node, name) in enumerate(nodes.items()):
+        label = {"label": name} if node != name else {}
+        at = {} if places is None else {"pos": "{:.3f},{:.3f}!".format(*(_RADIUS * value for value in places[place]))}
+        statements.append(statement(_id(node), label | at))
     statements += (statement(_id(node), _OUTSIDE) for node in outside)
     coloured = labelled and len(edges) > _LAYERED
     for place, edge in enumerate(edges):
@@ -192,6 +236,13 @@ def _defaults(edges: Sequence[_Drawn], style: _Style) -> Iterator[str]:
     small = {"margin": "0.04,0.02", "height": "0.2", "width": "0.2"} if style.node["shape"] == "box" else {}
     yield statement("node", style.node | small | _FONT | {"fontsize": node_size})
     yield statement("edge", _FONT | {"fontsize": edge_size, "arrowsize": arrow} | length | thin)
+
+
+def _round_defaults(style: _Style) -> Iterator[str]:
+    """The layout of a small graph whose nodes have positions, in inches."""
+    yield statement("graph", {"layout": "neato", "splines": "line"})
+    yield statement("node", style.node | _FONT | {"fontsize": "11"})
+    yield statement("edge", _FONT | {"fontsize": "9"})
 
 
 def _has_two_sides(edges: Sequence[_Drawn]) -> bool:

@@ -38,10 +38,10 @@ def matrix_table(matrix: Matrix) -> str:
     return table if is_whole else table + paragraph(f"the first {rows} rows and {columns} columns of {size}")
 
 
-def line_list(kinds: Iterable[tuple[str, Sequence[str]]]) -> str:
+def line_list(kinds: Iterable[tuple[str, Sequence[str]]], *, counts: bool = True) -> str:
     """A table with a row for each kind of lines: the kind, how many there are, and their names."""
     rows = (
-        _row("td", [str(len(names)), ", ".join([*names[:SHOWN], *["…"][: len(names) > SHOWN]])], kind)
+        _row("td", [*[str(len(names))][:counts], ", ".join([*names[:SHOWN], *["…"][: len(names) > SHOWN]])], kind)
         for kind, names in kinds
     )
     return f"<table>\n{''.join(rows)}</table>\n"

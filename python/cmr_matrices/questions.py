@@ -1,6 +1,7 @@
 """The questions about a matrix. The proved program decides each of them.
 
-All accept whatever `Matrix.of` accepts, and these keywords:
+All accept whatever `Matrix.of` accepts. Those about matroids also accept a `Matroid`, and use its field: `cmr_matrices.asked` says how.
+All have these keywords:
 
 * `certificate`: whether to compute evidence that costs more than the answer;
 * `parts`: whether a part of the matrix may decide a no before pivots are made (default true): `cmr_matrices.narrowing` says how;
@@ -20,10 +21,10 @@ range, `TimeLimitReached`, and `OutOfMemory`.
 
 from __future__ import annotations
 
-from collections.abc import Mapping
-from dataclasses import dataclass, field, replace
+from dataclasses import dataclass, replace
 
 from .answers import Answer
+from .asked import MatroidLike, asked_property, matrix_given, matroid_property
 from .calls import Call
 from .clock import TimeLimit
 from .errors import TimeLimitReached
@@ -32,7 +33,7 @@ from .matrix import Matrix
 from .narrowing import Narrowing
 from .options import budget_words
 from .program import StrPath
-from .reading import Question
+from .reading import GRAPH_QUESTIONS, Question
 from .sources import MatrixLike
 from .tries import Tries
 
@@ -50,7 +51,7 @@ __all__ = [
 
 
 def is_totally_unimodular(
-    matrix: MatrixLike,
+    matrix: MatroidLike,
     *,
     certificate: bool = False,
     parts: bool = True,
@@ -74,12 +75,13 @@ def is_totally_unimodular(
 
     Source: Ghouila-Houri 1962; Hoffman and Kruskal 1956; Seymour 1980.
     """
-    search = _Search("totally unimodular", "tu", lines, workers, pivots, tries, seed, {"-D": "tree"}, parts=parts)
+    name = asked_property("totally unimodular", matrix)
+    search = _Search(name, lines, workers, pivots, tries, seed, parts=parts)
     return search.answer(matrix, certificate, Call.begin(program, time_limit))
 
 
 def is_regular(
-    matrix: MatrixLike,
+    matrix: MatroidLike,
     *,
     certificate: bool = False,
     parts: bool = True,
@@ -103,13 +105,12 @@ def is_regular(
 
     Source: Camion 1965; Seymour 1980; Truemper, *Matroid Decomposition*.
     """
-    files = {"-D": "tree", "-M": "signed", "-C": "chain"}
-    search = _Search("regular", "regular", lines, workers, pivots, tries, seed, files, is_binary=True, parts=parts)
+    search = _Search(asked_property("regular", matrix), lines, workers, pivots, tries, seed, parts=parts)
     return search.answer(matrix, certificate, Call.begin(program, time_limit))
 
 
 def is_graphic(
-    matrix: MatrixLike, *, certificate: bool = False, time_limit: TimeLimit = None, program: StrPath | None = None
+    matrix: MatroidLike, *, certificate: bool = False, time_limit: TimeLimit = None, program: StrPath | None = None
 ) -> Answer:
     """Whether a 0/1 matrix is the matrix of paths in a tree: each column has ones at the arcs of a path.
 
@@ -119,23 +120,21 @@ def is_graphic(
 
     Source: Tutte 1960; Schrijver, *Theory of Linear and Integer Programming*, chapter 20.
     """
-    question = Question("graphic", ("graphic",), _graph_files(certificate))
-    return _asked(question, matrix, time_limit, program, is_binary=True)
+    return _asked(_graph_question(asked_property("graphic", matrix), certificate), matrix, time_limit, program)
 
 
 def is_cographic(
-    matrix: MatrixLike, *, certificate: bool = False, time_limit: TimeLimit = None, program: StrPath | None = None
+    matrix: MatroidLike, *, certificate: bool = False, time_limit: TimeLimit = None, program: StrPath | None = None
 ) -> Answer:
     """Whether the transpose of a 0/1 matrix is graphic. The arcs of the `graph` represent the columns; otherwise as `is_graphic`.
 
     `time_limit` is in seconds, 0 to 2,000,000, for the whole call, and `program` the program's path.
     """
-    question = Question("cographic", ("graphic", "-t"), _graph_files(certificate))
-    return _asked(question, matrix, time_limit, program, is_binary=True)
+    return _asked(_graph_question(asked_property("cographic", matrix), certificate), matrix, time_limit, program)
 
 
 def is_network(
-    matrix: MatrixLike, *, certificate: bool = False, time_limit: TimeLimit = None, program: StrPath | None = None
+    matrix: MatroidLike, *, certificate: bool = False, time_limit: TimeLimit = None, program: StrPath | None = None
 ) -> Answer:
     """Whether a matrix is the matrix of paths in a directed tree: an entry is 1 if the path takes the arc forwards, -1 if backwards.
 
@@ -145,23 +144,21 @@ def is_network(
 
     Source: Tutte 1965; Schrijver, *Theory of Linear and Integer Programming*, chapters 19 and 20.
     """
-    question = Question("network", ("network",), _graph_files(certificate))
-    return _asked(question, matrix, time_limit, program)
+    return _asked(_graph_question(asked_property("network", matrix), certificate), matrix, time_limit, program)
 
 
 def is_conetwork(
-    matrix: MatrixLike, *, certificate: bool = False, time_limit: TimeLimit = None, program: StrPath | None = None
+    matrix: MatroidLike, *, certificate: bool = False, time_limit: TimeLimit = None, program: StrPath | None = None
 ) -> Answer:
     """Whether the transposed matrix is a network matrix. The arcs of the `graph` represent the columns; otherwise as `is_network`.
 
     `time_limit` is in seconds, 0 to 2,000,000, for the whole call, and `program` the program's path.
     """
-    question = Question("conetwork", ("network", "-t"), _graph_files(certificate))
-    return _asked(question, matrix, time_limit, program)
+    return _asked(_graph_question(asked_property("conetwork", matrix), certificate), matrix, time_limit, program)
 
 
 def is_series_parallel(
-    matrix: MatrixLike,
+    matrix: MatroidLike,
     *,
     binary: bool = False,
     certificate: bool = False,
@@ -170,17 +167,16 @@ def is_series_parallel(
 ) -> Answer:
     """Whether removing lines that are zero, have one nonzero, or equal another line or its negative leaves no lines.
 
-    With `binary` the matrix is 0/1, and negatives do not count. A no has the `rest`. With `certificate` there are the
-    `reductions`, and for a no a `minimal` submatrix.
+    With `binary` the matrix is 0/1, and negatives do not count. Of a `Matroid` the field decides, and not `binary`. A no has
+    the `rest`. With `certificate` there are the `reductions`, and for a no a `minimal` submatrix.
 
     `time_limit` is in seconds, 0 to 2,000,000, for the whole call, and `program` the program's path.
 
     Source: series-parallel matrices of the CMR library.
     """
-    name = "binary series-parallel" if binary else "series-parallel"
+    name = asked_property("binary series-parallel" if binary else "series-parallel", matrix)
     files = {"-N": "minimal", "-S": "reductions"} if certificate else {}
-    question = Question(name, ("series-parallel", *(["-b"] if binary else [])), files)
-    return _asked(question, matrix, time_limit, program, is_binary=binary)
+    return _asked(Question(name, GRAPH_QUESTIONS[name], files), matrix, time_limit, program)
 
 
 def is_balanced(
@@ -206,7 +202,7 @@ def is_balanced(
 
     Source: Berge 1970; Truemper, *Matroid Decomposition*.
     """
-    search = _Search("balanced", "balanced", lines, workers, pivots, tries, seed)
+    search = _Search(asked_property("balanced", matrix), lines, workers, pivots, tries, seed)
     return search.answer(matrix, True, Call.begin(program, time_limit))
 
 
@@ -221,8 +217,19 @@ def has_no_cycle_fault(
 
     Source: Camion 1965; docs/DEFINITIONS.md.
     """
-    question = Question("without cycle fault", ("camion",), said="camion")
+    question = Question(asked_property("without cycle fault", matrix), ("camion",), said="camion")
     return _asked(question, matrix, time_limit, program)
+
+
+_BINARY = {"regular", "graphic", "cographic", "binary series-parallel"}
+"""The properties of 0/1 matrices."""
+
+_SEARCHES: dict[str, tuple[str, dict[str, str]]] = {
+    "totally unimodular": ("tu", {"-D": "tree"}),
+    "regular": ("regular", {"-D": "tree", "-M": "signed", "-C": "chain"}),
+    "balanced": ("balanced", {}),
+}
+"""The tool of the program for a question that may stay undecided, and the files of its evidence."""
 
 
 @dataclass(frozen=True)
@@ -230,14 +237,11 @@ class _Search:
     """A question that may stay undecided, with what a caller lets it spend. Raises `BadInput` for a number out of its range."""
 
     property_name: str
-    tool: str
     lines: int | None
     workers: int | None
     pivots: int
     tries: int
     seed: int
-    files: Mapping[str, str] = field(default_factory=dict)
-    is_binary: bool = False
     parts: bool = False
 
     def __post_init__(self) -> None:
@@ -247,13 +251,14 @@ class _Search:
 
     def words(self, pivots: int) -> tuple[str, ...]:
         """The words of the program with a number of pivots."""
-        return self.tool, *budget_words(self.lines, pivots, self.workers)
+        return _SEARCHES[self.property_name][0], *budget_words(self.lines, pivots, self.workers)
 
-    def answer(self, matrix: MatrixLike, certificate: bool, call: Call) -> Answer:
+    def answer(self, given: MatroidLike, certificate: bool, call: Call) -> Answer:
         """The answer, without evidence that is not asked for."""
-        taken = _taken(matrix, self.is_binary)
-        files = self.files if certificate or self.tries else {}
+        taken = _taken(given, self.property_name)
+        files = _SEARCHES[self.property_name][1] if certificate or self.tries else {}
         answer = self._decided(Question(self.property_name, self.words(self.pivots), files), taken, call)
+        answer = replace(_of_signed(answer), of_matroid=matroid_property(self.property_name, given))
         return answer if certificate else replace(answer, tree=None, signed=None, chain=None)
 
     def _decided(self, question: Question, matrix: Matrix, call: Call) -> Answer:
@@ -273,25 +278,27 @@ class _Search:
         return answer
 
 
-def _asked(
-    question: Question,
-    matrix: MatrixLike,
-    time_limit: TimeLimit,
-    program: StrPath | None,
-    *,
-    is_binary: bool = False,
-) -> Answer:
+def _asked(question: Question, given: MatroidLike, time_limit: TimeLimit, program: StrPath | None) -> Answer:
     """Asks a question that the program always decides."""
     call = Call.begin(program, time_limit)
-    return question.ask(_taken(matrix, is_binary), call.program, call.clock)
+    answer = question.ask(_taken(given, question.property_name), call.program, call.clock)
+    return replace(answer, of_matroid=matroid_property(question.property_name, given))
 
 
-def _taken(matrix: MatrixLike, is_binary: bool) -> Matrix:
-    taken = Matrix.of(matrix)
-    if is_binary:
+def _of_signed(answer: Answer) -> Answer:
+    """The answer with evidence that names the signed matrix, to which the evidence of regularity belongs."""
+    if answer.property_name != "regular":
+        return answer
+    violator = answer.violator and replace(answer.violator, of_signed=True)
+    return replace(answer, violator=violator, tree=answer.tree and replace(answer.tree, signed=answer.signed))
+
+
+def _taken(given: MatroidLike, property_name: str) -> Matrix:
+    taken = matrix_given(given)
+    if property_name in _BINARY:
         taken.must_be_binary()
     return taken
 
 
-def _graph_files(certificate: bool) -> dict[str, str]:
-    return {"-N": "minimal", "-G": "graph"} if certificate else {}
+def _graph_question(name: str, certificate: bool) -> Question:
+    return Question(name, GRAPH_QUESTIONS[name], {"-N": "minimal", "-G": "graph"} if certificate else {})

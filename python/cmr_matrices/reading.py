@@ -3,7 +3,7 @@
 from __future__ import annotations
 
 from collections.abc import Mapping
-from dataclasses import dataclass, field
+from dataclasses import dataclass, field, replace
 
 from .answers import Answer, Verdict
 from .chains import Chain
@@ -76,7 +76,7 @@ def read_answer(ran: Ran, matrix: Matrix, property_name: str, *, word: str = "",
         verdict=verdict,
         violator=printed_part(found, matrix, "violator", violated) or printed_part(found, matrix, "fault", violated),
         open=printed_part(found, matrix, "open"),
-        minimal=printed_part(found, matrix, "minimal"),
+        minimal=_minimal(printed_part(found, matrix, "minimal", matrix), property_name),
         rest=printed_part(found, matrix, "rest"),
         tree=Tree.from_text(texts["tree"], names) if "tree" in texts else None,
         graph=Graph.from_text(texts["graph"], directed=directed, names=names) if "graph" in texts else None,
@@ -84,6 +84,12 @@ def read_answer(ran: Ran, matrix: Matrix, property_name: str, *, word: str = "",
         signed=None if signed is None else Matrix(signed.shape, signed.nonzeros, names),
         chain=Chain.from_text(texts["chain"], names) if "chain" in texts else None,
     )
+
+
+def _minimal(part: Submatrix | None, property_name: str) -> Submatrix | None:
+    """The submatrix with what it shows."""
+    meaning = f"It is not {property_name}, and without any one of its rows and columns it is."
+    return None if part is None else replace(part, meaning=meaning)
 
 
 def printed_part(

@@ -1,44 +1,43 @@
-"""Matroids that a matrix represents over GF(2) or GF(3), with names for their elements: duals, minors, and isomorphisms of small ones."""
+"""Matroids that a matrix represents over GF(2) or GF(3), with labels for their elements: minors, sums, isomorphisms, and questions."""
 
 from __future__ import annotations
 
 import ast
 import re
 from collections.abc import Iterable
-from dataclasses import dataclass
 from typing import Any
 
-from .circuits import circuits, isomorphism
-from .errors import BadInput
+from .answers import Answer
+from .clock import Clock
+from .errors import BadInput, shown
+from .excluded import ExcludedMinor
 from .given import listed, text_given
-from .lines import Names
+from .libraries import library
+from .mappings import Automorphisms, automorphisms_of, isomorphism_of
 from .matrix import Matrix
+from .matroid_pages import matroid_page
+from .matroid_sums import Columns, direct_sum, three_sum, two_sum
+from .matroid_trees import Decomposition, decomposed
+from .matroid_values import Label, labels_of, tableau_of_columns
 from .matroids import field_of_named, named
+from .minors import excluded_minor
+from .oracle import Oracle
+from .questions import is_cographic, is_graphic, is_regular, is_series_parallel
+from .small_minors import Removed, minor_like
 from .sources import MatrixLike
-from .tableaux import Field, Tableau
+from .tableaux import Field, Row, Tableau
 
 __all__ = ["Matroid"]
 
 _SAGE = re.compile(r"\s*Matroid\(groundset=(?P<elements>\[.*\]),\s*matrix=Matrix\(GF\((?P<field>[23])\),\s*(?P<rows>.*)\)\)\s*", re.S)
 
 
-@dataclass(frozen=True, eq=False)
-class Matroid:
+class Matroid(Oracle):
     """The matroid that `[I A]` represents over a field. `matrix` is `A`: its rows name the elements of a basis, its columns the others.
 
-    Two values are equal if their matrices, names and fields are; `is_isomorphic` asks whether the matroids are the same up to names.
+    Elements are labels: texts, numbers, or other values that can be keys. They stay what they are in minors, duals and sums.
+    Two values are equal if their matrices, labels and fields are; `is_isomorphic` asks whether the matroids are the same up to labels.
     """
-
-    matrix: Matrix
-    field: Field = 2
-
-    def __post_init__(self) -> None:
-        if self.field not in (2, 3):
-            raise BadInput(f"the field has 2 or 3 elements, and here it is {self.field!r}")
-        if self.field == 2:
-            self.matrix.must_be_binary()
-        if len(set(self.elements)) < len(self.elements):
-            raise BadInput("two elements have one name")
 
     @classmethod
     def of(
@@ -50,7 +49,12 @@ class Matroid:
         column_names: Iterable[object] | None = None,
     ) -> Matroid:
         """The matroid of a matrix `A`, over GF(2) or GF(3). Elements without names are `r0`, `r1`, .. and `c0`, `c1`, .."""
-        return cls(Matrix.of(matrix, row_names=row_names, column_names=column_names), field)
+        given = [None if names is None else labels_of(names) for names in (row_names, column_names)]
+        taken = Matrix.of(matrix, row_names=given[0], column_names=given[1])
+        if taken.names is None:
+            return cls(taken, field)
+        rows, columns = (plain if own is None else own for own, plain in zip(given, (taken.names.rows, taken.names.columns)))
+        return cls(taken, field, (*rows, *columns))
 
     @classmethod
     def from_named(cls, name: str, field: Field | None = None) -> Matroid:
@@ -70,23 +74,41 @@ class Matroid:
         Entries are -1, 0 and 1; over GF(2) -1 is 1. The basis is the first in the order of the columns. Without `elements`, the names
         are the labels of a frame's columns, or otherwise `e0`, `e1`, ..
         """
+        if field not in (2, 3):
+            raise BadInput(f"the field has 2 or 3 elements, and here it is {shown(field)}")
         taken = Matrix.of(matrix)
         count = taken.shape[1]
-        names = taken.names.columns if taken.names else tuple(f"e{place}" for place in range(count))
+        labels: tuple[Label, ...] = taken.names.columns if taken.names else tuple(f"e{place}" for place in range(count))
         if elements is not None:
-            names = tuple(str(element) for element in elements)
-        if len(names) != count:
-            raise BadInput(f"there are {len(names)} elements, and {count} columns")
-        signs = ((row, column, 1 if field == 2 else value) for row, column, value in taken.nonzeros)
-        tableau: Tableau[int | str] = Tableau.of(Matrix(taken.shape, tuple(signs)), field, range(taken.shape[0]), names)
-        for column in range(count):
-            # The numbers are elements of a basis that is there at first, and each is replaced by an element of the matroid.
-            rows = (row for row, at in tableau.row_elements.items() if isinstance(at, int) and tableau.entry(row, column))
-            row = next(rows, None)
-            if row is not None:
-                tableau.pivot(row, column)
-        tableau.remove_lines([element for element in tableau.elements if isinstance(element, int)])
-        return cls._of(tableau, field)
+            labels = labels_of(elements)
+        if len(labels) != count:
+            raise BadInput(f"there are {len(labels)} elements, and {count} columns")
+        if len(set(labels)) < len(labels):
+            raise BadInput("two elements have one name")
+        planes = [[0, 0] for _ in range(count)]
+        for row, column, value in taken.nonzeros:
+            planes[column][field == 3 and value < 0] |= 1 << row
+        vectors: list[Row] = [(plus, minus) for plus, minus in planes]
+        return cls._of(tableau_of_columns(field, taken.shape[0], zip(labels, vectors)), field)
+
+    @classmethod
+    def from_graph(cls, graph: Any, field: Field = 2) -> Matroid:
+        """The cycle matroid of a graph of networkx. A directed graph gives the matroid of the undirected one.
+
+        The label of an edge is `name` or `label` in its data, or otherwise its ends `(u, v)`, with its key in a multigraph: the edge as
+        networkx has it. If two edges would have one label, all labels are the edges.
+        """
+        networkx = library("networkx", "from_graph")
+        if not isinstance(graph, networkx.Graph):
+            raise BadInput(f"a graph of networkx is taken, and here it is {shown(graph)}")
+        edges = [tuple(edge) for edge in (graph.edges(keys=True) if graph.is_multigraph() else graph.edges())]
+        names = [data.get("name", data.get("label")) for *_, data in graph.edges(data=True)]
+        labels = labels_of(edge if name is None else name for edge, name in zip(edges, names))
+        if len(set(labels)) < len(labels):
+            labels = labels_of(edges)
+        places = {node: place for place, node in enumerate(graph)}
+        vectors = (_incidence(places[edge[0]], places[edge[1]], field) for edge in edges)
+        return cls._of(tableau_of_columns(field, len(places), zip(labels, vectors)), field)
 
     @classmethod
     def from_sage(cls, text: str) -> Matroid:
@@ -105,118 +127,163 @@ class Matroid:
         except (ValueError, TypeError, SyntaxError, RecursionError, MemoryError) as fault:
             raise BadInput(f"no matroid: {fault}") from fault
 
-    def __eq__(self, other: object) -> bool:
-        if not isinstance(other, Matroid):
-            return NotImplemented
-        return (self.matrix, self.field, self._names) == (other.matrix, other.field, other._names)
-
-    def __hash__(self) -> int:
-        return hash((self.matrix, self.field, self._names))
-
-    @property
-    def basis(self) -> tuple[str, ...]:
-        """The elements of the basis, which the rows represent."""
-        return self._names.rows
-
-    @property
-    def elements(self) -> tuple[str, ...]:
-        """The elements: first the basis, then the others."""
-        return self._names.rows + self._names.columns
-
-    @property
-    def rank(self) -> int:
-        """The number of elements of a basis."""
-        return self.matrix.shape[0]
-
     def dual(self) -> Matroid:
         """The dual matroid, whose bases are the complements of the bases. `A` transposed represents it, up to signs of lines."""
-        return Matroid(Matrix.of(self.matrix.T, row_names=self._names.columns, column_names=self._names.rows), self.field)
+        return Matroid.of(self.matrix.T, self.field, row_names=self.others, column_names=self.basis)
 
-    def pivot(self, basic: str, other: str) -> Matroid:
+    def relabelled(self, labels: Iterable[object] | dict[Any, Any]) -> Matroid:
+        """The matroid with other labels: a list for all elements in their order, or a dictionary from the elements that get others."""
+        if isinstance(labels, dict):
+            self.numbers(labels)
+            labels = [labels.get(element, element) for element in self.elements]
+        found = labels_of(labels)
+        if len(found) != len(self):
+            raise BadInput(f"there are {len(found)} labels, and {len(self)} elements")
+        height = self.rank()
+        return Matroid.of(self.matrix, self.field, row_names=found[:height], column_names=found[height:])
+
+    def pivot(self, basic: Label, other: Label) -> Matroid:
         """The same matroid by the basis in which `other` replaces `basic`: a pivot of the matrix over the field.
 
         Raises `BadInput` if these elements then are no basis.
         """
-        if basic not in self._names.rows or other not in self._names.columns:
+        self.numbers([basic, other])
+        if basic not in self.basis or other not in self.others:
             raise BadInput(f"a pivot is at an element of the basis and another, and here it is at {basic} and {other}")
-        tableau = self._tableau()
-        tableau.pivot(self._names.rows.index(basic), self._names.columns.index(other))
+        tableau = self.tableau()
+        row, column = tableau.places[basic].number, tableau.places[other].number
+        if not tableau.entry(row, column):
+            raise BadInput(f"there is no pivot at {basic} and {other}, where the entry is 0")
+        tableau.pivot(row, column)
         return self._of(tableau, self.field)
 
-    def delete(self, *elements: str) -> Matroid:
+    def delete(self, *elements: Label) -> Matroid:
         """The minor without some elements."""
         return self.minor(delete=elements)
 
-    def contract(self, *elements: str) -> Matroid:
+    def contract(self, *elements: Label) -> Matroid:
         """The minor in which some elements are contracted."""
         return self.minor(contract=elements)
 
-    def minor(self, *, delete: Iterable[str] = (), contract: Iterable[str] = ()) -> Matroid:
+    def minor(self, *, delete: Iterable[Label] = (), contract: Iterable[Label] = ()) -> Matroid:
         """The minor in which some elements are deleted and others contracted. Raises `BadInput` for what is no element, or is both."""
         deleted, contracted = (
-            dict.fromkeys(listed(name, given, "names of elements"))
-            for name, given in (("delete", delete), ("contract", contract))
+            dict.fromkeys(self.elements[number] for number in self.numbers(given, what))
+            for what, given in (("delete", delete), ("contract", contract))
         )
-        tableau = self._tableau()
-        for element in (*deleted, *contracted):
-            if element not in self.elements:
-                raise BadInput(f"there is no element {element}")
         if deleted.keys() & contracted.keys():
             raise BadInput("an element is to be deleted and contracted")
+        tableau = self.tableau()
         tableau.apply([(element, "delete") for element in deleted])
         tableau.apply([(element, "contract") for element in contracted])
         return self._of(tableau, self.field)
 
     def simplify(self) -> Matroid:
         """The minor without loops, and with one of all elements that are parallel."""
-        tableau = self._tableau()
+        tableau = self.tableau()
         tableau.remove_reducible_columns()
         return self._of(tableau, self.field)
 
     def cosimplify(self) -> Matroid:
         """The minor without coloops, and with one of all elements that are in series."""
-        tableau = self._tableau()
+        tableau = self.tableau()
         tableau.remove_reducible_rows()
         return self._of(tableau, self.field)
 
-    def circuits(self) -> frozenset[frozenset[str]]:
-        """The least dependent sets, for a matroid with few elements beside a basis: up to 12 over GF(2) and 7 over GF(3)."""
-        found = circuits(self.matrix.to_lists(), self.matrix.shape[1], self.field)
-        return frozenset(
-            frozenset(element for place, element in enumerate(self.elements) if circuit >> place & 1)
-            for circuit in found
-        )
+    def direct_sum(self, other: Matroid) -> Matroid:
+        """The direct sum with a matroid that has other elements."""
+        return self._of_sum(direct_sum(self, other))
 
-    def isomorphism(self, other: Matroid) -> dict[str, str] | None:
-        """The element of another matroid for each element of this one, or None if they are not isomorphic. Both have to be small."""
-        if (self.rank, len(self.elements)) != (other.rank, len(other.elements)):
-            return None
-        pair = (self.dual(), other.dual()) if self.matrix.shape[1] > self.rank else (self, other)
-        sets = [circuits(one.matrix.to_lists(), one.matrix.shape[1], one.field) for one in pair]
-        found = isomorphism(sets[0], sets[1], len(self.elements))
-        return None if found is None else {pair[0].elements[at]: pair[1].elements[to] for at, to in enumerate(found)}
+    def two_sum(self, other: Matroid, at: Label, other_at: Label) -> Matroid:
+        """The 2-sum with another matroid, at an element of each: neither of them is a loop or a coloop, and the sum has neither."""
+        return self._of_sum(two_sum(self, other, at, other_at))
 
-    def is_isomorphic(self, other: Matroid) -> bool:
-        """Whether two small matroids are the same up to the names of their elements."""
-        return self.isomorphism(other) is not None
+    def three_sum(self, other: Matroid, triangle: Iterable[Label]) -> Matroid:
+        """The 3-sum of two binary matroids along a triangle of both, which the sum does not have.
+
+        Both have at least seven elements, the triangle contains no cocircuit of either, and they have no other elements in common.
+        """
+        return self._of_sum(three_sum(self, other, listed("triangle", triangle, "three elements")))
+
+    def isomorphism(self, other: Matroid, *, time_limit: float | None = None) -> dict[Label, Label] | None:
+        """The element of another matroid for each element of this one, or None if they are not isomorphic.
+
+        `time_limit` is in seconds, 0 to 2,000,000. Raises `TimeLimitReached`.
+        """
+        return isomorphism_of(self, other, Clock.of(time_limit))
+
+    def is_isomorphic(self, other: Matroid, *, time_limit: float | None = None) -> bool:
+        """Whether two matroids are the same up to the labels of their elements. `time_limit` is in seconds, 0 to 2,000,000."""
+        return self.isomorphism(other, time_limit=time_limit) is not None
+
+    def find_minor(self, other: Matroid, *, time_limit: float | None = None) -> Removed | None:
+        """The elements to delete and to contract for a minor that is isomorphic to another matroid, or None if it has no such minor.
+
+        The matroid has to be small, with up to about 15 elements. `time_limit` is in seconds, 0 to 2,000,000.
+        """
+        return minor_like(self, other, Clock.of(time_limit))
+
+    def has_minor(self, other: Matroid, *, time_limit: float | None = None) -> bool:
+        """Whether a small matroid has a minor that is isomorphic to another matroid. `time_limit` is in seconds, 0 to 2,000,000."""
+        return self.find_minor(other, time_limit=time_limit) is not None
+
+    def automorphisms(self, *, time_limit: float | None = None) -> Automorphisms:
+        """The group of the automorphisms: its order, generators and orbits. `time_limit` is in seconds, 0 to 2,000,000."""
+        return automorphisms_of(self, Clock.of(time_limit))
+
+    def is_regular(self, **options: Any) -> Answer:
+        """Whether it is regular, with the keywords of the function `is_regular`."""
+        return is_regular(self, **options)
+
+    def is_graphic(self, **options: Any) -> Answer:
+        """Whether it is graphic, with the keywords of the function `is_graphic`."""
+        return is_graphic(self, **options)
+
+    def is_cographic(self, **options: Any) -> Answer:
+        """Whether it is cographic, with the keywords of the function `is_cographic`."""
+        return is_cographic(self, **options)
+
+    def is_series_parallel(self, **options: Any) -> Answer:
+        """Whether it is a direct sum of series-parallel networks, with the keywords of the function `is_series_parallel`."""
+        return is_series_parallel(self, **options)
+
+    def excluded_minor(self, of: str, **options: Any) -> ExcludedMinor | None:
+        """An excluded minor for a class such as `graphic`, or None, with the keywords of the function `excluded_minor`."""
+        return excluded_minor(self, of, **options)
+
+    def decomposition(self, *, lines: int = 0, **options: Any) -> Decomposition:
+        """Seymour's decomposition of a regular matroid: its summands as matroids with their elements, their kinds and their graphs.
+
+        `lines` is the budget of exhaustive searches, 0 to 24 lines (0). With 0, every leaf is graphic, cographic or R10. The other
+        keywords are those of the function `is_regular`. Raises `BadInput` if the matroid is not regular, and `Undecided`.
+        """
+        return decomposed(self, lines, **options)
 
     def to_sage(self) -> str:
         """A text that Sage takes for this matroid: `Matroid(groundset=[..], matrix=Matrix(GF(2), [..]))`, with all of `[I A]`."""
         rows = [
-            [int(at == place) for at in range(self.rank)] + [entry % self.field for entry in row]
+            [int(at == place) for at in range(self.rank())] + [entry % self.field for entry in row]
             for place, row in enumerate(self.matrix.to_lists())
         ]
-        entries = str(rows) if rows else f"0, {len(self.elements)}"
+        entries = str(rows) if rows else f"0, {len(self)}"
         return f"Matroid(groundset={list(self.elements)}, matrix=Matrix(GF({self.field}), {entries}))"
 
-    @property
-    def _names(self) -> Names:
-        return self.matrix.names or Names.numbered(*self.matrix.shape)
+    def __repr__(self) -> str:
+        return f"Matroid(rank {self.rank()}, {len(self)} elements, over GF({self.field}))"
 
-    def _tableau(self) -> Tableau[str]:
-        return Tableau.of(self.matrix, self.field, self._names.rows, self._names.columns)
+    def _repr_html_(self) -> str:
+        return matroid_page(self)
 
     @classmethod
     def _of(cls, tableau: Tableau[Any], field: Field) -> Matroid:
-        names = tableau.row_elements.values(), tableau.column_elements.values()
-        return cls(Matrix.of(tableau.matrix(), row_names=names[0], column_names=names[1]), field)
+        rows, columns = tableau.row_elements.values(), tableau.column_elements.values()
+        return cls.of(tableau.matrix(), field, row_names=rows, column_names=columns)
+
+    def _of_sum(self, columns: Columns) -> Matroid:
+        return self._of(tableau_of_columns(self.field, *columns), self.field)
+
+
+def _incidence(tail: int, head: int, field: Field) -> Row:
+    if tail == head:
+        return 0, 0
+    return (1 << tail | 1 << head, 0) if field == 2 else (1 << tail, 1 << head)

@@ -7,6 +7,7 @@ from dataclasses import dataclass, field
 
 from .lines import LineSet
 from .nodes import CONNECTORS, Node, NodeKind
+from .pages import paragraph
 
 __all__ = ["Separation", "separations_of"]
 
@@ -37,6 +38,17 @@ class Separation:
     def order(self) -> int:
         """The k of the k-separation: 1, 2 or 3, which is one more than the rank. The submatrix is at most so connected."""
         return self.rank + 1
+
+
+    def __str__(self) -> str:
+        return f"{self.order}-separation of a {self.kind} node: {_listed(self.one)} | {_listed(self.two)}"
+
+    def _repr_html_(self) -> str:
+        return paragraph(str(self))
+
+
+def _listed(lines: LineSet) -> str:
+    return f"rows {' '.join(map(str, lines.rows))} columns {' '.join(map(str, lines.columns))}"
 
 
 def separations_of(root: Node) -> Iterator[Separation]:

@@ -76,7 +76,8 @@ def entries_of(source: Any) -> Entries:
         return _of_array(source)
     if isinstance(source, Sequence) and not isinstance(source, (str, bytes)):
         return _of_rows(source)
-    raise BadInput(f"no matrix: an object of type {type(source).__name__} is none")
+    hint = "; its `matrix` is one" if hasattr(source, "matrix") else ""
+    raise BadInput(f"no matrix: an object of type {type(source).__name__} is none{hint}")
 
 
 def _of_scipy(source: Any) -> Entries:

@@ -7,7 +7,7 @@ from dataclasses import dataclass, field
 from .errors import BadInput
 from .lines import LineSet, Names
 from .matrix import Matrix
-from .pages import SHOWN, line_list, matrix_table
+from .pages import SHOWN, line_list, matrix_table, paragraph
 from .sources import MatrixLike
 from .words import Words
 
@@ -24,6 +24,10 @@ class Submatrix:
     names: Names | None = field(default=None, compare=False, repr=False)
     entries: tuple[tuple[int, ...], ...] | None = field(default=None, compare=False, repr=False)
     """The entries of its rows, if it is the violator of an answer and is small."""
+    of_signed: bool = field(default=False, compare=False, repr=False)
+    """Whether it is a violator of the signed matrix of `is_regular`, and not of the 0/1 matrix."""
+    meaning: str | None = field(default=None, compare=False, repr=False)
+    """What it shows, as a notebook says above its entries."""
 
     @property
     def lines(self) -> LineSet:
@@ -73,6 +77,10 @@ class Submatrix:
         return f"Submatrix(shape={self.shape}, {len(self.rows)} rows, {len(self.columns)} columns)"
 
     def _repr_html_(self) -> str:
+        meaning = "" if self.meaning is None else paragraph(self.meaning)
+        return meaning + self._table()
+
+    def _table(self) -> str:
         if self.entries is None:
             return line_list([("rows", self.row_names), ("columns", self.column_names)])
         names = Names(self.row_names, self.column_names)

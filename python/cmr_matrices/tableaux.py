@@ -15,7 +15,7 @@ from .errors import BadInput
 from .lines import Line
 from .matrix import Matrix
 
-__all__ = ["Field", "Operation", "Tableau", "bits_of"]
+__all__ = ["Field", "Operation", "Row", "Tableau", "bits_of"]
 
 Field = Literal[2, 3]
 """The number of elements of a field."""
@@ -193,7 +193,7 @@ class Tableau(Generic[Element]):
             return [0] * len(self.column_elements)
         pick = _picker(self.column_elements)
         width = 1 + max(self.column_elements, default=0)
-        texts = (pick(f"{row[plane]:0{width}b}"[::-1]) for row in self.rows.values())
+        texts = (pick(f"{row[plane]:0{width}b}"[::-1]) for row in reversed(self.rows.values()))
         return [int("".join(bits), 2) for bits in zip(*texts)]
 
     def simplify(self) -> None:

@@ -13,6 +13,7 @@ from typing import Literal, cast, get_args
 
 from .answer_checks import checked_graph, checked_minimal, checked_reductions, checked_signing, is_cycle
 from .answers import Answer, Checked, Parts
+from .asked import MatroidLike, matrix_given
 from .calls import Call
 from .chains import Chain
 from .clock import TimeLimit
@@ -66,9 +67,12 @@ def sign(
 
 
 def check(
-    matrix: MatrixLike, evidence: Evidence | Answer, *, time_limit: TimeLimit = None, program: StrPath | None = None
+    matrix: MatroidLike, evidence: Evidence | Answer, *, time_limit: TimeLimit = None, program: StrPath | None = None
 ) -> Checked:
     """Checks evidence for a matrix, whatever made it: a tree, a chain, a violator, or the text of one of these.
+
+    The tree and the violator of `is_regular` belong to its signed matrix, `answer.signed`. If they are refused for another matrix, the
+    `hint` says so.
 
     If it is given an answer, `check` checks all of its evidence, which has to say what the answer says:
 
@@ -85,8 +89,10 @@ def check(
     """
     call = Call.begin(program, time_limit)
     if isinstance(evidence, Answer):
-        return _check_answer(Matrix.of(matrix), evidence, call)
-    return _check(Matrix.of(matrix), evidence, call)
+        return _check_answer(matrix_given(matrix), evidence, call)
+    taken = matrix_given(matrix)
+    checked = _check(taken, evidence, call)
+    return checked if checked.accepted else replace(checked, hint=_hint(taken, evidence))
 
 
 def _check(taken: Matrix, evidence: Evidence, call: Call) -> Checked:
@@ -108,7 +114,7 @@ def _check(taken: Matrix, evidence: Evidence, call: Call) -> Checked:
 
 
 def parts(
-    matrix: MatrixLike, tree: Tree | str, *, time_limit: float | None = None, program: StrPath | None = None
+    matrix: MatroidLike, tree: Tree | str, *, time_limit: float | None = None, program: StrPath | None = None
 ) -> Parts:
     """The two matrices of which a matrix is the sum, by the root of its tree. `compose` is the inverse.
 
@@ -117,7 +123,7 @@ def parts(
     Raises `Refused` if the root is neither a two-sum nor a three-sum, or if the tree breaks a rule.
     """
     call = Call.begin(program, time_limit)
-    taken = Matrix.of(matrix)
+    taken = matrix_given(matrix)
     if not isinstance(tree, (str, Tree)):
         raise BadInput(f"tree is a Tree or the text of one, and here it is {shown(tree)}")
     form, text = taken.for_program()
@@ -125,7 +131,7 @@ def parts(
     words = ["parts", "-i", form, "matrix", "tree", "-A", "first", "-B", "second"]
     ran = run(words, inputs=inputs, outputs=("first", "second"), program=call.program, time_limit=call.clock)
     if ran.status == REFUSED:
-        raise Refused(ran.said("refused"))
+        raise Refused(ran.said("refused"), _hint(taken, tree))
     said = ran.said("parts")
     order = line_sets(ran.lines)["order"]
     kind = cast(Literal["two", "delta", "y", "mixed", "concentrated"], "two" if said == "twosum" else said)
@@ -265,6 +271,15 @@ def _turned(graph: Graph) -> Graph:
 
 def _turned_edges(edges: tuple[Edge, ...]) -> tuple[Edge, ...]:
     return tuple(Edge(edge.tail, edge.head, edge.line.transposed()) for edge in edges)
+
+
+def _hint(matrix: Matrix, evidence: Evidence) -> str | None:
+    """What to do if evidence of `is_regular` was given with a matrix that is not its signed matrix."""
+    if isinstance(evidence, Submatrix) and evidence.of_signed:
+        return "the violator belongs to the signed matrix of `is_regular`: give `answer.signed`, or check the whole answer or its `chain`"
+    if isinstance(evidence, Tree) and evidence.signed is not None and evidence.signed != matrix:
+        return "the tree belongs to the signed matrix of `is_regular`: give `tree.signed`, or check the whole answer"
+    return None
 
 
 def _refusal(said: str) -> Checked:

@@ -7,15 +7,16 @@ Source: Seymour's decomposition of regular matroids; Truemper, *Matroid Decompos
 from __future__ import annotations
 
 from collections.abc import Iterator
-from dataclasses import dataclass, field
+from dataclasses import dataclass, field, replace
 from typing import Any, Literal
 
 from .dot import svg
+from .errors import BadInput
 from .libraries import library
 from .lines import LineSet, Names
 from .matrix import Matrix
 from .nodes import LEAVES, Node
-from .pages import no_picture
+from .pages import no_picture, paragraph
 from .separations import Separation, separations_of
 from .sources import MatrixLike
 from .submatrices import Submatrix
@@ -32,19 +33,24 @@ class Tree:
     shape: tuple[int, int]
     root: Node = field(repr=False)
     names: Names | None = field(default=None, repr=False)
+    signed: Matrix | None = field(default=None, repr=False)
+    """Of a tree of `is_regular` the signed matrix, of which it is the tree."""
 
     def walk(self) -> Iterator[tuple[int, Node]]:
         """Each node in preorder, with its depth: 0 for the root."""
         return self.root.walk()
 
-    def submatrices(self, matrix: MatrixLike) -> Iterator[tuple[Node, Matrix]]:
+    def submatrices(self, matrix: MatrixLike | None = None) -> Iterator[tuple[Node, Matrix]]:
         """Each node in preorder with its submatrix: the submatrix on the node's lines, after the pivots of the nodes above it.
 
-        Raises `BadInput` if the matrix has another shape, and `BadEntry` if a pivot is at a zero or gives an entry other than -1, 0 and
-        1; `check` refuses such a tree.
+        The matrix may be omitted for a tree of `is_regular`, which has its `signed` matrix. Raises `BadInput` if the matrix has another
+        shape, and `BadEntry` if a pivot is at a zero or gives an entry other than -1, 0 and 1; `check` refuses such a tree.
         """
+        given = self.signed if matrix is None else matrix
+        if given is None:
+            raise BadInput("only a tree of `is_regular` has its matrix, and submatrices of other trees need the matrix")
         whole = LineSet(tuple(range(self.shape[0])), tuple(range(self.shape[1])))
-        pending = [(self.root, Submatrix(self.shape, whole.rows, whole.columns).submatrix(matrix), whole)]
+        pending = [(self.root, Submatrix(self.shape, whole.rows, whole.columns).submatrix(given), whole)]
         while pending:
             node, above, lines = pending.pop()
             rows = {row: place for place, row in enumerate(lines.rows)}
@@ -97,7 +103,8 @@ class Tree:
         return svg(self.to_dot())
 
     def _repr_html_(self) -> str | None:
-        return no_picture("the tree")
+        signed = paragraph("the tree of the signed matrix") if self.signed is not None else ""
+        return signed + (self._repr_svg_() or no_picture("the tree") or "")
 
     def to_text(self) -> str:
         """The canonical tree text, with lines counted from 1."""
@@ -117,10 +124,14 @@ class Tree:
 
     def __reduce__(self) -> tuple[Any, ...]:
         # A tree may be deeper than what pickle takes.
-        return Tree.from_text, (self.to_text(), self.names)
+        return _tree_of_text, (self.to_text(), self.names, self.signed)
 
     def __str__(self) -> str:
         return "\n".join(f"{depth} {node.printed}" for depth, node in self.walk())
+
+
+def _tree_of_text(text: str, names: Names | None, signed: Matrix | None) -> Tree:
+    return replace(Tree.from_text(text, names), signed=signed)
 
 
 def outline_lines(tree: Tree, names: Names) -> Iterator[str]:

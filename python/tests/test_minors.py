@@ -88,7 +88,7 @@ class Values(unittest.TestCase):
             (replace(self.minor, rows=(0, 1, 1)), "a row is given twice"),
             (replace(self.minor, rows=(0, 1, -1)), "is none of the matrix"),
             (replace(self.minor, columns=(0, 1, 2, 4)), "is none of the matrix"),
-            (replace(self.minor, pivots=((0, 2),)), "where the entry is 0"),
+            (replace(self.minor, pivots=((0, 2),)), "the entry 0 is none of the nonzeros"),
             (replace(self.minor, pivots=((0, 0),)), "what is left is not F7"),
             (replace(self.minor, shape=(4, 3)), "of shape"),
         ]:

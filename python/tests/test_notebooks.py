@@ -2,18 +2,22 @@
 
 from __future__ import annotations
 
+import re
 import unittest
 import warnings
 from importlib import import_module
+from math import hypot
 from typing import Any
 from unittest import mock
 
 from cmr_matrices import (
     Graph,
     Matrix,
+    Matroid,
     Names,
     Submatrix,
     Tree,
+    check,
     is_cographic,
     is_graphic,
     is_network,
@@ -66,13 +70,54 @@ class Pictures(unittest.TestCase):
                 self.assertEqual(len(drawn), edges, name)
                 self.assertEqual(len({end for edge in drawn for end in edge.replace("->", "--").split(" -- ")}), nodes, name)
 
+    @needs_program
+    def test_known_graphs_are_drawn_on_circles(self) -> None:
+        """Each node of the Petersen graph is on one of two circles, and K5, V8 and K3,3 are on one. Names of nodes fit to edges."""
+        for name, radii in (("Petersen", {900, 1800}), ("K5", {1800}), ("V8", {1800}), ("K3,3", {1800}), ("W5", {0, 1800})):
+            graph = is_graphic(named(name), certificate=True).graph
+            assert graph is not None
+            dot = graph.to_dot()
+            places = [tuple(map(float, pair.split(","))) for pair in re.findall(r'pos="([^"!]+)!"', dot)]
+            self.assertEqual({round(1000 * hypot(*place), -1) for place in places}, radii, name)
+            labels = dict(re.findall(r'^  (\d+) \[label="([^"]*)"', dot, re.M))
+            for tail, head, edge in re.findall(r'(\d+) -- (\d+) \[label="([^"]+)"', dot):
+                self.assertEqual({labels.get(tail, tail), labels.get(head, head)}, set(edge.split("-")))
+        numbered = is_graphic(named("K4").to_lists(), certificate=True).graph
+        assert numbered is not None
+        self.assertNotIn('0 [label=""', numbered.to_dot())
+        contradicting = Graph.from_text(K4, directed=False, names=Names(("1-2", "2-3", "3-4"), ("1-2", "5-6", "7-8")))
+        self.assertIn('0 [label=""', contradicting.to_dot())
+
+    @needs_program
+    def test_values_of_matroids(self) -> None:
+        plane = Matroid.from_named("F7")
+        minor = plane.excluded_minor("regular")
+        answer = is_regular(named("F7"), certificate=True)
+        assert minor is not None and answer.chain is not None
+        tree = is_regular(named("R12"), certificate=True).tree
+        assert tree is not None
+        for value, piece in [
+            (plane, "matroid of rank 3 with 7 elements over GF(2)"),
+            (minor, "excluded minor F7 of the class regular"),
+            (tree.separations()[0], "3-separation of a concentrated node: rows 2 3 columns 0 1 4 5 | "),
+            (check(named("F7"), answer.chain), "accepted: not regular"),
+            (answer.chain, "forced ones lead to a violator in rows"),
+            (Matroid.from_named("R12").decomposition(), "3-sum, rank 6, 12 elements"),
+        ]:
+            self.assertIn(piece, value._repr_html_())
+        self.assertEqual(repr(plane), "Matroid(rank 3, 7 elements, over GF(2))")
+        part = is_cographic(named("K5"), certificate=True).minimal
+        assert part is not None
+        self.assertIn("It is not cographic, and without any one of its rows and columns it is.", part._repr_html_())
+        self.assertIn("<th>1-2</th>", part._repr_html_())
+
     @needs_command("dot")
     def test_a_picture_is_an_element_alone(self) -> None:
         for value in DRAWN:
             drawn = value._repr_svg_()
             assert drawn is not None
             self.assertTrue(drawn.startswith("<svg ") and drawn.rstrip().endswith("</svg>"), drawn)
-            self.assertIsNone(value._repr_html_())
+            self.assertIn(drawn, value._repr_html_() or "")
 
     def test_a_reason_where_there_is_no_picture(self) -> None:
         graph = Graph.from_text(STAR, directed=False)

@@ -28,6 +28,7 @@ class Screens(unittest.TestCase):
             with self.subTest(screen=title):
                 self.runs(doctest.DocTestParser().get_doctest(screen, {}, title, "README.md", 0))
 
+    @needs_module("networkx")
     def test_matroids(self) -> None:
         text = (TOP / "docs" / "MATROIDS.md").read_text(encoding="utf-8")
         self.runs(doctest.DocTestParser().get_doctest(text, {}, "MATROIDS.md", "MATROIDS.md", 0))

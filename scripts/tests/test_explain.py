@@ -198,7 +198,7 @@ ELSE = [
     ("tu -E x -D x m.txt", 1, ["`-E` and `-D` name one file, x"]),
     ("check m.txt a.tree", 7, ["of another size", "m.txt has size 3x3", "a.tree is for a matrix of size 2x2"]),
     ("check m.txt pivots.tree", 7, ["of another size", "pivots.tree is for a matrix of size 2x2"]),
-    ("check m.txt minimal.txt", 7, ["are no violator", "`-N`", "m.txt has size 3x3"]),
+    ("check m.txt minimal.txt", 7, ["are no violator", "`-N`", "m.txt has size 3x3", "and m.txt has no signs"]),
     ("check signed.txt a.tree", 7, ["does not fit to the matrix"]),
     ("compose delta m.txt a.one -M s", 7, ["have not the connecting lines of this sum"]),
 ]

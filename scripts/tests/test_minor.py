@@ -41,10 +41,14 @@ class Minors(ScriptTest):
         )
         self.write("other", MINOR.replace("pivots 1 1 1", "pivots 0"))
         self.assertEqual(self.check("check", FANO, "other"), (7, ["refused: what is left is not U2,4"], ""))
+        self.write("zero", MINOR.replace("pivots 1 1 1", "pivots 1 1 3"))
+        refused = "refused: row 1, column 3: the entry 0 is none of the nonzeros, as it has to be at a pivot"
+        self.assertEqual(self.check("check", FANO, "zero"), (7, [refused], ""))
 
     def test_what_is_refused(self):
         self.write("minor", MINOR)
         self.write("two", "1 1\n2\n")
+        self.write("signed", "1 2\n1 -1\n")
         for words, status, piece in [
             ((), 2, "required: CLASS"),
             (("planar",), 2, "invalid choice"),
@@ -53,7 +57,8 @@ class Minors(ScriptTest):
             (("tu", "--lines", "25", FANO), 2, "no number from 0 to 24"),
             (("check", FANO, "minor", "-M", "out"), 2, "-M does not go with check"),
             (("check", FANO, FANO), 3, "no minor: 3 is not `cmr-minor`"),
-            (("check", "two", "minor"), 3, "two: row 0, column 0: the entry 2 is none of -1, 0 and 1"),
+            (("check", "two", "minor"), 3, "two: row 1, column 1: the entry 2 is none of -1, 0 and 1"),
+            (("graphic", "signed"), 3, "signed: row 1, column 2: the entry -1 is none of 0 and 1"),
             (("tu", "none"), 4, "cannot read none: No such file or directory"),
         ]:
             with self.subTest(words=words):

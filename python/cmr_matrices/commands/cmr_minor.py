@@ -25,7 +25,7 @@ from ..matrix import Matrix
 from ..minors import excluded_minor
 from ..program import NO, REFUSED, UNDECIDED, YES
 from ..represented import Matroid
-from .command import command_parser, integer_between, read_as, status_of, write_text
+from .command import command_parser, integer_between, named_faults, read_as, status_of, write_text
 
 __all__ = ["main"]
 
@@ -61,7 +61,11 @@ def arguments() -> argparse.Namespace:
 def _asked(chosen: argparse.Namespace) -> int:
     """Asks whether a matrix is in a class, and prints the minor of a no."""
     kind = minor_class(chosen.of)
-    matrix = _matrix(chosen, chosen.files[0] if chosen.files else "-")
+    name = chosen.files[0] if chosen.files else "-"
+    matrix = _matrix(chosen, name)
+    if kind.field == 2:
+        with named_faults(name):
+            matrix.must_be_binary()
     try:
         minor = excluded_minor(
             matrix,
@@ -88,7 +92,7 @@ def _checked(chosen: argparse.Namespace) -> int:
     """Checks a minor on a matrix."""
     matrix = _matrix(chosen, chosen.files[0])
     minor = replace(read_as(chosen.files[1], ExcludedMinor.from_text), names=matrix.names)
-    fault = minor.fault(matrix)
+    fault = minor.fault(matrix, first=1)
     if fault is not None:
         _print([f"refused: {fault}"])
         return REFUSED

@@ -11,11 +11,13 @@ import re
 import shutil
 import sys
 import warnings
-from collections.abc import Callable
+from collections.abc import Callable, Iterator
+from contextlib import contextmanager
 from pathlib import Path
 from typing import TypeVar
 
 from ..errors import (
+    BadEntry,
     BadInput,
     CannotRead,
     CannotWrite,
@@ -36,6 +38,7 @@ __all__ = [
     "command_parser",
     "end",
     "integer_between",
+    "named_faults",
     "read_as",
     "read_text",
     "status_of",
@@ -127,8 +130,17 @@ def read_text(name: str) -> str:
 def read_as(name: str, reader: Callable[[str], _Value]) -> _Value:
     """What a reader makes of the text of a file. If it refuses the text, the error names the file."""
     text = read_text(name)
-    try:
+    with named_faults(name):
         return reader(text)
+
+
+@contextmanager
+def named_faults(name: str) -> Iterator[None]:
+    """Names the file in each error about its text, with rows and columns counted from 1, as all commands count them."""
+    try:
+        yield
+    except BadEntry as fault:
+        raise BadInput(f"{name}: {fault.counted(1)}") from fault
     except BadInput as fault:
         raise BadInput(f"{name}: {fault}") from fault
 

@@ -48,6 +48,17 @@ def refused(order: Order, line: str, texts: dict[str, bytes]) -> Iterator[str]:
         yield "the evidence does not fit to the matrix, if both are whole: docs/DEFINITIONS.md has the rules by name"
     if order.tool.name != "compose":
         yield from _sizes(order, texts)
+    if order.tool.name != "compose" and rule != "Size" and not line.startswith("refused: root is "):
+        yield from _signed(order, texts)
+
+
+def _signed(order: Order, texts: dict[str, bytes]) -> Iterator[str]:
+    """That evidence of regularity is for the signed matrix, if the matrix has no signs. A chain is for the matrix without signs."""
+    if any(text.startswith(b"cmr-chain") for text in texts.values()):
+        return
+    for kind, name in order.inputs.items():
+        if kind == "MATRIX" and texts.get(name) and b"-" not in texts[name]:
+            yield f"a tree or a violator of `regular` belongs to the signed matrix, which `regular -M` writes, and {name} has no signs"
 
 
 def _sizes(order: Order, texts: dict[str, bytes]) -> Iterator[str]:

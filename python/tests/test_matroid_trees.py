@@ -1,0 +1,159 @@
+"""Seymour's decomposition as matroids, minors of small matroids, and evidence that names the matrix to which it belongs."""
+
+from __future__ import annotations
+
+import pickle
+import random
+import unittest
+from itertools import combinations
+
+from cmr_matrices import BadInput, Matroid, Refused, check, is_regular, named, parts
+from cmr_matrices.matroid_trees import Decomposition
+from tests.support import needs_program
+
+
+@needs_program
+class Decompositions(unittest.TestCase):
+    def holds(self, found: Decomposition) -> None:
+        """Each leaf is what it says, and each sum has its separation and, of a 2-sum, is the 2-sum of its parts."""
+        for _, one in found.walk():
+            if one.kind == "2-sum":
+                (first,), (second,) = one.shared
+                sides = one.parts[0].matroid.relabelled({first: "p"}), one.parts[1].matroid.relabelled({second: "q"})
+                made, draw = sides[0].two_sum(sides[1], "p", "q"), random.Random(6)
+                for _ in range(100):
+                    some = draw.sample(made.elements, draw.randint(0, len(made)))
+                    self.assertEqual(made.rank(some), one.matroid.rank(some))
+            if one.shared:
+                side = set(one.parts[0].matroid.elements) - set(one.shared[0])
+                self.assertEqual(one.matroid.connectivity(side), 1 if one.kind == "2-sum" else 2)
+                self.assertEqual(side, set(one.matroid.elements) - set(one.parts[1].matroid.elements) | set(one.shared[1]))
+            if one.kind == "3-sum":
+                for at, part in enumerate(one.parts):
+                    is_triad = one.shared_as(at) == "triad"
+                    self.assertTrue((part.matroid.dual() if is_triad else part.matroid).is_circuit(one.shared[at]))
+            if not one.parts:
+                self.assertIn(one.kind, ("graphic", "cographic", "R10", "empty"))
+                if one.kind == "R10":
+                    self.assertTrue(one.matroid.is_isomorphic(Matroid.from_named("R10")))
+                elif one.kind != "empty":
+                    self.assertTrue(getattr(one.matroid, f"is_{one.kind}")())
+                    assert one.graph is not None and one.graph.names is not None
+                    self.assertEqual({*one.graph.names.rows, *one.graph.names.columns}, set(map(str, one.matroid.elements)))
+
+    def test_known_matroids(self) -> None:
+        for name, kinds in [
+            ("R10", ["R10"]),
+            ("R12", ["graphic", "graphic"]),
+            ("K5", ["graphic"]),
+            ("K3,3*", ["cographic"]),
+            ("Petersen*", ["cographic"]),
+        ]:
+            for field in (2, 3):
+                found = Matroid.from_named(name, field).decomposition()  # type: ignore[arg-type]
+                self.assertEqual([leaf.kind for leaf in found.leaves()], kinds)
+                self.assertEqual(found.matroid, Matroid.from_named(name, field))  # type: ignore[arg-type]
+                self.holds(found)
+
+    def test_sums(self) -> None:
+        k5 = Matroid.from_named("K5").relabelled(range(10))
+        dual = Matroid.from_named("K3,3*").relabelled([f"d{at}" for at in range(9)])
+        whole = k5.two_sum(Matroid.from_named("R10"), 0, "1").two_sum(dual, 1, "d1")
+        whole = whole.direct_sum(Matroid.of([[1, 1, 0]], row_names=["u"], column_names=["v", "w", "x"]))
+        found = whole.decomposition()
+        self.holds(found)
+        self.assertEqual(sorted(leaf.kind for leaf in found.leaves()), ["R10", "cographic", "graphic"])
+        self.assertIn("without", str(found))
+        self.assertEqual(set(found.matroid.elements), set(whole.elements))
+
+    def test_random_sums_of_known_matroids(self) -> None:
+        """2-sums and 3-sums at random, of which none is left without a kind."""
+        draw, threes = random.Random(5), 0
+        for _ in range(8):
+            names = [draw.choice(("K5", "K5*", "K3,3*", "R10", "R12", "W5", "V8", "K6", "Petersen*")) for _ in range(3)]
+            made = [Matroid.from_named(name) for name in names]
+            whole, *others = (it.relabelled([(at, e) for e in it.elements]) for at, it in enumerate(made))
+            for other in others:
+                triangles = [[three for three in combinations(it.elements, 3) if it.is_circuit(three)] for it in (whole, other)]
+                own, its = (next(iter(draw.sample(found, len(found))), None) for found in triangles)
+                try:
+                    assert own is not None and its is not None
+                    whole = whole.three_sum(other.relabelled(dict(zip(its, own))), own)
+                    threes += 1
+                except (AssertionError, BadInput):
+                    whole = whole.two_sum(other, draw.choice(whole.elements), draw.choice(other.elements))
+            self.holds(whole.decomposition())
+        self.assertGreater(threes, 4)
+
+    def test_no_leaf_is_enumerated(self) -> None:
+        """Without pivots and with a budget, the program searches through row sets, and does not say what the part is."""
+        goods = Matroid.from_named("K5").relabelled([f"k{at}" for at in range(10)])
+        other = Matroid.from_named("K5*").relabelled([f"d{at}" for at in range(10)])
+        three = next(circuit for circuit in other.circuits() if len(circuit) == 4)
+        whole = goods.two_sum(other, "k0", sorted(map(str, three))[0])
+        self.holds(whole.decomposition())
+        with self.assertRaisesRegex(BadInput, "not regular, and only a regular matroid has a decomposition"):
+            Matroid.from_named("F7").decomposition()
+
+
+class Minors(unittest.TestCase):
+    def test_minors_of_small_matroids(self) -> None:
+        for whole, minor, wanted in [
+            ("R10", "M*(K3,3)", True),
+            ("R10", "K4", True),
+            ("R10", "U2,4", False),
+            ("AG(3,2)", "F7", True),
+            ("S8", "F7*", True),
+            ("W^4", "U2,4", True),
+            ("W^4", "W3", False),
+            ("V8", "K3,3", True),
+            ("K4", "K5", False),
+        ]:
+            one, two = Matroid.from_named(whole), Matroid.from_named(minor)
+            found = one.find_minor(two, time_limit=60)
+            self.assertEqual((found is not None, one.has_minor(two)), (wanted, wanted), (whole, minor))
+            if found is not None:
+                self.assertTrue(one.minor(delete=found[0], contract=found[1]).is_isomorphic(two))
+
+    def test_random_minors_are_found(self) -> None:
+        draw = random.Random(51)
+        for field in (2, 3):
+            for _ in range(12):
+                rows = [[draw.choice((0, 1, 1 if field == 2 else -1)) for _ in range(4)] for _ in range(4)]
+                whole = Matroid.of(rows, field)  # type: ignore[arg-type]
+                gone = draw.sample(whole.elements, 3)
+                self.assertTrue(whole.has_minor(whole.minor(delete=gone[:1], contract=gone[1:])))
+
+
+@needs_program
+class SignedEvidence(unittest.TestCase):
+    def test_a_tree_of_regular_belongs_to_the_signed_matrix(self) -> None:
+        answer = is_regular(named("R12"), certificate=True)
+        assert answer.tree is not None and answer.signed is not None
+        self.assertEqual(answer.tree.signed, answer.signed)
+        self.assertEqual(pickle.loads(pickle.dumps(answer.tree)).signed, answer.signed)
+        refused = check(named("R12"), answer.tree)
+        self.assertFalse(refused)
+        for piece in ("belongs to the signed matrix", "give `tree.signed`"):
+            self.assertIn(piece, refused.hint or "")
+            self.assertIn(piece, str(refused))
+        self.assertTrue(check(answer.tree.signed, answer.tree))
+        self.assertIsNone(check(answer.signed, answer.tree).hint)
+        self.assertTrue(check(named("R12"), answer))
+        with self.assertRaisesRegex(Refused, "belongs to the signed matrix"):
+            parts(named("R12"), answer.tree)
+        self.assertEqual(parts(answer.signed, answer.tree).kind, "concentrated")
+        self.assertEqual(len(list(answer.tree.submatrices())), 3)
+        self.assertIn("the tree of the signed matrix", answer.tree._repr_html_())
+
+    def test_a_violator_of_regular_does_too(self) -> None:
+        answer = is_regular(named("F7"), certificate=True)
+        assert answer.violator is not None and answer.signed is not None
+        self.assertIn("the violator belongs to the signed matrix", check(named("F7"), answer.violator).hint or "")
+        self.assertEqual(check(answer.signed, answer.violator).says, "no")
+        self.assertIn("violator of the signed matrix rows", str(answer))
+        self.assertIn("violator of the signed matrix, ", answer._repr_html_())
+
+
+if __name__ == "__main__":
+    unittest.main()
