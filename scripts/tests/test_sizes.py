@@ -35,7 +35,7 @@ WORDED = "".join(
     f"     0 of at most {words:4} house words of {kind}\n"
     for kind, (wheres, words) in WORDINGS.items()
 )
-DOCUMENT_WORDS = 42000
+DOCUMENT_WORDS = 43500
 PAGE_WORDS = 26500
 WITHIN = f"""\
      1 of at most  120 lines of README.md
