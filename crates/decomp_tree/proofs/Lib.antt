@@ -39,3 +39,4 @@ pub mod LastCases
 pub mod OpenNodes
 pub mod FoundCases
 pub mod MorePivots
+pub mod SeymourEnds

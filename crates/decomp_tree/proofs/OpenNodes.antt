@@ -25,7 +25,7 @@ use Rattle.separating_places.specs.SeparatingPlaces.{IsChosenPlace}
 use Rattle.tree_laws.proofs.PivotedMatrices.{lines_pivoted}
 use Rattle.decomp_tree.specs.OpenEnds.{EndsOpen, IsLateEnd, LeavesOpen}
 use Rattle.decomp_tree.specs.PivotedLaws.{OpenLinesAreLeft, OpenLinesEnd}
-use Rattle.decomp_tree.proofs.FaultLines.{lines_themselves}
+use Rattle.decomp_tree.proofs.FaultLines.{lines_of_lines, lines_themselves}
 use Rattle.decomp_tree.proofs.LastCases.{no_separation_left, some_drawn}
 use Rattle.decomp_tree.proofs.PivotedRoots.{all_are_lines}
 use Rattle.decomp_tree.proofs.RefinedTrees.{RefinedNode, replaced, kept, refined_node}
@@ -115,17 +115,20 @@ open_kept lines Enumerated e = refl
 open_kept lines (Violator fault) e = refl
 open_kept lines (Pivoted place) e = refl
 
-module _ (limit : ℕ) (m : Matrix) (Replaces : LineSet → Tree → Type 0) (Ends : LineSet → Type 0) (open_replaced : (lines : LineSet) (tree : Tree) (found : LineSet) → Replaces lines tree → first_in open_at tree ≡ Some found → found ≡ lines)
+module _ (limit : ℕ) (m : Matrix) (top : LineSet) (Replaces : LineSet → Tree → Type 0) (Ends : LineSet → Type 0) (open_replaced : (lines : LineSet) (tree : Tree) (found : LineSet) → Replaces lines tree → first_in open_at tree ≡ Some found → found ≡ lines)
     (end_replaced : (lines : LineSet) (tree : Tree) (found : LineSet) → AreLines m lines → IsFirstCase limit (part m lines) IsLeft → Replaces lines tree → first_in open_at tree ≡ Some found → Ends lines) where
   abbrev IsOpen : LineSet → Type 0
-  IsOpen found = AreLines m found × IsFirstCase limit (part m found) IsLeft × Ends found
+  IsOpen found = AreLines m found × IsFirstCase limit (part m found) IsLeft × Ends found × AreLinesOf found top
 
   mutual
-    open_refined : (path : List ℕ) (due : Due) (parent : LineSet) (levels : ℕ) (shape tree : Tree) (found : LineSet) → AreLines m parent → IsTreeWithin parent levels shape → AllByRecursion (IsShapedAt limit m) (places_from path [] due shape)
+    open_refined : (path : List ℕ) (due : Due) (parent : LineSet) (levels : ℕ) (shape tree : Tree) (found : LineSet) → AreLines m parent → AreLinesOf parent top → IsTreeWithin parent levels shape → AllByRecursion (IsShapedAt limit m) (places_from path [] due shape)
         → Refines Replaces shape tree → first_in open_at tree ≡ Some found → IsOpen found
-    open_refined path due parent levels (Branch lines finding trees) tree found are within shaped r first =
-        go (refined_node Replaces lines finding trees tree r) (λ below all e. open_each path lines finding (levels - 1) 0 trees below found here within.4 below_shaped all e)
+    open_refined path due parent levels (Branch lines finding trees) tree found are top_has within shaped r first =
+        go (refined_node Replaces lines finding trees tree r) (λ below all e. open_each path lines finding (levels - 1) 0 trees below found here here_in within.4 below_shaped all e)
       where
+        here_in : AreLinesOf lines top
+        here_in = lines_of_lines lines parent top within.1 top_has
+
         here : AreLines m lines
         here = lines_within m lines parent within.1 are
 
@@ -136,18 +139,18 @@ module _ (limit : ℕ) (m : Matrix) (Replaces : LineSet → Tree → Type 0) (En
         below_shaped = subst (λ ps. AllByRecursion (IsShapedAt limit m) (places_below path ps lines finding 0 trees)) (no_pivot [] limit (part m lines) shaped.0.case shaped.0.found shaped.0.parts lines finding shaped.0.says shaped.0.finding) shaped.1
 
         go : RefinedNode Replaces lines finding trees tree → ((below : Trees) → AllRefine Replaces trees below → first_among open_at below ≡ Some found → IsOpen found) → IsOpen found
-        go (replaced e replaces) each = subst IsOpen (sym (open_replaced lines tree found replaces first)) (let left = left_here limit m place e shaped.0 in (here, left, end_replaced lines tree found here left replaces first))
+        go (replaced e replaces) each = subst IsOpen (sym (open_replaced lines tree found replaces first)) (let left = left_here limit m place e shaped.0 in (here, left, end_replaced lines tree found here left replaces first, here_in))
         go (kept e below is all) each = each below all (ap (λ (o : Option LineSet). option_or o (first_among open_at below)) (sym (open_kept lines finding e)) ∙ sym (ap (first_in open_at) is) ∙ first)
 
-    open_each : (path : List ℕ) (lines : LineSet) (finding : Finding) (levels k : ℕ) (trees below : Trees) (found : LineSet) → AreLines m lines → AreTreesWithin lines levels trees → AllByRecursion (IsShapedAt limit m) (places_below path [] lines finding k trees)
+    open_each : (path : List ℕ) (lines : LineSet) (finding : Finding) (levels k : ℕ) (trees below : Trees) (found : LineSet) → AreLines m lines → AreLinesOf lines top → AreTreesWithin lines levels trees → AllByRecursion (IsShapedAt limit m) (places_below path [] lines finding k trees)
         → AllRefine Replaces trees below → first_among open_at below ≡ Some found → IsOpen found
-    open_each path lines finding levels k NoTrees below found are within shaped e first = none_is_some found (sym (ap (first_among open_at) e) ∙ first)
-    open_each path lines finding levels k (MoreTrees tree trees) below found are within shaped (one, rest, e, r, all) first =
+    open_each path lines finding levels k NoTrees below found are top_has within shaped e first = none_is_some found (sym (ap (first_among open_at) e) ∙ first)
+    open_each path lines finding levels k (MoreTrees tree trees) below found are top_has within shaped (one, rest, e, r, all) first =
         let now = places_from (path ++ k ∷ []) [] (due_child lines finding k) tree in
         let later = places_below path [] lines finding (suc k) trees in
         elim (some_or (first_in open_at one) (first_among open_at rest) found (sym (ap (first_among open_at) e) ∙ first)) [
-          | inl h ↦ open_refined (path ++ k ∷ []) (due_child lines finding k) lines levels tree one found are within.0 (all_prefix (IsShapedAt limit m) now later shaped) r h
-          | inr h ↦ open_each path lines finding levels (suc k) trees rest found are within.1 (all_back (IsShapedAt limit m) now later shaped) all h
+          | inl h ↦ open_refined (path ++ k ∷ []) (due_child lines finding k) lines levels tree one found are top_has within.0 (all_prefix (IsShapedAt limit m) now later shaped) r h
+          | inr h ↦ open_each path lines finding levels (suc k) trees rest found are top_has within.1 (all_back (IsShapedAt limit m) now later shaped) all h
         ]
 
 -- ---- where the pivots end
@@ -159,10 +162,10 @@ first_open (Some fault) undecided left e = cc
 
 -- the open lines of the decomposition of a submatrix
 open_drawn : (limit pivots state : ℕ) (m : Matrix) (lines : LineSet) (shape tree : Tree) (found : LineSet) (Ends : LineSet → Type 0) → IsMatrix m → AreLines m lines → IsShapeOn limit m lines shape → Refines (IsFound limit pivots state m) shape tree
-    → ((some : LineSet) (t : Tree) (f : LineSet) → AreLines m some → IsFirstCase limit (part m some) IsLeft → IsFound limit pivots state m some t → first_in open_at t ≡ Some f → Ends some) → first_in open_at tree ≡ Some found → AreLines m found × IsFirstCase limit (part m found) IsLeft × Ends found
+    → ((some : LineSet) (t : Tree) (f : LineSet) → AreLines m some → IsFirstCase limit (part m some) IsLeft → IsFound limit pivots state m some t → first_in open_at t ≡ Some f → Ends some) → first_in open_at tree ≡ Some found → AreLines m found × IsFirstCase limit (part m found) IsLeft × Ends found × AreLinesOf found lines
 open_drawn limit pivots state m lines shape tree found Ends is are shaped refines ends first =
-    open_refined limit m (IsFound limit pivots state m) Ends (λ some t f stands e. found_open limit pivots state m some t f stands e) ends
-    [] (These lines) lines (suc (size_of (lines_at_root shape))) shape tree found are
+    open_refined limit m lines (IsFound limit pivots state m) Ends (λ some t f stands e. found_open limit pivots state m some t f stands e) ends
+    [] (These lines) lines (suc (size_of (lines_at_root shape))) shape tree found are (lines_themselves m lines are)
     (shape_within limit m is [] (These lines) lines (suc (size_of (lines_at_root shape))) shape shaped are (subst (λ some. AreLinesOf some lines) (sym (shape_lines limit m lines shape shaped)) (lines_themselves m lines are)) (omega arith)) shaped refines first
 
 -- what replaces undecided nodes is open only if the pivots have an end
@@ -185,7 +188,7 @@ ends_open limit (suc pivots) state m lines tree found is are case (Some chosen, 
         (part_pivots_stay_matrices m lines chosen.place is ternary) (lines_pivoted m lines chosen.place lines are) shaped refines
         below
         (first_open (first_in fault_at after) (first_in open_at after) left says) in
-        record { chosen = chosen; at = choice; ternary = ternary; left = left; are = opened.0; case = opened.1; ends = opened.2 }
+        record { chosen = chosen; at = choice; ternary = ternary; left = left; are = opened.0; within = opened.3; case = opened.1; ends = opened.2 }
 
     late : AllEnd limit pivots chosen.state (pivoted_part m lines chosen.place) → (state ≡ LATE_STATE) ⊎ (state ≢ LATE_STATE) → IsChosenPlace m lines state chosen → IsLateEnd limit state m lines ⊎ LeavesOpen limit state (EndsOpen limit pivots) m lines
     late below (inl e) (inr (none, inr (early, drawn))) = inl (record { late = e; no_place = none; no_cut = early e; case = case; no_separation = no_separation_left limit m lines is are case (early e) })

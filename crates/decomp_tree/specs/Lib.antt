@@ -9,5 +9,6 @@ pub mod Levels
 pub mod Refined
 pub mod PivotedShapes
 pub mod OpenEnds
+pub mod SeymourEnds
 pub mod PivotedLaws
 pub mod Obstructions

@@ -8,7 +8,7 @@ use Rattle.block_ranks.specs.BlockRanks.{HasNoRankSeparation}
 use Rattle.block_ranks.specs.PlacesBeforeCuts.{HasNoPlaceBeforeCut}
 use Rattle.separating_places.specs.declared.place.TheConstants.{LATE_STATE}
 use Rattle.separating_places.specs.SeparatingPlaces.{HasNoSeparatingPlace, IsChosenPlace}
-use Rattle.tree_type.specs.Invariant.{AreLines}
+use Rattle.tree_type.specs.Invariant.{AreLines, AreLinesOf}
 use Rattle.tree_type.specs.Soundness.{part}
 use Rattle.decomp_tree.specs.PivotedShapes.{AreTooDeep}
 use Rattle.decomp_tree.specs.Shapes.{IsFirstCase, IsLeft}
@@ -22,13 +22,15 @@ pub record IsLateEnd (limit state : ℕ) (m : Matrix) (lines : LineSet) : Type 0
   pub case : IsFirstCase limit (part m lines) IsLeft
   pub no_separation : HasNoRankSeparation (part m lines)
 
--- The pivot at the next position has no 2 and no -2, and it leaves lines open: they reach the last case, and they have a property.
+-- The pivot at the next position has no 2 and no -2, and it leaves some of the lines open: they reach the last case, and they have a
+-- property.
 pub record LeavesOpen (limit state : ℕ) (EndsAfter : ℕ → Matrix → LineSet → Type 0) (m : Matrix) (lines : LineSet) : Type 0 where
   pub chosen : DrawnPlace
   pub at : IsChosenPlace m lines state chosen
   pub ternary : IsTernaryPivot m lines chosen.place
   pub left : LineSet
   pub are : AreLines (pivoted_part m lines chosen.place) left
+  pub within : AreLinesOf left lines
   pub case : IsFirstCase limit (part (pivoted_part m lines chosen.place) left) IsLeft
   pub ends : EndsAfter chosen.state (pivoted_part m lines chosen.place) left
 

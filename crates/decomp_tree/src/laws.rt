@@ -1,4 +1,5 @@
 //! Laws of decompositions. Each is a function that does nothing: its contract is the law.
+ghost use Rattle.decomp_tree.specs.SeymourEnds.{OpenEndsRefute};
 ghost use Rattle.decomp_tree.specs.Laws.{ShapesAreTrees, ShapesAreSound};
 ghost use Rattle.decomp_tree.specs.PlainTrees.{OneShape};
 ghost use Rattle.decomp_tree.specs.PivotedLaws.{PivotedShapesAreTrees, PivotedShapesAreSound, OnePivotedShape, MorePivotsKeepAnswers, NoPivotsChangeNothing, OpenLinesAreLeft, OpenLinesEnd};
@@ -25,4 +26,9 @@ pub fn pivoted_shapes()
     ensures open_lines { OpenLinesAreLeft }
     ensures ends { OpenLinesEnd }
     ensures more { MorePivotsKeepAnswers }
+{}
+
+/// If Seymour's theorem holds, lines that a decomposition leaves open contain a violator, or all pivots are made.
+pub fn open_ends()
+    ensures { OpenEndsRefute }
 {}
