@@ -321,7 +321,7 @@ piece_ends rule before mid now held after ending s part h = record {
 
     go : (ending : Ending) → HearsSo mid now held h.given after (Err ending) → EndsServing rule (held ++ h.given) (before.taken ++ replies s.exchanges) before now ending
     go endings.Done (empty, same, ended) = done (none same ∙ empty) (read ended) taken
-    go endings.NoRequest (same, ended) = cut (subst IsIncomplete (sym (none same)) part) (read ended) taken
+    go endings.NoRequest (some, same, ended) = cut (λ e. some (sym (none same) ∙ e)) (subst IsIncomplete (sym (none same)) part) (read ended) taken
     go endings.Unread (same, failed) = unread (subst IsIncomplete (sym (none same)) part) failed taken
     go endings.Unwritten says = absurd says
     go endings.Memory says = memory taken

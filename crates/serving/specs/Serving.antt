@@ -1,5 +1,5 @@
 -- Requests that are read one after another, and the replies that are written to them.
-use Rattle.std.specs.Prelude.{◌≡◌, ◌++◌, ℕ, IsTrue, List, []}
+use Rattle.std.specs.Prelude.{◌≡◌, ◌≢◌, ◌++◌, ℕ, IsTrue, List, []}
 use Rattle.std.specs.List.{AllByRecursion}
 use Rattle.cmr_io.specs.Calls.{next_number}
 use Rattle.cmr_io.specs.Causes.{Rose}
@@ -43,7 +43,7 @@ pub record ReadEnds (before now : Seen) : Type 0 where
 -- no reply was begun.
 pub data EndsServing (rule : Rule) (left : List ℕ) (replied : List ℕ) (before now : Seen) : Ending → Type 0 where
   done : left ≡ [] → ReadEnds before now → now.taken ≡ replied → EndsServing rule left replied before now endings.Done
-  cut : IsIncomplete left → ReadEnds before now → now.taken ≡ replied → EndsServing rule left replied before now endings.NoRequest
+  cut : left ≢ [] → IsIncomplete left → ReadEnds before now → now.taken ≡ replied → EndsServing rule left replied before now endings.NoRequest
   no_frame : NeverBegins left → now.taken ≡ replied → EndsServing rule left replied before now endings.NoRequest
   no_request : (text rest : List ℕ) → StartsWith left text rest → IsNoRequest text → now.taken ≡ replied → EndsServing rule left replied before now endings.NoRequest
   unread : IsIncomplete left → IsTrue now.failed → now.taken ≡ replied → EndsServing rule left replied before now endings.Unread

@@ -1,5 +1,5 @@
 -- One turn of the loop: a reply, or a piece that is read.
-use Rattle.std.specs.Prelude.{◌≡◌, ◌≤◌, ◌++◌, ℕ, IsTrue, List, [], ◌∷◌, Vec, Result, Ok, Err, OnOk}
+use Rattle.std.specs.Prelude.{◌≡◌, ◌≢◌, ◌≤◌, ◌++◌, ℕ, IsTrue, List, [], ◌∷◌, Vec, Result, Ok, Err, OnOk}
 use Rattle.cmr_io.specs.Causes.{Rose}
 use Rattle.cmr_io.specs.Reads.{with_more}
 use Rattle.cmr_io.specs.Whole.{AppendsPrefix}
@@ -53,7 +53,7 @@ IsReplied rule text before now (Err endings.Memory) = now ≡ before
 -- how the loop ends at the end of the read
 abbrev pub IsAtEnd : List ℕ → Ending → Type 0
 IsAtEnd held endings.Done = held ≡ []
-IsAtEnd held endings.NoRequest = Unit {0}
+IsAtEnd held endings.NoRequest = held ≢ []
 IsAtEnd held endings.Unread = ⊥
 IsAtEnd held endings.Unwritten = ⊥
 IsAtEnd held endings.Memory = ⊥
@@ -62,7 +62,7 @@ IsAtEnd held endings.Memory = ⊥
 abbrev pub HearsSo : Seen → Seen → List ℕ → List ℕ → List ℕ → Result (Unit {0}) Ending → Type 0
 HearsSo before now held given after (Ok done) = (after ≡ held ++ given) × (now.reads.ends ≡ before.reads.ends)
 HearsSo before now held given after (Err endings.Done) = (held ≡ []) × (given ≡ []) × ReadEnds before now
-HearsSo before now held given after (Err endings.NoRequest) = (given ≡ []) × ReadEnds before now
+HearsSo before now held given after (Err endings.NoRequest) = (held ≢ []) × (given ≡ []) × ReadEnds before now
 HearsSo before now held given after (Err endings.Unread) = (given ≡ []) × IsTrue now.failed
 HearsSo before now held given after (Err endings.Unwritten) = ⊥
 HearsSo before now held given after (Err endings.Memory) = Unit {0}
