@@ -16,12 +16,12 @@ StopsReading file held tells calm (stops.TooLong name) = (name.now ≡ file.name
 StopsReading file held tells calm (stops.BadText name kind place) = ⊥
 StopsReading file held tells calm stops.Memory = Unit {0}
 
--- and for the text that its read gave, over every shelf: no more bytes than the limit of the file if a call failed, more if the file
+-- and for the text that its read gave, over every shelf: no more bytes than the limit of the file if a call failed, one more if the file
 -- is too long, and at most one byte more if an allocation failed
 abbrev pub StopsOnText : InputFile → List (List ℕ) → List (List ℕ) → Stop → Type 0
 StopsOnText file before after stops.BadWords = ⊥
 StopsOnText file before after (stops.CannotRead name) = (last : List ℕ) × (after ≡ before ++ last ∷ []) × (length last ≤ most_bytes file.kind)
-StopsOnText file before after (stops.TooLong name) = (last : List ℕ) × (after ≡ before ++ last ∷ []) × (most_bytes file.kind < length last)
+StopsOnText file before after (stops.TooLong name) = (last : List ℕ) × (after ≡ before ++ last ∷ []) × (length last ≡ most_bytes file.kind + 1)
 StopsOnText file before after (stops.BadText name kind place) = ⊥
 StopsOnText file before after stops.Memory = (last : List ℕ) × (after ≡ before ++ last ∷ []) × (length last ≤ most_bytes file.kind + 1)
 

@@ -67,9 +67,9 @@ pub record GivesLast (Says : ℕ → ℕ → Type 0) (files : List InputFile) (p
   pub there : slice_get files place ≡ Some file
   pub size : Says (most_bytes file.kind) (length last)
 
--- it has given more than the limit
+-- it has given one byte more than the limit
 abbrev pub GivesTooMuch : List InputFile → ℕ → Between → Type 0
-GivesTooMuch files place reads = GivesLast (λ most count. most < count) files place reads
+GivesTooMuch files place reads = GivesLast (λ most count. count ≡ most + 1) files place reads
 
 -- it has given a text within the limit, which may be incomplete
 abbrev pub GivesPart : List InputFile → ℕ → Between → Type 0
