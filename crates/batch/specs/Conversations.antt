@@ -33,6 +33,8 @@ pub record IsBegun (content : Option (List ℕ)) (before begun : Seen) : Type 0 
   pub writes : begun.writes ≡ before.writes
   pub taken : begun.taken ≡ before.taken
   pub faults : begun.faults ≡ before.faults
+  pub heard : begun.heard ≡ before.heard
+  pub said : begun.said ≡ before.said
   pub moments : begun.moments ≡ before.moments
 
 -- no read of `-` could be begun, and nothing was written

@@ -16,5 +16,7 @@ returns-in-Ok g c =
       writes = e.writes;
       taken = ap O.taken e.out;
       faults = ap O.faults e.out;
+      heard = ap (λ (talk : TalkLog). talk.heard) e.talk;
+      said = ap (λ (talk : TalkLog). talk.said) e.talk;
       moments = ap (λ (talk : TalkLog). talk.moments) e.talk;
     }) c.serve.ensures
