@@ -105,9 +105,11 @@ class SizesTest(ScriptTest):
             self.put(f"crates/low/must-fail/public_{number}.edit", f"file: src/block.rt\nold: step({number});\nnew: step(0);\n")
         self.assertEqual(self.run_script("sizes", self.folder).returncode, 0)
         names = [f"crates/low/must-fail/private_{number:02}.edit" for number in range(PRIVATE + 1)]
-        for name in names:
+        for name in (*names, "crates/low/trials/private.edit"):
             self.put(name, "file: src/block.rt\nold: step(2);\nnew: step(0);\n")
-        self.lists(f"{PRIVATE + 1:6} of at most {PRIVATE:4} edits of private functions", *(f"    {name}" for name in names))
+        self.put("crates/low/trials/without_its_text.edit", "file: src/block.rt\nold: step(7);\nnew: step(0);\n")
+        names += ["crates/low/trials/private.edit", "crates/low/trials/without_its_text.edit"]
+        self.lists(f"{len(names):6} of at most {PRIVATE:4} edits of private functions", *(f"    {name}" for name in names))
 
     def test_words_of_documents(self):
         """House words count also if they continue on the next line. Code, links and plain English are left."""
