@@ -1,1 +1,2 @@
-pub mod RunnerLemmas
+pub mod ReplyLemmas
+pub mod AnswerMeanings

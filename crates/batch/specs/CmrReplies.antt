@@ -1,6 +1,6 @@
 -- The replies of cmr to requests.
 use Rattle.cmr_tools.specs.ToolOrders.{order, ordered}
-use Rattle.replies.specs.RequestReplies.{IsReplyTo}
+use Rattle.batch.specs.RequestReplies.{IsReplyTo}
 use Rattle.serving.specs.Exchanges.{Rule}
 
 -- the replies to what the words order

@@ -1,2 +1,3 @@
+pub mod RequestReplies
 pub mod CmrReplies
 pub mod Conversations

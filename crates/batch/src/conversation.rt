@@ -5,10 +5,9 @@ ghost use Rattle.serving.specs.Lines.{seen_of};
 ghost use Rattle.batch.specs.Conversations.{EndsWith, HasConversed, ending_line, ending_status};
 ghost use Rattle.batch.specs.CmrReplies.{cmr_rule};
 
-use crate::cmr_runner::CmrRunner;
+use crate::replier::CmrReplier;
 use cmr_io::{Shelf, Sink, write_whole};
 use cmr_tools::Failure;
-use replies::Replies;
 use serving::{Ending, Line, serve};
 use std::alloc::Global;
 use std::thread::Threads;
@@ -40,7 +39,7 @@ fn serve_input<R: Threads + Sync, S: Shelf + Drop, O: Sink + Drop>(
         (seen_of S.Shelf O.Sink line.old) (seen_of S.Shelf O.Sink line.new) result }
 {
     match line.begin_read("-") {
-        Ok(()) => serve(rt, alloc, &Replies { runner: CmrRunner }, line),
+        Ok(()) => serve(rt, alloc, &CmrReplier, line),
         Err(_) => Ending::Unread,
     }
 }

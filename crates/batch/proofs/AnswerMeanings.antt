@@ -7,9 +7,10 @@ use Rattle.cmr_front.specs.Report.{Held}
 use Rattle.cmr_front.specs.Run.{IsNothing, Means}
 use Rattle.cmr_front.specs.Status.{answer_status, failure_status}
 use Rattle.cmr_tools.specs.ToolOrders.{Order, ordered, tool_of}
-use Rattle.replies.specs.RequestReplies.{MeansOrdered}
+use Rattle.batch.specs.RequestReplies.{MeansOrdered}
 
-no_answer : (answer : Answer) (status : ℕ) → status ≡ answer_status answer → (status ≡ failure_status Words) ⊎ (status ≡ failure_status Memory) → ⊥
+-- a refusal of the words and an allocation failure are no answers
+pub no_answer : (answer : Answer) (status : ℕ) → status ≡ answer_status answer → (status ≡ failure_status Words) ⊎ (status ≡ failure_status Memory) → ⊥
 no_answer Yes status is (inl e) = absurd (omega arith)
 no_answer Yes status is (inr e) = absurd (omega arith)
 no_answer No status is (inl e) = absurd (omega arith)

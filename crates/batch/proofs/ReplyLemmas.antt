@@ -24,7 +24,8 @@ use Rattle.cmr_front.specs.SinkLines.{IsWritten}
 use Rattle.cmr_front.specs.Status.{answer_status, failure_status}
 use Rattle.cmr_front.specs.Tool.{Tool}
 use Rattle.cmr_front.specs.Unread.{between}
-use Rattle.replies.specs.RequestReplies.{IsReply, IsReplyTo, Lacks, MeansOrdered, memory_reply, named, refused, reply_of, reported, unread}
+use Rattle.batch.specs.RequestReplies.{IsReply, IsReplyTo, Lacks, MeansOrdered, memory_reply, named, refused, reply_of, reported, unread}
+use Rattle.batch.proofs.AnswerMeanings.{no_answer}
 use Rattle.cmr_base.proofs.Options.{some_same}
 
 -- ---- values
@@ -271,16 +272,10 @@ is_reply ordered standing before after files status are (no_memory begins is d) 
 
 -- ---- the reply to a request
 
-no_answer : (answer : Answer) → failure_status failures.Memory ≡ answer_status answer → ⊥
-no_answer answers.Yes e = absurd (omega arith)
-no_answer answers.No e = absurd (omega arith)
-no_answer answers.Undecided e = absurd (omega arith)
-no_answer answers.Refused e = absurd (omega arith)
-
 -- an allocation failed
 pub refusal_says : {A E : Type 0} (ordered : Ordered) (files : List NamedBytes) (result : Result (Vec ℕ A) E) → IfOk result (λ text. text.items ≡ reply_text memory_reply)
     → IfOk result (λ text. (reply : ReplyValue) × (text.items ≡ reply_text reply) × IsReplyTo ordered files reply)
-refusal_says ordered files (Ok text) is = (memory_reply, is, record { says = refused refl; means = λ answer e. absurd (no_answer answer e) })
+refusal_says ordered files (Ok text) is = (memory_reply, is, record { says = refused refl; means = λ answer e. absurd (no_answer answer (failure_status failures.Memory) e (inr refl)) })
 refusal_says ordered files (Err e) is = tt
 
 pub no_fault : (faults : ℕ) (short : Bool) → short ≡ nat_lt 0 faults → short ≡ false → faults ≡ 0
