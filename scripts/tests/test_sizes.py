@@ -27,6 +27,9 @@ impl Block {
 fn nothing() {}
 """
 SHARED = 19
+LONG_LINES = 3107
+SHORT_NAMES = 3942
+TWICE = 208
 PRIVATE = 0
 # The limits of the words of each kind of texts: of "where" in a thousand, and of the house words.
 WORDINGS = {"documents": (1, 0), "comments of .rt": (1, 3), "comments of .antt": (1, 2), "comments of .py": (1, 0)}
@@ -47,6 +50,9 @@ WITHIN = f"""\
      2 of at most   40 lines of a body
      0 of at most {SHARED:4} names of definitions in two crates
      0 of at most    0 modules of definitions with one name in two crates
+     0 of at most {LONG_LINES:4} lines of proofs above 200 characters
+     0 of at most {SHORT_NAMES:4} names of one letter in proofs
+     0 of at most {TWICE:4} statements that stand more than once
      0 of at most {PRIVATE:4} edits of private functions
 {WORDED}"""
 
@@ -111,6 +117,30 @@ class SizesTest(ScriptTest):
         names += ["crates/low/trials/private.edit", "crates/low/trials/without_its_text.edit"]
         self.lists(f"{len(names):6} of at most {PRIVATE:4} edits of private functions", *(f"    {name}" for name in names))
 
+    def test_lines_of_proofs(self):
+        """If there are too many long lines or short names, the crates are listed, those with most first."""
+        long_line = f"first = {'a' * 200}\n"
+        self.put("crates/low/proofs/Low.antt", long_line * (LONG_LINES - 1))
+        self.put("crates/high/specs/High.antt", f"{long_line}let h = a in let h' = b in let held = c in let α = d in\n")
+        within = self.run_script("sizes", self.folder)
+        self.assertEqual(within.returncode, 0)
+        self.assertIn(f"     3 of at most {SHORT_NAMES} names of one letter in proofs\n", within.stdout)
+        self.put("crates/high/proofs/High.antt", long_line)
+        above = f"  {LONG_LINES + 1} of at most {LONG_LINES} lines of proofs above 200 characters"
+        self.lists(above, f"    low: {LONG_LINES - 1}", "    high: 2")
+
+    def test_statements_that_stand_twice(self):
+        """The names of bound variables make no difference. Short types and other words do not count."""
+        for number in range(TWICE + 1):
+            self.put(f"crates/low/proofs/L{number}.antt", f"pub one : (m : M{number}) (k : ℕ)\n    → Is{number} m k\none m k = go m\n")
+            self.put(f"crates/high/proofs/H{number}.antt", f"other : (n : M{number}) (j : ℕ) → Is{number} n j -- again\nshort : ℕ → ℕ\n")
+        self.put("crates/high/proofs/H0.antt", "other : (n : M0) (j : ℕ) → Is0 j n\nshort : ℕ → ℕ\n")
+        self.assertEqual(self.run_script("sizes", self.folder).returncode, 0)
+        self.put("crates/high/specs/High.antt", "abbrev pub third : (n : M0) (j : ℕ) → Is0 n j\n")
+        run = self.run_script("sizes", self.folder)
+        self.assertEqual(run.returncode, 1)
+        self.assertIn("    crates/high/specs/High.antt third, crates/low/proofs/L0.antt one\n", run.stdout)
+
     def test_words_of_documents(self):
         """House words count also if they continue on the next line. Code, links and plain English are left."""
         plain = "Neither rows nor columns, in front, leave nothing behind. `but for` [it](nor.md#behind)\n"
@@ -139,7 +169,7 @@ class SizesTest(ScriptTest):
         """Docstrings and comments are read, also of scripts without a suffix, and no other strings."""
         many = "anew " * 500
         self.put("crates/low/src/lib.rt", f"fn nothing() {{}} // {many}\nlet text = \"// {many}\";\n")
-        self.put("crates/low/proofs/Lib.antt", f"module _ where -- {many}\n")
+        self.put("crates/low/proofs/Lib.antt", f"module _ where -- {many[:150]}\n")
         self.put("python/words.py", f'TEXT = """\n{many}"""\n')
         self.test_counts_that_are_kept()
         for name, kind, text in (
