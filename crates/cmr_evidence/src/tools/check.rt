@@ -67,18 +67,13 @@ fn options_in<'a>(matches: &ArgMatches<'a>) -> Result<CheckOptions<'a>, WordsErr
     ensures { Gives check_order_of result (check_order_in (rows_of (found_of matches.now))) }
 {
     let form = form_in(matches)?;
-    let matrix = match operand_in(matches, MATRIX) {
-        Ok(matrix) => matrix,
-        Err(error) => return Err(error),
-    };
-    match operand_in(matches, EVIDENCE) {
-        Ok(evidence) => Ok(CheckOptions {
-            form,
-            matrix,
-            evidence,
-        }),
-        Err(error) => Err(error),
-    }
+    let matrix = operand_in(matches, MATRIX)?;
+    let evidence = operand_in(matches, EVIDENCE)?;
+    Ok(CheckOptions {
+        form,
+        matrix,
+        evidence,
+    })
 }
 
 /// The options that the arguments after `check` give: `[-i FORMAT] MATRIX EVIDENCE`.

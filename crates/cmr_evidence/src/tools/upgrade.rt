@@ -47,14 +47,9 @@ fn upgrade_command<'a>(alloc: Global) -> Result<Command<'a>, AllocError>
 fn options_in<'a>(matches: &ArgMatches<'a>) -> Result<UpgradeOptions<'a>, WordsError>
     ensures { Gives upgrade_order_of result (upgrade_order_in (rows_of (found_of matches.now))) }
 {
-    let evidence = match operand_in(matches, EVIDENCE) {
-        Ok(evidence) => evidence,
-        Err(error) => return Err(error),
-    };
-    match operand_in(matches, TREE) {
-        Ok(tree) => Ok(UpgradeOptions { evidence, tree }),
-        Err(error) => Err(error),
-    }
+    let evidence = operand_in(matches, EVIDENCE)?;
+    let tree = operand_in(matches, TREE)?;
+    Ok(UpgradeOptions { evidence, tree })
 }
 
 /// The options that the arguments after `upgrade` give: `EVIDENCE -D FILE`.

@@ -82,24 +82,16 @@ fn options_in<'a>(matches: &ArgMatches<'a>) -> Result<ComposeOptions<'a>, WordsE
 {
     let form = form_in(matches)?;
     let sum = sum_in(matches)?;
-    let first = match operand_in(matches, FIRST) {
-        Ok(first) => first,
-        Err(error) => return Err(error),
-    };
-    let second = match operand_in(matches, SECOND) {
-        Ok(second) => second,
-        Err(error) => return Err(error),
-    };
-    match operand_in(matches, OUTPUT) {
-        Ok(output) => Ok(ComposeOptions {
-            form,
-            sum,
-            first,
-            second,
-            output,
-        }),
-        Err(error) => Err(error),
-    }
+    let first = operand_in(matches, FIRST)?;
+    let second = operand_in(matches, SECOND)?;
+    let output = operand_in(matches, OUTPUT)?;
+    Ok(ComposeOptions {
+        form,
+        sum,
+        first,
+        second,
+        output,
+    })
 }
 
 /// The options that the arguments after `compose` give: `[-i FORMAT] SUM FIRST SECOND -M FILE`.

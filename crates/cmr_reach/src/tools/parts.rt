@@ -71,28 +71,17 @@ fn options_in<'a>(matches: &ArgMatches<'a>) -> Result<PartsOptions<'a>, WordsErr
     ensures { Gives parts_order_of result (parts_order_in (rows_of (found_of matches.now))) }
 {
     let form = form_in(matches)?;
-    let matrix = match operand_in(matches, MATRIX) {
-        Ok(matrix) => matrix,
-        Err(error) => return Err(error),
-    };
-    let tree = match operand_in(matches, TREE) {
-        Ok(tree) => tree,
-        Err(error) => return Err(error),
-    };
-    let first = match operand_in(matches, FIRST) {
-        Ok(first) => first,
-        Err(error) => return Err(error),
-    };
-    match operand_in(matches, SECOND) {
-        Ok(second) => Ok(PartsOptions {
-            form,
-            matrix,
-            tree,
-            first,
-            second,
-        }),
-        Err(error) => Err(error),
-    }
+    let matrix = operand_in(matches, MATRIX)?;
+    let tree = operand_in(matches, TREE)?;
+    let first = operand_in(matches, FIRST)?;
+    let second = operand_in(matches, SECOND)?;
+    Ok(PartsOptions {
+        form,
+        matrix,
+        tree,
+        first,
+        second,
+    })
 }
 
 /// The options that the arguments after `parts` give: `[-i FORMAT] MATRIX TREE -A FILE -B FILE`.

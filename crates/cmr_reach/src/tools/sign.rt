@@ -56,14 +56,9 @@ fn options_in<'a>(matches: &ArgMatches<'a>) -> Result<SignOptions<'a>, WordsErro
     ensures { Gives sign_order_of result (sign_order_in (rows_of (found_of matches.now))) }
 {
     let form = form_in(matches)?;
-    let matrix = match operand_in(matches, MATRIX) {
-        Ok(matrix) => matrix,
-        Err(error) => return Err(error),
-    };
-    match operand_in(matches, ROWS) {
-        Ok(rows) => Ok(SignOptions { form, matrix, rows }),
-        Err(error) => Err(error),
-    }
+    let matrix = operand_in(matches, MATRIX)?;
+    let rows = operand_in(matches, ROWS)?;
+    Ok(SignOptions { form, matrix, rows })
 }
 
 /// The options that the arguments after `sign` give: `[-i FORMAT] MATRIX ROWS`.

@@ -18,7 +18,7 @@ use crate::verdict::{VerdictOptions, decomposed, report_tree};
 use camion_sign::{sign, signed_matrix};
 use chains::{Chain, SignStepList, write_chain};
 use clap::{ArgMatches, Command};
-use cmr_base::{Indices, LineSet, MAX_LINES, Matrix, Memory, Word};
+use cmr_base::{LineSet, MAX_LINES, Matrix, Memory, Word};
 use cmr_front::asked::push_matrix;
 use cmr_front::input::{Input, Text};
 use cmr_front::matrix_file::{MatrixForm, matrix_input, read_matrix};
@@ -31,7 +31,7 @@ use cmr_front::words::parsing::{
 use cmr_front::words::{WordsError, arguments};
 use std::alloc::{AllocError, Global};
 use std::thread::Threads;
-use tree_type::{DecTree, VerdictOf, verdict};
+use tree_type::{DecTree, VerdictOf, copy_of, verdict};
 
 /// The options of `regular`. An input file of the name `-` is standard input.
 #[derive(Clone, Copy, Debug, PartialEq, Eq)]
@@ -262,19 +262,10 @@ fn push_chain_with<'a>(
 {
     if let Some(name) = name {
         let steps = steps_of(alloc, matrix)?;
-        let violator = copied(alloc, fault)?;
+        let violator = copy_of(alloc, fault)?;
         let chain = Chain { steps, violator };
         let bytes = write_chain(alloc, &chain, matrix.rows(), matrix.columns())?;
         files.push(OutputFile { name, bytes })?;
     }
     Ok(())
-}
-
-fn copied(alloc: Global, lines: &LineSet) -> Result<LineSet, Memory>
-    ensures { IfOk result (λ copy. copy ≡ lines.now) }
-{
-    Ok(LineSet {
-        rows: Indices::of(alloc, lines.rows.as_slice())?,
-        columns: Indices::of(alloc, lines.columns.as_slice())?,
-    })
 }
