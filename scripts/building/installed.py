@@ -10,7 +10,7 @@ from contextlib import suppress
 from dataclasses import dataclass, field
 from pathlib import Path
 
-from building.clone import BATCH, BUILT, BUILT_BATCH, TOP, built_programs
+from building.clone import BATCH, BUILT, PROGRAM, TOP
 from cmr_matrices.commands.signals import ignore_signals
 from cmr_matrices.errors import BadInput
 
@@ -52,10 +52,6 @@ class Item:
             target.chmod(0o755 if os.access(self.source, os.X_OK) else 0o644)
 
 
-def _of_batch() -> list[Item]:
-    return [Item("bin/cmr-batch", BUILT_BATCH), Item("share/man/man1/cmr-batch.1", TOP / "docs" / "cmr-batch.1")]
-
-
 def items(prefix: Path) -> list[Item]:
     """All files and links. The scripts and the package have the same relative paths as in the repository, so that the scripts find it."""
     scripts, python = TOP / "scripts", TOP / "python"
@@ -63,12 +59,12 @@ def items(prefix: Path) -> list[Item]:
     installed = os.path.relpath(os.path.realpath(prefix / FOLDER / "scripts"), os.path.realpath(prefix / "bin"))
     package = sorted(it for it in (python / "cmr_matrices").rglob("*") if it.suffix == ".py" or it.name == "py.typed")
     return [
-        Item("bin/cmr", BUILT),
-        *(_of_batch() if BATCH in built_programs() else []),
+        Item(f"bin/{PROGRAM}", BUILT),
+        Item(f"bin/{BATCH}", leads_to=PROGRAM),
         *(Item(f"bin/{name}", leads_to=f"{installed}/{script}") for name, script in SCRIPTS.items()),
         *(Item(f"{FOLDER}/scripts/{it}", scripts / it) for it in SCRIPTS.values()),
         *(Item(f"{FOLDER}/python/{it.relative_to(python)}", it) for it in package),
-        Item("share/man/man1/cmr.1", TOP / "docs" / "cmr.1"),
+        *(Item(f"share/man/man1/{it}.1", TOP / "docs" / f"{it}.1") for it in (PROGRAM, BATCH)),
         *(Item(f"share/man/man1/{it.name}", it) for it in sorted((TOP / "docs" / "commands").glob("*.1"))),
         Item(f"{_BASH}/cmr", scripts / "completions" / "cmr.bash"),
         Item(f"{_BASH}/cmr-commands", scripts / "completions" / "cmr-commands.bash"),

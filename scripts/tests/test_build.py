@@ -12,7 +12,7 @@ import time
 import unittest
 from pathlib import Path
 
-from building.clone import PROGRAMS, crates_below, source_files
+from building.clone import crates_below, source_files
 from building.costs import costs
 from building.plan import Plan, Running, read_seconds, time_with
 from tests.stand_in import SmallClone
@@ -104,7 +104,7 @@ class PlanTest(unittest.TestCase):
         self.assertEqual(self.plan.time_left(list(CRATES), {}, 4), 0)
 
     def test_the_kept_table_has_each_crate(self):
-        self.assertEqual(sorted(read_seconds()), sorted(crates_below(*PROGRAMS)))
+        self.assertEqual(sorted(read_seconds()), sorted(crates_below()))
 
 
 class BuildTest(unittest.TestCase):
@@ -410,6 +410,6 @@ class CmrTest(unittest.TestCase):
 class SourcesTest(unittest.TestCase):
     def test_the_shell_sees_all_sources(self):
         """`fresh.sh` examines the files in src of a crate and in the folders of src."""
-        for crate in crates_below(*PROGRAMS):
+        for crate in crates_below():
             for it in source_files(crate):
                 self.assertIn(len(it.relative_to(TOP / "crates" / crate).parts), (2, 3), it)

@@ -21,6 +21,7 @@ from tests.support import TOP, needs_man, needs_program, needs_python
 
 FILES = [
     "bin/cmr",
+    "bin/cmr-batch",
     *(f"bin/{it}" for it in SCRIPTS),
     "lib/cmr/installed",
     *(f"lib/cmr/scripts/{it}" for it in SCRIPTS.values()),
@@ -30,6 +31,7 @@ FILES = [
     "share/bash-completion/completions/cmr-commands",
     *(f"share/bash-completion/completions/{it}" for it in SCRIPTS),
     "share/man/man1/cmr.1",
+    "share/man/man1/cmr-batch.1",
     *(f"share/man/man1/{it}.1" for it in SCRIPTS),
     "share/zsh/site-functions/_cmr",
     "share/zsh/site-functions/_cmr-commands",
@@ -74,6 +76,7 @@ class InstallTest(unittest.TestCase):
         self.assertEqual(run.stdout, f"cmr is installed in {self.prefix}\n{hint}")
         program = subprocess.run([self.prefix / "bin" / "cmr"], capture_output=True, text=True, check=False)
         self.assertEqual((program.returncode, program.stdout), (2, "proved\n"))
+        self.assertEqual(os.readlink(self.prefix / "bin" / "cmr-batch"), "cmr")
         again = self.install("--uninstall")
         self.assertEqual((again.stdout, again.stderr), ("", ""))
         self.is_empty()
@@ -117,7 +120,7 @@ class InstallTest(unittest.TestCase):
         self.install()
         (self.prefix / "matrices").mkdir()
         (self.prefix / "matrices" / "one.txt").write_text("1 1\n1\n", encoding="utf-8")
-        run = self.run_installed("cmr-classify", "matrices", cwd=self.prefix)
+        run = self.run_installed("cmr-classify", "matrices", "--no-batch", cwd=self.prefix)
         # The stand-in refuses all arguments.
         self.assertIn("BadCommandLine", run.stdout)
 
@@ -257,10 +260,7 @@ class KilledTest(unittest.TestCase):
         self.prefix = Path(folder.name) / "prefix"
         program = Path(folder.name) / "cmr"
         program.write_text("#!/bin/sh\n", encoding="utf-8")
-        for name in ("BUILT", "BUILT_BATCH"):
-            patch = mock.patch(f"building.installed.{name}", program)
-            patch.start()
-            self.addCleanup(patch.stop)
+        self.enterContext(mock.patch("building.installed.BUILT", program))
         # An installation ignores these in the process of the tests too.
         for it in ENDING:
             self.addCleanup(signal.signal, it, signal.getsignal(it))

@@ -1,9 +1,8 @@
-"""What a program needs of another machine."""
+"""What the program needs of another machine."""
 
 from __future__ import annotations
 
 import re
-from collections.abc import Iterable
 from dataclasses import dataclass
 from pathlib import Path
 
@@ -16,24 +15,21 @@ LIBRARIES = {"libc.so.6": "libc6", "libm.so.6": "libc6", "libgcc_s.so.1": "libgc
 
 @dataclass(frozen=True)
 class Linked:
-    """The libraries that programs are linked with, and the version of glibc that they need."""
+    """The libraries that a program is linked with, and the version of glibc that it needs."""
 
     libraries: frozenset[str]
     glibc: tuple[int, int]
 
     @classmethod
-    def of(cls, programs: Iterable[Path]) -> Linked:
-        libraries: set[str] = set()
-        versions = {(2, 0)}
-        for program in programs:
-            said = output(["readelf", "--wide", "--file-header", "--dynamic", "--version-info", program], program.parent)
-            if "X86-64" not in said:
-                raise BadInput(f"{program} is not compiled for x86-64")
-            libraries.update(re.findall(r"\(NEEDED\).*\[(.*)\]", said))
-            versions.update((int(it[0]), int(it[1])) for it in re.findall(r"\bGLIBC_(\d+)\.(\d+)", said))
+    def of(cls, program: Path) -> Linked:
+        said = output(["readelf", "--wide", "--file-header", "--dynamic", "--version-info", program], program.parent)
+        if "X86-64" not in said:
+            raise BadInput(f"{program} is not compiled for x86-64")
+        libraries = frozenset(re.findall(r"\(NEEDED\).*\[(.*)\]", said))
         if others := libraries - LIBRARIES.keys():
             raise BadInput(f"another machine may not have the libraries of the program: {', '.join(sorted(others))}")
-        return cls(frozenset(libraries), max(versions))
+        versions = {(int(it[0]), int(it[1])) for it in re.findall(r"\bGLIBC_(\d+)\.(\d+)", said)}
+        return cls(libraries, max(versions, default=(2, 0)))
 
     @property
     def wheel_tag(self) -> str:
