@@ -16,6 +16,8 @@ PROGRAM, BATCH = "cmr", "cmr_batch"
 PROGRAMS = (PROGRAM, BATCH)
 BUILT, BUILT_BATCH = (TOP / "crates" / it / "out" / it for it in PROGRAMS)
 UNPROVED, UNPROVED_BATCH = (TOP / "out" / "unproved" / it for it in (PROGRAM, f"{PROGRAM}-batch"))
+UNPROVED_PLACES = {PROGRAM: UNPROVED, BATCH: UNPROVED_BATCH}
+NO_KIT = 'there is no rt of the Rattle kit on the PATH to {task}: see "Run it" in README.md. A package needs no kit: see docs/INSTALLING.md'
 
 
 def crates_below(*programs: str, top: Path = TOP) -> dict[str, list[str]]:
@@ -39,6 +41,11 @@ def built_programs() -> dict[str, Path]:
     """The programs that the repository lists, and where they are built."""
     listed = crates_below(*PROGRAMS)
     return {name: path for name, path in zip(PROGRAMS, (BUILT, BUILT_BATCH)) if name in listed}
+
+
+def unproved_programs() -> dict[str, Path]:
+    """The programs that the repository lists, and where they are compiled without proofs."""
+    return {name: UNPROVED_PLACES[name] for name in built_programs()}
 
 
 def source_files(crate: str, top: Path = TOP) -> Iterator[Path]:

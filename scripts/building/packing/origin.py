@@ -7,12 +7,10 @@ from dataclasses import dataclass
 from datetime import datetime, timezone
 from pathlib import Path
 
-from building.clone import BUILT, BUILT_BATCH, TOP, UNPROVED, UNPROVED_BATCH, Record, Sources, built_programs
+from building.clone import TOP, UNPROVED_PLACES, Record, Sources, built_programs
 from building.packing.tools import output
 from cmr_matrices.errors import BadInput
 from cmr_matrices.version import __version__
-
-PLACES = {BUILT: UNPROVED, BUILT_BATCH: UNPROVED_BATCH}
 
 PROVED = """\
 The programs were built from proved sources. For every list of arguments and all devices it is proved what an answer of cmr means, what a
@@ -37,7 +35,7 @@ of the proofs their definitions and proofs; scripts/building/clone.py computes b
 
 def record_now(built: Path, crate: str, *, proved: bool) -> Record | None:
     """What is recorded beside a program, or None if it was not built from the present sources, and proved if asked."""
-    place = built if proved else PLACES[built]
+    place = built if proved else UNPROVED_PLACES[crate]
     record, sources = Record.of(place), Sources.now(crate, proved=proved)
     is_present = record is not None and sources.have_made(place) and record.proofs == sources.proofs
     return record if is_present else None
@@ -62,7 +60,7 @@ class Origin:
         is_clean = not output(["git", "status", "--porcelain"], TOP)
         programs, records = {}, {}
         for crate, built in built_programs().items():
-            programs[built] = built if proved else PLACES[built]
+            programs[built] = built if proved else UNPROVED_PLACES[crate]
             record = record_now(built, crate, proved=proved)
             if record is None:
                 raise BadInput(f"{programs[built]} was not built from the present sources")
