@@ -17,6 +17,7 @@ PROGRAM = "cmr"
 BATCH = f"{PROGRAM}-batch"
 BUILT = TOP / "crates" / PROGRAM / "out" / PROGRAM
 UNPROVED = TOP / "out" / "unproved" / PROGRAM
+NO_KIT = 'there is no rt of the Rattle kit on the PATH to {task}: see "Run it" in README.md. A package needs no kit: see docs/INSTALLING.md'
 
 
 def crates_below(crate: str = PROGRAM) -> dict[str, list[str]]:

@@ -12,13 +12,12 @@ from dataclasses import dataclass
 from pathlib import Path
 from typing import BinaryIO
 
-from building.clone import BUILT, PROGRAM, Sources, crates_below, is_fresh
+from building.clone import BUILT, NO_KIT, PROGRAM, Sources, crates_below, is_fresh
 from building.plan import Plan, Running, read_seconds, time_with
 from building.progress import Progress
 from building.work_folders import Busy, WorkFolders
 from cmr_matrices.commands.signals import end_if_told, ignore_signals, signals_wait
 
-NO_KIT = 'the program is not built, and there is no rt on the PATH to build it: see "Run it" in README.md'
 FIRST = (
     "proving and building the program, an hour of processor time the first time (./try-cmr runs it at once, unproved)"
 )
@@ -175,7 +174,7 @@ def build(progress: Progress, *, anew: bool = True) -> None:
     if not anew and is_fresh(BUILT):
         return
     if shutil.which("rt") is None:
-        raise NotBuilt(NO_KIT)
+        raise NotBuilt(NO_KIT.format(task="build the program"))
     if not anew:
         progress.say(FIRST)
     folders = WorkFolders(progress.say)

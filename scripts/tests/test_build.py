@@ -12,7 +12,7 @@ import time
 import unittest
 from pathlib import Path
 
-from building.clone import crates_below, source_files
+from building.clone import NO_KIT, crates_below, source_files
 from building.costs import costs
 from building.plan import Plan, Running, read_seconds, time_with
 from tests.stand_in import SmallClone
@@ -216,7 +216,7 @@ class BuildTest(unittest.TestCase):
         self.assertEqual(set(order[-10:]), set(CRATES))
 
     def test_without_rt(self):
-        line = 'the program is not built, and there is no rt on the PATH to build it: see "Run it" in README.md\n'
+        line = NO_KIT.format(task="build the program") + "\n"
         for script, name in (("scripts/build", "build"), ("cmr", "cmr")):
             run = self.clone.run(script, has_rt=False)
             self.assertEqual((run.returncode, run.stdout, run.stderr), (70, "", f"{name}: {line}"))

@@ -13,7 +13,7 @@ import unittest
 from pathlib import Path
 from unittest import mock
 
-from building.clone import BUILT
+from building.clone import BUILT, NO_KIT
 from building.installed import SCRIPTS, Installation, refuse_what_is_there, take_away
 from cmr_matrices.commands.signals import ENDING
 from tests.stand_in import SmallClone
@@ -38,7 +38,9 @@ FILES = [
 ]
 
 
-class InstallTest(unittest.TestCase):
+class Prefix(unittest.TestCase):
+    """A small clone and an empty prefix."""
+
     def setUp(self):
         folder = tempfile.TemporaryDirectory()
         self.addCleanup(folder.cleanup)
@@ -60,7 +62,7 @@ class InstallTest(unittest.TestCase):
         self.assertEqual((run.returncode, run.stdout), (1, ""), run.stderr)
         *building, last = run.stderr.splitlines()
         for line in building:
-            self.assertRegex(line, "proving and building|processor seconds")
+            self.assertRegex(line, "proving and building|processor seconds|compiling")
         return last
 
     def files(self):
@@ -69,6 +71,8 @@ class InstallTest(unittest.TestCase):
     def is_empty(self):
         self.assertEqual(list(self.prefix.iterdir()), [])
 
+
+class InstallTest(Prefix):
     def test_puts_all_and_takes_all_away(self):
         run = self.install()
         self.assertEqual(self.files(), sorted(FILES))
@@ -246,6 +250,61 @@ class InstallTest(unittest.TestCase):
         build.send_signal(signal.SIGINT)
         said = build.communicate()[1].splitlines()
         self.assertEqual((build.returncode, said[-1]), (1, "install: interrupted: nothing was changed"))
+        self.is_empty()
+
+
+class UnprovedTest(Prefix):
+    """With --unproved. The stand-in for `rt` compiles a program that prints its arguments."""
+
+    NOTE = "nothing is proved of this run: the program was compiled without proofs"
+
+    def setUp(self):
+        super().setUp()
+        self.clone.make_kit()
+
+    def run_program(self, path, *words):
+        return subprocess.run([path, *words], capture_output=True, text=True, check=False, cwd=self.prefix)
+
+    def test_each_run_says_so(self):
+        run = self.install("--unproved")
+        self.assertEqual(run.stdout.splitlines()[0], f"cmr is installed in {self.prefix}, without proofs")
+        (self.prefix.parent / "other").symlink_to(self.prefix / "bin" / "cmr")
+        for path in (self.prefix / "bin" / "cmr", "bin/cmr", self.prefix.parent / "other"):
+            run = self.run_program(path, "tu", "a b")
+            self.assertEqual((run.returncode, run.stdout, run.stderr), (6, "optimised tu a b\n", f"cmr: {self.NOTE}\n"))
+        run = self.run_program("bin/cmr-batch", "a b")
+        self.assertEqual((run.returncode, run.stdout, run.stderr), (6, "optimised a b\n", f"cmr-batch: {self.NOTE}\n"))
+        self.assertEqual(os.readlink(self.prefix / "lib" / "cmr" / "out" / "unproved" / "cmr-batch"), "cmr")
+        added = [f"lib/cmr/{folder}/{name}" for folder in ("out/unproved", "unproved") for name in ("cmr", "cmr-batch")]
+        self.assertEqual(self.files(), sorted([*FILES, *added]))
+        self.install("--uninstall")
+        self.is_empty()
+
+    @needs_python
+    def test_the_package_warns(self):
+        self.install("--unproved")
+        code = "import cmr_matrices; print(cmr_matrices.find_program())"
+        env = {"PATH": "/usr/bin:/bin", "PYTHONPATH": str(self.prefix / "lib" / "cmr" / "python")}
+        run = subprocess.run(["/usr/bin/python3", "-c", code], env=env, capture_output=True, text=True, check=True)
+        self.assertEqual(run.stdout, f"{os.path.realpath(self.prefix)}/lib/cmr/out/unproved/cmr\n")
+        self.assertIn("UnprovedProgram: nothing is proved of this run", run.stderr)
+
+    def test_a_proved_program_stays(self):
+        self.install()
+        line = f"install: {self.prefix}/bin/cmr is a proved program, so nothing is installed: --force replaces it by one without proofs"
+        self.assertEqual(self.refused("--unproved"), line)
+        self.assertEqual(self.run_program("bin/cmr").stdout, "proved\n")
+        self.install("--unproved", "--force")
+        self.assertEqual(self.run_program("bin/cmr").stdout, "optimised\n")
+        self.install("--unproved")
+        self.install()
+        self.assertEqual((self.files(), self.run_program("bin/cmr").stdout), (sorted(FILES), "proved\n"))
+
+    def test_without_rt_or_with_other_words(self):
+        for words, task in ((("--unproved",), "compile the program"), ((), "build the program")):
+            self.assertEqual(self.refused(*words, has_rt=False), f"install: {NO_KIT.format(task=task)}")
+        for words in (("--force",), ("--unproved", "--uninstall")):
+            self.assertEqual(self.run_install(*words).returncode, 2)
         self.is_empty()
 
 

@@ -13,6 +13,7 @@ import unittest
 import zipfile
 from pathlib import Path
 
+from building.clone import NO_KIT
 from building.installed import SCRIPTS
 from cmr_matrices.version import __version__
 from tests.stand_in import SmallClone
@@ -30,6 +31,7 @@ GIT = {
     "GIT_CONFIG_SYSTEM": "/dev/null",
 }
 TIME = 1767323045
+NO_RT = NO_KIT.format(task="build the program")
 MARK = """
 import sys
 from building.clone import TOP, Sources
@@ -306,8 +308,8 @@ class ProgramTest(unittest.TestCase):
         return {it: names.count(it) for it in names}
 
     def test_without_the_kit(self):
-        self.assertIn("there is no rt on the PATH", self.refused(has_rt=False))
-        self.assertIn("the program was not compiled", self.refused("--unproved", has_rt=False))
+        self.assertIn(NO_RT, self.refused(has_rt=False))
+        self.assertEqual(self.refused("--unproved", has_rt=False), f"package: {NO_KIT.format(task='compile the program')}\n")
 
     def test_a_crate_that_is_not_proved(self):
         (self.clone.crate("low") / "fails").touch()
@@ -322,21 +324,21 @@ class ProgramTest(unittest.TestCase):
         self.packed()
         shutil.rmtree(self.out)
         (self.clone.crate("low") / "specs" / "Low.antt").write_text("later", encoding="utf-8")
-        self.assertIn("there is no rt on the PATH", self.refused(has_rt=False))
+        self.assertIn(NO_RT, self.refused(has_rt=False))
         _, provenance, _ = self.packed()
         self.assertEqual(self.built(), {"low": 2, "cmr": 2})
         self.assertIn(f"Commit: {self.clone.git('rev-parse', 'HEAD')}, with changes that are not committed\n", provenance)
 
     def test_an_unproved_program_is_not_packed_as_proved(self):
         self.clone.compile_unproved("crates/cmr/out/cmr")
-        self.assertIn("there is no rt on the PATH", self.refused(has_rt=False))
+        self.assertIn(NO_RT, self.refused(has_rt=False))
 
     def test_a_program_that_was_changed(self):
         self.packed()
         shutil.rmtree(self.out)
         with (self.clone.crate("cmr") / "out" / "cmr").open("ab") as file:
             file.write(b"x")
-        self.assertIn("there is no rt on the PATH", self.refused(has_rt=False))
+        self.assertIn(NO_RT, self.refused(has_rt=False))
 
     def test_an_unproved_program(self):
         self.clone.compile_unproved("out/unproved/cmr")

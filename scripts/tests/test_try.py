@@ -9,6 +9,7 @@ import time
 import unittest
 from pathlib import Path
 
+from building.clone import NO_KIT
 from tests.stand_in import SmallClone
 
 NOTE = "try-cmr: nothing is proved of this run; ./cmr runs the proved program\n"
@@ -100,7 +101,7 @@ class TryTest(unittest.TestCase):
     def test_without_rt(self):
         run = self.run_here(has_rt=False)
         self.assertEqual((run.returncode, run.stdout), (70, ""))
-        line = 'there is no rt on the PATH to compile the program: see "Run it" in README.md'
+        line = NO_KIT.format(task="compile the program")
         self.assertEqual(run.stderr, f"{NOTE}try-cmr: {line}\n")
         self.assertFalse(self.kept.parent.exists())
 

@@ -28,7 +28,7 @@ To repeat the build, put the rt of this kit on the PATH, and run in a new clone 
     git checkout {commit}
     scripts/package{option}
 
-sha256sum prints the SHA-256 of the installed program. The digest of the sources covers the code of all crates of the program, and the digest
+sha256sum prints the SHA-256 of an installed program. The digest of the sources covers the code of all crates of the program, and the digest
 of the proofs their definitions and proofs; scripts/building/clone.py computes both.
 """
 
