@@ -30,7 +30,10 @@ class Linked:
             if "X86-64" not in said:
                 raise BadInput(f"{program} is not compiled for x86-64")
             libraries.update(re.findall(r"\(NEEDED\).*\[(.*)\]", said))
-            versions.update((int(it[0]), int(it[1])) for it in re.findall(r"\bGLIBC_(\d+)\.(\d+)", said))
+            for version in re.findall(r"\bGLIBC_([\w.]+)", said):
+                if not re.match(r"\d+\.\d", version):
+                    raise BadInput(f"another machine may not have GLIBC_{version}, which the program needs")
+                versions.add((int(version.split(".")[0]), int(version.split(".")[1])))
         if others := libraries - LIBRARIES.keys():
             raise BadInput(f"another machine may not have the libraries of the program: {', '.join(sorted(others))}")
         return cls(frozenset(libraries), max(versions))
