@@ -12,9 +12,12 @@ import tempfile
 import unittest
 import zipfile
 from pathlib import Path
+from unittest import mock
 
 from building.clone import NO_KIT
 from building.installed import SCRIPTS
+from building.packing.linked import Linked
+from cmr_matrices.errors import BadInput
 from cmr_matrices.version import __version__
 from tests.stand_in import SmallClone
 from tests.support import PYTHON, TOP, needs_packers
@@ -365,6 +368,14 @@ class ProgramTest(unittest.TestCase):
     def test_a_library_that_other_machines_may_not_have(self):
         shutil.copy(PYTHON, self.clone.crate("cmr") / "program")
         self.assertRegex(self.refused(), "another machine may not have the libraries of the program: .*lib")
+
+    def test_a_version_of_glibc_without_a_number(self):
+        said = "X86-64 0x1 (NEEDED) Shared library: [libc.so.6] Name: GLIBC_2.4 Name: GLIBC_2.34 Name: GLIBC_2.2.5"
+        with mock.patch("building.packing.linked.output", return_value=said):
+            self.assertEqual(Linked.of(Path(PROGRAM)), Linked(frozenset({"libc.so.6"}), (2, 34)))
+        with mock.patch("building.packing.linked.output", return_value=f"{said} Name: GLIBC_ABI_DT_RELR"):
+            with self.assertRaisesRegex(BadInput, "another machine may not have GLIBC_ABI_DT_RELR"):
+                Linked.of(Path(PROGRAM))
 
     def test_other_kinds(self):
         ran = self.clone.pack(self.out, "rpm")

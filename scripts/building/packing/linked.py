@@ -28,8 +28,7 @@ class Linked:
         libraries = frozenset(re.findall(r"\(NEEDED\).*\[(.*)\]", said))
         if others := libraries - LIBRARIES.keys():
             raise BadInput(f"another machine may not have the libraries of the program: {', '.join(sorted(others))}")
-        versions = {(int(it[0]), int(it[1])) for it in re.findall(r"\bGLIBC_(\d+)\.(\d+)", said)}
-        return cls(libraries, max(versions, default=(2, 0)))
+        return cls(libraries, max(map(_numbers, re.findall(r"\bGLIBC_([\w.]+)", said)), default=(2, 0)))
 
     @property
     def wheel_tag(self) -> str:
@@ -40,3 +39,11 @@ class Linked:
         """The packages of Debian that have the libraries."""
         packages = {LIBRARIES[it] for it in self.libraries}
         return [f"{it} (>= {self.glibc[0]}.{self.glibc[1]})" if it == "libc6" else it for it in sorted(packages)]
+
+
+def _numbers(version: str) -> tuple[int, int]:
+    """The first two numbers of a version of glibc."""
+    found = re.match(r"(\d+)\.(\d+)", version)
+    if not found:
+        raise BadInput(f"another machine may not have GLIBC_{version}, which the program needs")
+    return int(found[1]), int(found[2])
