@@ -2,7 +2,7 @@
 
     /usr/bin/python3 bench/many_runs.py --program crates/cmr/out/cmr
 
-`cmr-batch` is the program of that name beside the program, or in the same clone. All requests are sent at once, and the processor
+`cmr-batch` is beside the program, or the link at the top of its clone. All requests are sent at once, and the processor
 seconds of the process are divided by their number. Calls with `cmr-batch` and calls without it take turns, a hundred at a time. Of each
 hundred it prints the processor time, of Python and of the program together, and the time by the clock, both for a call. The time by the
 clock depends on other work of the machine; the processor time does so less.

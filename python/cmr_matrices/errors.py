@@ -92,7 +92,10 @@ class BadEntry(BadInput):
 
 
 class LibraryMissing(BadInput, ImportError):
-    """A library that a call needs is not there: its name for pip, and the package of Debian that has it, if there is one."""
+    """A library that a call needs is not there: its name for pip, and the package of Debian that has it, if there is one.
+
+    The text names the package for the Python that runs: only `/usr/bin/python3` uses the packages of Debian.
+    """
 
     def __init__(self, use: str, package: str, debian: str | None) -> None:
         super().__init__(use, package, debian)
@@ -101,9 +104,10 @@ class LibraryMissing(BadInput, ImportError):
         self.debian = debian
 
     def __str__(self) -> str:
-        own = "" if sys.executable in ("/usr/bin/python3", "") else f" for /usr/bin/python3, and this Python is {sys.executable}"
-        also = f", or Debian's {self.debian}{own}" if self.debian else ""
-        return f"{self.use} needs {self.package}: `pip install {self.package}`{also}"
+        is_own = sys.executable in ("/usr/bin/python3", "")
+        pip = f"`{'pip' if is_own else f'{sys.executable} -m pip'} install {self.package}`"
+        debian = f"`apt-get install {self.debian}` on Debian, elsewhere " if is_own and self.debian else ""
+        return f"{self.use} needs {self.package}: {debian}{pip}"
 
 
 class CommandMissing(BadInput):
@@ -187,7 +191,7 @@ class ProgramMissing(CmrError, FileNotFoundError):
         looked = "; ".join(self.places)
         return (
             f"the program cmr is not there (looked at: {looked}). In a clone of the repository `./cmr` proves and builds it, "
-            "and `./try-cmr` compiles it without proofs in two minutes"
+            "and `./try-cmr` compiles it without proofs in two minutes; a package of scripts/package contains it"
         )
 
 

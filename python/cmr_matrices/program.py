@@ -86,7 +86,7 @@ def find_program(program: StrPath | None = None) -> Path:
     """The program: the given one, or what `CMR_PROGRAM` names, is installed with the package, is on the `PATH`, or is built in this clone.
 
     The last of these is the program that `./try-cmr` has compiled in this clone without proofs, with the warning `UnprovedProgram`.
-    A package of `scripts/package --unproved` gives this warning too.
+    What `scripts/package --unproved` or `scripts/install --unproved` has installed gives this warning too.
 
     Raises `ProgramMissing` with the places that were searched. A path that is given, by the argument or `CMR_PROGRAM`, is the only place.
     """
@@ -97,7 +97,7 @@ def find_program(program: StrPath | None = None) -> Path:
 
 
 def unproved() -> Path:
-    """The path of the program that was compiled without proofs: by `./try-cmr` in this clone, or for the package that contains it."""
+    """The path of the program that was compiled without proofs: in this clone, or where it is installed with this package."""
     return _BESIDE if _PACKED_UNPROVED else _unproved_in(_CLONE)
 
 
@@ -116,8 +116,10 @@ def _found(program: StrPath | None) -> Path:
             raise ProgramMissing([f"{'the argument' if program is not None else 'CMR_PROGRAM'} {named}"])
         return path
     is_clone = _is_clone(_CLONE)
-    if not is_clone and _can_be_run(_BESIDE):
-        return _BESIDE
+    if not is_clone:
+        for path in (unproved(), _BESIDE):
+            if _can_be_run(path):
+                return path
     found = shutil.which("cmr")
     if found is not None:
         return Path(found).absolute()

@@ -6,6 +6,7 @@ import doctest
 import os
 import random
 import re
+import shutil
 import signal
 import subprocess
 import sys
@@ -297,6 +298,24 @@ class Finding(StandIn):
             self.assertEqual(batch_of(self.folder / "other"), self.program)
             os.environ["CMR_BATCH"] = ""
             self.assertIsNone(batch_of(cmr))
+
+    def test_the_link_of_a_clone(self) -> None:
+        clone = self.folder / "clone"
+        built, other = clone / "crates" / "cmr" / "out" / "cmr", clone / "crates" / "other" / "out" / "cmr"
+        link = clone / "cmr-batch"
+        for path in (built, other):
+            path.parent.mkdir(parents=True)
+            shutil.copy(self.program, path)
+        with mock.patch.dict(os.environ):
+            os.environ.pop("CMR_BATCH", None)
+            self.assertIsNone(batch_of(built))
+            link.symlink_to("crates/cmr/out/cmr")
+            self.assertEqual(batch_of(built), link)
+            # It leads to another program, or to none.
+            self.assertIsNone(batch_of(other))
+            built.unlink()
+            self.assertIsNone(batch_of(built))
+            self.assertIsNone(batch_of(other))
 
 
 @needs_batch

@@ -84,9 +84,9 @@ def _batches(parent: int) -> list[int]:
         try:
             if entry.name.isdigit():
                 above = int((entry / "stat").read_text("utf-8", "replace").rpartition(")")[2].split()[1])
-                name = (entry / "comm").read_text("utf-8").strip()
+                name = (entry / "cmdline").read_bytes().split(b"\0")[0]
                 workers = (entry.parent / str(above) / "stat").read_text("utf-8", "replace").rpartition(")")[2].split()[1]
-                if name.startswith("cmr") and "batch" in os.readlink(entry / "exe") and int(workers) == parent:
+                if name.endswith(b"-batch") and int(workers) == parent:
                     found.append(int(entry.name))
         except (OSError, ValueError):
             continue

@@ -118,6 +118,7 @@ class Finding(Folder):
         unproved = self.folder / "out" / "unproved" / "cmr"
         unproved.parent.mkdir(parents=True)
         self.script("cat > /dev/null; echo 'network: yes'").rename(unproved)
+        (self.folder / "crates.txt").touch()
         with mock.patch("cmr_matrices.program._CLONE", self.folder), mock.patch(
             "cmr_matrices.program._BESIDE", self.folder / "bin" / "cmr"
         ):

@@ -102,10 +102,10 @@ class Refusals(unittest.TestCase):
 
     def test_libraries_that_are_missing(self) -> None:
         uses: list[tuple[str, Call, str]] = [
-            ("swiglpk", lambda: cmr.from_model(EXAMPLES / "assignment.mps"), "`pip install swiglpk`, or Debian's python3-swiglpk"),
-            ("networkx", lambda: cmr.Graph.from_text("").to_networkx(), "`pip install networkx`, or Debian's python3-networkx"),
-            ("scipy.sparse", lambda: Matrix.of(FANO).to_scipy(), "`pip install scipy`, or Debian's python3-scipy"),
-            ("numpy", lambda: Matrix.of(FANO).to_numpy(), "`pip install numpy`, or Debian's python3-numpy"),
+            ("swiglpk", lambda: cmr.from_model(EXAMPLES / "assignment.mps"), "`apt-get install python3-swiglpk` on Debian, elsewhere `pip install swiglpk`"),
+            ("networkx", lambda: cmr.Graph.from_text("").to_networkx(), "`apt-get install python3-networkx` on Debian, elsewhere `pip install networkx`"),
+            ("scipy.sparse", lambda: Matrix.of(FANO).to_scipy(), "`apt-get install python3-scipy` on Debian, elsewhere `pip install scipy`"),
+            ("numpy", lambda: Matrix.of(FANO).to_numpy(), "`apt-get install python3-numpy` on Debian, elsewhere `pip install numpy`"),
             ("pyomo.environ", lambda: cmr.from_pyomo(mock.Mock()), "from_pyomo needs pyomo: `pip install pyomo`"),
         ]
         for name, use, said in uses:
@@ -115,6 +115,9 @@ class Refusals(unittest.TestCase):
                 self.assertIsInstance(missing.exception, ImportError)
                 self.assertIn(said, str(missing.exception))
                 self.assertEqual(str(pickle.loads(pickle.dumps(missing.exception))), str(missing.exception))
+                with mock.patch("sys.executable", "/opt/env/bin/python3"):
+                    package = name.partition(".")[0]
+                    self.assertTrue(str(missing.exception).endswith(f" needs {package}: `/opt/env/bin/python3 -m pip install {package}`"))
 
 
 class Entries(unittest.TestCase):

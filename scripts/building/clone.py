@@ -12,21 +12,23 @@ from dataclasses import dataclass
 from pathlib import Path
 
 TOP = Path(__file__).resolve().parents[2]
-PROGRAM, BATCH = "cmr", "cmr_batch"
-PROGRAMS = (PROGRAM, BATCH)
-BUILT, BUILT_BATCH = (TOP / "crates" / it / "out" / it for it in PROGRAMS)
-UNPROVED, UNPROVED_BATCH = (TOP / "out" / "unproved" / it for it in (PROGRAM, f"{PROGRAM}-batch"))
+PROGRAM = "cmr"
+# The second name of the program.
+BATCH = f"{PROGRAM}-batch"
+BUILT = TOP / "crates" / PROGRAM / "out" / PROGRAM
+UNPROVED = TOP / "out" / "unproved" / PROGRAM
+NO_KIT = 'there is no rt of the Rattle kit on the PATH to {task}: see "Run it" in README.md. A package needs no kit: see docs/INSTALLING.md'
 
 
-def crates_below(*programs: str, top: Path = TOP) -> dict[str, list[str]]:
-    """The programs and each crate of the repository below them, with the crates that it uses."""
+def crates_below(crate: str = PROGRAM) -> dict[str, list[str]]:
+    """A crate and each crate of the repository below it, with the crates that it uses."""
     listed: dict[str, list[str]] = {}
-    for line in (top / "crates.txt").read_text(encoding="utf-8").splitlines():
+    for line in (TOP / "crates.txt").read_text(encoding="utf-8").splitlines():
         name, colon, uses = line.partition("#")[0].partition(":")
         if colon:
             listed[name.split()[0]] = uses.split()
     below: dict[str, list[str]] = {}
-    waiting = [it for it in programs if it in listed]
+    waiting = [crate]
     while waiting:
         name = waiting.pop()
         if name not in below:
@@ -35,15 +37,9 @@ def crates_below(*programs: str, top: Path = TOP) -> dict[str, list[str]]:
     return below
 
 
-def built_programs() -> dict[str, Path]:
-    """The programs that the repository lists, and where they are built."""
-    listed = crates_below(*PROGRAMS)
-    return {name: path for name, path in zip(PROGRAMS, (BUILT, BUILT_BATCH)) if name in listed}
-
-
-def source_files(crate: str, top: Path = TOP) -> Iterator[Path]:
-    """The files from which a crate is compiled. Its definitions and proofs change no program."""
-    yield from sorted((top / "crates" / crate / "src").rglob("*.rt"))
+def source_files(crate: str) -> Iterator[Path]:
+    """The files from which a crate is compiled. Its definitions and proofs do not change the program."""
+    yield from sorted((TOP / "crates" / crate / "src").rglob("*.rt"))
 
 
 def _proof_files(crate: str) -> Iterator[Path]:
@@ -93,16 +89,16 @@ class Record:
 
 @dataclass(frozen=True)
 class Sources:
-    """The sources of a program at a time, and if they are proved, the definitions and proofs of its crates."""
+    """The sources of the program at a time, and if they are proved, the definitions and proofs of its crates."""
 
     read: float
     digest: str
     proofs: str = ""
 
     @classmethod
-    def now(cls, program: str = PROGRAM, *, proved: bool = False) -> Sources:
+    def now(cls, *, proved: bool = False) -> Sources:
         read, digest, proofs = time.time(), hashlib.sha256(), hashlib.sha256()
-        for name, uses in sorted(crates_below(program).items()):
+        for name, uses in sorted(crates_below().items()):
             digest.update(repr((name, uses, _sums(source_files(name)))).encode())
             if proved:
                 proofs.update(repr((name, _sums(_proof_files(name)))).encode())
@@ -126,12 +122,11 @@ def is_fresh(program: Path) -> bool:
     """Whether the program exists and was built from the present sources: no source is newer, or their digests are the recorded ones."""
     if not os.access(program, os.X_OK):
         return False
-    crate = BATCH if program in (BUILT_BATCH, UNPROVED_BATCH) else PROGRAM
-    files = [TOP / "crates.txt", *(file for it in crates_below(crate) for file in source_files(it))]
+    files = [TOP / "crates.txt", *(file for it in crates_below() for file in source_files(it))]
     made = program.stat().st_mtime_ns
     if all(it.stat().st_mtime_ns <= made for it in files):
         return True
-    sources = Sources.now(crate)
+    sources = Sources.now()
     if not sources.have_made(program):
         return False
     # The next call then needs only the times.

@@ -10,7 +10,7 @@ from __future__ import annotations
 import sys
 from collections.abc import Iterator, Sequence
 
-from building.clone import PROGRAMS, crates_below
+from building.clone import crates_below
 from building.plan import Plan, read_seconds
 
 
@@ -32,10 +32,10 @@ def costs(plan: Plan, names: Sequence[str] = ()) -> Iterator[str]:
 
 
 def main() -> int:
-    uses, names = crates_below(*PROGRAMS), sys.argv[1:]
+    uses, names = crates_below(), sys.argv[1:]
     unknown = [it for it in names if it not in uses]
     if unknown:
-        print(f"costs: not below the programs: {', '.join(unknown)}", file=sys.stderr)
+        print(f"costs: not below the program: {', '.join(unknown)}", file=sys.stderr)
         return 2
     print("\n".join(costs(Plan(uses, read_seconds()), names)))
     return 0

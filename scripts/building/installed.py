@@ -10,7 +10,7 @@ from contextlib import suppress
 from dataclasses import dataclass, field
 from pathlib import Path
 
-from building.clone import BATCH, BUILT, BUILT_BATCH, TOP, built_programs
+from building.clone import BATCH, BUILT, PROGRAM, TOP, UNPROVED
 from cmr_matrices.commands.signals import ignore_signals
 from cmr_matrices.errors import BadInput
 
@@ -19,6 +19,8 @@ LIST = f"{FOLDER}/installed"
 # The folder in which files are written before they are moved to their places.
 NEW = f"{FOLDER}/.new"
 FIRST_LINE = "cmr-installed 1"
+# Where the program without proofs is installed, in the folder in which the package looks for it, and the scripts that run it.
+UNPROVED_FOLDER, UNPROVED_SCRIPTS = f"{FOLDER}/out/unproved", f"{FOLDER}/unproved"
 _BASH = "share/bash-completion/completions"
 
 # The commands of the package, by their installed names.
@@ -52,23 +54,32 @@ class Item:
             target.chmod(0o755 if os.access(self.source, os.X_OK) else 0o644)
 
 
-def _of_batch() -> list[Item]:
-    return [Item("bin/cmr-batch", BUILT_BATCH), Item("share/man/man1/cmr-batch.1", TOP / "docs" / "cmr-batch.1")]
+def _of_program(folder: str, *, proved: bool) -> Iterator[Item]:
+    """The program and its second name. Without proofs both are in a folder of their own, and scripts that say so run them.
+
+    `folder` leads from `bin` to the folder of this installation.
+    """
+    place = "bin" if proved else UNPROVED_FOLDER
+    yield Item(f"{place}/{PROGRAM}", BUILT if proved else UNPROVED)
+    yield Item(f"{place}/{BATCH}", leads_to=PROGRAM)
+    if not proved:
+        for name in (PROGRAM, BATCH):
+            yield Item(f"{UNPROVED_SCRIPTS}/{name}", TOP / "scripts" / "building" / "unproved.sh")
+            yield Item(f"bin/{name}", leads_to=f"{folder}/unproved/{name}")
 
 
-def items(prefix: Path) -> list[Item]:
+def items(prefix: Path, *, proved: bool = True) -> list[Item]:
     """All files and links. The scripts and the package have the same relative paths as in the repository, so that the scripts find it."""
     scripts, python = TOP / "scripts", TOP / "python"
     # `bin` may itself be a link to another place.
-    installed = os.path.relpath(os.path.realpath(prefix / FOLDER / "scripts"), os.path.realpath(prefix / "bin"))
+    folder = os.path.relpath(os.path.realpath(prefix / FOLDER), os.path.realpath(prefix / "bin"))
     package = sorted(it for it in (python / "cmr_matrices").rglob("*") if it.suffix == ".py" or it.name == "py.typed")
     return [
-        Item("bin/cmr", BUILT),
-        *(_of_batch() if BATCH in built_programs() else []),
-        *(Item(f"bin/{name}", leads_to=f"{installed}/{script}") for name, script in SCRIPTS.items()),
+        *_of_program(folder, proved=proved),
+        *(Item(f"bin/{name}", leads_to=f"{folder}/scripts/{script}") for name, script in SCRIPTS.items()),
         *(Item(f"{FOLDER}/scripts/{it}", scripts / it) for it in SCRIPTS.values()),
         *(Item(f"{FOLDER}/python/{it.relative_to(python)}", it) for it in package),
-        Item("share/man/man1/cmr.1", TOP / "docs" / "cmr.1"),
+        *(Item(f"share/man/man1/{it}.1", TOP / "docs" / f"{it}.1") for it in (PROGRAM, BATCH)),
         *(Item(f"share/man/man1/{it.name}", it) for it in sorted((TOP / "docs" / "commands").glob("*.1"))),
         Item(f"{_BASH}/cmr", scripts / "completions" / "cmr.bash"),
         Item(f"{_BASH}/cmr-commands", scripts / "completions" / "cmr-commands.bash"),
@@ -127,10 +138,17 @@ def read_list(prefix: Path) -> Listed | None:
     return found
 
 
-def refuse_what_is_there(prefix: Path) -> None:
+def refuse_proved_program(prefix: Path) -> None:
+    """Refuses a prefix below which a proved program is installed."""
+    listed = read_list(prefix)
+    if listed and listed.is_ours(prefix, "bin/cmr") and f"{UNPROVED_FOLDER}/cmr" not in listed.sums:
+        raise BadInput(f"{prefix}/bin/cmr is a proved program, so nothing is installed: --force replaces it by one without proofs")
+
+
+def refuse_what_is_there(prefix: Path, *, proved: bool = True) -> None:
     """Refuses a prefix below which some file cannot be installed."""
     listed = read_list(prefix) or Listed()
-    for it in items(prefix):
+    for it in items(prefix, proved=proved):
         target = prefix / it.path
         _refuse_folder(target.parent)
         if os.path.lexists(target) and not listed.is_ours(prefix, it.path):
@@ -160,8 +178,9 @@ def _give_second_name(path: Path, second: Path) -> None:
 class Installation:
     """One installation. If it fails, it is undone."""
 
-    def __init__(self, prefix: Path) -> None:
+    def __init__(self, prefix: Path, *, proved: bool = True) -> None:
         self._prefix = prefix
+        self._proved = proved
         self._new = prefix / NEW
         self._undo: list[Callable[[], object]] = []
 
@@ -176,7 +195,7 @@ class Installation:
         shutil.rmtree(self._new)
 
     def _put(self) -> None:
-        before, put = read_list(self._prefix) or Listed(), items(self._prefix)
+        before, put = read_list(self._prefix) or Listed(), items(self._prefix, proved=self._proved)
         made = [it for file in put for it in self._make_folders((self._prefix / file.path).parent)]
         shutil.rmtree(self._new, ignore_errors=True)
         self._undo.append(lambda: shutil.rmtree(self._new, ignore_errors=True))

@@ -12,13 +12,12 @@ from dataclasses import dataclass
 from pathlib import Path
 from typing import BinaryIO
 
-from building.clone import PROGRAMS, Sources, built_programs, crates_below, is_fresh
+from building.clone import BUILT, NO_KIT, PROGRAM, Sources, crates_below, is_fresh
 from building.plan import Plan, Running, read_seconds, time_with
 from building.progress import Progress
 from building.work_folders import Busy, WorkFolders
 from cmr_matrices.commands.signals import end_if_told, ignore_signals, signals_wait
 
-NO_KIT = 'the program is not built, and there is no rt on the PATH to build it: see "Run it" in README.md'
 FIRST = (
     "proving and building the program, an hour of processor time the first time (./try-cmr runs it at once, unproved)"
 )
@@ -121,7 +120,7 @@ class Build:
     def _begin(self, name: str, jobs: int) -> None:
         folder = self._folders.crate(name)
         said = (folder.parent.parent / "said").open("w+b")
-        command = ["rt", "run" if name in PROGRAMS else "lib", "--jobs", str(jobs)]
+        command = ["rt", "run" if name == PROGRAM else "lib", "--jobs", str(jobs)]
         process = subprocess.Popen(command, cwd=folder, stdin=subprocess.DEVNULL, stdout=said, stderr=subprocess.STDOUT)
         self._running[name] = Proof(process, said, jobs, time.monotonic())
 
@@ -134,8 +133,8 @@ class Build:
                 self._end(name, proof, used.ru_utime + used.ru_stime)
 
     def _end(self, name: str, proof: Proof, seconds: float) -> None:
-        # `rt` also runs a program that it has built, and exits with its status.
-        is_built = self._folders.program(name).exists() if name in PROGRAMS else proof.process.returncode == 0
+        # `rt` also runs the program when it has built it, and exits with its status.
+        is_built = self._folders.program(name).exists() if name == PROGRAM else proof.process.returncode == 0
         self._folders.give_back(name, is_built=is_built)
         if not is_built:
             proof.said.seek(0)
@@ -168,26 +167,21 @@ class Build:
 
 
 def build(progress: Progress, *, anew: bool = True) -> None:
-    """Builds the programs; without `anew` only if one of them was not built from the present sources.
+    """Builds the program; without `anew` only if it was not built from the present sources.
 
     Raises `NotBuilt`, or `OSError` if the system refuses an operation.
     """
-    if not anew and _are_fresh():
+    if not anew and is_fresh(BUILT):
         return
     if shutil.which("rt") is None:
-        raise NotBuilt(NO_KIT)
+        raise NotBuilt(NO_KIT.format(task="build the program"))
     if not anew:
         progress.say(FIRST)
     folders = WorkFolders(progress.say)
-    plan = Plan(crates_below(*PROGRAMS), read_seconds())
+    plan = Plan(crates_below(), read_seconds())
     with folders.opened():
         # Another build may have built it in the meantime.
-        if anew or not _are_fresh():
-            sources = {path: Sources.now(name, proved=True) for name, path in built_programs().items()}
+        if anew or not is_fresh(BUILT):
+            sources = Sources.now(proved=True)
             Build(plan, folders, progress).build_all()
-            for path, it in sources.items():
-                it.made(path)
-
-
-def _are_fresh() -> bool:
-    return all(map(is_fresh, built_programs().values()))
+            sources.made(BUILT)

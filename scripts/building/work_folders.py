@@ -14,7 +14,7 @@ from collections.abc import Callable, Iterable, Iterator
 from contextlib import contextmanager, suppress
 from pathlib import Path
 
-from building.clone import PROGRAMS, TOP
+from building.clone import PROGRAM, TOP
 
 
 class Busy(Exception):
@@ -44,9 +44,9 @@ def _held(folder: Path) -> int:
 
 
 def _move(source: Path, target: Path) -> None:
-    """Moves the content of a folder to another one, except a program and what the other one already has."""
+    """Moves the content of a folder to another one, except the program and what the other one already has."""
     with suppress(FileNotFoundError):
-        found = [it for it in source.iterdir() if it.name not in PROGRAMS]
+        found = [it for it in source.iterdir() if it.name != PROGRAM]
         target.mkdir(exist_ok=True)
         for it in found:
             if not (target / it.name).exists():
@@ -144,7 +144,7 @@ class WorkFolders:
 
     def give_back(self, name: str, *, is_built: bool = False) -> None:
         """Moves the results of a build back to its crate, with the program if it is built, and removes the folder."""
-        if is_built and name in PROGRAMS:
+        if is_built and name == PROGRAM:
             out = self._crate(name) / "out"
             out.mkdir(exist_ok=True)
             self.program(name).replace(out / name)

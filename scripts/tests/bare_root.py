@@ -1,4 +1,4 @@
-"""The packages of the built programs in a bare Debian, which has no kit.
+"""The packages of the built program in a bare Debian, which has no kit.
 
 In the folder scripts, `python3 -m unittest -v tests.bare_root` runs these tests as root. debootstrap first makes the Debian, which takes
 minutes and a network. CMR_BARE_ROOT names one that it has made before (`debootstrap --variant=minbase bookworm DIR`); each test copies it.
@@ -11,13 +11,12 @@ import tempfile
 import unittest
 from pathlib import Path
 
-from building.clone import built_programs
 from building.packing.origin import record_now
 from tests.support import TOP
 
 SUITE, MIRROR = "bookworm", "http://deb.debian.org/debian"
 # A program without proofs, and its Python package, say so.
-IS_PROVED, IS_UNPROVED = (all(record_now(it, crate, proved=proved) for crate, it in built_programs().items()) for proved in (True, False))
+IS_PROVED, IS_UNPROVED = (record_now(proved=it) is not None for it in (True, False))
 
 RUNS = """\
 cd /root/examples
@@ -38,7 +37,7 @@ LEFT = "find / -xdev -name '*cmr*' -not -path '/proc/*' -not -path '/root/packag
 GET = "apt-get install --yes --quiet"
 
 
-@unittest.skipUnless(IS_PROVED or IS_UNPROVED, "the programs, built of these sources, are not available")
+@unittest.skipUnless(IS_PROVED or IS_UNPROVED, "the program, built of these sources, is not available")
 @unittest.skipUnless(os.geteuid() == 0, "only root may make a root")
 class BareRoot(unittest.TestCase):
     @classmethod

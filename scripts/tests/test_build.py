@@ -12,7 +12,7 @@ import time
 import unittest
 from pathlib import Path
 
-from building.clone import PROGRAMS, crates_below, source_files
+from building.clone import NO_KIT, crates_below, source_files
 from building.costs import costs
 from building.plan import Plan, Running, read_seconds, time_with
 from tests.stand_in import SmallClone
@@ -104,7 +104,7 @@ class PlanTest(unittest.TestCase):
         self.assertEqual(self.plan.time_left(list(CRATES), {}, 4), 0)
 
     def test_the_kept_table_has_each_crate(self):
-        self.assertEqual(sorted(read_seconds()), sorted(crates_below(*PROGRAMS)))
+        self.assertEqual(sorted(read_seconds()), sorted(crates_below()))
 
 
 class BuildTest(unittest.TestCase):
@@ -216,7 +216,7 @@ class BuildTest(unittest.TestCase):
         self.assertEqual(set(order[-10:]), set(CRATES))
 
     def test_without_rt(self):
-        line = 'the program is not built, and there is no rt on the PATH to build it: see "Run it" in README.md\n'
+        line = NO_KIT.format(task="build the program") + "\n"
         for script, name in (("scripts/build", "build"), ("cmr", "cmr")):
             run = self.clone.run(script, has_rt=False)
             self.assertEqual((run.returncode, run.stdout, run.stderr), (70, "", f"{name}: {line}"))
@@ -410,6 +410,6 @@ class CmrTest(unittest.TestCase):
 class SourcesTest(unittest.TestCase):
     def test_the_shell_sees_all_sources(self):
         """`fresh.sh` examines the files in src of a crate and in the folders of src."""
-        for crate in crates_below(*PROGRAMS):
+        for crate in crates_below():
             for it in source_files(crate):
                 self.assertIn(len(it.relative_to(TOP / "crates" / crate).parts), (2, 3), it)

@@ -13,7 +13,7 @@ import unittest
 from pathlib import Path
 from unittest import mock
 
-from building.clone import BUILT
+from building.clone import BUILT, NO_KIT
 from building.installed import SCRIPTS, Installation, refuse_what_is_there, take_away
 from cmr_matrices.commands.signals import ENDING
 from tests.stand_in import SmallClone
@@ -21,6 +21,7 @@ from tests.support import TOP, needs_man, needs_program, needs_python
 
 FILES = [
     "bin/cmr",
+    "bin/cmr-batch",
     *(f"bin/{it}" for it in SCRIPTS),
     "lib/cmr/installed",
     *(f"lib/cmr/scripts/{it}" for it in SCRIPTS.values()),
@@ -30,13 +31,16 @@ FILES = [
     "share/bash-completion/completions/cmr-commands",
     *(f"share/bash-completion/completions/{it}" for it in SCRIPTS),
     "share/man/man1/cmr.1",
+    "share/man/man1/cmr-batch.1",
     *(f"share/man/man1/{it}.1" for it in SCRIPTS),
     "share/zsh/site-functions/_cmr",
     "share/zsh/site-functions/_cmr-commands",
 ]
 
 
-class InstallTest(unittest.TestCase):
+class Prefix(unittest.TestCase):
+    """A small clone and an empty prefix."""
+
     def setUp(self):
         folder = tempfile.TemporaryDirectory()
         self.addCleanup(folder.cleanup)
@@ -58,7 +62,7 @@ class InstallTest(unittest.TestCase):
         self.assertEqual((run.returncode, run.stdout), (1, ""), run.stderr)
         *building, last = run.stderr.splitlines()
         for line in building:
-            self.assertRegex(line, "proving and building|processor seconds")
+            self.assertRegex(line, "proving and building|processor seconds|compiling")
         return last
 
     def files(self):
@@ -67,6 +71,8 @@ class InstallTest(unittest.TestCase):
     def is_empty(self):
         self.assertEqual(list(self.prefix.iterdir()), [])
 
+
+class InstallTest(Prefix):
     def test_puts_all_and_takes_all_away(self):
         run = self.install()
         self.assertEqual(self.files(), sorted(FILES))
@@ -74,6 +80,7 @@ class InstallTest(unittest.TestCase):
         self.assertEqual(run.stdout, f"cmr is installed in {self.prefix}\n{hint}")
         program = subprocess.run([self.prefix / "bin" / "cmr"], capture_output=True, text=True, check=False)
         self.assertEqual((program.returncode, program.stdout), (2, "proved\n"))
+        self.assertEqual(os.readlink(self.prefix / "bin" / "cmr-batch"), "cmr")
         again = self.install("--uninstall")
         self.assertEqual((again.stdout, again.stderr), ("", ""))
         self.is_empty()
@@ -117,7 +124,7 @@ class InstallTest(unittest.TestCase):
         self.install()
         (self.prefix / "matrices").mkdir()
         (self.prefix / "matrices" / "one.txt").write_text("1 1\n1\n", encoding="utf-8")
-        run = self.run_installed("cmr-classify", "matrices", cwd=self.prefix)
+        run = self.run_installed("cmr-classify", "matrices", "--no-batch", cwd=self.prefix)
         # The stand-in refuses all arguments.
         self.assertIn("BadCommandLine", run.stdout)
 
@@ -246,6 +253,61 @@ class InstallTest(unittest.TestCase):
         self.is_empty()
 
 
+class UnprovedTest(Prefix):
+    """With --unproved. The stand-in for `rt` compiles a program that prints its arguments."""
+
+    NOTE = "nothing is proved of this run: the program was compiled without proofs"
+
+    def setUp(self):
+        super().setUp()
+        self.clone.make_kit()
+
+    def run_program(self, path, *words):
+        return subprocess.run([path, *words], capture_output=True, text=True, check=False, cwd=self.prefix)
+
+    def test_each_run_says_so(self):
+        run = self.install("--unproved")
+        self.assertEqual(run.stdout.splitlines()[0], f"cmr is installed in {self.prefix}, without proofs")
+        (self.prefix.parent / "other").symlink_to(self.prefix / "bin" / "cmr")
+        for path in (self.prefix / "bin" / "cmr", "bin/cmr", self.prefix.parent / "other"):
+            run = self.run_program(path, "tu", "a b")
+            self.assertEqual((run.returncode, run.stdout, run.stderr), (6, "optimised tu a b\n", f"cmr: {self.NOTE}\n"))
+        run = self.run_program("bin/cmr-batch", "a b")
+        self.assertEqual((run.returncode, run.stdout, run.stderr), (6, "optimised a b\n", f"cmr-batch: {self.NOTE}\n"))
+        self.assertEqual(os.readlink(self.prefix / "lib" / "cmr" / "out" / "unproved" / "cmr-batch"), "cmr")
+        added = [f"lib/cmr/{folder}/{name}" for folder in ("out/unproved", "unproved") for name in ("cmr", "cmr-batch")]
+        self.assertEqual(self.files(), sorted([*FILES, *added]))
+        self.install("--uninstall")
+        self.is_empty()
+
+    @needs_python
+    def test_the_package_warns(self):
+        self.install("--unproved")
+        code = "import cmr_matrices; print(cmr_matrices.find_program())"
+        env = {"PATH": "/usr/bin:/bin", "PYTHONPATH": str(self.prefix / "lib" / "cmr" / "python")}
+        run = subprocess.run(["/usr/bin/python3", "-c", code], env=env, capture_output=True, text=True, check=True)
+        self.assertEqual(run.stdout, f"{os.path.realpath(self.prefix)}/lib/cmr/out/unproved/cmr\n")
+        self.assertIn("UnprovedProgram: nothing is proved of this run", run.stderr)
+
+    def test_a_proved_program_stays(self):
+        self.install()
+        line = f"install: {self.prefix}/bin/cmr is a proved program, so nothing is installed: --force replaces it by one without proofs"
+        self.assertEqual(self.refused("--unproved"), line)
+        self.assertEqual(self.run_program("bin/cmr").stdout, "proved\n")
+        self.install("--unproved", "--force")
+        self.assertEqual(self.run_program("bin/cmr").stdout, "optimised\n")
+        self.install("--unproved")
+        self.install()
+        self.assertEqual((self.files(), self.run_program("bin/cmr").stdout), (sorted(FILES), "proved\n"))
+
+    def test_without_rt_or_with_other_words(self):
+        for words, task in ((("--unproved",), "compile the program"), ((), "build the program")):
+            self.assertEqual(self.refused(*words, has_rt=False), f"install: {NO_KIT.format(task=task)}")
+        for words in (("--force",), ("--unproved", "--uninstall")):
+            self.assertEqual(self.run_install(*words).returncode, 2)
+        self.is_empty()
+
+
 class KilledTest(unittest.TestCase):
     """An installation or its removal that is killed before its first change, its second change, and so on."""
 
@@ -257,10 +319,7 @@ class KilledTest(unittest.TestCase):
         self.prefix = Path(folder.name) / "prefix"
         program = Path(folder.name) / "cmr"
         program.write_text("#!/bin/sh\n", encoding="utf-8")
-        for name in ("BUILT", "BUILT_BATCH"):
-            patch = mock.patch(f"building.installed.{name}", program)
-            patch.start()
-            self.addCleanup(patch.stop)
+        self.enterContext(mock.patch("building.installed.BUILT", program))
         # An installation ignores these in the process of the tests too.
         for it in ENDING:
             self.addCleanup(signal.signal, it, signal.getsignal(it))

@@ -447,7 +447,7 @@ class Refusals(ScriptTest):
         self.write("swiglpk.py", "raise ImportError\n")
         model = self.write("model.mps", small_mps((1, 1)))
         line = self.refused(model, env=os.environ | {"PYTHONPATH": str(self.folder)})
-        self.assertEqual(line, "reading a model needs swiglpk: `pip install swiglpk`, or Debian's python3-swiglpk")
+        self.assertEqual(line, "reading a model needs swiglpk: `apt-get install python3-swiglpk` on Debian, elsewhere `pip install swiglpk`")
 
     def test_files_that_cannot_be_written(self):
         line = self.refusal("model_to_matrix", EXAMPLES / "assignment.mps", "none/matrix", "names")

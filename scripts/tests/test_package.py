@@ -1,4 +1,4 @@
-"""Tests of `scripts/package` over a stand-in for `rt`, whose programs are a program of the system. tests.bare_root has the slow tests."""
+"""Tests of `scripts/package` over a stand-in for `rt`, whose program is a program of the system. tests.bare_root has the slow tests."""
 
 import gzip
 import hashlib
@@ -12,8 +12,12 @@ import tempfile
 import unittest
 import zipfile
 from pathlib import Path
+from unittest import mock
 
+from building.clone import NO_KIT
 from building.installed import SCRIPTS
+from building.packing.linked import Linked
+from cmr_matrices.errors import BadInput
 from cmr_matrices.version import __version__
 from tests.stand_in import SmallClone
 from tests.support import PYTHON, TOP, needs_packers
@@ -30,11 +34,11 @@ GIT = {
     "GIT_CONFIG_SYSTEM": "/dev/null",
 }
 TIME = 1767323045
+NO_RT = NO_KIT.format(task="build the program")
 MARK = """
 import sys
-from building.clone import PROGRAMS, TOP, Sources
-for crate, place in zip(PROGRAMS, sys.argv[1:]):
-    Sources.now(crate).made(TOP / place)
+from building.clone import TOP, Sources
+Sources.now().made(TOP / sys.argv[1])
 """
 
 
@@ -42,11 +46,10 @@ class PackedClone(SmallClone):
     """A small clone with a commit."""
 
     def __init__(self, folder):
-        super().__init__(folder, {"low": ([], 1), "cmr": (["low"], 1), "cmr_batch": (["low"], 1)})
+        super().__init__(folder, {"low": ([], 1), "cmr": (["low"], 1)})
         for name in (".gitignore", "python/pyproject.toml", "python/README.md"):
             shutil.copy(TOP / name, self.top / name)
-        for name in ("cmr", "cmr_batch"):
-            shutil.copy(PROGRAM, self.crate(name) / "program")
+        shutil.copy(PROGRAM, self.crate("cmr") / "program")
         (self.crate("low") / "specs").mkdir()
         (self.crate("low") / "specs" / "Low.antt").touch()
         self.git("init", "--quiet")
@@ -57,13 +60,12 @@ class PackedClone(SmallClone):
         env = {**os.environ, **GIT}
         return subprocess.run(["git", *words], cwd=self.top, env=env, check=True, capture_output=True, text=True).stdout.strip()
 
-    def compile_unproved(self, *places):
-        """Records programs at these places as compiled without proofs."""
-        for place in places:
-            (self.top / place).parent.mkdir(parents=True, exist_ok=True)
-            shutil.copy(PROGRAM, self.top / place)
+    def compile_unproved(self, place):
+        """Records a program at this place as compiled without proofs."""
+        (self.top / place).parent.mkdir(parents=True, exist_ok=True)
+        shutil.copy(PROGRAM, self.top / place)
         env = {"PATH": "/usr/bin:/bin", "PYTHONDONTWRITEBYTECODE": "1"}
-        subprocess.run([PYTHON, "-c", MARK, *places], cwd=self.top / "scripts", env=env, check=True)
+        subprocess.run([PYTHON, "-c", MARK, place], cwd=self.top / "scripts", env=env, check=True)
 
     def pack(self, out, *words, **settings):
         return self.run("scripts/package", "--out", out, *words, **settings)
@@ -153,16 +155,14 @@ class PackageTest(unittest.TestCase):
     def test_the_provenance(self):
         first, *others = self.provenances()
         self.assertEqual(others, [first, first])
-        facts, *_ = first.split("\n\nThe programs were built")
+        facts, *_ = first.split("\n\nThe program was built")
         program = sum_of(Path(PROGRAM).read_bytes())
         lines = facts.splitlines()
         commit = self.clone.git("rev-parse", "HEAD")
         self.assertEqual(lines[:3], [f"Version: {__version__}", f"Commit: {commit}", "Date: 2026-01-02 03:04:05 UTC"])
-        for name in ("cmr", "cmr_batch"):
-            record = (self.clone.crate(name) / "out" / f"{name}.sources").read_text(encoding="ascii").split()
-            at = lines.index(f"Program: {name.replace('_', '-')}")
-            digests = [f"SHA-256: {program}", f"Sources: {record[0]}", f"Proofs: {record[2]}"]
-            self.assertEqual(lines[at + 1 : at + 5], [*digests, "Kit: stand-in-kit logic 0"])
+        record = (self.clone.crate("cmr") / "out" / "cmr.sources").read_text(encoding="ascii").split()
+        digests = [f"SHA-256: {program}", f"Sources: {record[0]}", f"Proofs: {record[2]}"]
+        self.assertEqual(lines[3:], ["Program: cmr, also named cmr-batch", *digests, "Kit: stand-in-kit logic 0"])
         self.assertIn(f"git checkout {commit}\n    scripts/package\n", first)
 
     def test_the_wheel(self):
@@ -186,8 +186,9 @@ class PackageTest(unittest.TestCase):
         tag = self.wheel.stem.removeprefix(f"{start}-")
         self.assertIn(f"Root-Is-Purelib: false\nTag: {tag}\n", files[f"{info}/WHEEL"][1].decode())
         self.assertIn(f"Name: cmr-matrices\nVersion: {__version__}\n", files[f"{info}/METADATA"][1].decode())
-        self.assertEqual(files[f"{data}/scripts/cmr"][1], Path(PROGRAM).read_bytes())
-        # The file that the link of scripts/install leads to.
+        # The files that the links of scripts/install lead to.
+        for name in ("cmr", "cmr-batch"):
+            self.assertEqual(files[f"{data}/scripts/{name}"][1], Path(PROGRAM).read_bytes())
         path = f"{data}/data/share/bash-completion/completions"
         self.assertEqual(files[f"{path}/cmr-model"][1], files[f"{path}/cmr-commands"][1])
 
@@ -205,6 +206,7 @@ class PackageTest(unittest.TestCase):
         ]
         self.assertEqual(sorted(name for name, (it, _) in entries.items() if not it.isdir()), sorted(files))
         self.are_settled(entries)
+        self.assertEqual(entries["usr/bin/cmr-batch"][0].linkname, "cmr")
         page = gzip.decompress(entries["usr/share/man/man1/cmr.1.gz"][1])
         self.assertEqual(page, (TOP / "docs" / "cmr.1").read_bytes())
         fields = ("Package", "Version", "Maintainer", "Depends", "Recommends")
@@ -246,6 +248,7 @@ class PackageTest(unittest.TestCase):
             self.output("tar", "-xzf", self.tar, "-C", name)
             folder = next(Path(name).iterdir())
             self.assertEqual(self.output(folder / "bin" / "cmr", "tu", "x"), "tu x\n")
+            self.assertEqual(os.readlink(folder / "bin" / "cmr-batch"), "cmr")
             for it in SCRIPTS:
                 self.assertEqual(self.output(folder / "bin" / it, "--version"), f"{it} {__version__}\n")
             code = "import cmr_matrices; print(cmr_matrices.find_program())"
@@ -279,8 +282,8 @@ class PackageTest(unittest.TestCase):
 
 
 @needs_packers
-class ProgramsTest(unittest.TestCase):
-    """Which programs are packed."""
+class ProgramTest(unittest.TestCase):
+    """Which program is packed."""
 
     def setUp(self):
         folder = tempfile.TemporaryDirectory()
@@ -308,52 +311,52 @@ class ProgramsTest(unittest.TestCase):
         return {it: names.count(it) for it in names}
 
     def test_without_the_kit(self):
-        self.assertIn("there is no rt on the PATH", self.refused(has_rt=False))
-        self.assertIn("the programs were not compiled", self.refused("--unproved", has_rt=False))
+        self.assertIn(NO_RT, self.refused(has_rt=False))
+        self.assertEqual(self.refused("--unproved", has_rt=False), f"package: {NO_KIT.format(task='compile the program')}\n")
 
     def test_a_crate_that_is_not_proved(self):
         (self.clone.crate("low") / "fails").touch()
         self.assertIn("package: low was not built\n", self.refused())
 
-    def test_programs_that_are_built_are_not_built_again(self):
+    def test_a_program_that_is_built_is_not_built_again(self):
         self.packed()
         self.packed(has_rt=False)
-        self.assertEqual(self.built(), {"low": 1, "cmr": 1, "cmr_batch": 1})
+        self.assertEqual(self.built(), {"low": 1, "cmr": 1})
 
     def test_a_later_definition_is_proved_first(self):
         self.packed()
         shutil.rmtree(self.out)
         (self.clone.crate("low") / "specs" / "Low.antt").write_text("later", encoding="utf-8")
-        self.assertIn("there is no rt on the PATH", self.refused(has_rt=False))
+        self.assertIn(NO_RT, self.refused(has_rt=False))
         _, provenance, _ = self.packed()
-        self.assertEqual(self.built(), {"low": 2, "cmr": 2, "cmr_batch": 2})
+        self.assertEqual(self.built(), {"low": 2, "cmr": 2})
         self.assertIn(f"Commit: {self.clone.git('rev-parse', 'HEAD')}, with changes that are not committed\n", provenance)
 
-    def test_unproved_programs_are_not_packed_as_proved(self):
-        self.clone.compile_unproved("crates/cmr/out/cmr", "crates/cmr_batch/out/cmr_batch")
-        self.assertIn("there is no rt on the PATH", self.refused(has_rt=False))
+    def test_an_unproved_program_is_not_packed_as_proved(self):
+        self.clone.compile_unproved("crates/cmr/out/cmr")
+        self.assertIn(NO_RT, self.refused(has_rt=False))
 
     def test_a_program_that_was_changed(self):
         self.packed()
         shutil.rmtree(self.out)
         with (self.clone.crate("cmr") / "out" / "cmr").open("ab") as file:
             file.write(b"x")
-        self.assertIn("there is no rt on the PATH", self.refused(has_rt=False))
+        self.assertIn(NO_RT, self.refused(has_rt=False))
 
-    def test_unproved_programs(self):
-        self.clone.compile_unproved("out/unproved/cmr", "out/unproved/cmr-batch")
+    def test_an_unproved_program(self):
+        self.clone.compile_unproved("out/unproved/cmr")
         names, provenance, version = self.packed("deb", "--unproved", has_rt=False)
         tar = f"cmr-{__version__}+unproved-linux-x86_64.tar.gz"
         self.assertEqual(names, ["SHA256SUMS", tar, f"cmr_{__version__}~unproved_amd64.deb"])
         self.assertTrue(provenance.startswith(f"Version: {__version__}+unproved\n"))
-        self.assertIn("Nothing is proved of the programs in this package", provenance)
+        self.assertIn("Nothing is proved of the program in this package", provenance)
         self.assertNotIn("Proofs: ", provenance)
         self.assertIn(f'__version__ = "{__version__}+unproved"\n', version)
         deb = self.out / names[2]
         fields = subprocess.run(["dpkg-deb", "--field", deb], capture_output=True, text=True, check=True).stdout
         self.assertIn(f"Version: {__version__}~unproved\n", fields)
         self.assertIn("compiled without proofs", fields)
-        # A later package with the proved programs replaces it.
+        # A later package with the proved program replaces it.
         words = ["dpkg", "--compare-versions", f"{__version__}~unproved", "lt", __version__]
         self.assertEqual(subprocess.run(words, check=False).returncode, 0)
         subprocess.run(["tar", "-xzf", self.out / tar, "-C", self.out], check=True)
@@ -363,10 +366,16 @@ class ProgramsTest(unittest.TestCase):
         self.assertIn("UnprovedProgram: nothing is proved of this run", ran.stderr)
 
     def test_a_library_that_other_machines_may_not_have(self):
-        python = Path(PYTHON)
-        for name in ("cmr", "cmr_batch"):
-            shutil.copy(python, self.clone.crate(name) / "program")
+        shutil.copy(PYTHON, self.clone.crate("cmr") / "program")
         self.assertRegex(self.refused(), "another machine may not have the libraries of the program: .*lib")
+
+    def test_a_version_of_glibc_without_a_number(self):
+        said = "X86-64 0x1 (NEEDED) Shared library: [libc.so.6] Name: GLIBC_2.4 Name: GLIBC_2.34 Name: GLIBC_2.2.5"
+        with mock.patch("building.packing.linked.output", return_value=said):
+            self.assertEqual(Linked.of(Path(PROGRAM)), Linked(frozenset({"libc.so.6"}), (2, 34)))
+        with mock.patch("building.packing.linked.output", return_value=f"{said} Name: GLIBC_ABI_DT_RELR"):
+            with self.assertRaisesRegex(BadInput, "another machine may not have GLIBC_ABI_DT_RELR"):
+                Linked.of(Path(PROGRAM))
 
     def test_other_kinds(self):
         ran = self.clone.pack(self.out, "rpm")

@@ -9,22 +9,18 @@ import time
 import unittest
 from pathlib import Path
 
+from building.clone import NO_KIT
 from tests.stand_in import SmallClone
 
 NOTE = "try-cmr: nothing is proved of this run; ./cmr runs the proved program\n"
 COMPILING = "try-cmr: compiling the program without proofs, about two minutes the first time\n"
-LATER = "try-cmr: cmr-batch is compiled in the background, for the Python package\n"
 
 
-class Clone(unittest.TestCase):
-    """A clone of these crates, and a folder in which its program is run."""
-
-    CRATES = {"cmr": ([], 1)}
-
+class TryTest(unittest.TestCase):
     def setUp(self):
         folder = tempfile.TemporaryDirectory()
         self.addCleanup(folder.cleanup)
-        self.clone = SmallClone(folder.name, self.CRATES)
+        self.clone = SmallClone(folder.name, {"cmr": ([], 1)})
         self.here = Path(folder.name) / "here"
         self.here.mkdir()
         self.kept = self.clone.top / "out" / "unproved" / "cmr"
@@ -32,19 +28,26 @@ class Clone(unittest.TestCase):
     def run_here(self, *words, **settings):
         return self.clone.run("try-cmr", *words, cwd=self.here, **settings)
 
-
-class TryTest(Clone):
-
     def test_the_first_run_compiles_and_later_ones_do_not(self):
         first = self.run_here("some", "more", "words")
         self.assertEqual((first.returncode, first.stdout, first.stderr), (6, "some more words\n", NOTE + COMPILING))
         later = self.run_here()
         self.assertEqual((later.returncode, later.stdout, later.stderr), (6, "\n", NOTE))
         self.assertEqual(os.listdir(self.here), ["made"])
-        self.holds_the_program_alone()
+        self.holds_the_program_only()
 
-    def holds_the_program_alone(self):
-        self.assertEqual(sorted(os.listdir(self.kept.parent)), ["cmr", "cmr.sources"])
+    def holds_the_program_only(self):
+        """The program, also under its second name."""
+        self.assertEqual(sorted(os.listdir(self.kept.parent)), ["cmr", "cmr-batch", "cmr.sources"])
+        self.assertEqual(os.readlink(self.kept.with_name("cmr-batch")), "cmr")
+
+    def test_a_program_with_the_second_name_is_replaced(self):
+        self.kept.parent.mkdir(parents=True)
+        self.kept.with_name("cmr-batch").write_text("of other sources", encoding="utf-8")
+        run = self.clone.run("scripts/build_unproved")
+        self.assertEqual((run.returncode, run.stderr), (0, COMPILING))
+        self.holds_the_program_only()
+        self.assertEqual(self.clone.run("scripts/build_unproved", has_rt=False).stderr, "")
 
     def test_a_kit_whose_tools_are_known_optimises(self):
         self.clone.make_kit()
@@ -52,7 +55,7 @@ class TryTest(Clone):
         self.assertEqual((first.returncode, first.stdout, first.stderr), (6, "optimised some words\n", NOTE + COMPILING))
         self.assertEqual(self.clone.compiled(), [["-c", "-O1", "-fsanitize=address", "-fsanitize-address-use-after-return=never", "cmr"]])
         self.assertEqual(self.run_here().stderr, NOTE)
-        self.holds_the_program_alone()
+        self.holds_the_program_only()
 
     def test_a_kit_whose_linker_has_other_words_does_not(self):
         self.clone.make_kit(linker="#!/bin/sh\nexit 0\n")
@@ -93,12 +96,12 @@ class TryTest(Clone):
         run = self.run_here()
         self.assertEqual((run.returncode, run.stdout), (70, ""))
         self.assertEqual(run.stderr, f"{NOTE}{COMPILING}try-cmr: the program was not compiled\nerror: src/main.rt: no\n")
-        self.holds_the_program_alone()
+        self.holds_the_program_only()
 
     def test_without_rt(self):
         run = self.run_here(has_rt=False)
         self.assertEqual((run.returncode, run.stdout), (70, ""))
-        line = 'there is no rt on the PATH to compile the program: see "Run it" in README.md'
+        line = NO_KIT.format(task="compile the program")
         self.assertEqual(run.stderr, f"{NOTE}try-cmr: {line}\n")
         self.assertFalse(self.kept.parent.exists())
 
@@ -128,7 +131,7 @@ class TryTest(Clone):
         run.communicate()
         self.assertNotEqual(os.listdir(self.kept.parent), [])
         self.assertEqual(self.run_here().stderr, NOTE + COMPILING)
-        self.holds_the_program_alone()
+        self.holds_the_program_only()
 
     def test_another_run_that_compiles_is_waited_for(self):
         self.kept.parent.mkdir(parents=True)
@@ -146,56 +149,3 @@ class TryTest(Clone):
         run = self.clone.begin("try-cmr", sleep=60, cwd=self.here, start_new_session=True)
         self.clone.waits_for("try", "cmr")
         return run
-
-
-class BatchTest(Clone):
-    """With `cmr-batch`, which no run waits for."""
-
-    CRATES = {"cmr": ([], 1), "cmr_batch": ([], 1)}
-
-    def setUp(self):
-        super().setUp()
-        self.clone.make_kit()
-        self.batch = self.kept.with_name("cmr-batch")
-
-    def waits_for_batch(self):
-        last = time.monotonic() + 60
-        while not self.batch.with_name("cmr-batch.sources").exists():
-            self.assertLess(time.monotonic(), last, "cmr-batch is not compiled")
-            time.sleep(0.02)
-
-    def edit(self, crate):
-        (self.clone.crate(crate) / "src" / "lib.rt").write_text("//! other", encoding="utf-8")
-
-    def test_it_is_compiled_in_the_background(self):
-        first = self.run_here("some", "words")
-        self.assertEqual((first.stdout, first.stderr), ("optimised some words\n", NOTE + COMPILING + LATER))
-        self.waits_for_batch()
-        self.assertEqual([words[-1] for words in self.clone.compiled()], ["cmr", "cmr_batch"])
-        self.assertEqual(self.run_here().stderr, NOTE)
-
-    def test_a_run_does_not_wait_for_it(self):
-        (self.clone.crate("cmr_batch") / "fails").touch()
-        self.assertEqual(self.run_here().stderr, NOTE + COMPILING + LATER)
-        self.assertFalse(self.batch.exists())
-
-    def test_the_build_waits_for_both(self):
-        run = self.clone.run("scripts/build_unproved")
-        self.assertEqual((run.returncode, run.stderr), (0, COMPILING + COMPILING.replace("the program", "cmr-batch")))
-        self.assertTrue(self.kept.exists() and self.batch.exists())
-        self.assertEqual(self.clone.run("scripts/build_unproved", has_rt=False).stderr, "")
-
-    def test_that_of_other_sources_is_removed(self):
-        self.clone.run("scripts/build_unproved")
-        self.edit("cmr_batch")
-        (self.clone.crate("cmr_batch") / "fails").touch()
-        self.edit("cmr")
-        self.assertEqual(self.run_here().stderr, NOTE + COMPILING + LATER)
-        self.assertFalse(self.batch.exists())
-
-    def test_a_kit_whose_tools_are_not_known_compiles_none(self):
-        shutil.rmtree(self.clone.tools / "kit" / "toolchain")
-        run = self.clone.run("scripts/build_unproved")
-        self.assertEqual(run.returncode, 70)
-        self.assertIn("this kit compiles no cmr-batch without proofs", run.stderr)
-        self.assertTrue(self.kept.exists())

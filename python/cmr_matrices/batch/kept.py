@@ -36,29 +36,33 @@ _ALL: WeakSet[Process] = WeakSet()
 
 
 def batch_of(program: str | os.PathLike[str]) -> Path | None:
-    """The program `cmr-batch` that belongs to a program `cmr`, or None if there is none or if none is to be used.
+    """The path of `cmr-batch` that belongs to a program `cmr`, or None if there is none or if none is to be used.
 
-    `CMR_BATCH` names it, or is empty if none is to be used. Otherwise it is beside `cmr`, with `-batch` after its name, or was built
-    in the same clone at the same time.
+    `CMR_BATCH` names it, or is empty if none is to be used. Otherwise it is beside `cmr`, with `-batch` after its name, or is the link
+    at the top of a clone to the program that was built there.
     """
     named = os.environ.get("CMR_BATCH")
     if named is not None:
         return Path(named).absolute() if named else None
-    beside, built = _places(os.fspath(program))
+    beside, link = _places(os.fspath(program))
     if os.access(beside, os.X_OK):
         return beside
-    if built is None or not os.access(built, os.X_OK):
-        return None
-    return built if os.stat(built).st_mtime >= os.stat(program).st_mtime else None
+    return link if link is not None and _is_same(link, program) else None
 
 
 @lru_cache(maxsize=16)
 def _places(path: str) -> tuple[Path, Path | None]:
-    """The places beside a program and in its clone. They are asked for at each call."""
+    """The places beside a program and at the top of its clone. They are asked for at each call."""
     program = Path(path)
-    name = f"{program.name}_batch"
-    built = program.parents[2] / name / "out" / name if len(program.parents) > 2 else None
-    return Path(f"{path}-batch"), built
+    link = program.parents[3] / f"{program.name}-batch" if len(program.parents) > 3 else None
+    return Path(f"{path}-batch"), link
+
+
+def _is_same(link: Path, program: str | os.PathLike[str]) -> bool:
+    try:
+        return os.path.samefile(link, program)
+    except OSError:
+        return False
 
 
 def replies(program: Path, requests: Sequence[Request], time_limit: TimeLimit = None) -> Iterator[Reply]:

@@ -38,7 +38,7 @@ class Cluster:
     """The workers of a Dask scheduler at an address such as `tcp://host:8786`."""
 
     def __init__(self, address: str, settings: Settings, program: str | None) -> None:
-        """`program` is its path on each worker; without it, the programs are sent to the workers."""
+        """`program` is its path on each worker; without it, the program is sent to the workers."""
         try:
             import distributed  # pylint: disable=import-outside-toplevel
         except ImportError as fault:
@@ -54,7 +54,7 @@ class Cluster:
             self._settings = replace(settings, program=program or self._sent(settings, folder))
 
     def _sent(self, settings: Settings, folder: str) -> str:
-        """Sends the programs, and returns the name of `cmr` on the workers. Other programs get another name, and other processes."""
+        """Sends the program under both names, and returns that of `cmr` on the workers. Another program has other names and processes."""
         batch = batch_of(Path(settings.program)) if settings.batch else None
         programs = {"": Path(settings.program)} if batch is None else {"": Path(settings.program), _BATCH: batch}
         digest = hashlib.sha256(b"".join(path.read_bytes() for path in programs.values()))

@@ -35,11 +35,11 @@ Description: {title}
 {note}"""
 NOTE = """\
  .
- The contracts of the programs are proved: /usr/share/doc/cmr/PROVENANCE.
+ The contracts of the program are proved: /usr/share/doc/cmr/PROVENANCE.
 """
 UNPROVED_NOTE = """\
  .
- Nothing is proved of these programs: /usr/share/doc/cmr/PROVENANCE.
+ Nothing is proved of this program: /usr/share/doc/cmr/PROVENANCE.
 """
 CHANGES = """\
 cmr ({version}) unstable; urgency=medium
@@ -51,8 +51,9 @@ cmr ({version}) unstable; urgency=medium
 """
 # A stripped program would have other bytes.
 OVERRIDES = """\
-# PROVENANCE has the digests of the programs as they were built.
-{lines}"""
+# PROVENANCE has the digest of the program as it was built.
+cmr: unstripped-binary-or-object [usr/bin/cmr]
+"""
 # What dh_python3 writes for a package with Python modules.
 POSTINST = """\
 #!/bin/sh
@@ -72,7 +73,7 @@ fi
 
 def make(origin: Origin, linked: Linked, work: Path, out: Path) -> Path:
     """Writes the package to a folder and gives its path."""
-    # A `~` makes a version earlier, so that the proved programs replace the unproved ones.
+    # A `~` makes a version earlier, so that the proved program replaces the unproved one.
     version = origin.version.replace("+", "~")
     folder = work / "debian"
     for it in packed(origin, folder / "usr"):
@@ -85,8 +86,7 @@ def make(origin: Origin, linked: Linked, work: Path, out: Path) -> Path:
     )
     write(folder / "usr/share/doc/cmr/changelog.gz", gzip.compress(changes.encode(), mtime=0))
     write(folder / "usr/share/doc/cmr/PROVENANCE", origin.text())
-    lines = "".join(f"cmr: unstripped-binary-or-object [usr/bin/{it}]\n" for it in origin.records)
-    write(folder / "usr/share/lintian/overrides/cmr", OVERRIDES.format(lines=lines))
+    write(folder / "usr/share/lintian/overrides/cmr", OVERRIDES)
     _write_control(origin, linked, folder, version)
     settle(folder, origin.time)
     target = out / f"cmr_{version}_amd64.deb"

@@ -7,6 +7,7 @@ from collections.abc import Iterator
 from dataclasses import replace
 from pathlib import Path
 
+from building.clone import BUILT
 from building.installed import FOLDER, Item, items
 from building.packing.origin import Origin
 
@@ -15,9 +16,9 @@ VERSION = f"{PACKAGE}cmr_matrices/version.py"
 
 
 def packed(origin: Origin, folder: Path) -> Iterator[Item]:
-    """The files that scripts/install would install below a folder, with the programs of the origin."""
+    """The files that scripts/install would install below a folder, with the program of the origin."""
     for it in items(folder):
-        yield it if it.source is None else replace(it, source=origin.programs.get(it.source, it.source))
+        yield replace(it, source=origin.program) if it.source == BUILT else it
 
 
 def put(origin: Origin, item: Item, target: Path) -> None:

@@ -1,4 +1,4 @@
-"""The wheel for pip: setuptools builds one of the package, and then it gets the programs, the manual pages and the completions."""
+"""The wheel for pip: setuptools builds one of the package, and then it gets the program, the manual pages and the completions."""
 
 from __future__ import annotations
 
@@ -7,7 +7,7 @@ import shutil
 from pathlib import Path
 
 from building.clone import TOP
-from building.installed import Item
+from building.installed import SCRIPTS, Item
 from building.packing.files import PACKAGE, packed, put, settle, write
 from building.packing.linked import Linked
 from building.packing.origin import Origin
@@ -45,11 +45,10 @@ def _add(origin: Origin, linked: Linked, there: list[Item], folder: Path) -> Non
     data = folder / f"{folder.name}.data"
     sources = {it.path: it.source for it in there}
     for it in there:
-        if it.path.startswith("bin/") and it.source:
-            put(origin, it, data / "scripts" / Path(it.path).name)
-        elif it.path.startswith("share/"):
+        top, _, name = it.path.partition("/")
+        if top == "share" or (top == "bin" and name not in SCRIPTS):
             source = it.source or sources[str(Path(it.path).with_name(it.leads_to))]
-            put(origin, Item(it.path, source), data / "data" / it.path)
+            put(origin, Item(it.path, source), data / "scripts" / name if top == "bin" else data / "data" / it.path)
     info = folder / f"{folder.name}.dist-info"
     write(info / "PROVENANCE", origin.text())
     tags = (info / "WHEEL").read_text(encoding="utf-8")
