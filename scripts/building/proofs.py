@@ -19,7 +19,7 @@ from building.work_folders import Busy, WorkFolders
 from cmr_matrices.commands.signals import end_if_told, ignore_signals, signals_wait
 
 FIRST = (
-    "proving and building the program, an hour and a half of processor time the first time (./try-cmr runs it at once, unproved)"
+    "proving and building the program, 90 minutes of processor time the first time (./try-cmr runs it at once, unproved)"
 )
 LAST_LINES = 20
 SECONDS_TO_END = 20.0

@@ -254,7 +254,7 @@ class BuildTest(unittest.TestCase):
 class CmrTest(unittest.TestCase):
     """Tests of `cmr`, which builds the program where it is not made of the sources."""
 
-    FIRST = "cmr: proving and building the program, an hour and a half of processor time the first time (./try-cmr runs it at once, unproved)"
+    FIRST = "cmr: proving and building the program, 90 minutes of processor time the first time (./try-cmr runs it at once, unproved)"
     PROVED = (2, "proved\n", "")
 
     def setUp(self):
