@@ -8,8 +8,10 @@ from __future__ import annotations
 
 from collections.abc import Iterable, Iterator, Sequence
 from dataclasses import dataclass, field, replace
+from functools import cached_property
 from itertools import combinations
 
+from ..words import LIMIT
 from .asking import Asker
 from .pieces import Asked, Cells
 from .rows import Axis
@@ -161,7 +163,8 @@ class _Work:
         chosen: frozenset[int] = frozenset()
         answer: Asked | None = None
         dropped: list[int] = []
-        waiting = sorted(range(len(self._blocks)), key=lambda place: (-self._size(place), place))
+        every = sorted(range(len(self._blocks)), key=lambda place: (-self._size(place), place))
+        waiting = [place for place in every if not self._is_excluded(place)]
         is_cut = False
         while waiting and not is_cut:
             some, waiting = waiting[:_TOGETHER], waiting[_TOGETHER:]
@@ -180,6 +183,23 @@ class _Work:
                 if tried.verdict == "yes":
                     chosen, answer = chosen | {place}, tried
         return replace(self._kept(chosen, answer, is_largest=False), is_greedy=True, is_cut=is_cut or was_cut)
+
+    def _is_excluded(self, place: int) -> bool:
+        """Whether a single row cannot be added to base rows that are too large for the program.
+
+        Either a short cycle shows a violator, or no question would decide the rows.
+        """
+        if not self._is_large or self._size(place) > 1 or self._asker.is_spent:
+            return False
+        (row,) = self._blocks[place]
+        found = self._asker.fault_through(row, frozenset(self._base))
+        if found is not None:
+            self._add(found)
+        return found is not None or self._asker.is_hopeless((*self._base, row))
+
+    @cached_property
+    def _is_large(self) -> bool:
+        return self._axis == "row" and max(self._asker.rows.shape("row", self._base)) > LIMIT
 
     def _added(self, chosen: frozenset[int], some: frozenset[int]) -> tuple[frozenset[int], Asked | None, bool]:
         """The chosen blocks and those of `some` that remain when one is dropped for each violator, and whether a limit ended the search."""

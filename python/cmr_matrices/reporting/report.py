@@ -45,6 +45,8 @@ _SAMPLES = (100, 300, 1000)
 # The parts of all time at which the steps end.
 _WHOLE, _NEAR, _SMALLER, _FAMILIES, _ROWS, _COLUMNS, _ALL = 0.4, 0.55, 0.6, 0.72, 0.83, 0.95, 1.0
 
+_WHOLE_STEP = "the whole matrix"
+
 State = Literal["kept", "relaxed", "partly", "open"]
 
 
@@ -66,7 +68,10 @@ class FamilyLine:
 
 @dataclass(frozen=True)
 class ModelReport:
-    """What was found of a model. `verdict` is that on its whole matrix. `cmr check` accepted the evidence of every answer."""
+    """What was found of a model. `verdict` is that on its whole matrix.
+
+    `cmr check` accepted the evidence of each answer of the program. The report says which parts only arithmetic of the package decided.
+    """
 
     model: str
     """The name of the model, or the path of its file."""
@@ -282,6 +287,11 @@ class _Found:
     integers: Integers | None = None
 
 
+def _violators(kept: Kept | None, within: Mapping[str, Kept]) -> list[Cells]:
+    """All violators that the searches have found."""
+    return [cells for search in (kept, *within.values()) if search for _, cells in search.violators]
+
+
 class _Work:
     """The steps of a report, one after another."""
 
@@ -292,32 +302,64 @@ class _Work:
         self._families = rows.families
 
     def done(self) -> _Found:
-        """All that is found."""
+        """All that is found. If the whole matrix is open since its time was over, it is asked again in the time that the other steps leave."""
         unit = self._rows.unit_rows
-        self._asker.begin("the whole matrix", self._questions, _WHOLE)
+        whole, violator = self._first(unit)
+        found = self._with(whole, violator)
+        again = self._again(unit) if whole.is_over and found.minimal is None else None
+        if again is not None and again.violator is not None:
+            found = replace(found, whole=again, minimal=minimal_violator(self._asker, again.violator, _ALL))
+        elif again is not None:
+            found = self._with(again, None)
+        return self._explained(found)
+
+    def _first(self, unit: tuple[int, ...]) -> tuple[Asked, Cells | None]:
+        """The answer on all rows with entries -1, 0 and 1, and a violator of them."""
+        self._asker.begin(_WHOLE_STEP, self._questions, _WHOLE)
         whole = self._asker.ask(unit, pivots=False, cheap=1.0)
         violator = whole.violator or (self._near_violator(whole) if whole.verdict == "undecided" else None)
         if violator is None:
-            self._asker.begin("the whole matrix", self._questions, _WHOLE)
+            self._asker.begin(_WHOLE_STEP, self._questions, _WHOLE)
             whole = self._asker.ask(unit)
             violator = whole.violator
-        reduced = reduced_model(self._rows.constraints(unit), *self._asker.reduced(unit))
-        if whole.verdict == "yes" and not self._rows.refused:
-            return _Found(whole, reduced, self._reason(whole), None, self._lines(None, {}), None, {}, whole)
+        if whole.verdict != "undecided":
+            self._asker.ended.pop(_WHOLE_STEP, None)
+        return whole, violator
+
+    def _again(self, unit: tuple[int, ...]) -> Asked | None:
+        """The answer on all these rows in the time that is left, if there is one."""
+        self._asker.begin(_WHOLE_STEP, self._questions, _ALL)
+        if self._asker.is_spent:
+            return None
+        answer = self._asker.ask(unit, cheap=1.0)
+        if answer.verdict == "undecided":
+            return None
+        self._asker.ended.pop(_WHOLE_STEP, None)
+        return answer
+
+    def _with(self, whole: Asked, violator: Cells | None) -> _Found:
+        """What follows from the answer on all rows: a small violator, and the rows that are kept."""
+        reduced = reduced_model(self._rows.constraints(whole.rows), *self._asker.reduced(whole.rows))
         minimal = minimal_violator(self._asker, violator, _SMALLER) if violator is not None else None
         kept, lines, within, rest = self._relaxed(whole, minimal)
+        named = {self._families[number].name: search for number, search in within.items()}
         # If the whole matrix is left open, a violator of some of its rows decides it.
-        others = [cells for search in (kept, *within.values()) if search for _, cells in search.violators]
+        others = _violators(kept, named)
         if minimal is None and others:
             smaller = min(others, key=lambda cells: len(cells.rows) + len(cells.columns))
             minimal = minimal_violator(self._asker, smaller, _ALL)
-        reason = self._reason(rest) if rest is not None else None
-        known = others + ([minimal.cells] if minimal is not None else [])
+        return _Found(whole, reduced, None, minimal, lines, kept, named, rest)
+
+    def _explained(self, found: _Found) -> _Found:
+        """The same with the reasons, and with the variables that have to stay integer."""
+        reason = self._reason(found.rest) if found.rest is not None else None
+        if found.whole.verdict == "yes" and not self._rows.refused:
+            return replace(found, reason=reason)
+        known = _violators(found.kept, found.within) + ([found.minimal.cells] if found.minimal is not None else [])
         integers = integers_of(self._asker, self._rows, self._questions, _COLUMNS, known)
         if integers.answer is not None:
             integers = replace(integers, reason=self._reason(integers.answer))
-        named = {self._families[number].name: search for number, search in within.items()}
-        return _Found(whole, reduced, reason, minimal, lines, kept, named, rest, integers)
+        return replace(found, reason=reason, integers=integers)
 
     def _relaxed(
         self, whole: Asked, minimal: Minimal | None

@@ -5,6 +5,7 @@ from __future__ import annotations
 from collections.abc import Sequence
 
 from ..model_texts import NONLINEAR_OBJECTIVE, ORDERED_SETS, SEMICONTINUOUS
+from ..words import LIMIT
 from .integers import ColumnFamily
 from .pieces import Asked
 from .report import FamilyLine, ModelReport
@@ -193,16 +194,18 @@ def of_integers(report: ModelReport) -> list[str]:
         return [f"No answer by this rule: the continuous variable {name} has a coefficient other than -1, 0 and 1."]
     if found.answer is None:
         return ["No family of variables was found that can be continuous by this rule."]
-    fixed = [_said_fixed(report, family) for family in found.families if family.fixed]
+    fixed = listed([_said_fixed(report, family) for family in found.families if family.fixed], _FAMILIES)
     others = [family.said for family in found.families if len(family.fixed) < len(family.columns)]
     count = counted(len(found.fixed), "variable")
     said = []
     if not found.is_declared:
         said.append("The model declares no variable as integer. If all variables have to be integral:")
-    said.append(
-        f"Declare only {listed(fixed, _FAMILIES)} as integer ({count}); {listed(others, _FAMILIES)} can be continuous "
-        f"({counted(len(found.free), 'variable')})."
-    )
+    if found.suffices:
+        verb = "is" if sum(1 for family in found.families if family.fixed) == 1 else "are"
+        said.append(f"Only {fixed} {verb} declared as integer ({count}), and that suffices.")
+    else:
+        free = counted(len(found.free), "variable")
+        said.append(f"Declare only {fixed} as integer ({count}); {listed(others, _FAMILIES)} can be continuous ({free}).")
     is_sure = bool(report.rows.model.sides) and not found.not_whole
     given = "" if is_sure else ", if the right-hand sides and bounds are integers"
     said.append(
@@ -218,7 +221,7 @@ def of_integers(report: ModelReport) -> list[str]:
         "-1, 0 and 1."
     )
     said.append(is_small if found.is_smallest else "Another choice may leave fewer variables integer.")
-    return said
+    return [*said, *of_left_out(report)]
 
 
 def _said_fixed(report: ModelReport, family: ColumnFamily) -> str:
@@ -234,7 +237,24 @@ def of_arithmetic(report: ModelReport) -> list[str]:
     said = [_of_arithmetic(asked, "the matrix")]
     if report.integers is not None and report.integers.answer is not None:
         said.append(_of_arithmetic(report.integers.answer, "the matrix of the variables that can be continuous,"))
+    said.append(_of_cycles(report))
     return [sentence for sentence in said if sentence]
+
+
+def _of_cycles(report: ModelReport) -> str:
+    """That only arithmetic has checked the violators that are too large for the program."""
+    cells = [family.violator for family in report.families] + ([report.minimal.cells] if report.minimal else [])
+    searches = [report.kept, *report.within.values(), report.integers and report.integers.kept]
+    cells += [violator for search in searches if search for _, violator in search.violators]
+    large = {it for it in cells if it is not None and it.is_too_large}
+    if not large:
+        return ""
+    sizes = listed([f"{len(it.rows)} rows" for it in sorted(large, key=lambda it: len(it.rows))], _SOME)
+    cycles, them = ("an odd cycle", "it") if len(large) == 1 else ("odd cycles", "them")
+    return (
+        f"Not proved: {cycles} of {sizes}, larger than the {LIMIT} rows that the program reads; arithmetic of this package checked {them} "
+        "line by line."
+    )
 
 
 def _of_arithmetic(asked: Asked, matrix: str) -> str:

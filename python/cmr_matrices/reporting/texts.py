@@ -179,6 +179,7 @@ def _integers(report: ModelReport, found: Integers | None) -> dict[str, Any] | N
     return {
         "declare": [names[column] for column in found.fixed] if found.answer is not None else None,
         "continuous": [names[column] for column in found.free] if found.answer is not None else None,
+        "suffices": found.suffices,
         "smallest": found.is_smallest,
         "declared_in_model": found.is_declared,
         "not_whole": [_not_whole(it) for it in found.not_whole],
