@@ -309,8 +309,10 @@ class Integers(ReportTest):
 
     def test_sides_count_only_in_rows_of_other_variables(self) -> None:
         """The side 1.5 of `one` is in rows of fixed variables only. A demand of 5.5 is in rows of the others."""
-        found = self.lots("5.5").integers
+        report = self.lots("5.5")
+        found = report.integers
         assert found is not None
+        self.assertIn("make[..] can be continuous (8 variables), if the right-hand sides and bounds are integers.", report.to_text())
         self.assertEqual({it.name.partition("[")[0] for it in found.not_whole}, {"balance"})
         # 3 make <= 100 setup: after the division by 1 the coefficient of `make` is 3, so `make` has to stay integer.
         found = self.lots(scale="3").integers

@@ -139,6 +139,20 @@ class ModelTest(ScriptTest):
         run = self.run_script("cmr-model", EXAMPLES / "crews.mod", "--relaxed", "one", "--html", "one")
         self.assertEqual((run.returncode, run.stdout), (2, ""))
 
+    @needs_glpsol
+    def test_the_kept_and_the_relaxed_part_are_written(self):
+        run = self.run_script("cmr-model", EXAMPLES / "crews.mod", "--write-kept", "kept.mps", "--write-relaxed", "relaxed.mps", "--no-solve")
+        self.assertEqual((run.returncode, run.stderr), (1, ""))
+        self.assertNotIn("GLPK's optimal vertex", run.stdout)
+        for name, rows in (("kept.mps", 8), ("relaxed.mps", 6)):
+            words = ["glpsol", "--freemps", name, "--check", "--wlp", "read.lp"]
+            read = subprocess.run(words, cwd=self.folder, capture_output=True, text=True)
+            self.assertEqual(read.returncode, 0)
+            self.assertIn(f"Number of rows               = {rows:8}", read.stdout)
+        self.assertEqual(self.run_script("cmr-model", "kept.mps").returncode, 0)
+        run = self.run_script("cmr-model", EXAMPLES / "crews.mod", "--write-kept", "one", "--write-relaxed", "one")
+        self.assertEqual((run.returncode, run.stdout), (2, ""))
+
     def test_commands_stay_short(self):
         """One row of each of 40 triangles is relaxed, and no two names are of one family: the names are in a file."""
         rows = []

@@ -161,6 +161,7 @@ def _answer(report: ModelReport) -> Iterator[str]:
     if report.verdict == "yes" or report.rest is not None:
         look = ' class="warn"' if report.not_whole else ""
         yield f"<p{look}>{escape(sentences.of_sides(report))}</p>"
+    yield from (f"<p>{escape(sentence)}</p>" for sentence in sentences.of_solution(report))
     coefficients = sentences.of_coefficients(report)
     if coefficients:
         yield "<h3>Coefficients</h3>"

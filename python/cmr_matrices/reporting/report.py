@@ -18,7 +18,7 @@ from ..matrix import Matrix
 from ..modellers import Format
 from ..model_objects import model_of
 from ..models import Model, read_model
-from ..mps import model_text
+from ..mps import rows_text
 from ..program import StrPath, find_program, unproved
 from ..trees import Tree
 from .asking import Asker, Limit, Tell
@@ -31,6 +31,7 @@ from .reducing import Reduced, reduced_model
 from .row_by_row import kept_row_by_row
 from .rows import ModelRows, NotWhole, RowFamily, said_rows
 from .sampling import near_lines
+from .solving import Solved, solved
 
 __all__ = ["FamilyLine", "ModelReport", "PIVOTS", "QUESTIONS", "model_report"]
 
@@ -100,6 +101,8 @@ class ModelReport:
     """The answer on the rows that are kept."""
     integers: Integers | None = field(repr=False)
     """Which variables have to stay integer, if the matrix is not totally unimodular."""
+    solved: Solved | None = field(repr=False)
+    """What GLPK finds of the linear program with its objective. It does not decide the verdict."""
     asked: int = field(repr=False)
     checked: int = field(repr=False)
     ended: Mapping[str, Limit] = field(repr=False)
@@ -164,9 +167,15 @@ class ModelReport:
 
         return report_json(self)
 
-    def to_mps(self) -> str:
-        """The constraints of the model in free MPS, without its objective. The commands of the report of a model in memory read it."""
-        return model_text(self.rows.model)
+    def to_mps(self, rows: Literal["all", "kept", "relaxed"] = "all") -> str:
+        """The model in free MPS, or the model with the rows that are kept or relaxed only. All columns are in each of these.
+
+        The commands of the report of a model in memory read it.
+        """
+        one_of("rows", rows, ("all", "kept", "relaxed"))
+        relaxed = set(self.relaxed)
+        every = range(len(self.rows.model.rows))
+        return rows_text(self.rows.model, [row for row in every if rows == "all" or (row in relaxed) == (rows == "relaxed")])
 
     def __str__(self) -> str:
         return self.to_text().rstrip("\n")
@@ -184,6 +193,7 @@ def model_report(
     clock_limit: float | None = None,
     program: StrPath | None = None,
     tell: Tell | None = None,
+    solve: bool = True,
 ) -> ModelReport:
     """The report of a model: is its constraint matrix totally unimodular, and why? If not, which rows spoil it, and which to relax?
 
@@ -194,7 +204,8 @@ def model_report(
     `lines` is the budget of the search, 0 to 24 lines (14); `pivots` how many pivots may be made on the way to a part that is left open,
     0 to 100 (20). `questions`, 1 to 100,000 (300), are the most for each search for rows to keep. `time_limit` is in seconds,
     0 to 2,000,000, of processor time for the whole call: the search ends then, and `ended` names the steps that are not done. `clock_limit`
-    is the same by the clock. `program` is the program's path. `tell` is called with each question.
+    is the same by the clock. `program` is the program's path. `tell` is called with each question. If `solve` is true, and if the model
+    has a linear objective, GLPK solves its linear program at the end.
     """
     start, clock_start = processor_seconds(), time.monotonic()
     whole_number("questions", questions, 1, 100_000)
@@ -216,6 +227,7 @@ def model_report(
         clock_start=clock_start,
     )
     found = _Work(asker, rows, questions).done()
+    solution = _solution(asker, rows.model) if solve else None
     return ModelReport(
         model=source.name,
         verdict="no" if rows.refused or found.minimal is not None else found.whole.verdict,
@@ -228,6 +240,7 @@ def model_report(
         form=form,
         data=None if data is None else os.fspath(data),
         **vars(found),
+        solved=solution,
         asked=asker.asked,
         checked=asker.checked,
         ended=dict(asker.ended),
@@ -235,6 +248,17 @@ def model_report(
         clock_limit=clock_seconds,
         questions=questions,
     )
+
+
+def _solution(asker: Asker, model: Model) -> Solved | None:
+    """What GLPK finds in the time that is left."""
+    step = "the linear program with its objective"
+    asker.begin(step, 1, _ALL)
+    try:
+        return None if asker.is_spent else solved(model, asker.left())
+    except TimeLimitReached:
+        asker.ended[step] = "time"
+        return None
 
 
 @dataclass(frozen=True)

@@ -10,6 +10,7 @@ from .integers import ColumnFamily
 from .pieces import Asked
 from .report import FamilyLine, ModelReport
 from .rows import NotWhole
+from .solving import Solved
 
 __all__ = [
     "counted",
@@ -24,6 +25,7 @@ __all__ = [
     "of_reductions",
     "of_relaxation",
     "of_sides",
+    "of_solution",
     "of_verdict",
     "of_violator",
     "of_within",
@@ -114,6 +116,31 @@ def _of_rounding(found: Sequence[NotWhole]) -> str:
     return f" Round {listed(rounded, _SOME)}: all variables there are integer, so no integral solution is lost." if rounded else ""
 
 
+def of_solution(report: ModelReport) -> list[str]:
+    """Whether GLPK's optimal vertex of this model is integral."""
+    found = report.solved
+    if found is None:
+        return []
+    if found.state != "optimal":
+        return [f"GLPK says that the linear program of this model is {found.state}."]
+    value = f"the value {found.value:.12g}"
+    said = f"For this objective and these right-hand sides only, GLPK's optimal vertex has {value} and is "
+    if not found.fractional:
+        has_others = any(report.rows.model.whole) and not all(report.rows.model.whole)
+        return [f"{said}integral{' in the integer variables' if has_others else ''}."]
+    names = report.rows.model.columns
+    values = listed([f"{names[column]} = {value:.4g}" for column, value in found.fractional], _SOME)
+    return [f"{said}not integral: {values}. {_of_best(found)}"]
+
+
+def _of_best(found: Solved) -> str:
+    """The gap between the linear program and the integral solutions."""
+    if found.best is None or found.value is None:
+        return "There is no integral solution." if found.is_best else "GLPK found no integral solution in its time."
+    which = "The best integral value is" if found.is_best else "The best integral value that GLPK found in its time is"
+    return f"{which} {found.best:.12g}, a gap of {abs(found.best - found.value):.9g}."
+
+
 def of_coefficients(report: ModelReport) -> list[str]:
     """The rows with other coefficients, family by family, and the rows that were divided."""
     model, said = report.rows.model, []
@@ -197,17 +224,17 @@ def of_integers(report: ModelReport) -> list[str]:
     fixed = listed([_said_fixed(report, family) for family in found.families if family.fixed], _FAMILIES)
     others = [family.said for family in found.families if len(family.fixed) < len(family.columns)]
     count = counted(len(found.fixed), "variable")
+    is_sure = bool(report.rows.model.sides) and not found.not_whole
+    given = "" if is_sure else ", if the right-hand sides and bounds are integers"
     said = []
     if not found.is_declared:
         said.append("The model declares no variable as integer. If all variables have to be integral:")
     if found.suffices:
         verb = "is" if sum(1 for family in found.families if family.fixed) == 1 else "are"
-        said.append(f"Only {fixed} {verb} declared as integer ({count}), and that suffices.")
+        said.append(f"Only {fixed} {verb} declared as integer ({count}), and that suffices{given}.")
     else:
         free = counted(len(found.free), "variable")
-        said.append(f"Declare only {fixed} as integer ({count}); {listed(others, _FAMILIES)} can be continuous ({free}).")
-    is_sure = bool(report.rows.model.sides) and not found.not_whole
-    given = "" if is_sure else ", if the right-hand sides and bounds are integers"
+        said.append(f"Declare only {fixed} as integer ({count}); {listed(others, _FAMILIES)} can be continuous ({free}){given}.")
     said.append(
         f"For each integral value of the {count}, all vertices of the linear program in the other variables are integral{given}: "
         f"the columns of the others are totally unimodular, and the coefficients of the {count} are integers."
