@@ -132,6 +132,20 @@ class Solutions(ReportTest):
         text = "Minimize\n x\nSubject To\n a: 2 x + 2 y = 3\nBounds\n x <= 1\n y <= 1\nGeneral\n x y\nEnd\n"
         self.assertIn("There is no integral solution.", model_report(self.write("none.lp", text)).to_text())
 
+    @needs_module("pulp")
+    def test_the_objective_of_pulp(self) -> None:
+        import pulp
+
+        problem = pulp.LpProblem("most", pulp.LpMaximize)
+        x = [pulp.LpVariable(f"x{at}", 0, 1, cat="Integer") for at in range(3)]
+        problem += x[0] + 2 * x[1] + x[2]
+        for at in range(3):
+            problem += x[at] + x[(at + 1) % 3] <= 1, f"pair{at}"
+        report = model_report(problem)
+        assert report.solved is not None
+        self.assertEqual((report.solved.value, report.solved.fractional), (2, ()))
+        self.assertEqual(report.rows.model.objective, Objective(((0, 1.0), (1, 2.0), (2, 1.0)), True))
+
     def test_only_integer_variables_count(self) -> None:
         text = "Minimize\n x + y\nSubject To\n a: x + y >= 2.5\n b: y <= 1\nGeneral\n y\nEnd\n"
         self.assertIn("is integral in the integer variables.", model_report(self.write("part.lp", text)).to_text())

@@ -81,7 +81,8 @@ class Scale(ReportTest):
     def test_an_assignment_with_1024_columns(self) -> None:
         report = model_report(self.write("assign.mod", ASSIGNMENT))
         self.by_arithmetic(report, "64x1024")
-        self.assertIn("each variable is in at most two rows", report.to_text())
+        said = "each variable is in at most one row of worker[..] and one of job[..], as in a transport or an assignment"
+        self.assertIn(said, report.to_text())
         self.assertEqual(json.loads(report.to_json())["why"]["class"], "network")
 
     def test_intervals_in_rows_or_columns(self) -> None:

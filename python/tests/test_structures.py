@@ -64,7 +64,8 @@ class Structures(unittest.TestCase):
                     self.assertTrue(is_unimodular(dense(entries, range(height), range(width))))
                 elif found is not None:
                     self.violates(dense(entries, found.rows, found.columns))
-        self.assertEqual(set(kinds), {f"{kind} {turned}" for kind in ("halves", "intervals") for turned in (True, False)} | {"OddCycle", "NoneType"})
+        structures = {f"{kind} {turned}" for kind in ("halves", "intervals") for turned in (True, False)}
+        self.assertEqual(set(kinds), structures | {"OddCycle", "NoneType"})
         self.assertGreater(min(kinds.values()), 15)
 
     def violates(self, entries: list[list[int]]) -> None:

@@ -140,8 +140,8 @@ class Asker:
     def ask(self, lines: Iterable[int], axis: Axis = "row", *, pivots: bool = True, share: float = 1.0, cheap: float = _CHEAP) -> Asked:
         """Whether some rows with entries -1, 0 and 1, with all columns that are in them, are totally unimodular; or some columns.
 
-        The cheap questions come first, within the share `cheap` of the time that is left of the step. If they decide nothing, and if `pivots`
-        says so, the open parts are asked again with pivots, within `share` of the time that is left.
+        The cheap questions come first, within the share `cheap` of the time that is left of the step. If they decide nothing, and if
+        `pivots` says so, the open parts are asked again with pivots, within `share` of the time that is left.
         """
         key = axis, tuple(sorted(lines))
         if key in self._known:

@@ -5,7 +5,7 @@ variables change only its right-hand sides. So all its vertices are integral und
 
 * The columns of the other variables are totally unimodular, after each row is divided by its common factor.
 * The coefficients of the fixed variables are integers after this division. They are, since the factor divides all coefficients of the row.
-* The right-hand sides of the rows in which other variables are, are integers after this division, and so are the bounds of the other variables.
+* The right-hand sides of the rows in which other variables are, are integers after this division. So are the bounds of the other variables.
 
 This holds for each integral value of the fixed variables (Hoffman and Kruskal 1956). So only the fixed variables have to be declared as
 integers. A variable that the model declares as continuous is not fixed: its column has to be among the others. If all declared variables

@@ -137,7 +137,7 @@ class _Work:
         return replace(self._kept(kept, answer, is_largest=not larger), open=tuple(larger))
 
     def _first(self, sets: Iterator[frozenset[int]], *, pivots: bool) -> tuple[frozenset[int] | None, Asked | None]:
-        """The first of some sets that can be kept, with its answer. The set is None if a limit ends the search, and empty if there is none."""
+        """The first of some sets that can be kept, with its answer. It is None if a limit ends the search, and empty if there is none."""
         waiting = list(sets)
         for place, chosen in enumerate(waiting):
             if self._violated(chosen) is not None:

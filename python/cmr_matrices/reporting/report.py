@@ -65,6 +65,8 @@ class FamilyLine:
     violator: Cells | None
     is_open: bool
     """Whether no violator shows that it cannot be kept: a question was left open, or was not asked."""
+    pattern: str = ""
+    """The pattern of its rows, if they have automatic names."""
 
 
 @dataclass(frozen=True)
@@ -326,7 +328,7 @@ class _Work:
         self._families = rows.families
 
     def done(self) -> _Found:
-        """All that is found. If the whole matrix is open since its time was over, it is asked again in the time that the other steps leave."""
+        """All that is found. If the time of the whole matrix was over, it is asked again in the time that the other steps leave."""
         unit = self._rows.unit_rows
         whole, violator = self._first(unit)
         found = self._with(whole, violator)
@@ -421,7 +423,7 @@ class _Work:
     def _reason(self, asked: Asked) -> Reason:
         """Why the rows that are kept are totally unimodular, part by part."""
         self._asker.begin("why they are totally unimodular", self._questions, _ALL)
-        found = [reason_of_structure(piece.structure) for piece in asked.pieces if piece.structure is not None]
+        found = [reason_of_structure(it.structure, it.constraints) for it in asked.pieces if it.structure is not None]
         found += [
             self._reason_of(piece.matrix, piece.tree)
             for piece in asked.pieces
@@ -480,5 +482,7 @@ class _Work:
         if state == "relaxed" and is_open and not family.refused:
             state = "open"
         names = self._rows.model.rows
-        said = said_rows(family.name, [names[row] for row in sorted((*family.rows, *family.refused))])
-        return FamilyLine(family.name, said, count, state, relaxed, family.refused, violator, is_open)
+        name = family.name.removesuffix(f": {family.pattern}")
+        said = said_rows(name, [names[row] for row in sorted((*family.rows, *family.refused))])
+        said = f"{said} ({family.pattern})" if family.pattern else said
+        return FamilyLine(family.name, said, count, state, relaxed, family.refused, violator, is_open, family.pattern)

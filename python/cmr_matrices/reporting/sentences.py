@@ -19,6 +19,7 @@ __all__ = [
     "listed",
     "of_arithmetic",
     "of_coefficients",
+    "of_families",
     "of_integers",
     "of_left_out",
     "of_limits",
@@ -200,14 +201,23 @@ def of_relaxation(report: ModelReport) -> list[str]:
     if not is_advice(report):
         return [sentence for sentence in [*said, *of_left_out(report)] if sentence]
     said.append(
-        f"In a Lagrangian relaxation {subject} would move to the objective, and in a decomposition to the master problem. The bound is "
-        "that of the linear program, since the remaining rows have integral vertices if their right-hand sides are integers (Geoffrion 1974)."
+        f"In a Lagrangian relaxation {subject} would move to the objective, and in a decomposition to the master problem. "
+        "The bound is that of the linear program, since the remaining rows have integral vertices if their right-hand sides are integers "
+        "(Geoffrion 1974)."
     )
     return [sentence for sentence in [*said, *of_left_out(report)] if sentence]
 
 
+def of_families(report: ModelReport) -> str:
+    """What a family of rows is."""
+    said = "The names of one family are the same up to digits and bracketed text."
+    if any(family.pattern for family in report.families):
+        said += " Automatic names are divided by the pattern of their rows: i, j, .. are indexes that all variables of a row share."
+    return said
+
+
 def is_advice(report: ModelReport) -> bool:
-    """Whether each row to relax has a reason: a violator or its coefficients. If a question is open, nothing is known to need relaxation."""
+    """Whether each row to relax has a reason: a violator or its coefficients. If a question is open, none is advised."""
     return report.verdict != "undecided" and not any(family.is_open for family in report.families)
 
 

@@ -89,6 +89,8 @@ def _families(report: ModelReport) -> Iterator[str]:
         yield f"{family.rows:6}  {len(family.relaxed):7}  {_STATES[family.state]:7}  {said}"
     if len(ordered) > _MOST:
         yield f"and {len(ordered) - _MOST} other families"
+    if any(family.pattern for family in report.families):
+        yield sentences.of_families(report)
 
 
 def _tree(report: ModelReport) -> Iterator[str]:
