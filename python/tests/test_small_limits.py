@@ -23,14 +23,15 @@ _MODULES = ("reporting.asking", "reporting.keeping", "reporting.pieces", "report
 
 
 @contextmanager
-def limited(limit: int) -> Iterator[None]:
-    """The package as if the program read at most `limit` rows and columns."""
+def limited(limit: int, reduces: bool) -> Iterator[None]:
+    """The package as if the program read at most `limit` rows and columns, and as if all matrices were too large to be reduced."""
     hopeless = Sieve.is_hopeless
     with ExitStack() as stack:
         for module in _MODULES:
             stack.enter_context(mock.patch(f"cmr_matrices.{module}.LIMIT", limit))
         patch = mock.patch.object(Sieve, "is_hopeless", lambda self, rows, most=limit: hopeless(self, rows, most))
         stack.enter_context(patch)
+        stack.enter_context(mock.patch("cmr_matrices.reporting.asking._MANY", 20_000 if reduces else 0))
         yield
 
 
@@ -59,10 +60,11 @@ def drawn(chance: random.Random) -> str:
 @needs_command("glpsol")
 class SmallLimits(ReportTest):
     def test_random_models(self) -> None:
-        for limit in (1000, 4, 3):
-            self.run_models(limit, COUNT, limit)
+        for limit, reduces in ((1000, True), (4, True), (3, False)):
+            counts = self.run_models(limit, reduces, COUNT, limit)
+            self.assertGreater(counts["arithmetic"], -1 if reduces else COUNT // 2)
 
-    def run_models(self, limit: int, count: int, seed: int) -> dict[str, int]:
+    def run_models(self, limit: int, reduces: bool, count: int, seed: int) -> dict[str, int]:
         """The numbers of the verdicts and of the parts that arithmetic has decided. At most a few may be undecided at small limits."""
         chance = random.Random(seed)
         counts = {"yes": 0, "no": 0, "undecided": 0, "arithmetic": 0, "integers": 0, "suffices": 0}
@@ -71,7 +73,7 @@ class SmallLimits(ReportTest):
             if not text:
                 continue
             path = self.write(f"m{number}.lp", text)
-            with limited(limit), self.subTest(limit=limit, number=number, text=text):
+            with limited(limit, reduces), self.subTest(limit=limit, number=number, text=text):
                 report = model_report(path)
                 counts[report.verdict] += 1
                 counts["arithmetic"] += bool(report.whole.arithmetic or (report.rest and report.rest.arithmetic))
