@@ -5,10 +5,12 @@ from __future__ import annotations
 import random
 import unittest
 from collections.abc import Sequence
+from unittest import mock
 
 from cmr_matrices import Matrix, is_network
 from cmr_matrices.constraints import Constraints
 from cmr_matrices.determinants import determinant
+from cmr_matrices.errors import LibraryMissing
 from cmr_matrices.lines import Names
 from cmr_matrices.model_reductions import connected_parts, reduced
 from cmr_matrices.structures.fitting import fitted
@@ -196,6 +198,11 @@ class Sieves(unittest.TestCase):
                     found = structure_of(large[0])
                     self.assertTrue(found is not None or _has_consecutive_ones(large[0]))
         self.assertGreater(min(answers.values()), 30)
+
+    def test_without_libraries_nothing_is_hopeless(self) -> None:
+        missing = LibraryMissing("examining a large model", "scipy", None)
+        with mock.patch("cmr_matrices.structures.sieve.library", side_effect=missing):
+            self.assertIsNone(Sieve.of([0], [0], [1]))
 
     def test_some_rows_only(self) -> None:
         entries = [(row, column) for row in range(5) for column in range(5) if (row, column) != (4, 4)]

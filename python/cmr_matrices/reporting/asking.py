@@ -109,6 +109,11 @@ class Asker:
         self._what, self._most, self._begun = what, most, self.asked
 
     @property
+    def most(self) -> int:
+        """The most questions of the step."""
+        return self._most
+
+    @property
     def is_spent(self) -> bool:
         """Whether the step has no time or no question left. If so, `ended` says it of the step."""
         left = self.left()
