@@ -81,14 +81,16 @@ def has_maximum(data: bytes) -> bool | None:
     """Whether MPS maximises its objective, or None if a section names which objective it has."""
     section = ""
     is_maximised = False
-    for line in _unpacked(data).removeprefix(_MARK).decode("utf-8", "surrogateescape").splitlines():
-        words = line.upper().split()
-        if line[:1] not in ("", " ", "\t", "*"):
-            if words[0] in _NAMED_OBJECTIVES:
-                return None
-            section = section if section == "OBJSENSE" and words[0] in _SENSES else words[0]
-        if section == "OBJSENSE" and words:
-            is_maximised = words[-1].startswith("MAX") or (is_maximised and words[-1] == "OBJSENSE")
+    for line in _unpacked(data).removeprefix(_MARK).decode("utf-8", "surrogateescape").upper().splitlines():
+        words = line.split()
+        if not words or line.startswith("*"):
+            continue
+        if line[0] not in " \t" and not (section == "OBJSENSE" and words[0] in _SENSES):
+            section = words[0]
+        if section in _NAMED_OBJECTIVES:
+            return None
+        if section == "OBJSENSE":
+            is_maximised = words[-1].startswith("MAX")
     return is_maximised
 
 

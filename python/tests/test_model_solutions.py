@@ -76,6 +76,7 @@ class Objectives(ReportTest):
 
     def test_sections_of_mps_on_the_objective(self) -> None:
         texts = {"NAME\n": False, MOST: True, "NAME\nOBJSENSE MAX\n": True, "NAME\nOBJSENSE\n    MIN\n": False}
+        texts |= {"NAME\nOBJSENSE\nMAXIMIZE\n* least\n": True, "NAME\n* OBJSENSE MAX\n": False}
         for head, is_maximised in texts.items():
             objective = read_model(str(self.write("k.mps", head + KNAPSACK)), None).objective
             assert objective is not None
