@@ -173,6 +173,24 @@ class ModelTest(ScriptTest):
         self.assertEqual([it["says"] for it in found], ["accepted: yes"])
         self.repeats({"commands": found})
 
+    def test_the_commands_of_declared_variables_that_suffice(self):
+        """Also if the columns of the others are more than a matrix may have, so that the commands reduce them."""
+        for places in (3, 26):
+            text = f"""
+                set I := 1..{places}; set J := 1..40;
+                var x{{I, J}} >= 0; var open{{I}} binary;
+                minimize c: sum{{i in I}} open[i];
+                served{{j in J}}: sum{{i in I}} x[i,j] = 1;
+                from_open{{i in I, j in J}}: x[i,j] <= open[i];
+                end;
+            """
+            with self.subTest(places=places):
+                report, status = self.report(self.write(f"places{places}.mod", text), "--time-limit", "20", "--no-solve")
+                self.assertEqual((status, report["integers"]["suffices"], len(report["integers"]["declare"])), (1, True, places))
+                found = [it for it in report["commands"] if "the columns of the continuous variables" in it["what"]]
+                self.assertGreater(len(found), 0)
+                self.repeats({"commands": found})
+
     def test_names_with_blanks(self):
         """GLPK makes one name of `ROW 1` and `ROW1`."""
         lines = ["NAME          BLANKS", "ROWS", " N  COST", " L  ROW 1", " L  ROW1", "COLUMNS"]
