@@ -13,6 +13,6 @@ minimize cost: sum{p in products, t in 1..periods} (make[p,t] + stock[p,t] + 30*
 balance{p in products, t in 1..periods}: stock[p,t-1] + make[p,t] - stock[p,t] = demand[p,t];
 ready{p in products, t in 1..periods}: make[p,t] <= most*setup[p,t];
 one{t in 1..periods}: sum{p in products} setup[p,t] <= 1;
-begin{p in products}: stock[p,0] = 0;
+begin{p in products}: stock[p,0] = 20;
 
 end;

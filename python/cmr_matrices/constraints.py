@@ -32,8 +32,8 @@ Entries = dict[tuple[int, int], Fraction]
 class Choice:
     """Which rows of a model are taken, and whether they are scaled.
 
-    The names of these rows have a match of `rows` and none of `without`, and are not `omitted`. With `unit_rows` their coefficients are also -1, 0 and 1, after
-    the division of rows if they are scaled. If rows are chosen, the columns are those that occur in these rows.
+    The names of these rows have a match of `rows` and none of `without`, and are not `omitted`. With `unit_rows` their coefficients are
+    also -1, 0 and 1, after the division of rows if they are scaled. If rows are chosen, the columns are those that occur in these rows.
     """
 
     rows: re.Pattern[str] | None = None

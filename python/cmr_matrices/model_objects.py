@@ -11,7 +11,7 @@ from typing import Any
 from .errors import BadInput, shown
 from .libraries import library
 from .model_texts import NONLINEAR_OBJECTIVE, SEMICONTINUOUS
-from .models import Coefficient, Ends, Model
+from .models import Coefficient, Ends, Model, Objective
 from .sources import MatrixLike, entries_of
 
 __all__ = ["linopy_model", "model_of", "pulp_model", "pyomo_model", "scipy_model"]
@@ -69,6 +69,9 @@ def pulp_model(problem: Any) -> Model:
         tuple(_ends(variable.lowBound, variable.upBound) for variable in variables),
         tuple(variable.cat == "Integer" for variable in variables),
         (SEMICONTINUOUS,) if is_semicontinuous else (),
+        Objective(tuple((places[it.name], float(value)) for it, value in problem.objective.items()), problem.sense == -1)
+        if getattr(problem, "objective", None) is not None
+        else None,
     )
 
 

@@ -13,7 +13,7 @@ from .errors import BadInput
 from .explained.texts import guess
 from .fixed_mps import distinct_names
 
-__all__ = ["FORMATS", "NONLINEAR_OBJECTIVE", "ORDERED_SETS", "SEMICONTINUOUS", "format_of", "left_out", "plain_text"]
+__all__ = ["FORMATS", "NONLINEAR_OBJECTIVE", "ORDERED_SETS", "SEMICONTINUOUS", "format_of", "has_maximum", "left_out", "plain_text"]
 
 FORMATS = {".lp": "lp", ".mod": "mathprog", ".mps": "mps"}
 """The formats of models that are read, by the suffixes of their files."""
@@ -26,6 +26,7 @@ _PACKED = (".gz", ".bz2")
 _MARK = b"\xef\xbb\xbf"
 # Sections of MPS that say nothing of rows and columns, and those with constraints that are no rows of a matrix.
 _BESIDE = ("OBJSENSE", "OBJNAME", "OBJECT", "BRANCH", "QUADOBJ", "QMATRIX", "QSECTION", "START", "SETS")
+_NAMED_OBJECTIVES = ("OBJNAME", "OBJECT")
 _LEFT_OUT = dict.fromkeys(("QUADOBJ", "QMATRIX", "QSECTION"), NONLINEAR_OBJECTIVE) | {"SETS": ORDERED_SETS}
 _SEMICONTINUOUS_BOUND = re.compile(r"\s+S[CI]\s")
 _LP_COMMENT = re.compile(r"\\.*")
@@ -74,6 +75,23 @@ def left_out(data: bytes, form: str) -> tuple[str, ...]:
     text = _unpacked(data).removeprefix(_MARK).decode("utf-8", "surrogateescape")
     found = {"mps": _left_out_of_mps, "lp": _left_out_of_lp}.get(form, lambda _: frozenset())(text.splitlines())
     return tuple(what for what in (NONLINEAR_OBJECTIVE, SEMICONTINUOUS, ORDERED_SETS) if what in found)
+
+
+def has_maximum(data: bytes) -> bool | None:
+    """Whether MPS maximises its objective, or None if a section names which objective it has."""
+    section = ""
+    is_maximised = False
+    for line in _unpacked(data).removeprefix(_MARK).decode("utf-8", "surrogateescape").upper().splitlines():
+        words = line.split()
+        if not words or line.startswith("*"):
+            continue
+        if line[0] not in " \t" and not (section == "OBJSENSE" and words[0] in _SENSES):
+            section = words[0]
+        if section in _NAMED_OBJECTIVES:
+            return None
+        if section == "OBJSENSE":
+            is_maximised = words[-1].startswith("MAX")
+    return is_maximised
 
 
 def _left_out_of_mps(lines: list[str]) -> frozenset[str]:

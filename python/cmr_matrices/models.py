@@ -14,16 +14,16 @@ import subprocess
 import tempfile
 from collections.abc import Iterator
 from contextlib import contextmanager, suppress
-from dataclasses import dataclass, replace
+from dataclasses import dataclass, field, replace
 from math import ceil, inf, isfinite
 from pathlib import Path
 from typing import Any
 
 from .errors import BadInput, CommandMissing, OutOfMemory, Unreadable
 from .libraries import library
-from .model_texts import format_of, left_out, plain_text
+from .model_texts import NONLINEAR_OBJECTIVE, format_of, has_maximum, left_out, plain_text
 
-__all__ = ["Coefficient", "Ends", "Model", "read_model"]
+__all__ = ["Coefficient", "Ends", "Model", "Objective", "read_model"]
 
 TRANSLATIONS = {"lp": "--lp", "mathprog": "--math"}
 
@@ -59,11 +59,20 @@ class Ends:
 
 
 @dataclass(frozen=True)
+class Objective:
+    """A linear objective without its constant: the columns with their coefficients, and whether it is maximised."""
+
+    coefficients: tuple[tuple[int, float], ...]
+    is_maximised: bool = False
+
+
+@dataclass(frozen=True)
 class Model:
     """The constraints of a linear model, without free rows such as the objective.
 
     `sides` are the right-hand sides of the rows, `bounds` the bounds of the columns, and `whole` says which columns are integer
-    variables. Each is empty if it is unknown. `left_out` names what the model has beside linear constraints.
+    variables. Each is empty if it is unknown. `left_out` names what the model has beside linear constraints. The objective is None if it
+    is unknown or not linear.
     """
 
     rows: tuple[str, ...]
@@ -73,6 +82,7 @@ class Model:
     bounds: tuple[Ends, ...] = ()
     whole: tuple[bool, ...] = ()
     left_out: tuple[str, ...] = ()
+    objective: Objective | None = field(default=None, compare=False, repr=False)
 
 
 def read_model(name: str, form: str | None, data: str | None = None, seconds: float | None = None) -> Model:
@@ -97,13 +107,33 @@ def read_model(name: str, form: str | None, data: str | None = None, seconds: fl
         if form != "mps":
             _translate(source, name, TRANSLATIONS[form], data, translated, seconds)
         most = None if seconds is None else int(_NONZEROS_PER_SECOND * seconds)
-        return replace(_read_mps(source if form == "mps" else translated, name, most), left_out=beside)
+        found = _read_mps(source if form == "mps" else translated, name, most)
+        is_maximised = has_maximum(text) if form == "mps" else _is_maximised(f"{translated}.glp")
+        return replace(found, left_out=beside, objective=_objective(found.objective, beside, is_maximised))
+
+
+def _objective(found: Objective | None, beside: tuple[str, ...], is_maximised: bool | None) -> Objective | None:
+    """The objective with its direction, if it is linear, if a variable is in it, and if the direction is known."""
+    if found is None or not found.coefficients or is_maximised is None or NONLINEAR_OBJECTIVE in beside:
+        return None
+    return replace(found, is_maximised=is_maximised)
+
+
+def _is_maximised(path: str) -> bool | None:
+    """Whether a model in GLPK's own format is maximised, by its first line. None if it does not say it."""
+    try:
+        with open(path, encoding="utf-8", errors="replace") as file:
+            words = file.readline().split()
+    except OSError:
+        return None
+    return words[2] == "max" if words[:1] == ["p"] and len(words) > 2 else None
 
 
 def _translate(
     source: str, name: str, option: str, data: str | None, translated: str, seconds: float | None
 ) -> None:
-    command = ["glpsol", option, source, "--check", "--wfreemps", translated]
+    # Only the format of GLPK itself says whether the objective is maximised.
+    command = ["glpsol", option, source, "--check", "--wfreemps", translated, "--wglp", f"{translated}.glp"]
     if data:
         command += ["--data", os.path.abspath(data)]
     try:
@@ -176,7 +206,15 @@ def _constraints(glpk: Any, problem: Any) -> Model:
         tuple(_sides(glpk, problem, row) for row in kept),
         tuple(_bounds(glpk, problem, column) for column in columns),
         tuple(glpk.glp_get_col_kind(problem, column) != glpk.GLP_CV for column in columns),
+        objective=Objective(tuple(_costs(glpk, problem, columns))),
     )
+
+
+def _costs(glpk: Any, problem: Any, columns: range) -> Iterator[tuple[int, float]]:
+    for column in columns:
+        cost = glpk.glp_get_obj_coef(problem, column)
+        if cost:
+            yield column - 1, cost
 
 
 def _sides(glpk: Any, problem: Any, row: int) -> Ends:

@@ -6,12 +6,15 @@ import json
 import random
 import unittest
 from collections.abc import Iterable
+from html import unescape
 from itertools import combinations
+from types import SimpleNamespace
 from unittest import mock
 
 from cmr_matrices import ModelReport, model_report
-from cmr_matrices.errors import TimeLimitReached
+from cmr_matrices.errors import ProgramFault, TimeLimitReached
 from cmr_matrices.families import family_of
+from cmr_matrices.reporting.asking import Asker
 from cmr_matrices.reporting.deciding import Decider
 from tests.independent import is_unimodular
 from tests.support import needs_command, needs_module, needs_program
@@ -78,7 +81,8 @@ class Scale(ReportTest):
     def test_an_assignment_with_1024_columns(self) -> None:
         report = model_report(self.write("assign.mod", ASSIGNMENT))
         self.by_arithmetic(report, "64x1024")
-        self.assertIn("each variable is in at most two rows", report.to_text())
+        said = "each variable is in at most one row of worker[..] and one of job[..], as in a transport or an assignment"
+        self.assertIn(said, report.to_text())
         self.assertEqual(json.loads(report.to_json())["why"]["class"], "network")
 
     def test_intervals_in_rows_or_columns(self) -> None:
@@ -99,6 +103,74 @@ class Scale(ReportTest):
         assert report.minimal is not None
         self.assertEqual((report.verdict, report.minimal.is_minimal, len(report.minimal.row_names)), ("no", True, 3))
         self.assertEqual(abs(report.minimal.determinant or 0), 2)
+
+    def odd(self, length: int) -> str:
+        """A cycle of rows whose entries have the sum 2 modulo 4, beside rows that the program can read."""
+        entries = [(f"r{at}", f"x{at}", 1) for at in range(length)] + [(f"r{(at + 1) % length}", f"x{at}", 1) for at in range(length)]
+        if length % 2 == 0:
+            entries[-1] = (*entries[-1][:2], -1)
+        return mps_text([*entries, ("a0", "y0", 1), ("a0", "y1", 1), ("a1", "y0", 1), ("a1", "y1", 1)])
+
+    def test_an_odd_cycle_of_any_length(self) -> None:
+        for length in (1203, 1204):
+            report = model_report(self.write("long.mps", self.odd(length)), time_limit=100)
+            assert report.minimal is not None
+            found = len(report.minimal.row_names), report.minimal.is_minimal, abs(report.minimal.determinant or 0)
+            self.assertEqual((report.verdict, found), ("no", (length, True, 2)))
+            for text in (report.to_text(), report.to_html()):
+                self.assertIn(f"Not proved: an odd cycle of {length} rows, larger than the 1000 rows that the program reads", text)
+            told = json.loads(report.to_json())
+            self.assertEqual((told["violator"]["entries"], len(told["arithmetic"])), ([], 1))
+            self.assertEqual([it for it in told["commands"] if "violator" in it["what"] and it["commands"]], [])
+
+    def test_an_odd_cycle_counts_only_after_its_check(self) -> None:
+        path = self.write("short.mps", mps_text([(f"r{row}", f"x{row // 2}", 1) for row in range(2100)] + [
+            (f"r{row}", f"z{column}", 1) for row, column in ((0, 0), (1, 0), (1, 1), (2, 1), (2, 2), (0, 2))
+        ]))
+        report = model_report(path)
+        self.assertEqual((report.verdict, report.checked > 0), ("no", True))
+        self.assertNotIn("Not proved", report.to_text())
+        refused = SimpleNamespace(accepted=False, says=None, rule="none")
+        with mock.patch("cmr_matrices.reporting.deciding.check", return_value=refused), self.assertRaises(ProgramFault):
+            model_report(path)
+        with mock.patch("cmr_matrices.reporting.deciding.check", side_effect=TimeLimitReached(1.0)):
+            self.assertNotEqual(model_report(path).verdict, "no")
+
+    def test_single_rows_of_a_large_model(self) -> None:
+        """Each row of `zone` closes an odd cycle with rows that are kept. Short cycles show it, and no question is large."""
+        size = 1200
+        entries = [(f"s{at}", f"x{at}a", 1) for at in range(size)] + [(f"s{at}", f"x{at}b", 1) for at in range(size)]
+        entries += [(f"d{at}", f"x{at}a", 1) for at in range(size)] + [(f"d{(at + 1) % size}", f"x{at}b", 1) for at in range(size)]
+        entries += [(f"zone{at}", f"x{37 * at + shift}a", 1) for at in range(30) for shift in (0, 1, 7)]
+        entries += [("free0", "x5a", 1), ("free0", "x5b", 1)]
+        report = model_report(self.write("zones.mps", mps_text(entries)), time_limit=100)
+        states = {family.name: family.state for family in report.families}
+        self.assertEqual(states, {"s#": "kept", "d#": "kept", "zone#": "relaxed", "free#": "kept"})
+        self.assertIn("Row by row, none of zone0..29 can be kept.", report.to_text())
+
+    def test_the_whole_matrix_is_asked_again(self) -> None:
+        """No question on all rows has time, except after all other steps."""
+        cheap, begin = Decider.cheap, Asker.begin
+        steps: list[tuple[str, float]] = []
+
+        def noted(self: Asker, what: str, most: int, part: float) -> None:
+            steps.append((what, part))
+            begin(self, what, most, part)
+
+        for rows, verdict in (([[1, 1, 0], [0, 1, 1]], "yes"), ([[1, 1, 0], [0, 1, 1], [1, 0, 1]], "no")):
+
+            def slow(self: Decider, matrix: object, height: int = len(rows)) -> object:
+                if getattr(matrix, "shape")[0] == height and steps[-1] != ("the whole matrix", 1.0):
+                    raise TimeLimitReached(1.0)
+                return cheap(self, matrix)  # type: ignore[arg-type]
+
+            path = self.write("again.lp", lp_text({f"a{at}b": row for at, row in enumerate(rows)}))
+            with mock.patch.object(Decider, "cheap", slow), mock.patch.object(Asker, "begin", noted), mock.patch(
+                "cmr_matrices.reporting.asking.structure_of", return_value=None
+            ):
+                report = model_report(path, time_limit=1000, pivots=0)
+            self.assertEqual((report.verdict, report.whole.verdict), (verdict, verdict))
+            self.assertNotIn("the whole matrix", report.ended)
 
     def test_a_tree_of_many_columns(self) -> None:
         """No variable is in two rows only, and none has consecutive rows."""
@@ -238,13 +310,15 @@ class Integers(ReportTest):
 
     def test_sides_count_only_in_rows_of_other_variables(self) -> None:
         """The side 1.5 of `one` is in rows of fixed variables only. A demand of 5.5 is in rows of the others."""
-        found = self.lots("5.5").integers
+        report = self.lots("5.5")
+        found = report.integers
         assert found is not None
+        self.assertIn("make[..] can be continuous (8 variables), if the right-hand sides and bounds are integers.", report.to_text())
         self.assertEqual({it.name.partition("[")[0] for it in found.not_whole}, {"balance"})
         # 3 make <= 100 setup: after the division by 1 the coefficient of `make` is 3, so `make` has to stay integer.
         found = self.lots(scale="3").integers
         assert found is not None
-        self.assertIsNone(found.answer)
+        self.assertEqual((found.suffices, len(found.fixed), found.free), (True, 16, ()))
         # 50 make <= 100 setup is divided by 50, and 2 is an integer.
         found = self.lots(scale="50").integers
         assert found is not None
@@ -255,6 +329,38 @@ class Integers(ReportTest):
         found = report.integers
         assert found is not None
         self.assertEqual([report.rows.model.columns[column] for column in found.fixed], ["open[1]", "open[2]", "open[3]"])
+
+    def test_the_declared_variables_suffice(self) -> None:
+        """Only `open` is declared, and it cannot be continuous. The columns of the others are unit columns and negatives of them."""
+        text = PLACES.replace("var x{I, J} >= 0, integer;", "var x{I, J} >= 0;")
+        report = model_report(self.write("places.mod", text), time_limit=100)
+        found, names = report.integers, report.rows.model.columns
+        assert found is not None and found.answer is not None and found.reason is not None
+        self.assertEqual((found.suffices, found.is_smallest, found.free), (True, True, ()))
+        self.assertEqual([names[column] for column in found.fixed], ["open[1]", "open[2]", "open[3]"])
+        for shown in (report.to_text(), unescape(report.to_html())):
+            self.assertIn("Only open[1..3] is declared as integer (3 variables), and that suffices.", shown)
+            self.assertIn("For each integral value of the 3 variables, all vertices of the linear program in the other variables", shown)
+        told = json.loads(report.to_json())
+        self.assertEqual((told["integers"]["suffices"], told["integers"]["continuous"]), (True, []))
+        repeated = [it for it in told["commands"] if it["what"] == "the columns of the continuous variables"]
+        self.assertEqual([it["says"] for it in repeated], ["accepted: yes"])
+        self.assertIn("--without-columns", repeated[0]["commands"][0])
+
+    def test_continuous_variables_with_a_violator(self) -> None:
+        rows = {"a": [1, 1, 0, 1], "b": [0, 1, 1, 0], "c": [1, 0, 1, 0]}
+        text = lp_text(rows).replace("General\n x0 x1 x2 x3", "General\n x3")
+        found = model_report(self.write("odd.lp", text)).integers
+        assert found is not None
+        self.assertEqual((found.answer, found.suffices, found.is_declared), (None, False, True))
+
+    def test_an_objective_that_is_not_linear_is_said_beside_the_variables(self) -> None:
+        """An optimum need not be at a vertex, so the other variables need not be integers there."""
+        text = "Minimize\n x + [ x ^2 ] / 2\nSubject To\n a: 3 s + x + y <= 7\n b: y <= 3\nGeneral\n s x y\nEnd\n"
+        report = model_report(self.write("curved.lp", text))
+        said = report.to_text().partition("Which variables have to stay integer:")[2]
+        self.assertIn("Declare only s as integer", said)
+        self.assertIn("The model has an objective that is not linear", said)
 
     def test_a_continuous_variable_with_another_coefficient(self) -> None:
         text = "Minimize\n x + y\nSubject To\n a: 2 x + 3 y <= 7\n b: x + z <= 3\nGeneral\n y z\nEnd\n"

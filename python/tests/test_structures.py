@@ -5,17 +5,22 @@ from __future__ import annotations
 import random
 import unittest
 from collections.abc import Sequence
+from unittest import mock
 
 from cmr_matrices import Matrix, is_network
 from cmr_matrices.constraints import Constraints
+from cmr_matrices.determinants import determinant
+from cmr_matrices.errors import LibraryMissing
 from cmr_matrices.lines import Names
+from cmr_matrices.model_reductions import connected_parts, reduced
 from cmr_matrices.structures.fitting import fitted
-from cmr_matrices.structures.halves import OddCycle, are_halves, is_odd_cycle, signs_or_cycle
+from cmr_matrices.structures.halves import OddCycle, are_halves, cycle_determinant, is_odd_cycle, signs_or_cycle
 from cmr_matrices.structures.intervals import are_intervals, interval_signs
 from cmr_matrices.structures.paths import Arcs, are_forest, is_path
+from cmr_matrices.structures.sieve import Sieve
 from cmr_matrices.structures.structure import Structure, paths_structure, structure_of
 from tests.independent import is_unimodular
-from tests.support import needs_program
+from tests.support import needs_module, needs_program
 
 Entries = dict[tuple[int, int], int]
 
@@ -61,7 +66,8 @@ class Structures(unittest.TestCase):
                     self.assertTrue(is_unimodular(dense(entries, range(height), range(width))))
                 elif found is not None:
                     self.violates(dense(entries, found.rows, found.columns))
-        self.assertEqual(set(kinds), {f"{kind} {turned}" for kind in ("halves", "intervals") for turned in (True, False)} | {"OddCycle", "NoneType"})
+        structures = {f"{kind} {turned}" for kind in ("halves", "intervals") for turned in (True, False)}
+        self.assertEqual(set(kinds), structures | {"OddCycle", "NoneType"})
         self.assertGreater(min(kinds.values()), 15)
 
     def violates(self, entries: list[list[int]]) -> None:
@@ -99,6 +105,26 @@ class Structures(unittest.TestCase):
         found = signs_or_cycle(columns, count)
         assert isinstance(found, OddCycle)
         self.assertEqual(found, OddCycle((0, 1, 2), (0, 1, count)))
+
+    def test_the_determinant_of_an_odd_cycle(self) -> None:
+        chance = random.Random(5)
+        values: dict[int | None, int] = {}
+        for _ in range(500):
+            height, width = chance.randint(2, 7), chance.randint(2, 10)
+            columns = [
+                sorted((row, chance.choice((1, -1))) for row in chance.sample(range(height), 2)) for _ in range(width)
+            ]
+            found = signs_or_cycle(columns, height)
+            if isinstance(found, OddCycle):
+                entries = [[dict(columns[column]).get(row, 0) for column in found.columns] for row in found.rows]
+                value = cycle_determinant(columns, found)
+                self.assertEqual(value, determinant(entries))
+                values[value] = values.get(value, 0) + 1
+        self.assertEqual(set(values), {2, -2})
+        two = [[(0, 1), (1, 1)], [(0, 1), (1, -1)], [(2, 1), (3, 1)], [(2, 1), (3, 1)]]
+        self.assertIsNone(cycle_determinant(two, OddCycle((0, 1, 2, 3), (0, 1, 2, 3))))
+        self.assertFalse(is_odd_cycle(two, OddCycle((0, 0, 1), (0, 1))))
+        self.assertFalse(is_odd_cycle(two, OddCycle((0, 1), (0, 0, 1))))
 
     def test_evidence_that_is_wrong_does_not_hold(self) -> None:
         pairs = [[(0, 1), (1, 1)], [(1, 1), (2, -1)]]
@@ -144,6 +170,57 @@ def tree_paths(chance: random.Random, height: int, width: int) -> Entries:
             entries[order[node - 1], column] = sign * parents[node][1]
             one, other = (parents[node][0], other) if one > other else (one, parents[node][0])
     return entries
+
+
+@needs_module("scipy")
+class Sieves(unittest.TestCase):
+    def test_what_is_hopeless_stays_open(self) -> None:
+        """It says so if and only if a part of what the reductions leave is too large and has no structure, if lines are merely counted."""
+        chance = random.Random(8)
+        answers = {True: 0, False: 0}
+        for number in range(400):
+            height, width = chance.randint(1, 9), chance.randint(1, 9)
+            entries = {
+                (row, column): chance.choice((1, 1, -1)) for row in range(height) for column in range(width) if chance.random() < 0.4
+            }
+            constraints = constraints_of(entries, height, width)
+            parts = connected_parts(reduced(constraints)[0]) if entries else []
+            large = [part for part in parts if min(part.names.shape) > 2]
+            rows, columns = ([place[axis] for place in entries] for axis in (0, 1))
+            sieve = Sieve.of(rows, columns, list(entries.values()))
+            assert sieve is not None
+            is_hopeless = sieve.is_hopeless(sorted(set(rows)), 2)
+            answers[is_hopeless] += 1
+            with self.subTest(number=number):
+                if is_hopeless:
+                    self.assertTrue(any(not isinstance(structure_of(part), Structure) for part in large))
+                elif len(large) == 1:
+                    found = structure_of(large[0])
+                    self.assertTrue(found is not None or _has_consecutive_ones(large[0]))
+        self.assertGreater(min(answers.values()), 30)
+
+    def test_without_libraries_nothing_is_hopeless(self) -> None:
+        missing = LibraryMissing("examining a large model", "scipy", None)
+        with mock.patch("cmr_matrices.structures.sieve.library", side_effect=missing):
+            self.assertIsNone(Sieve.of([0], [0], [1]))
+
+    def test_some_rows_only(self) -> None:
+        entries = [(row, column) for row in range(5) for column in range(5) if (row, column) != (4, 4)]
+        sieve = Sieve.of([row for row, _ in entries], [column for _, column in entries], [1] * 24)
+        assert sieve is not None
+        self.assertFalse(sieve.is_hopeless([0, 1], 1))
+        self.assertFalse(sieve.is_hopeless([], 1))
+
+
+def _has_consecutive_ones(constraints: Constraints) -> bool:
+    """Whether the lines of each line are consecutive, in rows or in columns, if the signs do not count."""
+    for axis in (0, 1):
+        found: dict[int, list[int]] = {}
+        for place in constraints.entries:
+            found.setdefault(place[axis], []).append(place[1 - axis])
+        if all(max(lines) - min(lines) + 1 == len(lines) for lines in found.values()):
+            return True
+    return False
 
 
 @needs_program

@@ -5,7 +5,7 @@ _cmr_command_options()
 {
     case $1 in
         cmr-classify) printf '%s\n' -h --help --version --classes --format --jobs --output --resume --part --evidence --minors --lines --pivots --tries --support --time-limit --infer --picture --tables --dask --worker-program --block --program --no-batch ;;
-        cmr-model) printf '%s\n' -h --help --version --html --relaxed --json --format --data --lines --pivots --questions --time-limit --clock-limit --program ;;
+        cmr-model) printf '%s\n' -h --help --version --html --relaxed --write-kept --write-relaxed --json --format --data --lines --pivots --questions --time-limit --clock-limit --no-solve --program ;;
         cmr-from-model) printf '%s\n' -h --help --version --format --rows --without --without-names --without-columns --unit-rows --scale --reduce --parts --data ;;
         cmr-names) printf '%s\n' -h --help --version --tree ;;
         cmr-graph-to-dot) printf '%s\n' -h --help --version --names --undirected --tree --rows-as-nodes --limit ;;

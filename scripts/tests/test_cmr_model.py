@@ -139,6 +139,20 @@ class ModelTest(ScriptTest):
         run = self.run_script("cmr-model", EXAMPLES / "crews.mod", "--relaxed", "one", "--html", "one")
         self.assertEqual((run.returncode, run.stdout), (2, ""))
 
+    @needs_glpsol
+    def test_the_kept_and_the_relaxed_part_are_written(self):
+        run = self.run_script("cmr-model", EXAMPLES / "crews.mod", "--write-kept", "kept.mps", "--write-relaxed", "relaxed.mps", "--no-solve")
+        self.assertEqual((run.returncode, run.stderr), (1, ""))
+        self.assertNotIn("GLPK's optimal vertex", run.stdout)
+        for name, rows in (("kept.mps", 8), ("relaxed.mps", 6)):
+            words = ["glpsol", "--freemps", name, "--check", "--wlp", "read.lp"]
+            read = subprocess.run(words, cwd=self.folder, capture_output=True, text=True)
+            self.assertEqual(read.returncode, 0)
+            self.assertIn(f"Number of rows               = {rows:8}", read.stdout)
+        self.assertEqual(self.run_script("cmr-model", "kept.mps").returncode, 0)
+        run = self.run_script("cmr-model", EXAMPLES / "crews.mod", "--write-kept", "one", "--write-relaxed", "one")
+        self.assertEqual((run.returncode, run.stdout), (2, ""))
+
     def test_commands_stay_short(self):
         """One row of each of 40 triangles is relaxed, and no two names are of one family: the names are in a file."""
         rows = []
@@ -158,6 +172,24 @@ class ModelTest(ScriptTest):
         found = [it for it in report["commands"] if it["what"] == "the columns of the variables that need not be integer"]
         self.assertEqual([it["says"] for it in found], ["accepted: yes"])
         self.repeats({"commands": found})
+
+    def test_the_commands_of_declared_variables_that_suffice(self):
+        """Also if the columns of the others are more than a matrix may have, so that the commands reduce them."""
+        for places in (3, 26):
+            text = f"""
+                set I := 1..{places}; set J := 1..40;
+                var x{{I, J}} >= 0; var open{{I}} binary;
+                minimize c: sum{{i in I}} open[i];
+                served{{j in J}}: sum{{i in I}} x[i,j] = 1;
+                from_open{{i in I, j in J}}: x[i,j] <= open[i];
+                end;
+            """
+            with self.subTest(places=places):
+                report, status = self.report(self.write(f"places{places}.mod", text), "--time-limit", "20", "--no-solve")
+                self.assertEqual((status, report["integers"]["suffices"], len(report["integers"]["declare"])), (1, True, places))
+                found = [it for it in report["commands"] if "the columns of the continuous variables" in it["what"]]
+                self.assertGreater(len(found), 0)
+                self.repeats({"commands": found})
 
     def test_names_with_blanks(self):
         """GLPK makes one name of `ROW 1` and `ROW1`."""

@@ -13,6 +13,7 @@ from __future__ import annotations
 import argparse
 import os
 import sys
+from itertools import combinations
 from pathlib import Path
 from typing import Any
 
@@ -34,6 +35,8 @@ def arguments() -> argparse.Namespace:
     add("model", metavar="MODEL", help="the model: free or fixed MPS, GNU MathProg, or the LP format of CPLEX")
     add("--html", metavar="REPORT", help="write the report to this file as one page of HTML")
     add("--relaxed", metavar="FILE", help="write the names of the rows to relax to this file, a line for each")
+    add("--write-kept", metavar="FILE", help="write the model without the rows to relax to this file, in free MPS")
+    add("--write-relaxed", metavar="FILE", help="write the model with only the rows to relax to this file, in free MPS")
     add("--json", action="store_true", help="print one object of JSON in place of the text")
     add(
         "--format",
@@ -69,13 +72,17 @@ def arguments() -> argparse.Namespace:
         type=integer_between(1, 2_000_000),
         help="end the search also after S seconds by the clock (no such limit)",
     )
+    add("--no-solve", action="store_true", help="do not solve the linear program of the model with its objective by GLPK")
     add("--program", metavar="PATH", help="the path of the program cmr")
     chosen = parser.parse_args()
-    for option, name in (("--html", chosen.html), ("--relaxed", chosen.relaxed)):
+    written = {"--html": chosen.html, "--relaxed": chosen.relaxed}
+    written |= {"--write-kept": chosen.write_kept, "--write-relaxed": chosen.write_relaxed}
+    for option, name in written.items():
         if name is not None and (name in ("", "-") or _is_one_file(name, chosen.model, chosen.data)):
             parser.error(f"{option} needs a file, and not that of the model")
-    if chosen.html is not None and _is_one_file(chosen.html, chosen.relaxed):
-        parser.error("--html and --relaxed need two files")
+    for one, other in combinations(written, 2):
+        if written[one] is not None and _is_one_file(written[one], written[other]):
+            parser.error(f"{one} and {other} need two files")
     return chosen
 
 
@@ -136,6 +143,7 @@ def _work(chosen: argparse.Namespace, found: list[ModelReport]) -> None:
             clock_limit=chosen.clock_limit,
             program=chosen.program,
             tell=progress,
+            solve=not chosen.no_solve,
         )
     finally:
         progress.close()
@@ -144,6 +152,10 @@ def _work(chosen: argparse.Namespace, found: list[ModelReport]) -> None:
         write_whole(chosen.html, report.to_html())
     if chosen.relaxed is not None:
         write_whole(chosen.relaxed, "".join(f"{name}\n" for name in report.relax))
+    if chosen.write_kept is not None:
+        write_whole(chosen.write_kept, report.to_mps("kept"))
+    if chosen.write_relaxed is not None:
+        write_whole(chosen.write_relaxed, report.to_mps("relaxed"))
     write_text("-", text)
     found.append(report)
 

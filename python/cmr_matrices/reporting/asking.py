@@ -7,7 +7,7 @@ checked by plain arithmetic.
 from __future__ import annotations
 
 import time
-from collections.abc import Callable, Iterable, Sequence
+from collections.abc import Callable, Collection, Iterable, Sequence
 from dataclasses import replace
 from functools import partial
 from math import inf
@@ -25,9 +25,11 @@ from ..reductions import Reductions
 from ..structures.fitting import fitted
 from ..structures.halves import OddCycle
 from ..structures.paths import Arcs
+from ..structures.sieve import Sieve
 from ..structures.structure import Structure, structure_of
 from ..submatrices import Submatrix
 from ..words import LIMIT
+from .cycles import Crossings, faulty_cycles
 from .deciding import Decider
 from .pieces import Asked, Cells, Piece
 from .reducing import reduced_and_checked
@@ -49,6 +51,10 @@ _CHEAP = 0.5
 
 _MANY = 20_000
 """The most nonzeros of a matrix with a structure that is reduced, so that the program may answer its parts."""
+
+
+_CYCLES = 5
+"""How many cycles through a row are asked for a violator."""
 
 
 class Asker:
@@ -90,6 +96,8 @@ class Asker:
         self._known: dict[tuple[Axis, tuple[int, ...]], Asked] = {}
         self._cheap: dict[tuple[Axis, tuple[int, ...]], Asked] = {}
         self._reduced: dict[tuple[Axis, tuple[int, ...]], tuple[Constraints, Reductions]] = {}
+        self._crossings: Crossings | None = None
+        self._sieve: tuple[Sieve | None] | None = None
         self._places = [
             {name: place for place, name in enumerate(names)} for names in (rows.model.rows, rows.model.columns)
         ]
@@ -99,6 +107,11 @@ class Asker:
         self._end = self._start + part * (self._seconds or 0.0)
         self._clock_end = self._clock_start + part * (self._clock_seconds or 0.0)
         self._what, self._most, self._begun = what, most, self.asked
+
+    @property
+    def most(self) -> int:
+        """The most questions of the step."""
+        return self._most
 
     @property
     def is_spent(self) -> bool:
@@ -132,8 +145,8 @@ class Asker:
     def ask(self, lines: Iterable[int], axis: Axis = "row", *, pivots: bool = True, share: float = 1.0, cheap: float = _CHEAP) -> Asked:
         """Whether some rows with entries -1, 0 and 1, with all columns that are in them, are totally unimodular; or some columns.
 
-        The cheap questions come first, within the share `cheap` of the time that is left of the step. If they decide nothing, and if `pivots`
-        says so, the open parts are asked again with pivots, within `share` of the time that is left.
+        The cheap questions come first, within the share `cheap` of the time that is left of the step. If they decide nothing, and if
+        `pivots` says so, the open parts are asked again with pivots, within `share` of the time that is left.
         """
         key = axis, tuple(sorted(lines))
         if key in self._known:
@@ -193,7 +206,7 @@ class Asker:
         parts = connected_parts(self.reduced(key[1], key[0])[0])
         for number, part in enumerate(parts, 1):
             pieces.append(self._piece(part))
-            if pieces[-1].answer is not None and pieces[-1].answer.violator is not None:
+            if pieces[-1].violator is not None:
                 return pieces + [Piece(other, None, None) for other in parts[number:]]
         return pieces
 
@@ -202,8 +215,8 @@ class Asker:
         is_reduced = max(self.rows.shape(*key)) > LIMIT
         rows = key[1] if key[0] == "row" else self.rows.rows_of(key[1])
         for piece in pieces:
-            if piece.answer is not None and piece.answer.violator is not None:
-                found = self.cells(piece.constraints, piece.answer.violator)
+            if piece.violator is not None:
+                found = self.cells(piece.constraints, piece.violator)
                 return Asked(rows, "no", tuple(pieces), is_reduced, violator=found)
         if all(piece.is_yes for piece in pieces):
             return Asked(rows, "yes", tuple(pieces), is_reduced)
@@ -262,24 +275,22 @@ class Asker:
         return replace(piece, answer=answer, is_over=False)
 
     def _structure(self, constraints: Constraints) -> Structure | Piece | None:
-        """The structure of a part of any size, or the part with the violator that excludes it. The program checks the violator."""
+        """The structure of a part of any size, or the part with the odd cycle that excludes it.
+
+        The cycle counts only if the program accepts it as a violator, or if it is too large for the program.
+        """
         found = structure_of(constraints)
-        if not isinstance(found, OddCycle) or len(found.rows) > LIMIT:
-            return found if isinstance(found, Structure) else None
+        if not isinstance(found, OddCycle):
+            return found
         cycle = Submatrix(constraints.names.shape, found.rows, found.columns, constraints.names)
+        cells = self.cells(constraints, cycle)
+        if cells.is_too_large:
+            return Piece(constraints, None, None, cycle=cycle)
         try:
-            answer = self.ask_matrix(self.matrix_of(self.cells(constraints, cycle)))
+            self._told(lambda: self._decider(_CHEAP).violator(self.matrix_of(cells)))
         except TimeLimitReached:
             return None
-        if answer.violator is None:
-            raise ProgramFault(REFUSED, "an odd cycle is totally unimodular")
-        violator = Submatrix(
-            cycle.shape,
-            tuple(found.rows[row] for row in answer.violator.rows),
-            tuple(found.columns[column] for column in answer.violator.columns),
-            constraints.names,
-        )
-        return Piece(constraints, None, Answer("totally unimodular", "no", violator=violator))
+        return Piece(constraints, None, Answer("totally unimodular", "no", violator=cycle))
 
     def _fitted(self, constraints: Constraints) -> Structure | None:
         """The structure of a tree, if one kind of lines has at most 1,000."""
@@ -305,6 +316,26 @@ class Asker:
         except TimeLimitReached:
             return None
         return None if part is None else cells.part(part)
+
+    def fault_through(self, row: int, others: Collection[int]) -> Cells | None:
+        """A violator among the lines of a short cycle through a row and some of the other rows. None if none is found."""
+        if self._crossings is None:
+            self._crossings = Crossings(self.rows)
+        for cells in faulty_cycles(self._crossings, row, others, _CYCLES):
+            found = None if cells.is_too_large or self.is_spent else self.violator_in(cells)
+            if found is not None:
+                return found
+        return None
+
+    def is_hopeless(self, lines: Iterable[int]) -> bool:
+        """Whether rows with entries -1, 0 and 1 have a part that is too large for the program and has no structure, by numpy and scipy."""
+        if self._sieve is None:
+            unit = self.rows.unit_rows
+            found = [(row, column, int(entry)) for row in unit for column, entry in self.rows.entries[row]]
+            rows, columns, entries = (list(it) for it in zip(*found)) if found else ([], [], [])
+            self._sieve = (Sieve.of(rows, columns, entries),)
+        (sieve,) = self._sieve
+        return sieve is not None and sieve.is_hopeless(list(lines))
 
     def cells(self, constraints: Constraints, part: Submatrix) -> Cells:
         """The rows and columns of the model that a part of some constraints has."""

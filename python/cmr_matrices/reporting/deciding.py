@@ -52,6 +52,10 @@ class Decider:
         """The answer with as many pivots."""
         return self._held(matrix, self._asked(matrix, pivots))
 
+    def violator(self, matrix: Matrix) -> Answer:
+        """The no of a matrix that is itself a violator. Raises `ProgramFault` if `cmr check` does not accept that it is one."""
+        return self._held(matrix, _no(matrix, _all_lines(matrix)))
+
     def arcs(self, matrix: Matrix) -> Arcs | None:
         """The arcs of the rows in a tree in which all columns are paths, or None if the matrix is no network matrix."""
         graph = is_network(matrix, certificate=True, program=self.program, time_limit=self.clock).graph

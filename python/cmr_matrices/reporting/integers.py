@@ -5,18 +5,20 @@ variables change only its right-hand sides. So all its vertices are integral und
 
 * The columns of the other variables are totally unimodular, after each row is divided by its common factor.
 * The coefficients of the fixed variables are integers after this division. They are, since the factor divides all coefficients of the row.
-* The right-hand sides of the rows in which other variables are, are integers after this division, and so are the bounds of the other variables.
+* The right-hand sides of the rows in which other variables are, are integers after this division. So are the bounds of the other variables.
 
 This holds for each integral value of the fixed variables (Hoffman and Kruskal 1956). So only the fixed variables have to be declared as
-integers. A variable that the model declares as continuous is not fixed: its column has to be among the others.
+integers. A variable that the model declares as continuous is not fixed: its column has to be among the others. If all declared variables
+are fixed, the others are the continuous ones: if their columns are totally unimodular, they take integral values though not declared.
 """
 
 from __future__ import annotations
 
 from collections.abc import Sequence
-from dataclasses import dataclass, field
+from dataclasses import dataclass, field, replace
 
 from ..families import families_of
+from ..models import Model
 from .asking import Asker
 from .keeping import Budget, Kept, keep_blocks
 from .pieces import Asked, Cells
@@ -41,7 +43,10 @@ class ColumnFamily:
 
 @dataclass(frozen=True)
 class Integers:
-    """What is known of the variables that have to stay integer. There is an `answer` if some of them need not."""
+    """What is known of the variables that have to stay integer.
+
+    There is an `answer` if some of them need not, or if the continuous variables are integral at each vertex for integral values of them.
+    """
 
     is_declared: bool
     """Whether the model declares integer variables. Otherwise all variables are taken as integer ones."""
@@ -67,43 +72,66 @@ class Integers:
         return tuple(sorted({column for family in self.families for column in family.columns} - set(self.fixed)))
 
     @property
+    def suffices(self) -> bool:
+        """Whether the variables that the model declares as integer have to stay so, and make the continuous ones integral."""
+        return self.answer is not None and not self.free
+
+    @property
     def is_smallest(self) -> bool:
-        """Whether each choice of families with fewer integer variables has a violator."""
-        return self.kept is not None and self.kept.is_largest
+        """Whether each choice of families with fewer integer variables has a violator or other coefficients."""
+        return self.kept.is_largest if self.kept is not None else self.blocked is None
 
 
 def integers_of(asker: Asker, rows: ModelRows, questions: int, part: float, known: Sequence[Cells]) -> Integers:
     """The families of variables that have to stay integer. `known` are violators of some rows and columns."""
-    model = rows.model
-    is_declared = any(model.whole)
-    candidates = {column for column, is_whole in enumerate(model.whole) if is_whole} or set(range(len(model.columns)))
-    continuous = tuple(column for column in range(len(model.columns)) if column not in candidates)
+    is_declared = any(rows.model.whole)
+    candidates, continuous = _candidates(rows.model)
     large = {column for found in rows.entries.values() for column, entry in found if abs(entry) != 1}
-    named = {
-        name: tuple(column for column in columns if column in candidates)
-        for name, columns in families_of(model.columns).items()
-    }
-    named = {name: columns for name, columns in named.items() if columns}
     blocked = next((column for column in continuous if column in large), None)
+    named = families_of(rows.model.columns).items()
+    every = {name: tuple(column for column in columns if column in candidates) for name, columns in named}
+    every = {name: columns for name, columns in every.items() if columns}
+    units = {name: tuple(column for column in columns if column not in large) for name, columns in every.items()}
+    units = {name: columns for name, columns in units.items() if columns}
     kept = None
-    blocks = {name: tuple(column for column in columns if column not in large) for name, columns in named.items()}
-    blocks = {name: columns for name, columns in blocks.items() if columns}
-    if blocked is None and blocks:
+    if blocked is None and units:
         budget = Budget("families of columns", questions, part)
-        kept = keep_blocks(asker, continuous, list(blocks.values()), budget, all_sets=True, known=known, axis="column")
-    places = {name: place for place, name in enumerate(blocks)}
-    found = kept if kept is not None and kept.blocks else None
-    families = []
-    for name, columns in named.items():
-        coefficients = tuple(column for column in columns if column in large)
-        place = places.get(name)
-        is_kept = found is not None and place in found.blocks
-        violator = found.refused.get(place) if found is not None and place is not None else None
-        said = said_rows(name, [model.columns[column] for column in columns])
-        families.append(ColumnFamily(name, said, columns, coefficients if is_kept else columns, coefficients, violator))
-    answer = found.answer if found is not None else None
+        kept = keep_blocks(asker, continuous, list(units.values()), budget, all_sets=True, known=known, axis="column")
+    families = tuple(_family(rows, name, columns, large, list(units), kept) for name, columns in every.items())
+    found = Integers(is_declared, families, continuous, blocked, kept, None, ())
+    answer = kept.answer if kept is not None and kept.blocks else None
+    if answer is None and is_declared and blocked is None:
+        answer = _of_continuous(asker, found, questions, part)
     if answer is None:
-        return Integers(is_declared, tuple(families), continuous, blocked, kept, None, ())
-    free = {*continuous, *(column for family in families for column in family.columns if column not in family.fixed)}
-    sides = rows.not_whole(answer.rows, sorted(free))
-    return Integers(is_declared, tuple(families), continuous, blocked, kept, answer, sides)
+        return found
+    others = sorted((*continuous, *found.free))
+    return replace(found, answer=answer, not_whole=rows.not_whole(answer.rows, others))
+
+
+def _candidates(model: Model) -> tuple[set[int], tuple[int, ...]]:
+    """The variables that may have to stay integer, which are all if none is declared as integer, and the continuous ones."""
+    every = range(len(model.columns))
+    candidates = {column for column, is_whole in enumerate(model.whole) if is_whole} or set(every)
+    return candidates, tuple(column for column in every if column not in candidates)
+
+
+def _family(
+    rows: ModelRows, name: str, columns: tuple[int, ...], large: set[int], blocks: Sequence[str], kept: Kept | None
+) -> ColumnFamily:
+    """A family of variables after the search. `blocks` are the families that it has tried, in its order."""
+    coefficients = tuple(column for column in columns if column in large)
+    place = blocks.index(name) if kept is not None and name in blocks else None
+    is_kept = kept is not None and place in kept.blocks
+    violator = kept.refused.get(place) if kept is not None and place is not None else None
+    said = said_rows(name, [rows.model.columns[column] for column in columns])
+    return ColumnFamily(name, said, columns, coefficients if is_kept else columns, coefficients, violator)
+
+
+def _of_continuous(asker: Asker, found: Integers, questions: int, part: float) -> Asked | None:
+    """The answer on the columns of the continuous variables, if there are some and if they are totally unimodular."""
+    is_excluded = found.kept is not None and any(not blocks for blocks, _ in found.kept.violators)
+    asker.begin("the columns of the continuous variables", questions, part)
+    if not found.continuous or is_excluded or asker.is_spent:
+        return None
+    answer = asker.ask(found.continuous, "column")
+    return answer if answer.verdict == "yes" else None

@@ -8,8 +8,10 @@ from __future__ import annotations
 
 from collections.abc import Iterable, Iterator, Sequence
 from dataclasses import dataclass, field, replace
+from functools import cached_property
 from itertools import combinations
 
+from ..words import LIMIT
 from .asking import Asker
 from .pieces import Asked, Cells
 from .rows import Axis
@@ -109,6 +111,7 @@ class _Work:
         self._owner = {line: place for place, block in enumerate(blocks) for line in block}
         self._violators: list[tuple[frozenset[int], Cells]] = []
         self._open: list[frozenset[int]] = []
+        self._examined = 0
         for cells in known:
             self._add(cells)
 
@@ -135,7 +138,7 @@ class _Work:
         return replace(self._kept(kept, answer, is_largest=not larger), open=tuple(larger))
 
     def _first(self, sets: Iterator[frozenset[int]], *, pivots: bool) -> tuple[frozenset[int] | None, Asked | None]:
-        """The first of some sets that can be kept, with its answer. The set is None if a limit ends the search, and empty if there is none."""
+        """The first of some sets that can be kept, with its answer. It is None if a limit ends the search, and empty if there is none."""
         waiting = list(sets)
         for place, chosen in enumerate(waiting):
             if self._violated(chosen) is not None:
@@ -164,7 +167,7 @@ class _Work:
         waiting = sorted(range(len(self._blocks)), key=lambda place: (-self._size(place), place))
         is_cut = False
         while waiting and not is_cut:
-            some, waiting = waiting[:_TOGETHER], waiting[_TOGETHER:]
+            some, waiting = self._possible(chosen, waiting[:_TOGETHER]), waiting[_TOGETHER:]
             added, found, is_cut = self._added(chosen, frozenset(some))
             if found is not None:
                 chosen, answer = added, found
@@ -180,6 +183,34 @@ class _Work:
                 if tried.verdict == "yes":
                     chosen, answer = chosen | {place}, tried
         return replace(self._kept(chosen, answer, is_largest=False), is_greedy=True, is_cut=is_cut or was_cut)
+
+    def _possible(self, chosen: frozenset[int], some: list[int]) -> list[int]:
+        """Some blocks, without the single rows that cannot be added to base rows that are too large for the program.
+
+        If no question would decide all blocks together, short cycles may show violators of single rows, and no question decides others.
+        """
+        if not self._is_large or not self._asker.is_hopeless(self._lines(chosen | set(some))):
+            return some
+        return [place for place in some if self._size(place) > 1 or not self._is_excluded(place)]
+
+    def _is_excluded(self, place: int) -> bool:
+        """Whether a short cycle shows that a single row cannot be added to the base, or no question would decide it."""
+        self._examined += 1
+        if self._asker.is_spent or self._examined > self._asker.most:
+            return False
+        (row,) = self._blocks[place]
+        found = self._asker.fault_through(row, frozenset(self._base))
+        if found is not None:
+            self._add(found)
+        return found is not None or self._asker.is_hopeless((*self._base, row))
+
+    def _lines(self, chosen: Iterable[int]) -> list[int]:
+        """The lines of some blocks and of the base."""
+        return [*self._base, *(line for place in chosen for line in self._blocks[place])]
+
+    @cached_property
+    def _is_large(self) -> bool:
+        return self._axis == "row" and max(self._asker.rows.shape("row", self._base)) > LIMIT
 
     def _added(self, chosen: frozenset[int], some: frozenset[int]) -> tuple[frozenset[int], Asked | None, bool]:
         """The chosen blocks and those of `some` that remain when one is dropped for each violator, and whether a limit ended the search."""
@@ -210,8 +241,7 @@ class _Work:
         return Kept(tuple(sorted(chosen)), answer, refused, is_largest, violators=tuple(self._violators))
 
     def _ask(self, chosen: frozenset[int], *, pivots: bool, share: float = 1.0) -> Asked:
-        lines = [*self._base, *(line for place in chosen for line in self._blocks[place])]
-        answer = self._asker.ask(lines, self._axis, pivots=pivots, share=share)
+        answer = self._asker.ask(self._lines(chosen), self._axis, pivots=pivots, share=share)
         if answer.violator is not None:
             self._add(answer.violator)
         if answer.verdict == "undecided":

@@ -5,6 +5,8 @@ from __future__ import annotations
 from dataclasses import dataclass, field
 
 from ..errors import TimeLimitReached
+from ..structures.halves import OddCycle, cycle_determinant
+from ..structures.sparse import columns_of
 from .asking import Asker
 from .pieces import Cells
 
@@ -25,12 +27,18 @@ class Minimal:
     row_names: tuple[str, ...]
     column_names: tuple[str, ...]
     entries: tuple[tuple[int, ...], ...] = field(repr=False)
+    """The entries by rows. There are none of a violator that is too large for the program."""
     is_minimal: bool
     determinant: int | None
 
 
 def minimal_violator(asker: Asker, violator: Cells, part: float) -> Minimal:
-    """What is left of a violator when one line after another is removed, as long as a violator remains."""
+    """What is left of a violator when one line after another is removed, as long as a violator remains.
+
+    A violator that is too large for the program is an odd cycle, which has no smaller one.
+    """
+    if violator.is_too_large:
+        return _cycle(asker, violator)
     asker.begin("a smaller violator", _QUESTIONS, part)
     found, is_minimal = violator, True
     for kind in ("row", "column"):
@@ -52,6 +60,23 @@ def minimal_violator(asker: Asker, violator: Cells, part: float) -> Minimal:
     names = matrix.names
     assert names is not None
     return Minimal(found, names.rows, names.columns, entries, is_minimal, matrix.determinant() if is_square else None)
+
+
+def _cycle(asker: Asker, cells: Cells) -> Minimal:
+    """An odd cycle of any length, without its entries."""
+    model = asker.rows.model
+    names = tuple(model.rows[row] for row in cells.rows), tuple(model.columns[column] for column in cells.columns)
+    places = {column: at for at, column in enumerate(cells.columns)}
+    every = range(len(cells.rows))
+    entries = {
+        (at, places[column]): int(entry)
+        for at, row in enumerate(cells.rows)
+        for column, entry in asker.rows.entries[row]
+        if column in places
+    }
+    cycle = OddCycle(tuple(every), tuple(every))
+    found = cycle_determinant(columns_of(entries, len(places)), cycle)
+    return Minimal(cells, *names, (), found is not None, found)
 
 
 def _without(asker: Asker, found: Cells, kind: str, line: int) -> tuple[Cells | None, bool]:

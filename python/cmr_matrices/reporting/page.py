@@ -152,7 +152,7 @@ def _has_advice(report: ModelReport) -> bool:
 
 def _answer(report: ModelReport) -> Iterator[str]:
     yield f'<section class="answer {report.verdict}"><h2>The answer</h2>'
-    yield from (f"<p>{escape(sentence)}</p>" for sentence in sentences.of_verdict(report))
+    yield from (f"<p>{escape(sentence)}</p>" for sentence in [*sentences.of_verdict(report), *sentences.of_solution(report)])
     yield from (f'<p class="warn">{escape(sentence)}</p>' for sentence in sentences.of_limits(report))
     relaxation = sentences.of_relaxation(report) if report.verdict != "yes" else []
     for number, sentence in enumerate(relaxation):
@@ -234,7 +234,7 @@ def _families(report: ModelReport) -> Iterator[str]:
     yield "</tbody></table>"
     if len(ordered) > _MOST:
         yield f'<p class="soft">and {len(ordered) - _MOST} other families</p>'
-    yield '<p class="soft">The names of one family are the same up to digits and bracketed text.</p></section>'
+    yield f'<p class="soft">{escape(sentences.of_families(report))}</p></section>'
 
 
 def _family(report: ModelReport, number: int, family: FamilyLine) -> str:
@@ -312,7 +312,8 @@ def _foot(report: ModelReport) -> Iterator[str]:
     asked = sentences.counted(report.asked, "question", "questions")
     checked = sentences.counted(report.checked, "piece of evidence", "pieces of evidence")
     unproved = "" if report.is_proved else " The program was compiled by <code>./try-cmr</code> without proofs."
+    arithmetic = "".join(f"<p>{escape(it)}</p>" for it in sentences.of_arithmetic(report))
     yield (
-        f"<footer>{''.join(f'<p>{escape(it)}</p>' for it in sentences.of_arithmetic(report))}<p>The program <code>cmr</code> answered {asked}, and <code>cmr check</code> accepted {checked}.{unproved} The Python "
-        "package computed graphs, reductions and determinants again.</p></footer>"
+        f"<footer>{arithmetic}<p>The program <code>cmr</code> answered {asked}, and <code>cmr check</code> accepted {checked}.{unproved} "
+        "The Python package computed graphs, reductions and determinants again.</p></footer>"
     )

@@ -22,6 +22,11 @@ class Cells:
     rows: tuple[int, ...]
     columns: tuple[int, ...]
 
+    @property
+    def is_too_large(self) -> bool:
+        """Whether it has more lines than a matrix may have, so that the program answers no question on it."""
+        return max(len(self.rows), len(self.columns)) > LIMIT
+
     def part(self, part: Submatrix) -> Cells:
         """The lines of the model that a submatrix of the submatrix on these lines has."""
         return Cells(tuple(self.rows[at] for at in part.rows), tuple(self.columns[at] for at in part.columns))
@@ -31,7 +36,8 @@ class Cells:
 class Piece:
     """A connected part of a model, and the matrix that was asked, with its answer. Both are None if it was not asked.
 
-    A part that is too large for the program, or for which it has no time, may have a structure instead.
+    A part that is too large for the program, or for which it has no time, may have a structure instead, or an odd cycle that is too large
+    for `cmr check`. Only the arithmetic of this package has checked these.
     """
 
     constraints: Constraints = field(repr=False)
@@ -40,6 +46,12 @@ class Piece:
     structure: Structure | None = None
     is_over: bool = False
     """Whether it is open because the time was over."""
+    cycle: Submatrix | None = None
+
+    @property
+    def violator(self) -> Submatrix | None:
+        """The violator of a no."""
+        return self.cycle if self.answer is None else self.answer.violator
 
     @property
     def tree(self) -> Tree | None:

@@ -3,15 +3,19 @@
 from __future__ import annotations
 
 from collections import Counter
-from dataclasses import dataclass
+from collections.abc import Sequence
+from dataclasses import dataclass, replace
 from typing import Literal
 
 from ..clock import Clock
+from ..constraints import Constraints
 from ..errors import ProgramFault
-from ..lines import Line
+from ..families import family_of
+from ..lines import Line, Names
 from ..matrix import Matrix
 from ..program import REFUSED, StrPath
 from ..questions import is_conetwork, is_network
+from ..structures.sparse import columns_of, rows_of
 from ..structures.structure import Structure
 from ..trees import Tree
 from ..walks import arcs_of_walks
@@ -26,20 +30,21 @@ _LEAVES = {
 }
 _SUMS = {"twosum": "two-sum", "delta": "three-sum", "y": "three-sum", "mixed": "three-sum", "concentrated": "three-sum"}
 
-_Kind = Literal["zero", "pairs", "intervals", "paths"]
+_Line = Sequence[tuple[int, int]]
 
-_PLAIN: dict[_Kind, str] = {
-    "zero": "there are no coefficients",
-    "pairs": "each variable is in at most two rows, as in a flow, a transport or an assignment",
-    "intervals": "the rows of each variable are consecutive in the order of the model (intervals)",
-    "paths": "each variable is a path in a tree whose arcs are the rows",
+_SIMPLEX = {
+    False: "It is a network matrix, so the network simplex method solves the linear program",
+    True: "Its transpose is a network matrix, so the network simplex method solves the dual linear program",
 }
-_TURNED: dict[_Kind, str] = {
-    "zero": "there are no coefficients",
-    "pairs": "each row has at most two variables, as differences have",
-    "intervals": "the variables of each row are consecutive in the order of the model (intervals)",
-    "paths": "each row is a path in a tree whose arcs are the variables",
-}
+
+
+@dataclass(frozen=True)
+class _Kind:
+    """How the columns of a network matrix look, or the rows if it is turned. The plainest kind has the least rank."""
+
+    rank: int
+    is_turned: bool
+    said: str
 
 
 @dataclass(frozen=True)
@@ -52,11 +57,16 @@ class Reason:
 
 
 def reason_of(matrix: Matrix, tree: Tree, program: StrPath | None, clock: Clock) -> Reason:
-    """Why the matrix of a tree that says yes is totally unimodular. The arcs of each walk in a graph are compared with the matrix."""
-    if _is_shown(matrix, is_turned=False, program=program, clock=clock):
-        return _network_reason(_kind_of(matrix), False)
-    if _is_shown(matrix, is_turned=True, program=program, clock=clock):
-        return _network_reason(_kind_of(matrix.T), True)
+    """Why the matrix of a tree that says yes is totally unimodular: the plainest reason that the program shows.
+
+    The arcs of each walk in a graph are compared with the matrix.
+    """
+    names = matrix.names or Names.numbered(*matrix.shape)
+    constraints = Constraints(names, {(row, column): entry for row, column, entry in matrix.nonzeros})
+    kinds = (_kind_of(constraints, is_turned=False), _kind_of(constraints, is_turned=True))
+    for kind in sorted(kinds, key=lambda it: it.rank):
+        if _is_shown(matrix, is_turned=kind.is_turned, program=program, clock=clock):
+            return _network_reason(kind)
     return reason_of_tree(tree)
 
 
@@ -82,39 +92,65 @@ def _place(walk: Line, arc: Line) -> tuple[int, int]:
     return (arc.number, walk.number) if arc.kind == "row" else (walk.number, arc.number)
 
 
-def reason_of_structure(structure: Structure) -> Reason:
-    """Why a matrix with a structure is totally unimodular."""
-    kinds: dict[str, _Kind] = {"halves": "pairs", "intervals": "intervals", "paths": "paths"}
-    return _network_reason(kinds[structure.kind], structure.is_turned)
+def reason_of_structure(structure: Structure, constraints: Constraints) -> Reason:
+    """Why constraints with a structure are totally unimodular."""
+    return _network_reason(_kind_of(constraints, is_turned=structure.is_turned))
 
 
-def _network_reason(kind: _Kind, is_turned: bool) -> Reason:
-    if is_turned:
-        said = "Its transpose is a network matrix, so the network simplex method solves the dual linear program"
-        return Reason("conetwork", f"{said}: {_TURNED[kind]}.", ("network", "-t"))
-    said = "It is a network matrix, so the network simplex method solves the linear program"
-    return Reason("network", f"{said}: {_PLAIN[kind]}.", ("network",))
+def _network_reason(kind: _Kind) -> Reason:
+    sentence = f"{_SIMPLEX[kind.is_turned]}: {kind.said}."
+    return Reason("conetwork", sentence, ("network", "-t")) if kind.is_turned else Reason("network", sentence, ("network",))
 
 
-def _kind_of(matrix: Matrix) -> _Kind:
-    """The plainest kind that fits to the columns of a network matrix."""
-    counts = Counter(column for _, column, _ in matrix.nonzeros)
-    if not counts:
-        return "zero"
-    if max(counts.values()) <= 2:
-        return "pairs"
-    return "intervals" if _are_intervals(matrix) else "paths"
+def _kind_of(constraints: Constraints, *, is_turned: bool) -> _Kind:
+    """The plainest kind that fits to the columns of a network matrix, or to its rows if it is turned."""
+    height, width = constraints.names.shape
+    lines = [line for line in (rows_of(constraints.entries, height) if is_turned else columns_of(constraints.entries, width)) if line]
+    if not lines:
+        return _Kind(0, is_turned, "there are no coefficients")
+    rest = _without_units(lines)
+    for some, apart in ((lines, ""), (rest, "apart from variables of one row, " if is_turned else "apart from rows of one variable, ")):
+        if some and max(map(len, some)) <= 2:
+            found = _pairs_of_rows(some) if is_turned else _pairs_of_columns(some, constraints.names)
+            return replace(found, said=f"{apart}{found.said}")
+    if all(line[-1][0] - line[0][0] == len(line) - 1 and len({entry for _, entry in line}) == 1 for line in lines):
+        which = "the variables of each row are" if is_turned else "the rows of each variable are"
+        return _Kind(3, is_turned, f"{which} consecutive in the order of the model (intervals)")
+    which = "each row is a path in a tree whose arcs are the variables"
+    return _Kind(4, is_turned, which if is_turned else "each variable is a path in a tree whose arcs are the rows")
 
 
-def _are_intervals(matrix: Matrix) -> bool:
-    """Whether the nonzeros of each column are of one sign and consecutive."""
-    found: dict[int, list[tuple[int, int]]] = {}
-    for row, column, entry in matrix.nonzeros:
-        found.setdefault(column, []).append((row, entry))
-    return all(
-        len({entry for _, entry in column}) == 1 and column[-1][0] - column[0][0] == len(column) - 1
-        for column in found.values()
-    )
+def _without_units(lines: Sequence[_Line]) -> list[_Line]:
+    """The lines without the crossing lines that have one nonzero."""
+    counts = Counter(other for line in lines for other, _ in line)
+    found = [[(other, entry) for other, entry in line if counts[other] > 1] for line in lines]
+    return [line for line in found if line]
+
+
+def _are_differences(lines: Sequence[_Line]) -> bool:
+    """Whether two nonzeros of a line have opposite signs, and some line has two."""
+    pairs = [line for line in lines if len(line) == 2]
+    return bool(pairs) and all(one[1] != other[1] for one, other in pairs)
+
+
+def _pairs_of_rows(lines: Sequence[_Line]) -> _Kind:
+    """The kind of rows with at most two nonzeros."""
+    if _are_differences(lines):
+        return _Kind(1, True, "each row is at most a difference of two variables, as in a minimum cut")
+    return _Kind(2, True, "each row has at most two variables")
+
+
+def _pairs_of_columns(lines: Sequence[_Line], names: Names) -> _Kind:
+    """The kind of columns with at most two nonzeros."""
+    families = [family_of(name) for name in names.rows]
+    two = list(dict.fromkeys(families[row] for line in lines for row, _ in line))
+    is_one_of_each = all(len({families[row] for row, _ in line}) == len(line) for line in lines)
+    if len(two) == 2 and is_one_of_each and all(entry == 1 for line in lines for _, entry in line):
+        said = f"each variable is in at most one row of {two[0]} and one of {two[1]}, as in a transport or an assignment"
+        return _Kind(1, False, said)
+    if _are_differences(lines):
+        return _Kind(1, False, "each variable has at most one 1 and one -1, as in a flow")
+    return _Kind(2, False, "each variable is in at most two rows, as in a flow, a transport or an assignment")
 
 
 def _of_sums(tree: Tree) -> str:

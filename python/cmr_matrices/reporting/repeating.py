@@ -101,10 +101,10 @@ class _Commands:
         words += [] if report.time_limit is None else ["--time-limit", f"{report.time_limit:g}"]
         return shlex.join(["cmr-model", *words, "--relaxed", file, *self._source()])
 
-    def _matrix(self, name: str, choice: Sequence[str], reduces: bool) -> str:
+    def _matrix(self, name: str, choice: Sequence[str], reduces: bool, *, has_all_rows: bool = False) -> str:
         report = self._report
         words = [
-            *(["--unit-rows"] if report.rows.refused else []),
+            *(["--unit-rows"] if report.rows.refused and not has_all_rows else []),
             *(["--scale"] if report.rows.divided else []),
             *choice,
             *(["--reduce", f"{name}.list", "--parts", name] if reduces else []),
@@ -123,13 +123,14 @@ class _Commands:
 
     def _variables(self, found: Integers, asked: Asked) -> Iterable[Repeated]:
         """The commands for the columns of the variables that need not be declared as integers."""
-        names = self._report.rows.model.columns
-        name = f"{self._stem}-variables"
-        pattern = row_pattern([names[column] for column in found.fixed], names)
-        scale = ["--scale"] if self._report.rows.divided else []
-        words = ["model_to_matrix", *scale, "--without-columns", pattern, *self._source(), f"{name}.txt", f"{name}.names"]
-        if not asked.is_reduced:
-            yield from self._answers("the columns of the variables that need not be integer", name, asked, shlex.join(words))
+        model = self._report.rows.model
+        if len(model.rows) > LIMIT and not asked.is_reduced:
+            # The rows without these variables would make the matrix too large.
+            return
+        names, name = model.columns, f"{self._stem}-variables"
+        choice = ["--without-columns", row_pattern([names[column] for column in found.fixed], names)]
+        what = "the columns of the " + ("continuous variables" if found.suffices else "variables that need not be integer")
+        yield from self._answers(what, name, asked, self._matrix(name, choice, asked.is_reduced, has_all_rows=True))
 
     def _answers(self, what: str, name: str, asked: Asked, first: str) -> Iterable[Repeated]:
         """The commands for the parts of an answer, after the command that writes the matrix."""
@@ -196,7 +197,8 @@ class _Commands:
             f"printf '%s\\n' {lines} > {name}.violator",
             f"cmr check -i sparse {base}.txt {name}.violator | name_lines {base}.names",
         ]
-        return Repeated(what, tuple(commands) if len(columns) <= LIMIT else (), "accepted: no")
+        is_short = max(len(columns), len(taken)) <= LIMIT
+        return Repeated(what, tuple(commands) if is_short else (), "accepted: no")
 
 
 def _is_answer_of_tu(piece: Piece) -> bool:

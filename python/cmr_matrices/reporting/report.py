@@ -18,7 +18,7 @@ from ..matrix import Matrix
 from ..modellers import Format
 from ..model_objects import model_of
 from ..models import Model, read_model
-from ..mps import model_text
+from ..mps import rows_text
 from ..program import StrPath, find_program, unproved
 from ..trees import Tree
 from .asking import Asker, Limit, Tell
@@ -31,6 +31,7 @@ from .reducing import Reduced, reduced_model
 from .row_by_row import kept_row_by_row
 from .rows import ModelRows, NotWhole, RowFamily, said_rows
 from .sampling import near_lines
+from .solving import Solved, solved
 
 __all__ = ["FamilyLine", "ModelReport", "PIVOTS", "QUESTIONS", "model_report"]
 
@@ -44,6 +45,8 @@ _FEW = 6
 _SAMPLES = (100, 300, 1000)
 # The parts of all time at which the steps end.
 _WHOLE, _NEAR, _SMALLER, _FAMILIES, _ROWS, _COLUMNS, _ALL = 0.4, 0.55, 0.6, 0.72, 0.83, 0.95, 1.0
+
+_WHOLE_STEP = "the whole matrix"
 
 State = Literal["kept", "relaxed", "partly", "open"]
 
@@ -62,11 +65,16 @@ class FamilyLine:
     violator: Cells | None
     is_open: bool
     """Whether no violator shows that it cannot be kept: a question was left open, or was not asked."""
+    pattern: str = ""
+    """The pattern of its rows, if they have automatic names."""
 
 
 @dataclass(frozen=True)
 class ModelReport:
-    """What was found of a model. `verdict` is that on its whole matrix. `cmr check` accepted the evidence of every answer."""
+    """What was found of a model. `verdict` is that on its whole matrix.
+
+    `cmr check` accepted the evidence of each answer of the program. The report says which parts only arithmetic of the package decided.
+    """
 
     model: str
     """The name of the model, or the path of its file."""
@@ -95,6 +103,8 @@ class ModelReport:
     """The answer on the rows that are kept."""
     integers: Integers | None = field(repr=False)
     """Which variables have to stay integer, if the matrix is not totally unimodular."""
+    solved: Solved | None = field(repr=False)
+    """What GLPK finds of the linear program with its objective. It does not decide the verdict."""
     asked: int = field(repr=False)
     checked: int = field(repr=False)
     ended: Mapping[str, Limit] = field(repr=False)
@@ -159,9 +169,15 @@ class ModelReport:
 
         return report_json(self)
 
-    def to_mps(self) -> str:
-        """The constraints of the model in free MPS, without its objective. The commands of the report of a model in memory read it."""
-        return model_text(self.rows.model)
+    def to_mps(self, rows: Literal["all", "kept", "relaxed"] = "all") -> str:
+        """The model in free MPS, or the model with the rows that are kept or relaxed only. All columns are in each of these.
+
+        The commands of the report of a model in memory read it.
+        """
+        one_of("rows", rows, ("all", "kept", "relaxed"))
+        relaxed = set(self.relaxed)
+        every = range(len(self.rows.model.rows))
+        return rows_text(self.rows.model, [row for row in every if rows == "all" or (row in relaxed) == (rows == "relaxed")])
 
     def __str__(self) -> str:
         return self.to_text().rstrip("\n")
@@ -179,6 +195,7 @@ def model_report(
     clock_limit: float | None = None,
     program: StrPath | None = None,
     tell: Tell | None = None,
+    solve: bool = True,
 ) -> ModelReport:
     """The report of a model: is its constraint matrix totally unimodular, and why? If not, which rows spoil it, and which to relax?
 
@@ -189,7 +206,8 @@ def model_report(
     `lines` is the budget of the search, 0 to 24 lines (14); `pivots` how many pivots may be made on the way to a part that is left open,
     0 to 100 (20). `questions`, 1 to 100,000 (300), are the most for each search for rows to keep. `time_limit` is in seconds,
     0 to 2,000,000, of processor time for the whole call: the search ends then, and `ended` names the steps that are not done. `clock_limit`
-    is the same by the clock. `program` is the program's path. `tell` is called with each question.
+    is the same by the clock. `program` is the program's path. `tell` is called with each question. If `solve` is true, and if the model
+    has a linear objective, GLPK solves its linear program at the end.
     """
     start, clock_start = processor_seconds(), time.monotonic()
     whole_number("questions", questions, 1, 100_000)
@@ -211,6 +229,7 @@ def model_report(
         clock_start=clock_start,
     )
     found = _Work(asker, rows, questions).done()
+    solution = _solution(asker, rows.model) if solve else None
     return ModelReport(
         model=source.name,
         verdict="no" if rows.refused or found.minimal is not None else found.whole.verdict,
@@ -223,6 +242,7 @@ def model_report(
         form=form,
         data=None if data is None else os.fspath(data),
         **vars(found),
+        solved=solution,
         asked=asker.asked,
         checked=asker.checked,
         ended=dict(asker.ended),
@@ -230,6 +250,17 @@ def model_report(
         clock_limit=clock_seconds,
         questions=questions,
     )
+
+
+def _solution(asker: Asker, model: Model) -> Solved | None:
+    """What GLPK finds in the time that is left."""
+    step = "the linear program with its objective"
+    asker.begin(step, 1, _ALL)
+    try:
+        return None if asker.is_spent else solved(model, asker.left())
+    except TimeLimitReached:
+        asker.ended[step] = "time"
+        return None
 
 
 @dataclass(frozen=True)
@@ -282,6 +313,11 @@ class _Found:
     integers: Integers | None = None
 
 
+def _violators(kept: Kept | None, within: Mapping[str, Kept]) -> list[Cells]:
+    """All violators that the searches have found."""
+    return [cells for search in (kept, *within.values()) if search for _, cells in search.violators]
+
+
 class _Work:
     """The steps of a report, one after another."""
 
@@ -292,32 +328,64 @@ class _Work:
         self._families = rows.families
 
     def done(self) -> _Found:
-        """All that is found."""
+        """All that is found. If the time of the whole matrix was over, it is asked again in the time that the other steps leave."""
         unit = self._rows.unit_rows
-        self._asker.begin("the whole matrix", self._questions, _WHOLE)
+        whole, violator = self._first(unit)
+        found = self._with(whole, violator)
+        again = self._again(unit) if whole.is_over and found.minimal is None else None
+        if again is not None and again.violator is not None:
+            found = replace(found, whole=again, minimal=minimal_violator(self._asker, again.violator, _ALL))
+        elif again is not None:
+            found = self._with(again, None)
+        return self._explained(found)
+
+    def _first(self, unit: tuple[int, ...]) -> tuple[Asked, Cells | None]:
+        """The answer on all rows with entries -1, 0 and 1, and a violator of them."""
+        self._asker.begin(_WHOLE_STEP, self._questions, _WHOLE)
         whole = self._asker.ask(unit, pivots=False, cheap=1.0)
         violator = whole.violator or (self._near_violator(whole) if whole.verdict == "undecided" else None)
         if violator is None:
-            self._asker.begin("the whole matrix", self._questions, _WHOLE)
+            self._asker.begin(_WHOLE_STEP, self._questions, _WHOLE)
             whole = self._asker.ask(unit)
             violator = whole.violator
-        reduced = reduced_model(self._rows.constraints(unit), *self._asker.reduced(unit))
-        if whole.verdict == "yes" and not self._rows.refused:
-            return _Found(whole, reduced, self._reason(whole), None, self._lines(None, {}), None, {}, whole)
+        if whole.verdict != "undecided":
+            self._asker.ended.pop(_WHOLE_STEP, None)
+        return whole, violator
+
+    def _again(self, unit: tuple[int, ...]) -> Asked | None:
+        """The answer on all these rows in the time that is left, if there is one."""
+        self._asker.begin(_WHOLE_STEP, self._questions, _ALL)
+        if self._asker.is_spent:
+            return None
+        answer = self._asker.ask(unit, cheap=1.0)
+        if answer.verdict == "undecided":
+            return None
+        self._asker.ended.pop(_WHOLE_STEP, None)
+        return answer
+
+    def _with(self, whole: Asked, violator: Cells | None) -> _Found:
+        """What follows from the answer on all rows: a small violator, and the rows that are kept."""
+        reduced = reduced_model(self._rows.constraints(whole.rows), *self._asker.reduced(whole.rows))
         minimal = minimal_violator(self._asker, violator, _SMALLER) if violator is not None else None
         kept, lines, within, rest = self._relaxed(whole, minimal)
+        named = {self._families[number].name: search for number, search in within.items()}
         # If the whole matrix is left open, a violator of some of its rows decides it.
-        others = [cells for search in (kept, *within.values()) if search for _, cells in search.violators]
+        others = _violators(kept, named)
         if minimal is None and others:
             smaller = min(others, key=lambda cells: len(cells.rows) + len(cells.columns))
             minimal = minimal_violator(self._asker, smaller, _ALL)
-        reason = self._reason(rest) if rest is not None else None
-        known = others + ([minimal.cells] if minimal is not None else [])
+        return _Found(whole, reduced, None, minimal, lines, kept, named, rest)
+
+    def _explained(self, found: _Found) -> _Found:
+        """The same with the reasons, and with the variables that have to stay integer."""
+        reason = self._reason(found.rest) if found.rest is not None else None
+        if found.whole.verdict == "yes" and not self._rows.refused:
+            return replace(found, reason=reason)
+        known = _violators(found.kept, found.within) + ([found.minimal.cells] if found.minimal is not None else [])
         integers = integers_of(self._asker, self._rows, self._questions, _COLUMNS, known)
         if integers.answer is not None:
             integers = replace(integers, reason=self._reason(integers.answer))
-        named = {self._families[number].name: search for number, search in within.items()}
-        return _Found(whole, reduced, reason, minimal, lines, kept, named, rest, integers)
+        return replace(found, reason=reason, integers=integers)
 
     def _relaxed(
         self, whole: Asked, minimal: Minimal | None
@@ -355,7 +423,7 @@ class _Work:
     def _reason(self, asked: Asked) -> Reason:
         """Why the rows that are kept are totally unimodular, part by part."""
         self._asker.begin("why they are totally unimodular", self._questions, _ALL)
-        found = [reason_of_structure(piece.structure) for piece in asked.pieces if piece.structure is not None]
+        found = [reason_of_structure(it.structure, it.constraints) for it in asked.pieces if it.structure is not None]
         found += [
             self._reason_of(piece.matrix, piece.tree)
             for piece in asked.pieces
@@ -414,5 +482,7 @@ class _Work:
         if state == "relaxed" and is_open and not family.refused:
             state = "open"
         names = self._rows.model.rows
-        said = said_rows(family.name, [names[row] for row in sorted((*family.rows, *family.refused))])
-        return FamilyLine(family.name, said, count, state, relaxed, family.refused, violator, is_open)
+        name = family.name.removesuffix(f": {family.pattern}")
+        said = said_rows(name, [names[row] for row in sorted((*family.rows, *family.refused))])
+        said = f"{said} ({family.pattern})" if family.pattern else said
+        return FamilyLine(family.name, said, count, state, relaxed, family.refused, violator, is_open, family.pattern)

@@ -5,14 +5,15 @@ from __future__ import annotations
 from collections.abc import Iterable, Iterator, Mapping, Sequence
 from dataclasses import dataclass, field
 from fractions import Fraction
+from functools import cached_property
 from math import ceil, floor
 from typing import Literal
 
 from ..constraints import Constraints, Scaling, rows_divided
 from ..errors import BadInput
-from ..families import families_of
 from ..lines import Names
 from ..models import Ends, Model
+from .patterns import row_groups
 
 __all__ = ["Axis", "ModelRows", "NotWhole", "RowFamily", "said_rows"]
 
@@ -28,6 +29,8 @@ class RowFamily:
     name: str
     rows: tuple[int, ...]
     refused: tuple[int, ...] = ()
+    pattern: str = ""
+    """The pattern of the rows, if their names are automatic and the family is divided."""
 
 
 @dataclass(frozen=True)
@@ -82,16 +85,17 @@ class ModelRows:
         """The rows whose entries are -1, 0 and 1."""
         return tuple(row for row in self.entries if row not in self.refused)
 
-    @property
+    @cached_property
     def families(self) -> tuple[RowFamily, ...]:
         """The families of all rows, in the order of their first ones."""
         return tuple(
             RowFamily(
-                name,
-                tuple(row for row in rows if row not in self.refused),
-                tuple(row for row in rows if row in self.refused),
+                group.name,
+                tuple(row for row in group.rows if row not in self.refused),
+                tuple(row for row in group.rows if row in self.refused),
+                group.pattern,
             )
-            for name, rows in families_of(self.model.rows).items()
+            for group in row_groups(self.model, self.entries)
         )
 
     def columns_of(self, rows: Iterable[int]) -> tuple[int, ...]:

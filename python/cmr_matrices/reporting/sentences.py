@@ -5,10 +5,12 @@ from __future__ import annotations
 from collections.abc import Sequence
 
 from ..model_texts import NONLINEAR_OBJECTIVE, ORDERED_SETS, SEMICONTINUOUS
+from ..words import LIMIT
 from .integers import ColumnFamily
 from .pieces import Asked
 from .report import FamilyLine, ModelReport
 from .rows import NotWhole
+from .solving import Solved
 
 __all__ = [
     "counted",
@@ -17,12 +19,14 @@ __all__ = [
     "listed",
     "of_arithmetic",
     "of_coefficients",
+    "of_families",
     "of_integers",
     "of_left_out",
     "of_limits",
     "of_reductions",
     "of_relaxation",
     "of_sides",
+    "of_solution",
     "of_verdict",
     "of_violator",
     "of_within",
@@ -113,6 +117,31 @@ def _of_rounding(found: Sequence[NotWhole]) -> str:
     return f" Round {listed(rounded, _SOME)}: all variables there are integer, so no integral solution is lost." if rounded else ""
 
 
+def of_solution(report: ModelReport) -> list[str]:
+    """Whether GLPK's optimal vertex of this model is integral."""
+    found = report.solved
+    if found is None:
+        return []
+    if found.state != "optimal":
+        return [f"GLPK says that the linear program of this model is {found.state}."]
+    value = f"the value {found.value:.12g}"
+    said = f"For this objective and these right-hand sides only, GLPK's optimal vertex has {value} and is "
+    if not found.fractional:
+        has_others = any(report.rows.model.whole) and not all(report.rows.model.whole)
+        return [f"{said}integral{' in the integer variables' if has_others else ''}."]
+    names = report.rows.model.columns
+    values = listed([f"{names[column]} = {value:.4g}" for column, value in found.fractional], _SOME)
+    return [f"{said}not integral: {values}. {_of_best(found)}"]
+
+
+def _of_best(found: Solved) -> str:
+    """The gap between the linear program and the integral solutions."""
+    if found.best is None or found.value is None:
+        return "There is no integral solution." if found.is_best else "GLPK found no integral solution in its time."
+    which = "The best integral value is" if found.is_best else "The best integral value that GLPK found in its time is"
+    return f"{which} {found.best:.12g}, a gap of {abs(found.best - found.value):.9g}."
+
+
 def of_coefficients(report: ModelReport) -> list[str]:
     """The rows with other coefficients, family by family, and the rows that were divided."""
     model, said = report.rows.model, []
@@ -172,14 +201,23 @@ def of_relaxation(report: ModelReport) -> list[str]:
     if not is_advice(report):
         return [sentence for sentence in [*said, *of_left_out(report)] if sentence]
     said.append(
-        f"In a Lagrangian relaxation {subject} would move to the objective, and in a decomposition to the master problem. The bound is "
-        "that of the linear program, since the remaining rows have integral vertices if their right-hand sides are integers (Geoffrion 1974)."
+        f"In a Lagrangian relaxation {subject} would move to the objective, and in a decomposition to the master problem. "
+        "The bound is that of the linear program, since the remaining rows have integral vertices if their right-hand sides are integers "
+        "(Geoffrion 1974)."
     )
     return [sentence for sentence in [*said, *of_left_out(report)] if sentence]
 
 
+def of_families(report: ModelReport) -> str:
+    """What a family of rows is."""
+    said = "The names of one family are the same up to digits and bracketed text."
+    if any(family.pattern for family in report.families):
+        said += " Automatic names are divided by the pattern of their rows: i, j, .. are indexes that all variables of a row share."
+    return said
+
+
 def is_advice(report: ModelReport) -> bool:
-    """Whether each row to relax has a reason: a violator or its coefficients. If a question is open, nothing is known to need relaxation."""
+    """Whether each row to relax has a reason: a violator or its coefficients. If a question is open, none is advised."""
     return report.verdict != "undecided" and not any(family.is_open for family in report.families)
 
 
@@ -193,18 +231,20 @@ def of_integers(report: ModelReport) -> list[str]:
         return [f"No answer by this rule: the continuous variable {name} has a coefficient other than -1, 0 and 1."]
     if found.answer is None:
         return ["No family of variables was found that can be continuous by this rule."]
-    fixed = [_said_fixed(report, family) for family in found.families if family.fixed]
+    fixed = listed([_said_fixed(report, family) for family in found.families if family.fixed], _FAMILIES)
     others = [family.said for family in found.families if len(family.fixed) < len(family.columns)]
     count = counted(len(found.fixed), "variable")
+    is_sure = bool(report.rows.model.sides) and not found.not_whole
+    given = "" if is_sure else ", if the right-hand sides and bounds are integers"
     said = []
     if not found.is_declared:
         said.append("The model declares no variable as integer. If all variables have to be integral:")
-    said.append(
-        f"Declare only {listed(fixed, _FAMILIES)} as integer ({count}); {listed(others, _FAMILIES)} can be continuous "
-        f"({counted(len(found.free), 'variable')})."
-    )
-    is_sure = bool(report.rows.model.sides) and not found.not_whole
-    given = "" if is_sure else ", if the right-hand sides and bounds are integers"
+    if found.suffices:
+        verb = "is" if sum(1 for family in found.families if family.fixed) == 1 else "are"
+        said.append(f"Only {fixed} {verb} declared as integer ({count}), and that suffices{given}.")
+    else:
+        free = counted(len(found.free), "variable")
+        said.append(f"Declare only {fixed} as integer ({count}); {listed(others, _FAMILIES)} can be continuous ({free}){given}.")
     said.append(
         f"For each integral value of the {count}, all vertices of the linear program in the other variables are integral{given}: "
         f"the columns of the others are totally unimodular, and the coefficients of the {count} are integers."
@@ -218,7 +258,7 @@ def of_integers(report: ModelReport) -> list[str]:
         "-1, 0 and 1."
     )
     said.append(is_small if found.is_smallest else "Another choice may leave fewer variables integer.")
-    return said
+    return [*said, *of_left_out(report)]
 
 
 def _said_fixed(report: ModelReport, family: ColumnFamily) -> str:
@@ -234,7 +274,24 @@ def of_arithmetic(report: ModelReport) -> list[str]:
     said = [_of_arithmetic(asked, "the matrix")]
     if report.integers is not None and report.integers.answer is not None:
         said.append(_of_arithmetic(report.integers.answer, "the matrix of the variables that can be continuous,"))
+    said.append(_of_cycles(report))
     return [sentence for sentence in said if sentence]
+
+
+def _of_cycles(report: ModelReport) -> str:
+    """That only arithmetic has checked the violators that are too large for the program."""
+    cells = [family.violator for family in report.families] + ([report.minimal.cells] if report.minimal else [])
+    searches = [report.kept, *report.within.values(), report.integers and report.integers.kept]
+    cells += [violator for search in searches if search for _, violator in search.violators]
+    large = {it for it in cells if it is not None and it.is_too_large}
+    if not large:
+        return ""
+    sizes = listed([f"{len(it.rows)} rows" for it in sorted(large, key=lambda it: len(it.rows))], _SOME)
+    cycles, them = ("an odd cycle", "it") if len(large) == 1 else ("odd cycles", "them")
+    return (
+        f"Not proved: {cycles} of {sizes}, larger than the {LIMIT} rows that the program reads; arithmetic of this package checked {them} "
+        "line by line."
+    )
 
 
 def _of_arithmetic(asked: Asked, matrix: str) -> str:

@@ -40,8 +40,9 @@ class _Layout:
 
     def __init__(self, report: ModelReport) -> None:
         model = report.rows.model
-        self.rows, self.row_bands = _ordered(model.rows)
-        self.columns, self.column_bands = _ordered(model.columns)
+        rows = {family.name: sorted((*family.rows, *family.refused)) for family in report.rows.families}
+        self.rows, self.row_bands = _ordered(rows)
+        self.columns, self.column_bands = _ordered(families_of(model.columns))
         self.height, self.width = len(model.rows), len(model.columns)
         self.has_row_names = self.height <= _NAMED
         self.has_column_names = self.width <= _NAMED
@@ -67,11 +68,11 @@ def _width(name: str) -> float:
     return sum(_WIDEST if character in "WMmw@%" else _WIDE for character in name[:_SHORT])
 
 
-def _ordered(names: Sequence[str]) -> tuple[dict[int, int], list[_Band]]:
-    """The place of each line, and the bands of the families in the order of their first lines."""
+def _ordered(families: Mapping[str, Sequence[int]]) -> tuple[dict[int, int], list[_Band]]:
+    """The place of each line, and the bands of the families, in their order."""
     places: dict[int, int] = {}
     bands = []
-    for family, lines in families_of(names).items():
+    for family, lines in families.items():
         bands.append(_Band(family, len(places), len(places) + len(lines)))
         for line in lines:
             places[line] = len(places)

@@ -13,6 +13,7 @@ from .minimal import Minimal
 from .repeating import repeated
 from .report import FamilyLine, ModelReport
 from .rows import NotWhole
+from .solving import Solved
 
 __all__ = ["report_json", "report_text"]
 
@@ -32,6 +33,7 @@ def _lines(report: ModelReport) -> Iterator[str]:
     yield from sentences.of_verdict(report)
     if report.verdict == "yes":
         yield sentences.of_sides(report)
+    yield from sentences.of_solution(report)
     yield from _titled("Limits", sentences.of_limits(report))
     yield from _titled("Coefficients", sentences.of_coefficients(report))
     if report.minimal is not None:
@@ -87,6 +89,8 @@ def _families(report: ModelReport) -> Iterator[str]:
         yield f"{family.rows:6}  {len(family.relaxed):7}  {_STATES[family.state]:7}  {said}"
     if len(ordered) > _MOST:
         yield f"and {len(ordered) - _MOST} other families"
+    if any(family.pattern for family in report.families):
+        yield sentences.of_families(report)
 
 
 def _tree(report: ModelReport) -> Iterator[str]:
@@ -127,6 +131,7 @@ def _object(report: ModelReport) -> dict[str, Any]:
         "families": [_family(report, family) for family in report.families],
         "relax": _relaxation(report),
         "integers": _integers(report, report.integers),
+        "solved": _solved(report, report.solved),
         "arithmetic": sentences.of_arithmetic(report),
         "open": None if report.verdict != "undecided" else {"why": report.whole.why_open} | _open(report),
         "ended": dict(report.ended),
@@ -179,12 +184,24 @@ def _integers(report: ModelReport, found: Integers | None) -> dict[str, Any] | N
     return {
         "declare": [names[column] for column in found.fixed] if found.answer is not None else None,
         "continuous": [names[column] for column in found.free] if found.answer is not None else None,
+        "suffices": found.suffices,
         "smallest": found.is_smallest,
         "declared_in_model": found.is_declared,
         "not_whole": [_not_whole(it) for it in found.not_whole],
         "class": None if found.reason is None else found.reason.word,
         "families": [_column_family(report, family) for family in found.families],
         "tree": [] if found.answer is None else _outline(found.answer),
+    }
+
+
+def _solved(report: ModelReport, found: Solved | None) -> dict[str, Any] | None:
+    names = report.rows.model.columns
+    return None if found is None else {
+        "state": found.state,
+        "value": found.value,
+        "fractional": {names[column]: value for column, value in found.fractional},
+        "best": found.best,
+        "is_best": found.is_best,
     }
 
 

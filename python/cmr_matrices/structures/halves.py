@@ -14,7 +14,7 @@ from dataclasses import dataclass
 
 from .sparse import Sparse
 
-__all__ = ["OddCycle", "are_halves", "has_two_at_most", "is_odd_cycle", "signs_or_cycle"]
+__all__ = ["OddCycle", "are_halves", "cycle_determinant", "has_two_at_most", "is_odd_cycle", "signs_or_cycle"]
 
 _STARTS = 60
 """From how many rows of an odd cycle a shorter one is searched."""
@@ -43,6 +43,8 @@ def are_halves(columns: Sparse, signs: Sequence[int]) -> bool:
 def is_odd_cycle(columns: Sparse, cycle: OddCycle) -> bool:
     """Whether each line of the submatrix has two nonzeros, and its entries have the sum 2 modulo 4."""
     wanted = set(cycle.rows)
+    if len(wanted) != len(cycle.rows) or len(set(cycle.columns)) != len(cycle.columns):
+        return False
     counts = dict.fromkeys(cycle.rows, 0)
     total = 0
     for column in cycle.columns:
@@ -53,6 +55,44 @@ def is_odd_cycle(columns: Sparse, cycle: OddCycle) -> bool:
             counts[row] += 1
             total += entry
     return bool(counts) and set(counts.values()) == {2} and total % 4 == 2
+
+
+def cycle_determinant(columns: Sparse, cycle: OddCycle) -> int | None:
+    """The determinant of an odd cycle, 2 or -2, or None if its lines make several cycles.
+
+    Two products of its nonzeros take one of each line, and the walk along the cycle takes them in turn.
+    """
+    rows = {row: at for at, row in enumerate(cycle.rows)}
+    nonzeros = [[(rows[row], entry) for row, entry in columns[column] if row in rows] for column in cycle.columns]
+    near: dict[int, list[int]] = {at: [] for at in rows.values()}
+    for column, found in enumerate(nonzeros):
+        for row, _ in found:
+            near[row].append(column)
+    products, orders = [1, 1], [[0] * len(rows), [0] * len(rows)]
+    column, row, length = 0, nonzeros[0][0][0], 0
+    while length == 0 or column != 0:
+        own, other = sorted(nonzeros[column], key=lambda it: it[0] != row)
+        for number, (taken, entry) in enumerate((own, other)):
+            products[number] *= entry
+            orders[number][column] = taken
+        row = other[0]
+        column = next(it for it in near[row] if it != column)
+        length += 1
+    if length != len(rows):
+        return None
+    return sum(product * _sign(order) for product, order in zip(products, orders))
+
+
+def _sign(order: Sequence[int]) -> int:
+    """The sign of a permutation."""
+    sign, seen = 1, [False] * len(order)
+    for start in range(len(order)):
+        at = start
+        while not seen[at]:
+            seen[at] = True
+            at = order[at]
+            sign = -sign if at != start else sign
+    return sign
 
 
 def signs_or_cycle(columns: Sparse, height: int) -> tuple[int, ...] | OddCycle:
