@@ -9,6 +9,7 @@ import unittest
 import cmr_matrices as cmr
 from cmr_matrices import BadInput, Matrix, Matroid, check, excluded_minor
 from tests.support import FANO, needs_module, needs_program
+from tests.test_represented import bases
 
 TREES = {"regular": cmr.is_regular, "graphic": cmr.is_graphic, "cographic": cmr.is_cographic}
 KNOWN = {
@@ -19,6 +20,42 @@ KNOWN = {
     "R12": "yes no no",
 }
 NOT_REGULAR = ("F7", "F7*", "AG(3,2)", "T8", "U2,4", "W^4", "F7-", "P7", "R9*", "AG(2,3)")
+
+
+class Theorem(unittest.TestCase):
+    def test_regular_over_three_elements(self) -> None:
+        """A matrix is totally unimodular if and only if its matroid over GF(3) has the bases of its support over GF(2).
+
+        The bases are found by brute force. A matroid with a matrix over both fields is regular (Tutte 1958), and then the binary one by the
+        same basis is the support. Pivots and signs of lines keep the answer.
+        """
+        draw, yes = random.Random(32), 0
+        for _ in range(300):
+            shape = draw.randint(2, 4), draw.randint(2, 4)
+            rows = [[draw.choice((0, 1, -1, 1)) for _ in range(shape[1])] for _ in range(shape[0])]
+            wanted = is_totally_unimodular(rows)
+            yes += wanted
+            matroid = Matroid.of(rows, 3)
+            self.assertEqual(bases(matroid) == bases(Matroid.of(matroid.matrix.support())), wanted, rows)
+            for _ in range(3 if matroid.matrix.nonzeros else 0):
+                row, column, _ = draw.choice(matroid.matrix.nonzeros)
+                matroid = matroid.pivot(matroid.basis[row], matroid.others[column])
+                self.assertEqual(is_totally_unimodular(matroid.matrix.to_lists()), wanted)
+                signs = draw.choices((1, -1), k=shape[0])
+                signed = [[entry * sign for entry in line] for line, sign in zip(matroid.matrix.to_lists(), signs)]
+                self.assertEqual(is_totally_unimodular(signed), wanted)
+        self.assertIn(yes, range(60, 240))
+
+
+def is_totally_unimodular(rows: list[list[int]]) -> bool:
+    """Whether each square submatrix has determinant -1, 0 or 1: by all of them."""
+    height, width = len(rows), len(rows[0])
+    return all(
+        Matrix.of([[rows[row][column] for column in columns] for row in chosen]).determinant() in (-1, 0, 1)
+        for size in range(1, min(height, width) + 1)
+        for chosen in itertools.combinations(range(height), size)
+        for columns in itertools.combinations(range(width), size)
+    )
 
 
 @needs_program
@@ -52,6 +89,23 @@ class Questions(unittest.TestCase):
         for ask in (cmr.is_balanced, cmr.has_no_cycle_fault):
             with self.assertRaisesRegex(BadInput, "its matroid does not determine; ask about `matroid.matrix`"):
                 ask(binary)  # type: ignore[arg-type]
+
+    def test_evidence_on_another_matroid_is_refused(self) -> None:
+        """Over GF(2) this matrix represents a graphic matroid, and over GF(3) a whirl, with a violator of the same matrix."""
+        rows = [[1, 1, 0], [0, 1, 1], [1, 0, 1]]
+        wheel, whirl = Matroid.of(rows), Matroid.of(rows, 3)
+        for ask in TREES.values():
+            for one, other in ((wheel, whirl), (whirl, wheel)):
+                answer = ask(one, certificate=True)
+                self.assertTrue(check(one, answer))
+                self.assertRegex(check(other, answer).rule or "", "the answer is for the other field: of this matroid .* is asked")
+        violator = whirl.is_regular().violator
+        assert violator is not None
+        for evidence in (violator, violator.to_text()):
+            self.assertEqual([check(given, evidence).accepted for given in (whirl, rows, wheel)], [True, True, False])
+        self.assertIn("may be regular", check(wheel, violator).rule or "")
+        with self.assertRaisesRegex(BadInput, "its matroid does not determine"):
+            check(wheel, cmr.is_balanced(rows))
 
     def test_evidence_has_the_names_of_elements(self) -> None:
         wheel = Matroid.from_named("W4").relabelled(range(1, 9))
