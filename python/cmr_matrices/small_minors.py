@@ -8,23 +8,24 @@ from __future__ import annotations
 
 from typing import TYPE_CHECKING
 
+from .asked import matrix_given
 from .clock import Clock
+from .lines import Line
 from .mappings import automorphisms_of, fingerprint, isomorphism_of
 from .matroid_values import Label
+from .minor_search import display, line_tableau
+from .minor_values import Minor
 
 if TYPE_CHECKING:
     from .represented import Matroid
 
-__all__ = ["Removed", "minor_like"]
-
-Removed = tuple[frozenset[Label], frozenset[Label]]
-"""The elements that are deleted, and those that are contracted."""
+__all__ = ["minor_like"]
 
 _Kept = tuple["Matroid", tuple[tuple[Label, ...], tuple[Label, ...]]]
 
 
-def minor_like(whole: Matroid, wanted: Matroid, clock: Clock) -> Removed | None:
-    """The elements to delete and to contract for a minor that is isomorphic to a matroid, or None if there is none."""
+def minor_like(whole: Matroid, wanted: Matroid, clock: Clock) -> Minor | None:
+    """A minor that is isomorphic to a matroid, or None if there is none."""
     more_rank, more_corank = whole.rank() - wanted.rank(), whole.corank() - wanted.corank()
     if more_rank < 0 or more_corank < 0:
         return None
@@ -33,9 +34,24 @@ def minor_like(whole: Matroid, wanted: Matroid, clock: Clock) -> Removed | None:
         found = _smaller(found, clock, is_contracted=step < more_rank)
     for minor, (deleted, contracted) in found:
         clock.left()
-        if isomorphism_of(minor, wanted, clock) is not None:
-            return frozenset(deleted), frozenset(contracted)
+        found_map = isomorphism_of(wanted, minor, clock)
+        if found_map is not None:
+            return _shown(whole, wanted, found_map, deleted, contracted)
     return None
+
+
+def _shown(
+    whole: Matroid, wanted: Matroid, found: dict[Label, Label], deleted: tuple[Label, ...], contracted: tuple[Label, ...]
+) -> Minor:
+    """The minor in the matrix of the whole matroid, with its elements in the order of the wanted matroid."""
+    matrix = matrix_given(whole)
+    lines = {element: Line("row", row) for row, element in enumerate(whole.basis)}
+    lines |= {element: Line("column", column) for column, element in enumerate(whole.others)}
+    tableau = line_tableau(matrix, whole.field)
+    tableau.apply([(lines[element], "delete") for element in deleted])
+    tableau.apply([(lines[element], "contract") for element in contracted])
+    placed = display(tableau, matrix, [lines[found[element]] for element in wanted.elements])
+    return Minor(wanted, whole.field, matrix.shape, *placed, whole.elements, matrix.names)
 
 
 def _smaller(found: list[_Kept], clock: Clock, *, is_contracted: bool) -> list[_Kept]:

@@ -5,6 +5,7 @@ from __future__ import annotations
 import itertools
 import random
 import unittest
+from collections import Counter
 
 import cmr_matrices as cmr
 from cmr_matrices import BadInput, Matrix, Matroid, check, excluded_minor
@@ -221,6 +222,46 @@ class Sums(unittest.TestCase):
             self.assertEqual(self.cycles(found), sums)
             self.assertEqual(found.connectivity([e for e in found.elements if isinstance(e, tuple) and e[0] == "one"]), 2)
         self.assertGreater(made, 3)
+
+    def test_summands(self) -> None:
+        """Their sum has the bases of the whole, and labels stay, for all separations of random matroids with eight or nine elements."""
+        draw, made = random.Random(42), Counter[int]()
+        for number in range(24):
+            field = 2 + number % 2
+            rows = [[draw.choice((0, 0, 1) if field == 2 else (0, 1, -1)) for _ in range(4 + (number % 4 == 0))] for _ in range(4)]
+            names = range(4), [("c", column) for column in range(len(rows[0]))]
+            whole = Matroid.of(rows, field, row_names=names[0], column_names=names[1])  # type: ignore[arg-type]
+            for side in draw.sample([x for size in (2, 4) for x in itertools.combinations(whole.elements, size)], 30):
+                between = whole.connectivity(side)
+                if between > 2 or between == 2 and (field == 3 or len(side) < 4):
+                    with self.assertRaises(BadInput):
+                        whole.summands(side)
+                    continue
+                made[between] += 1
+                one, two = whole.summands(side)
+                sums = (one.direct_sum, lambda it: one.two_sum(it, "p", "p"), lambda it: one.three_sum(it, list("pqr")))
+                self.assertEqual(set(sums[between](two).bases()), set(whole.bases()))
+                self.assertEqual(set(one.elements) - set("pqr"), set(side))
+        self.assertGreater(min(made[0], made[1], made[2]), 2, made)
+
+    def test_summands_of_known_sums(self) -> None:
+        k5, plane = Matroid.from_named("K5"), Matroid.from_named("F7").relabelled({"1": "1-2", "2": "1-3", "4": "2-3"})
+        triangle = ["1-2", "1-3", "2-3"]
+        one, two = k5.three_sum(plane, triangle).summands([e for e in k5.elements if e not in triangle], triangle)
+        self.assertEqual((one.is_isomorphic(k5), two.is_isomorphic(plane)), (True, True))
+        self.assertEqual((one.is_circuit(triangle), two.is_circuit(triangle)), (True, True))
+        for wrong, piece in [
+            (lambda: k5.summands(["1-2", "1-3"]), "each side of a 3-sum has 4 elements or more"),
+            (lambda: k5.summands(["1-2"]), "each side of a 2-sum has 2 elements or more"),
+            (lambda: k5.summands([]), "each side of a 1-sum has 1 elements or more"),
+            (lambda: k5.summands(["1-2", "3-4", "1-5", "2-4"]), "are no separation of order 1, 2, or over GF.2. 3"),
+            (lambda: k5.summands(["x"]), "there is no element 'x'"),
+            (lambda: one.summands(one.elements[:1]), "each side of a 2-sum"),
+            (lambda: Matroid.of([[1, 1, 1]]).summands(["r0", "c0"], ["c1"]), "have the elements {c1}"),
+            (lambda: Matroid.of([[1, 1, 1]]).summands(["r0", "c0"], []), "1 elements in common, and here are 0 names"),
+        ]:
+            with self.assertRaisesRegex(BadInput, piece):
+                wrong()
 
     def cycles(self, matroid: Matroid) -> set[frozenset[object]]:
         """The disjoint unions of circuits of a binary matroid: the sums of fundamental circuits."""
