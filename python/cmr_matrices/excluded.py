@@ -32,7 +32,7 @@ from .lines import Names
 from .matrix import Matrix
 from .matroid_values import Label
 from .matroids import field_of_named, named
-from .minor_values import MinorValue, elements_after
+from .minor_values import Minor, elements_after
 from .tableaux import Field
 from .words import LIMIT, Words
 
@@ -76,7 +76,7 @@ def minor_class(name: str) -> MinorClass:
 
 
 @dataclass(frozen=True)
-class ExcludedMinor(MinorValue):
+class ExcludedMinor(Minor):
     """A minor of the matroid of a matrix by which the matrix is outside of a class.
 
     After the `pivots`, made over the field one after another in the whole matrix, its submatrix on `rows` and `columns`, in this order, is

@@ -20,10 +20,10 @@ from .tableaux import Field
 if TYPE_CHECKING:
     from .represented import Matroid
 
-__all__ = ["Minor", "MinorValue", "elements_after"]
+__all__ = ["FoundMinor", "Minor", "elements_after"]
 
 
-class MinorValue(ABC):
+class Minor(ABC):
     """A minor of the matroid of a matrix that is another matroid, up to the names of elements.
 
     After the `pivots`, made over the field one after another in the whole matrix, its submatrix on `rows` and `columns`, in this order, is
@@ -156,7 +156,7 @@ class MinorValue(ABC):
 
 
 @dataclass(frozen=True)
-class Minor(MinorValue):
+class FoundMinor(Minor):
     """A minor of a matroid that is isomorphic to another `matroid`, as `Matroid.find_minor` returns it."""
 
     matroid: Matroid = dataclass_field(repr=False)

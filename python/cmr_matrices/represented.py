@@ -20,7 +20,7 @@ from .matroid_sums import Columns, direct_sum, summands, three_sum, two_sum
 from .matroid_trees import Decomposition, decomposed
 from .matroid_values import Label, labels_of, tableau_of_columns
 from .matroids import field_of_named, named
-from .minor_values import Minor
+from .minor_values import FoundMinor
 from .minors import excluded_minor
 from .oracle import Oracle
 from .questions import is_cographic, is_graphic, is_regular, is_series_parallel
@@ -226,7 +226,7 @@ class Matroid(Oracle):
         """Whether two matroids are the same up to the labels of their elements. `time_limit` is in seconds, 0 to 2,000,000."""
         return self.isomorphism(other, time_limit=time_limit) is not None
 
-    def find_minor(self, other: Matroid, *, time_limit: float | None = None) -> Minor | None:
+    def find_minor(self, other: Matroid, *, time_limit: float | None = None) -> FoundMinor | None:
         """A minor that is isomorphic to another matroid, with the elements that it has, or None if there is no such minor.
 
         The matroid has to be small, with up to about 15 elements. `time_limit` is in seconds, 0 to 2,000,000.

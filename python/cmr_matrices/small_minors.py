@@ -14,7 +14,7 @@ from .lines import Line
 from .mappings import automorphisms_of, fingerprint, isomorphism_of
 from .matroid_values import Label
 from .minor_search import display, line_tableau
-from .minor_values import Minor
+from .minor_values import FoundMinor
 
 if TYPE_CHECKING:
     from .represented import Matroid
@@ -24,7 +24,7 @@ __all__ = ["minor_like"]
 _Kept = tuple["Matroid", tuple[tuple[Label, ...], tuple[Label, ...]]]
 
 
-def minor_like(whole: Matroid, wanted: Matroid, clock: Clock) -> Minor | None:
+def minor_like(whole: Matroid, wanted: Matroid, clock: Clock) -> FoundMinor | None:
     """A minor that is isomorphic to a matroid, or None if there is none."""
     more_rank, more_corank = whole.rank() - wanted.rank(), whole.corank() - wanted.corank()
     if more_rank < 0 or more_corank < 0:
@@ -42,7 +42,7 @@ def minor_like(whole: Matroid, wanted: Matroid, clock: Clock) -> Minor | None:
 
 def _shown(
     whole: Matroid, wanted: Matroid, found: dict[Label, Label], deleted: tuple[Label, ...], contracted: tuple[Label, ...]
-) -> Minor:
+) -> FoundMinor:
     """The minor in the matrix of the whole matroid, with its elements in the order of the wanted matroid."""
     matrix = matrix_given(whole)
     lines = {element: Line("row", row) for row, element in enumerate(whole.basis)}
@@ -51,7 +51,7 @@ def _shown(
     tableau.apply([(lines[element], "delete") for element in deleted])
     tableau.apply([(lines[element], "contract") for element in contracted])
     placed = display(tableau, matrix, [lines[found[element]] for element in wanted.elements])
-    return Minor(wanted, whole.field, matrix.shape, *placed, whole.elements, matrix.names)
+    return FoundMinor(wanted, whole.field, matrix.shape, *placed, whole.elements, matrix.names)
 
 
 def _smaller(found: list[_Kept], clock: Clock, *, is_contracted: bool) -> list[_Kept]:

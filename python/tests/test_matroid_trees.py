@@ -10,7 +10,7 @@ from itertools import combinations
 
 from cmr_matrices import BadInput, Matroid, Refused, check, is_regular, named, parts
 from cmr_matrices.matroid_trees import Decomposition
-from cmr_matrices.minor_values import Minor
+from cmr_matrices.minor_values import FoundMinor
 from tests.support import needs_module, needs_program
 
 
@@ -152,7 +152,7 @@ class Minors(unittest.TestCase):
             if found is not None:
                 self.shows(one, two, found)
 
-    def shows(self, one: Matroid, two: Matroid, found: Minor) -> None:
+    def shows(self, one: Matroid, two: Matroid, found: FoundMinor) -> None:
         """The evidence has the type of excluded minors: the bases are compared after its pivots, and by the minor with its elements."""
         self.assertTrue(found.verify(one))
         left = one.minor(delete=found.deleted_elements, contract=found.contracted_elements)
