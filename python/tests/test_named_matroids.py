@@ -149,6 +149,29 @@ class Codes(unittest.TestCase):
         self.assertEqual(Matroid.from_named("S(5,6,12)").automorphisms().order, 12 * 11 * 10 * 9 * 8)
 
 
+class Regular(unittest.TestCase):
+    def test_r10_by_vectors_with_three_ones(self) -> None:
+        vectors = [vector for vector in itertools.product((0, 1), repeat=5) if sum(vector) == 3]
+        self.assertTrue(Matroid.from_representation([list(row) for row in zip(*vectors)]).is_isomorphic(Matroid.from_named("R10")))
+
+    def test_r12_is_a_sum(self) -> None:
+        """R12 is the 3-sum of M(K5 - e) and M*(K3,3) along the triangle of the nodes that e does not have (Seymour 1980)."""
+        triangle = ["1-2", "1-3", "2-3"]
+        one, two = Matroid.from_named("K5").delete("4-5"), Matroid.from_named("M*(K3,3)")
+        two = two.relabelled(dict(zip(["a1-b1", "a1-b2", "a1-b3"], triangle)))
+        self.assertTrue(one.three_sum(two, triangle).is_isomorphic(Matroid.from_named("R12")))
+
+    @needs_module("networkx")
+    def test_graphs(self) -> None:
+        import networkx
+
+        graphs = {f"W{spokes}": networkx.wheel_graph(spokes + 1) for spokes in (3, 4, 7)}
+        graphs |= {f"K{nodes}": networkx.complete_graph(nodes) for nodes in (2, 5, 6)}
+        graphs |= {f"K{one},{two}": networkx.complete_bipartite_graph(one, two) for one, two in ((1, 4), (3, 3), (2, 5))}
+        for name, graph in graphs.items():
+            self.assertTrue(Matroid.from_graph(graph).is_isomorphic(Matroid.from_named(name)), name)
+
+
 class Uniform(unittest.TestCase):
     def test_bases(self) -> None:
         for rank, size in [(0, 0), (0, 3), (3, 3), (1, 4), (3, 4), (2, 3), (2, 4)]:
