@@ -181,6 +181,46 @@ class Minors(unittest.TestCase):
             self.assertRegex(wrong.fault(whole) or "", piece)
             self.assertFalse(wrong.verify(whole))
 
+    def test_brute_force(self) -> None:
+        """Over all ways to delete and contract, also for a matroid that is given over the other field."""
+        draw, found = random.Random(52), 0
+        for number in range(120):
+            whole = self.drawn(draw, 2 + number % 2, draw.randint(2, 4), draw.randint(2, 4))
+            wanted = self.drawn(draw, draw.choice((2, 3)), draw.randint(1, whole.rank()), draw.randint(1, whole.corank()))
+            minor = whole.find_minor(wanted)
+            self.assertEqual(minor is not None, self.is_minor(whole, wanted), (whole.matrix.to_lists(), wanted.matrix.to_lists()))
+            if minor is not None:
+                found += 1
+                self.shows(whole, wanted, minor)
+        self.assertIn(found, range(30, 100))
+
+    def drawn(self, draw: random.Random, field: int, height: int, width: int) -> Matroid:
+        entries = (0, 1, 1) if field == 2 else (0, 1, -1)
+        rows = [[draw.choice(entries) for _ in range(width)] for _ in range(height)]
+        return Matroid.of(rows, field)  # type: ignore[arg-type]
+
+    def is_minor(self, whole: Matroid, wanted: Matroid) -> bool:
+        """Whether some minor with as many elements is isomorphic."""
+        for gone in combinations(whole.elements, len(whole) - len(wanted)):
+            for contracted in combinations(gone, whole.rank() - wanted.rank()):
+                if whole.minor(delete=set(gone) - set(contracted), contract=contracted).is_isomorphic(wanted):
+                    return True
+        return False
+
+    def test_minors_of_larger_matroids(self) -> None:
+        for whole, minor, wanted in [
+            ("Petersen", "K5", True),
+            ("Petersen", "octahedron", False),
+            ("K6", "W4", True),
+            ("PG(3,2)", "F7*", True),
+            ("PG(3,2)", "R10", False),
+            ("T12", "M*(K5)", True),
+            ("K4,4", "R10", False),
+        ]:
+            one, two = Matroid.from_named(whole), Matroid.from_named(minor)
+            found = one.find_minor(two, time_limit=60)
+            self.assertEqual((found is not None, found is None or found.verify(one)), (wanted, True), (whole, minor))
+
     def test_random_minors_are_found(self) -> None:
         draw = random.Random(51)
         for field in (2, 3):

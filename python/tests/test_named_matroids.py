@@ -142,7 +142,8 @@ class Codes(unittest.TestCase):
         """
         matroid = Matroid.from_named("J")
         self.assertTrue(matroid.is_3connected())
-        self.assertFalse(matroid.has_minor(Matroid.from_named("K4")))
+        for name in ("J", "S(5,6,12)", "W^5"):
+            self.assertFalse(Matroid.from_named(name).has_minor(Matroid.from_named("K4")), name)
         self.assertFalse(matroid.is_isomorphic(Matroid.from_named("W^4")))
         self.assertFalse(matroid.is_isomorphic(Matroid.from_named("P8")))
         self.assertTrue(matroid.is_isomorphic(matroid.dual()))
