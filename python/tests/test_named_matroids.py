@@ -71,6 +71,7 @@ class Geometries(unittest.TestCase):
         self.assertEqual(len(wanted), 70 - 12)
         self.assertTrue(is_copy(Matroid.from_named("R8"), wanted))
         self.assertFalse(is_copy(Matroid.from_named("P8"), wanted))
+        self.assertTrue(Matroid.from_named("R8").is_isomorphic(Matroid.from_named("R8*")))
 
     def test_dowling_geometries_by_signed_graphs(self) -> None:
         """e - f is a positive edge, e + f a negative one, and a joint a half-edge."""
