@@ -196,13 +196,18 @@ class Matroid(Oracle):
         return self._of_sum(direct_sum(self, other))
 
     def two_sum(self, other: Matroid, at: Label, other_at: Label) -> Matroid:
-        """The 2-sum with another matroid, at an element of each: neither of them is a loop or a coloop, and the sum has neither."""
+        """The 2-sum with another matroid, at an element of each: neither of them is a loop or a coloop, and the sum has neither.
+
+        `compose("two", A, B)` is its matrix form, at the last column of A and the first row of B.
+        """
         return self._of_sum(two_sum(self, other, at, other_at))
 
     def three_sum(self, other: Matroid, triangle: Iterable[Label]) -> Matroid:
         """The 3-sum of two binary matroids along a triangle of both, which the sum does not have.
 
         Both have at least seven elements, the triangle contains no cocircuit of either, and they have no other elements in common.
+        `compose("delta", A, B)` is its matrix form: the last row and the last two columns of A are a triangle, and so are the first row and
+        the first two columns of B.
         """
         return self._of_sum(three_sum(self, other, listed("triangle", triangle, "three elements")))
 

@@ -223,6 +223,37 @@ class Sums(unittest.TestCase):
             self.assertEqual(found.connectivity([e for e in found.elements if isinstance(e, tuple) and e[0] == "one"]), 2)
         self.assertGreater(made, 3)
 
+    @needs_program
+    def test_compose_is_the_matrix_form(self) -> None:
+        draw = random.Random(43)
+
+        def drawn(height: int, width: int) -> list[list[int]]:
+            return [[draw.randrange(2) for _ in range(width)] for _ in range(height)]
+
+        made = Counter[str]()
+        for _ in range(20):
+            first, second = drawn(3, 4), drawn(4, 3)
+            names = ("abc", "defp"), ("qrst", "uvw")
+            one, two = (Matroid.of(rows, row_names=own[0], column_names=own[1]) for rows, own in zip((first, second), names))
+            if any(row[-1] for row in first) and any(second[0]):
+                made["two"] += 1
+                whole = Matroid.of(cmr.compose("two", first, second), row_names="abcrst", column_names="defuvw")
+                self.assertEqual(whole.circuits(), one.two_sum(two, "p", "q").circuits())
+            # The last row and two columns of the first matrix, and the first ones of the second matrix, as docs/DEFINITIONS.md has them.
+            a, b, c, d = drawn(3, 1), drawn(1, 3), drawn(1, 3), drawn(3, 1)
+            first = [*([*row, x, x] for row, (x,) in zip(drawn(3, 3), a)), [*c[0], 0, 1]]
+            second = [[1, 0, *b[0]], *([x, x, *row] for row, (x,) in zip(drawn(3, 3), d))]
+            one = Matroid.of(first, row_names="abcz", column_names="defxy")
+            two = Matroid.of(second, row_names="xrst", column_names="yzuvw")
+            try:
+                found = one.three_sum(two, ["x", "y", "z"])
+            except BadInput:
+                continue
+            made["delta"] += 1
+            whole = Matroid.of(cmr.compose("delta", first, second), row_names="abcrst", column_names="defuvw")
+            self.assertEqual(whole.circuits(), found.circuits())
+        self.assertGreater(min(made["two"], made["delta"]), 8, made)
+
     def test_summands(self) -> None:
         """Their sum has the bases of the whole, and labels stay, for all separations of random matroids with eight or nine elements."""
         draw, made = random.Random(42), Counter[int]()
