@@ -8,7 +8,7 @@ import unittest
 from collections import Counter
 
 import cmr_matrices as cmr
-from cmr_matrices import BadInput, Matrix, Matroid, check, excluded_minor
+from cmr_matrices import BadInput, Matrix, Matroid, check, excluded_minor, named
 from tests.support import FANO, needs_module, needs_program
 from tests.test_represented import bases
 
@@ -107,6 +107,25 @@ class Questions(unittest.TestCase):
         self.assertIn("may be regular", check(wheel, violator).rule or "")
         with self.assertRaisesRegex(BadInput, "its matroid does not determine"):
             check(wheel, cmr.is_balanced(rows))
+
+    @needs_module("networkx")
+    def test_graphs_have_edges_by_elements(self) -> None:
+        """Also if two labels have one text. The graph has the bases of the matroid, or of its dual."""
+        import networkx
+
+        for name, ask, is_dual in (("W4", cmr.is_graphic, False), ("K5", cmr.is_graphic, False), ("K3,3*", cmr.is_cographic, True)):
+            for field in (2, 3):
+                matroid = Matroid.from_named(name, field)  # type: ignore[arg-type]
+                half = len(matroid) // 2
+                matroid = matroid.relabelled([*range(half), *map(str, range(len(matroid) - half))])
+                edges = ask(matroid, certificate=True).edges
+                graph = networkx.MultiGraph()
+                for element, ends in edges.items():
+                    graph.add_edge(*ends, name=element)
+                self.assertEqual(set(edges), set(matroid.elements))
+                self.assertEqual(set(Matroid.from_graph(graph).bases()), set((matroid.dual() if is_dual else matroid).bases()))
+        self.assertEqual(cmr.is_graphic(named("K4"), certificate=True).edges, {})
+        self.assertEqual(Matroid.from_named("K4").is_graphic().edges, {})
 
     def test_evidence_has_the_names_of_elements(self) -> None:
         wheel = Matroid.from_named("W4").relabelled(range(1, 9))
