@@ -41,6 +41,7 @@ from .matrix import Matrix
 from .mappings import Automorphisms
 from .matroid_trees import Decomposition
 from .matroids import named
+from .minor_values import Minor
 from .minors import excluded_minor
 from .modellers import from_linopy, from_model, from_model_scaled, from_pulp, from_pyomo, from_scipy, reduced_parts
 from .model_objects import scipy_model
@@ -96,6 +97,7 @@ __all__ = [
     "Matrix",
     "MatrixLike",
     "Matroid",
+    "Minor",
     "Model",
     "ModelReport",
     "Names",

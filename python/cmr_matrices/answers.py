@@ -10,6 +10,7 @@ from .chains import Chain
 from .errors import Undecided
 from .graphs import Graph
 from .matrix import Matrix
+from .matroid_values import Label
 from .pages import paragraph
 from .reductions import Reductions
 from .signings import Signing
@@ -58,6 +59,17 @@ class Answer:
     """In how many other orders of the lines the question was asked again."""
     of_matroid: str | None = field(default=None, repr=False)
     """Of a question about a `Matroid` its property, such as `regular` if the matrix over GF(3) is totally unimodular."""
+    labels: tuple[Label, ...] | None = field(default=None, compare=False, repr=False)
+    """Of a question about a `Matroid` its elements."""
+
+    @property
+    def edges(self) -> dict[Label, tuple[int, int]]:
+        """Of a yes with a graph about a `Matroid` the ends of each element in the graph, where elements are texts."""
+        if self.graph is None or self.labels is None:
+            return {}
+        height = self.graph.shape[0]
+        lines = {edge.line: (edge.tail, edge.head) for edge in self.graph.edges}
+        return {self.labels[line.number + height * (line.kind == "column")]: ends for line, ends in lines.items()}
 
     @property
     def asked(self) -> str:
@@ -157,4 +169,4 @@ def _are_equal(value: Any, other: object) -> bool:
         raise TypeError(f"no {name} is equal to {other!r}: `bool(value)` is its truth value, and `value.{said}` what it says")
     if type(other) is not type(value):
         return False
-    return all(getattr(value, it.name) == getattr(other, it.name) for it in fields(value))
+    return all(getattr(value, it.name) == getattr(other, it.name) for it in fields(value) if it.compare)

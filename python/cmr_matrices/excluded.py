@@ -23,18 +23,16 @@ to 21.
 
 from __future__ import annotations
 
-from collections.abc import Iterable, Iterator
 from dataclasses import dataclass, field, replace
 from typing import TYPE_CHECKING
 
-from .asked import MatroidLike, matrix_given
-from .bases import bases, left_after
-from .errors import BadEntry, BadInput
-from .lines import Line, LineSet, Names
+from .asked import MatroidLike
+from .errors import BadInput
+from .lines import Names
 from .matrix import Matrix
-from .matroid_values import Label, MatroidValue
+from .matroid_values import Label
 from .matroids import field_of_named, named
-from .pages import line_list, paragraph
+from .minor_values import Minor, elements_after
 from .tableaux import Field
 from .words import LIMIT, Words
 
@@ -78,7 +76,7 @@ def minor_class(name: str) -> MinorClass:
 
 
 @dataclass(frozen=True)
-class ExcludedMinor:
+class ExcludedMinor(Minor):
     """A minor of the matroid of a matrix by which the matrix is outside of a class.
 
     After the `pivots`, made over the field one after another in the whole matrix, its submatrix on `rows` and `columns`, in this order, is
@@ -112,78 +110,19 @@ class ExcludedMinor:
         """The field over which the matrix represents the matroid that has the minor."""
         return minor_class(self.property_name).field
 
-    @property
-    def elements(self) -> dict[Line, str]:
-        """For each row or column of the matrix that is an element of the minor, the element of the named matroid that it is."""
-        rows, columns = elements_after(self.shape, self.pivots)
-        lines = [*(rows[row] for row in self.rows), *(columns[column] for column in self.columns)]
-        names = _named(self.name).names
-        return dict(zip(lines, names.rows + names.columns)) if names else {}
-
-    @property
-    def element_map(self) -> dict[Label, str]:
-        """For each element of the matroid that is an element of the minor, the element of the named matroid that it is."""
-        return {self._label(line): element for line, element in self.elements.items()}
-
-    @property
-    def deleted_elements(self) -> tuple[Label, ...]:
-        """The elements of the matroid that are deleted."""
-        return tuple(self._label(line) for line in self.deleted)
-
-    @property
-    def contracted_elements(self) -> tuple[Label, ...]:
-        """The elements of the matroid that are contracted."""
-        return tuple(self._label(line) for line in self.contracted)
-
-    @property
-    def contracted(self) -> LineSet:
-        """The rows and columns of the matrix whose elements are contracted."""
-        rows, _ = elements_after(self.shape, self.pivots)
-        return _line_set(line for row, line in enumerate(rows) if row not in set(self.rows))
-
-    @property
-    def deleted(self) -> LineSet:
-        """The rows and columns of the matrix whose elements are deleted."""
-        _, columns = elements_after(self.shape, self.pivots)
-        return _line_set(line for column, line in enumerate(columns) if column not in set(self.columns))
-
-    def displayed(self, matrix: MatroidLike) -> Matrix:
-        """The submatrix that is left after the pivots, with names of elements. Raises `BadInput` if the matrix has another shape."""
-        rows, columns = elements_after(self.shape, self.pivots)
-        return Matrix.of(
-            left_after(self._entries(matrix), self.field, self.pivots, self.rows, self.columns),
-            row_names=[self._line_name(rows[row]) for row in self.rows],
-            column_names=[self._line_name(columns[column]) for column in self.columns],
-        )
-
-    def verify(self, matrix: MatroidLike) -> bool:
-        """Whether this is a minor of the matroid of the matrix, and one that the class excludes.
-
-        This uses neither the program nor the search for minors: it makes the pivots, and tests which sets of elements are a basis.
-        """
-        return self.fault(matrix) is None
-
     def fault(self, matrix: MatroidLike, *, first: int = 0) -> str | None:
-        """What is wrong with it as a minor of the matroid of a matrix, in a few words, or None if nothing is wrong.
+        """What is wrong with it as a minor of the matroid of a matrix that the class excludes, or None if nothing is wrong.
 
         Rows and columns are counted from `first`: from 0 as in Python, or from 1 as in texts.
         """
         try:
-            entries = self._entries(matrix)
+            self._entries(matrix)
             kind = minor_class(self.property_name)
-            if self.name not in kind.excluded:
-                return f"{self.name} is no excluded minor of the class {kind.name}"
-            left = left_after(entries, kind.field, self.pivots, self.rows, self.columns)
-        except BadEntry as fault:
-            return fault.counted(first)
         except BadInput as fault:
             return str(fault)
-        wanted = _named(self.name)
-        if (len(self.rows), len(self.columns)) != wanted.shape:
-            return f"{self.name} has another rank, or another number of elements"
-        if bases(left, kind.field) != bases(wanted.to_lists(), field_of_named(self.name)):
-            return f"what is left is not {self.name}"
-        return None
+        if self.name not in kind.excluded:
+            return f"{self.name} is no excluded minor of the class {kind.name}"
+        return super().fault(matrix, first=first)
 
     def transposed(self) -> ExcludedMinor:
         """The dual minor, by which the transposed matrix is outside of the dual class."""
@@ -234,48 +173,17 @@ class ExcludedMinor:
             raise BadInput(f"no minor: {fault}") from fault
         return cls(kind.name, name, shape, pivots, rows, columns, names)
 
-    def __str__(self) -> str:
-        elements = " ".join(f"{self._line_name(line)}={element}" for line, element in self.elements.items())
-        sets = (("deleted", self.deleted), ("contracted", self.contracted))
-        lines = (f"{what} {self._set_name(lines)}" for what, lines in sets)
-        return "\n".join([f"minor {self.name}: {elements}", *lines])
+    def _field(self) -> Field:
+        return self.field
 
-    def _repr_html_(self) -> str:
-        gone = (("deleted", self.deleted_elements), ("contracted", self.contracted_elements))
-        said = (f"{what} {', '.join(map(str, elements)) or 'nothing'}" for what, elements in gone)
-        what = [f"excluded minor {self.name} of the class {self.property_name}", *said]
-        pairs = [(element, [self._line_name(line)]) for line, element in self.elements.items()]
-        return "".join(map(paragraph, what)) + line_list(pairs, counts=False)
+    def _other(self) -> Matroid:
+        return self.matroid
 
-    def _line_name(self, line: Line) -> str:
-        return (self.names or Names.numbered(*self.shape)).line(line)
+    def _title(self) -> str:
+        return self.name
 
-    def _label(self, line: Line) -> Label:
-        if self.labels is None:
-            return self._line_name(line)
-        return self.labels[line.number + (self.shape[0] if line.kind == "column" else 0)]
-
-    def _set_name(self, lines: LineSet) -> str:
-        return (self.names or Names.numbered(*self.shape)).line_set(lines)
-
-    def _entries(self, matrix: MatroidLike) -> list[list[int]]:
-        if isinstance(matrix, MatroidValue) and matrix.field != self.field:
-            raise BadInput(f"the minor is one of a matroid over GF({self.field}), and here it is over GF({matrix.field})")
-        taken = matrix_given(matrix)
-        if taken.shape != self.shape:
-            raise BadInput(f"the minor is one of a matrix of shape {self.shape}, and here it is {taken.shape}")
-        if self.field == 2:
-            taken.must_be_binary()
-        return taken.to_lists()
-
-
-def elements_after(shape: tuple[int, int], pivots: Iterable[tuple[int, int]]) -> tuple[list[Line], list[Line]]:
-    """The elements of the rows and the columns of a matrix after pivots. Before the pivots each line is its own element."""
-    rows = [Line("row", row) for row in range(shape[0])]
-    columns = [Line("column", column) for column in range(shape[1])]
-    for row, column in pivots:
-        rows[row], columns[column] = columns[column], rows[row]
-    return rows, columns
+    def _page_title(self) -> str:
+        return f"excluded minor {self.name} of the class {self.property_name}"
 
 
 def _named(name: str) -> Matrix:
@@ -293,9 +201,3 @@ def _expect(words: Words, *due: str) -> None:
         found = words.word()
         if found != word:
             raise words.unknown(found, f"not `{word}`, which is due")
-
-
-def _line_set(lines: Iterator[Line]) -> LineSet:
-    found = tuple(lines)
-    rows = tuple(sorted(line.number for line in found if line.kind == "row"))
-    return LineSet(rows, tuple(sorted(line.number for line in found if line.kind == "column")))

@@ -1,18 +1,18 @@
-"""Matrices of projective and affine geometries over GF(2) and GF(3), of whirls, and of binary spikes."""
+"""Matrices of projective, affine and Dowling geometries, of whirls, of binary spikes, and of uniform matroids."""
 
 from __future__ import annotations
 
-from itertools import product
+from itertools import combinations, product
 
 from .errors import BadInput
 from .matrix import Matrix
 from .tableaux import Field
 from .words import LIMIT
 
-__all__ = ["affine", "numbered", "projective", "spike", "whirl"]
+__all__ = ["affine", "dowling", "numbered", "projective", "spike", "uniform", "whirl"]
 
 
-def numbered(rows: list[list[int]]) -> Matrix:
+def numbered(rows: list[list[int]] | Matrix) -> Matrix:
     """A matrix with the elements 1, 2, .. in the order of the rows and then of the columns."""
     matrix = Matrix.of(rows)
     elements = [str(number) for number in range(1, sum(matrix.shape) + 1)]
@@ -30,8 +30,36 @@ def affine(name: str, dimension: int, field: Field) -> Matrix:
     """The points x of an affine geometry, by the basis of 0 and the unit vectors: 1 less than the sum of x, negated, and then x."""
     _must_be_small(name, dimension, field**dimension)
     points = [point for point in _vectors(dimension, field) if sum(map(bool, point)) > 1 or -1 in point]
-    columns = [(_entry(1 - sum(point), field), *point) for point in points]
-    return numbered([list(row) for row in zip(*columns)])
+    triples = (
+        (row, column, value)
+        for column, point in enumerate(points)
+        for row, value in enumerate((_entry(1 - sum(point), field), *point))
+        if value
+    )
+    return numbered(Matrix.from_triples(triples, (dimension + 1, len(points))))
+
+
+def dowling(name: str, rank: int) -> Matrix:
+    """The ternary Dowling geometry of a rank: its joints are the basis, and with each two joints e and f it has e + f and e - f."""
+    size = rank * (rank - 1)
+    if rank < 2 or size > LIMIT:
+        raise BadInput(f"{name} is no Dowling geometry that is known here: it has two joints or more, and at most {LIMIT} other elements")
+    pairs = list(combinations(range(rank), 2))
+    triples = [(pair[0], 2 * place + negative, 1) for place, pair in enumerate(pairs) for negative in (0, 1)]
+    triples += [(pair[1], 2 * place + negative, -1 if negative else 1) for place, pair in enumerate(pairs) for negative in (0, 1)]
+    return numbered(Matrix.from_triples(triples, (rank, size)))
+
+
+def uniform(name: str, rank: int, size: int) -> Matrix:
+    """The uniform matroid of a rank and a number of elements, if it is regular: loops, coloops, a circuit, or parallel elements."""
+    if rank > size:
+        raise BadInput(f"{name} is no uniform matroid: its rank is at most the number of its elements")
+    if rank not in (0, 1, size - 1, size):
+        raise BadInput(f"{name} is neither binary nor ternary")
+    if max(rank, size - rank) > LIMIT:
+        raise BadInput(f"{name} has {size} elements, and a matrix may have at most {LIMIT} rows and {LIMIT} columns")
+    ones = product(range(rank), range(size - rank))
+    return numbered(Matrix.from_triples([(row, column, 1) for row, column in ones], (rank, size - rank)))
 
 
 def whirl(name: str, rank: int) -> Matrix:

@@ -101,7 +101,6 @@ class Search:
         """Whether a tableau has the matrix of the first matroid, up to the order and the signs of its lines."""
         rows = {row: other.places[found[element]].number for row, element in self.one.row_elements.items()}
         columns = {column: other.places[found[element]].number for column, element in self.one.column_elements.items()}
-        signs: dict[tuple[bool, int], int] = {}
         pairs = [(self.one.entry(row, column), other.entry(rows[row], columns[column])) for row in rows for column in columns]
         if any(bool(one) != bool(two) for one, two in pairs):
             return False

@@ -92,10 +92,10 @@ def _orbit(element: int, generators: list[tuple[int, ...]]) -> set[int]:
 
 def _search(one: MatroidValue, two: MatroidValue, clock: Clock) -> Search:
     """The search on the matroids or on their duals, the ones with the smaller rank."""
-    plain, dual = ((_tableau(own), _dual_tableau(own)) for own in (one, two))
+    first, second = ((_tableau(own), _dual_tableau(own)) for own in (one, two))
     if one.matrix.shape[0] > one.matrix.shape[1]:
-        plain, dual = plain[::-1], dual[::-1]
-    return Search.of(plain[0], dual[0], (plain[1], dual[1]), clock)
+        first, second = first[::-1], second[::-1]
+    return Search.of(first[0], second[0], (first[1], second[1]), clock)
 
 
 def _tableau(own: MatroidValue) -> Tableau[int]:

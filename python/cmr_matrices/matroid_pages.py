@@ -12,5 +12,5 @@ __all__ = ["matroid_page"]
 def matroid_page(matroid: MatroidValue) -> str:
     """The rank, the number of elements, the field, and the matrix with the elements at its lines."""
     rank, width = matroid.matrix.shape
-    said = f"matroid of rank {rank} with {rank + width} elements over GF({matroid.field}), of the columns of [I A]; the rows of A name those of I"
-    return paragraph(said) + matrix_table(Matrix.of(matroid.matrix, row_names=matroid.basis, column_names=matroid.others))
+    said = f"matroid of rank {rank} with {rank + width} elements over GF({matroid.field}), of the columns of [I A]"
+    return paragraph(f"{said}; the rows of A name those of I") + matrix_table(Matrix.of(matroid.matrix, row_names=matroid.basis, column_names=matroid.others))

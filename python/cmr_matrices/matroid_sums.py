@@ -1,4 +1,4 @@
-"""Sums of matroids: direct sums, two-sums at an element of each, and three-sums along a triangle of two binary matroids.
+"""Sums of matroids and their summands: direct sums, two-sums at an element of each, three-sums along a triangle of two binary matroids.
 
 Source: Seymour 1980; Oxley, *Matroid Theory*, chapters 7 and 9.
 """
@@ -12,9 +12,9 @@ from .errors import BadInput
 from .matroid_values import Label, label_set
 from .oracle import Oracle
 from .tableaux import Row, Tableau, bits_of
-from .vectors import added
+from .vectors import Span, added
 
-__all__ = ["Columns", "direct_sum", "three_sum", "two_sum"]
+__all__ = ["Columns", "direct_sum", "summands", "three_sum", "two_sum"]
 
 Columns = tuple[int, list[tuple[Label, Row]]]
 """A number of rows, and the elements with their vectors: a representation of a sum."""
@@ -54,6 +54,50 @@ def three_sum(one: Oracle, two: Oracle, triangle: Sequence[Label]) -> Columns:
         if matroid.rank([element for element in matroid.elements if element not in shared]) < matroid.rank():
             raise BadInput(f"{label_set(shared)} contains a cocircuit, so there is no three-sum along it")
     return _joined(one, _by_basis(two, shared[:2]), shared, shared)
+
+
+def summands(whole: Oracle, side: Iterable[Label], shared: Sequence[Label]) -> tuple[Columns, Columns]:
+    """The elements of each side of a 1-, 2- or 3-separation, with those that represent the other side.
+
+    The spaces that the sides span have lambda(X) dimensions in common: nothing, a point, or over GF(2) a triangle. The summands have its
+    points as well, so their sum at these is the whole matroid.
+    """
+    inside = set(whole.numbers(side))
+    vectors = list(zip(whole.elements, whole.vectors()))
+    sides = [[one for place, one in enumerate(vectors) if (place in inside) == which] for which in (True, False)]
+    points = _common(whole, [vector for _, vector in sides[0]], [vector for _, vector in sides[1]])
+    order = len(points) + 1
+    if order > 3 or order == 3 and whole.field == 3:
+        raise BadInput(f"the sides are no separation of order 1, 2, or over GF(2) 3: r(X) + r(E - X) - r(M) is {len(points)}")
+    if min(map(len, sides)) < (1, 2, 4)[len(points)]:
+        raise BadInput(f"each side of a {order}-sum has {(1, 2, 4)[len(points)]} elements or more")
+    points += [added(2, *points)] if order == 3 else []
+    names = list(shared)[: len(points)]
+    if len(set(names)) < len(points):
+        raise BadInput(f"the summands have {len(points)} elements in common, and here are {len(set(names))} names for them")
+    _must_be_apart(whole.elements, names)
+    common = list(zip(names, points))
+    return (whole.rank(), [*sides[0], *common]), (whole.rank(), [*common, *sides[1]])
+
+
+def _common(whole: Oracle, one: Iterable[Row], two: Iterable[Row]) -> list[Row]:
+    """A basis of the space that is spanned both by some vectors and by the others."""
+    span, common = Span(whole.field), Span(whole.field)
+    kept = [vector for vector in one if span.add(vector)]
+    count, found = len(kept), list[Row]()
+    for vector in two:
+        rest, (plus, minus) = span.reduced(vector)
+        if any(rest):
+            span.add(vector)
+            continue
+        # The vector is the negative of a combination of both sides, so its part in the first ones is a combination of the others too.
+        total: Row = (0, 0)
+        for place in range(count):
+            if (plus | minus) >> place & 1:
+                total = added(whole.field, total, kept[place] if plus >> place & 1 else kept[place][::-1])
+        if common.add(total):
+            found.append(total)
+    return found
 
 
 def _must_have_one_field(one: Oracle, two: Oracle) -> None:

@@ -7,7 +7,7 @@ matroid, so the nodes of pivots are omitted.
 
 from __future__ import annotations
 
-from collections.abc import Iterator
+from collections.abc import Iterable, Iterator
 from dataclasses import dataclass, field, replace
 from html import escape
 from typing import TYPE_CHECKING, Any
@@ -77,12 +77,30 @@ class Decomposition:
         """The leaves from left to right."""
         return tuple(one for _, one in self.walk() if not one.parts)
 
+    @property
+    def edges(self) -> dict[Label, tuple[int, int]]:
+        """Of a leaf with a graph the ends of the edge that each element is. In the graph itself elements are texts."""
+        found = () if self.graph is None else self.graph.edges
+        return {self.matroid.label(edge.line): (edge.tail, edge.head) for edge in found}
+
     def shared_as(self, part: int) -> str:
         """What the shared elements of a part are in it: `element`, `triangle` or `triad`."""
         shared = self.shared[part]
         if len(shared) == 1:
             return "element"
         return "triangle" if self.parts[part].matroid.is_circuit(shared) else "triad"
+
+    def summands(self, shared: Iterable[Label] = ("p", "q", "r")) -> tuple[Matroid, ...]:
+        """The matroids of which it is the direct sum, the 2-sum or the 3-sum, with an element or a triangle in common, named `shared`.
+
+        A part is its summand up to these names, except a part of a 3-sum whose shared elements are a triad: in the summand there is instead
+        a triangle, and each element of it is spanned by two elements of the triad. Summands of a 3-sum are over GF(2).
+        """
+        if self.kind not in ("2-sum", "3-sum"):
+            return tuple(part.matroid for part in self.parts)
+        side = [element for element in self.parts[0].matroid.elements if element not in self.shared[0]]
+        binary = type(self.matroid)(self.matroid.matrix.support(), 2, self.matroid.elements)
+        return (self.matroid if self.kind == "2-sum" else binary).summands(side, shared)
 
     def __str__(self) -> str:
         return "\n".join(f"{'  ' * depth}{line}" for depth, one in self.walk() for line in [one._line()])

@@ -15,7 +15,7 @@ from itertools import combinations
 from .edge_lists import graph_of_edges
 from .errors import BadInput, shown
 from .forced_signs import forced_signs
-from .geometries import affine, numbered, projective, spike, whirl
+from .geometries import affine, dowling, numbered, projective, spike, uniform, whirl
 from .lines import Names
 from .matrix import Matrix
 from .tableaux import Field
@@ -24,13 +24,15 @@ from .words import LIMIT
 
 __all__ = ["NAMED", "TERNARY", "field_of_named", "named"]
 
-TERNARY = "U2,4, P7, P8, R9, T8, F7- (non-Fano), AG(2,3), W^3 (any whirl)"
+TERNARY = (
+    "U2,4, R6, O7, P7, F7- (non-Fano), J, P8, R8, T8, R9, S(5,6,12), AG(2,3), W^3 (any whirl), Q3(GF(3)*) (any ternary Dowling geometry)"
+)
 """The matroids that `named` knows over GF(3) and that are not binary, for a person."""
 
 NAMED = (
-    "R10, R12, F7 or PG(2,2), PG(3,2) and AG(3,2) (any PG and AG over GF(2) and GF(3)), S8, Z4 (any binary spike with a tip), K5 (any K "
-    f"and number), K3,3 (any two numbers), W4 (any wheel), V8, Petersen, prism, cube, octahedron, over GF(3) {TERNARY}, and each with * "
-    "for its dual"
+    "R10, R12, T12, F7 or PG(2,2), PG(3,2) and AG(3,2) (any PG and AG over GF(2) and GF(3)), S8, Z4 (any binary spike with a tip), K5 (any "
+    "K and number), K3,3 (any two numbers), W4 (any wheel), V8, Petersen, prism, cube, octahedron, U2,3 (any regular uniform matroid), "
+    f"over GF(3) {TERNARY}, and each with * for its dual"
 )
 """What `named` knows, for a person."""
 
@@ -40,24 +42,37 @@ _BINARY_TABLES = {
     "F7": ("1101", "1011", "0111"),
     "AG(3,2)": ("0111", "1011", "1101", "1110"),
     "S8": ("0111", "1011", "1101", "1111"),
+    "T12": ("110001", "111000", "011100", "001110", "000111", "100011"),
 }
 _TERNARY_TABLES = {
     "U2,4": ("11", "1-"),
+    "R6": ("111", "1-1", "10-"),
+    "O7": ("1111", "01--", "1010"),
     "P7": ("1011", "1101", "-110"),
     "F7-": ("1101", "1011", "0111"),
+    "J": ("0111", "1100", "1010", "1001"),
     "P8": ("011-", "1011", "1101", "-110"),
+    "R8": ("-111", "1-11", "11-1", "111-"),
     "R9": ("110011", "1011--", "011-1-"),
     "T8": ("0111", "1011", "1101", "1110"),
+    "S(5,6,12)": ("011111", "101--1", "1101--", "1-101-", "1--101", "11--10"),
 }
 _ENTRIES = {"0": 0, "1": 1, "-": -1}
 _REGULAR_TABLES = ("R10", "R12")
 _OTHER_NAMES = {"FANO": "F7", "PG(2,2)": "F7", "U24": "U2,4", "WAGNER": "V8", "NONFANO": "F7-", "NON-FANO": "F7-"}
-_OTHER_NAMES |= {"K33": "K3,3", "W^2": "U2,4", "Q3": "CUBE", "K2,2,2": "OCTAHEDRON", "UNIFORM(2,4)": "U2,4", "U(2,4)": "U2,4"}
+_OTHER_NAMES |= {"K33": "K3,3", "W^2": "U2,4", "Q3": "CUBE", "K2,2,2": "OCTAHEDRON", "AG23": "AG(2,3)", "AG32": "AG(3,2)"}
+_OTHER_NAMES |= {"PG23": "PG(2,3)", "AG(1,3)": "U2,3", "TERNARYDOWLING3": "Q3(GF(3)*)", "EXTENDEDTERNARYGOLAYCODE": "S(5,6,12)"}
 _SAGE_NAMES = {"WHEEL": "W", "WHIRL": "W^", "COMPLETEGRAPHIC": "K", "Z": "Z"}
+_NOT_OF_NAMES = re.compile(
+    r"MATROIDS\.(?:(?:CATALOG|NAMED_MATROIDS)\.)?|\(\)|[ _{}$\\]|MATHCAL|MATHRM|TEXT|OPERATORNAME|LEFT|RIGHT"
+)
+"""What the spellings of LaTeX and Sage have besides a name."""
 _OF_GRAPH = re.compile(r"M?(?P<dual>\*?)\((?P<graph>.+)\)(?P<duals>\**)")
-_OF_SAGE = re.compile(r"(?P<kind>WHEEL|WHIRL|COMPLETEGRAPHIC|Z)\((?P<number>[0-9]{1,4})\)")
+_OF_SAGE = re.compile(r"(?P<kind>WHEEL|WHIRL|COMPLETEGRAPHIC|Z)\(?(?P<number>[0-9]{1,4})\)?")
 _GEOMETRY = re.compile(r"(?P<kind>[PA]G)\((?P<dimension>[0-9]{1,3}),(?P<field>[0-9]{1,3})\)")
 _WHIRL = re.compile(r"W\^(?P<rank>[0-9]{1,4})")
+_DOWLING = re.compile(r"Q(?P<rank>[0-9]{1,3})\(GF\(3\)(?:\*|\^TIMES|\^×)\)")
+_UNIFORM = re.compile(r"U(?:NIFORM)?\(?(?P<rank>[0-9]{1,4}),(?P<size>[0-9]{1,4})\)?")
 _NAME = re.compile(r"(?P<kind>[KWZ])(?P<first>[0-9]{1,4})(?:,(?P<second>[0-9]{1,4}))?")
 
 Edges = Sequence[tuple[object, object]]
@@ -68,11 +83,11 @@ def named(name: str, field: Field = 2) -> Matrix:
 
     `K5` and `K3,3` are the matroids of complete graphs, also as `M(K5)` and `M*(K5)`, `W4` is the matroid of the wheel with four spokes,
     `V8` the matroid of the Möbius ladder on eight nodes, and `Z4` the binary spike of rank 4 with its tip. `W^3` is a whirl, `F7-` the
-    non-Fano matroid, and `PG(3,2)` and `AG(2,3)` are geometries. Spellings of LaTeX and of Sage are known too: `F_7^*`, `M^*(K_{3,3})`,
-    `\\mathcal{W}^3`, `Whirl(3)`, `NonFano`.
+    non-Fano matroid, `S(5,6,12)` the one of the ternary Golay code, and `PG(3,2)`, `AG(2,3)` and `Q3(GF(3)*)` are geometries. Spellings of
+    LaTeX and of Sage are known too: `F_7^*`, `M^*(K_{3,3})`, `\\mathcal{W}^3`, `Whirl(3)`, `matroids.catalog.NonFano()`.
 
-    With `field=3` the matrix represents the matroid over GF(3), and has entries -1, 0 and 1. `U2,4`, `F7-`, `P7`, `P8`, `R9`, `T8`, whirls
-    and the geometries over GF(3) are not binary, so they have a matrix over GF(3) only.
+    With `field=3` the matrix represents the matroid over GF(3), and has entries -1, 0 and 1. `U2,4`, `R6`, `O7`, `P7`, `F7-`, `J`, `P8`,
+    `R8`, `T8`, `R9`, `S(5,6,12)`, whirls and the geometries over GF(3) are not binary, so they have a matrix over GF(3) only.
 
     Raises `BadInput` if it is no name, if the matroid has no matrix over the field, or if the matrix would have more than 1,000 rows or
     columns.
@@ -86,21 +101,25 @@ def field_of_named(name: str) -> Field:
     """The field over which the matroid of a name is meant if none is said: GF(3) if it is not binary."""
     plain = _plain(name)[0]
     found = _GEOMETRY.fullmatch(plain)
-    return 3 if plain in _TERNARY_TABLES or _WHIRL.fullmatch(plain) or (found and found["field"] == "3") else 2
+    is_ternary = plain in _TERNARY_TABLES or _WHIRL.fullmatch(plain) or _DOWLING.fullmatch(plain) or found and found["field"] == "3"
+    return 3 if is_ternary else 2
 
 
 def _plain(name: str) -> tuple[str, bool]:
     """A name as the tables have it, and whether the dual matroid is meant."""
     if not isinstance(name, str):
         raise BadInput(f"a matroid is known by its name, such as {NAMED}, and here it is {shown(name)}")
-    plain = re.sub(r"[ _{}$\\]|MATHCAL|MATHRM|OPERATORNAME", "", name.upper().replace("−", "-"))
-    plain = plain.replace("^*", "*").replace("^-", "-").removesuffix("DUAL") + "*" * plain.endswith("DUAL")
+    plain = _NOT_OF_NAMES.sub("", name.upper().replace("−", "-")).replace("^AST", "*").replace("^*", "*").replace("^-", "-")
+    plain = plain.removesuffix("DUAL") + "*" * plain.endswith("DUAL")
     if of_graph := _OF_GRAPH.fullmatch(plain):
         plain = of_graph["graph"] + of_graph["dual"] + of_graph["duals"]
     bare = plain.rstrip("*")
+    is_dual = (len(plain) - len(bare)) % 2 == 1
     if of_sage := _OF_SAGE.fullmatch(bare):
-        return f"{_SAGE_NAMES[of_sage['kind']]}{of_sage['number']}", (len(plain) - len(bare)) % 2 == 1
-    return _OTHER_NAMES.get(bare, bare), (len(plain) - len(bare)) % 2 == 1
+        bare = f"{_SAGE_NAMES[of_sage['kind']]}{of_sage['number']}"
+    if uniform_name := _UNIFORM.fullmatch(bare):
+        bare = f"U{uniform_name['rank']},{uniform_name['size']}"
+    return _OTHER_NAMES.get(bare, bare), is_dual
 
 
 def _over(plain: str, name: str, field: Field) -> Matrix:
@@ -126,6 +145,8 @@ def _ternary(plain: str, name: str) -> Matrix | None:
         return _of_table(_TERNARY_TABLES[plain])
     if found := _WHIRL.fullmatch(plain):
         return whirl(name, int(found["rank"]))
+    if found := _DOWLING.fullmatch(plain):
+        return dowling(name, int(found["rank"]))
     found = _GEOMETRY.fullmatch(plain)
     return _geometry(name, found, 3) if found and found["field"] == "3" else None
 
@@ -143,6 +164,8 @@ def _binary(plain: str, name: str) -> tuple[Matrix, bool]:
     if (found := _GEOMETRY.fullmatch(plain)) and found["field"] == "2":
         # A line has three points, and an affine plane four: they are graphic, and all larger geometries have a minor F7.
         return _geometry(name, found, 2), int(found["dimension"]) < (2 if found["kind"] == "PG" else 3)
+    if found := _UNIFORM.fullmatch(plain):
+        return uniform(name, int(found["rank"]), int(found["size"])), True
     found = _NAME.fullmatch(plain)
     if not found:
         raise BadInput(f"{name} is no name that is known here: {NAMED}")

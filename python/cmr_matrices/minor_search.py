@@ -11,14 +11,15 @@ from collections.abc import Callable, Iterator, Sequence
 
 from .circuits import circuits, isomorphism
 from .errors import ProgramFault, Undecided
-from .excluded import ExcludedMinor, MinorClass, elements_after
+from .excluded import ExcludedMinor, MinorClass
 from .lines import Line
 from .matrix import Matrix
 from .matroids import field_of_named, named
+from .minor_values import elements_after
 from .program import NO
 from .tableaux import Field, Operation, Tableau, bits_of
 
-__all__ = ["Outside", "fewer_lines", "four_points", "least_minor", "line_tableau", "named_minor"]
+__all__ = ["Outside", "display", "fewer_lines", "four_points", "least_minor", "line_tableau", "named_minor"]
 
 Outside = Callable[[Tableau[Line]], bool | None]
 """Whether the matrix of a tableau is outside of a class; None if that is undecided."""
@@ -138,7 +139,18 @@ def named_minor(tableau: Tableau[Line], matrix: Matrix, kind: MinorClass) -> Exc
 def _displayed_minor(
     tableau: Tableau[Line], matrix: Matrix, kind: MinorClass, name: str, elements: Sequence[Line]
 ) -> ExcludedMinor:
-    """The minor with these elements, in the order of the named matroid, by pivots that bring its basis into rows of the whole matrix."""
+    """The minor with these elements, in the order of the named matroid."""
+    pivots, rows, columns = display(tableau, matrix, elements)
+    return ExcludedMinor(kind.name, name, matrix.shape, pivots, rows, columns, matrix.names)
+
+
+def display(
+    tableau: Tableau[Line], matrix: Matrix, elements: Sequence[Line]
+) -> tuple[tuple[tuple[int, int], ...], tuple[int, ...], tuple[int, ...]]:
+    """Pivots that bring the basis of a minor into rows of the whole matrix, and the rows and the columns of its elements.
+
+    The tableau has the minor, and the elements are first the basis and then the others.
+    """
     basis, others = elements[: len(tableau.row_elements)], elements[len(tableau.row_elements) :]
     for element in basis:
         tableau.move(element, basis)
@@ -147,15 +159,7 @@ def _displayed_minor(
     entering = [line.number for line in sorted(in_rows) if line.kind == "column"]
     pivots = _pivots_between(matrix, tableau.field, leaving, entering)
     rows, columns = elements_after(matrix.shape, pivots)
-    return ExcludedMinor(
-        kind.name,
-        name,
-        matrix.shape,
-        pivots,
-        tuple(rows.index(element) for element in basis),
-        tuple(columns.index(element) for element in others),
-        matrix.names,
-    )
+    return pivots, tuple(rows.index(element) for element in basis), tuple(columns.index(element) for element in others)
 
 
 def _pivots_between(

@@ -12,6 +12,7 @@ from .connectivity import Crossings
 from .errors import BadInput
 from .matroid_values import Label, MatroidValue
 from .tableaux import Field, Row, bits_of
+from .tutte import Terms, tutte_terms
 from .vectors import ZERO, Span, normal
 
 __all__ = ["MOST_FLATS", "Oracle"]
@@ -118,6 +119,16 @@ class Oracle(MatroidValue):
                     raise BadInput(f"there are more than {MOST_FLATS} flats of one rank")
             found = above
         return frozenset(map(self._labels, found))
+
+    def tutte_polynomial(self) -> Terms:
+        """The Tutte polynomial T(x, y), as the coefficient of each x^i y^j that is not 0, by (i, j).
+
+        T(1, 1) is the number of bases, T(2, 1) that of independent sets, and the dual matroid has T(y, x). Raises `BadInput` if there are
+        more than 20,000 flats.
+        """
+        vectors = self.vectors()
+        loops = sum(1 << place for place, vector in enumerate(vectors) if vector == ZERO)
+        return tutte_terms(len(self), loops, lambda flat: _classes(self.field, vectors, flat), MOST_FLATS)
 
     def connectivity(self, elements: Iterable[Label]) -> int:
         """lambda(X) = r(X) + r(E - X) - r(M) of some elements X."""

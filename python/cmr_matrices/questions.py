@@ -30,6 +30,7 @@ from .clock import TimeLimit
 from .errors import TimeLimitReached
 from .given import whole
 from .matrix import Matrix
+from .matroid_values import MatroidValue
 from .narrowing import Narrowing
 from .options import budget_words
 from .program import StrPath
@@ -258,7 +259,7 @@ class _Search:
         taken = _taken(given, self.property_name)
         files = _SEARCHES[self.property_name][1] if certificate or self.tries else {}
         answer = self._decided(Question(self.property_name, self.words(self.pivots), files), taken, call)
-        answer = replace(_of_signed(answer), of_matroid=matroid_property(self.property_name, given))
+        answer = _of_matroid(_of_signed(answer), given)
         return answer if certificate else replace(answer, tree=None, signed=None, chain=None)
 
     def _decided(self, question: Question, matrix: Matrix, call: Call) -> Answer:
@@ -282,7 +283,14 @@ def _asked(question: Question, given: MatroidLike, time_limit: TimeLimit, progra
     """Asks a question that the program always decides."""
     call = Call.begin(program, time_limit)
     answer = question.ask(_taken(given, question.property_name), call.program, call.clock)
-    return replace(answer, of_matroid=matroid_property(question.property_name, given))
+    return _of_matroid(answer, given)
+
+
+def _of_matroid(answer: Answer, given: MatroidLike) -> Answer:
+    """The answer, and about a matroid with its property and its elements."""
+    if not isinstance(given, MatroidValue):
+        return answer
+    return replace(answer, of_matroid=matroid_property(answer.property_name, given), labels=given.elements)
 
 
 def _of_signed(answer: Answer) -> Answer:

@@ -77,7 +77,6 @@ class Structure:
             told.append((colours[at], support(combination) if rest == ZERO else -1, alike))
         return told
 
-
     def by_rest(self, colours: Colours) -> list[Hashable]:
         """What an element is in the matroid without the elements that have colours of their own, by the entries of `code_forms`.
 
@@ -189,4 +188,3 @@ def _short_relations(vectors: Sequence[Row], field: Field) -> Iterator[int]:
         for total, pairs in sums.items():
             if total != ZERO:
                 yield from (one | two for one, two in product(pairs, repeat=2) if not one & two)
-

@@ -16,14 +16,15 @@ from .libraries import library
 from .mappings import Automorphisms, automorphisms_of, isomorphism_of
 from .matrix import Matrix
 from .matroid_pages import matroid_page
-from .matroid_sums import Columns, direct_sum, three_sum, two_sum
+from .matroid_sums import Columns, direct_sum, summands, three_sum, two_sum
 from .matroid_trees import Decomposition, decomposed
 from .matroid_values import Label, labels_of, tableau_of_columns
 from .matroids import field_of_named, named
+from .minor_values import FoundMinor
 from .minors import excluded_minor
 from .oracle import Oracle
 from .questions import is_cographic, is_graphic, is_regular, is_series_parallel
-from .small_minors import Removed, minor_like
+from .small_minors import minor_like
 from .sources import MatrixLike
 from .tableaux import Field, Row, Tableau
 
@@ -195,15 +196,29 @@ class Matroid(Oracle):
         return self._of_sum(direct_sum(self, other))
 
     def two_sum(self, other: Matroid, at: Label, other_at: Label) -> Matroid:
-        """The 2-sum with another matroid, at an element of each: neither of them is a loop or a coloop, and the sum has neither."""
+        """The 2-sum with another matroid, at an element of each: neither of them is a loop or a coloop, and the sum has neither.
+
+        `compose("two", A, B)` is its matrix form, at the last column of A and the first row of B.
+        """
         return self._of_sum(two_sum(self, other, at, other_at))
 
     def three_sum(self, other: Matroid, triangle: Iterable[Label]) -> Matroid:
         """The 3-sum of two binary matroids along a triangle of both, which the sum does not have.
 
         Both have at least seven elements, the triangle contains no cocircuit of either, and they have no other elements in common.
+        `compose("delta", A, B)` is its matrix form: the last row and the last two columns of A are a triangle, and so are the first row and
+        the first two columns of B.
         """
         return self._of_sum(three_sum(self, other, listed("triangle", triangle, "three elements")))
+
+    def summands(self, side: Iterable[Label], shared: Iterable[Label] = ("p", "q", "r")) -> tuple[Matroid, Matroid]:
+        """The two matroids of which it is the direct sum, the 2-sum or the 3-sum, by one side X of a 1-, 2- or 3-separation (X, E - X).
+
+        Those of a 2-sum have one element in common, and those of a 3-sum, which is one over GF(2), a triangle. `shared` has names for them.
+        Raises `BadInput` if there is no such sum: a side of a 2-sum has two elements or more, and one of a 3-sum four.
+        """
+        one, two = summands(self, listed("side", side, "elements"), labels_of(shared))
+        return self._of_sum(one), self._of_sum(two)
 
     def isomorphism(self, other: Matroid, *, time_limit: float | None = None) -> dict[Label, Label] | None:
         """The element of another matroid for each element of this one, or None if they are not isomorphic.
@@ -216,8 +231,8 @@ class Matroid(Oracle):
         """Whether two matroids are the same up to the labels of their elements. `time_limit` is in seconds, 0 to 2,000,000."""
         return self.isomorphism(other, time_limit=time_limit) is not None
 
-    def find_minor(self, other: Matroid, *, time_limit: float | None = None) -> Removed | None:
-        """The elements to delete and to contract for a minor that is isomorphic to another matroid, or None if it has no such minor.
+    def find_minor(self, other: Matroid, *, time_limit: float | None = None) -> FoundMinor | None:
+        """A minor that is isomorphic to another matroid, with the elements that it has, or None if there is no such minor.
 
         The matroid has to be small, with up to about 15 elements. `time_limit` is in seconds, 0 to 2,000,000.
         """

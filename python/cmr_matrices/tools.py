@@ -13,7 +13,7 @@ from typing import Literal, cast, get_args
 
 from .answer_checks import checked_graph, checked_minimal, checked_reductions, checked_signing, is_cycle
 from .answers import Answer, Checked, Parts
-from .asked import MatroidLike, matrix_given
+from .asked import MatroidLike, asked_property, matrix_given
 from .calls import Call
 from .chains import Chain
 from .clock import TimeLimit
@@ -22,6 +22,7 @@ from .given import listed, one_of, whole
 from .graphs import Edge, Graph
 from .lines import LineSet
 from .matrix import Matrix
+from .matroid_values import MatroidValue
 from .printed import line_sets
 from .program import REFUSED, YES, StrPath, run
 from .reading import GRAPH_QUESTIONS, Question, printed_part, read_answer
@@ -72,7 +73,8 @@ def check(
     """Checks evidence for a matrix, whatever made it: a tree, a chain, a violator, or the text of one of these.
 
     The tree and the violator of `is_regular` belong to its signed matrix, `answer.signed`. If they are refused for another matrix, the
-    `hint` says so.
+    `hint` says so. A violator of the 0/1 matrix of a `Matroid` over GF(2) says nothing of the matroid, and an answer for the other field
+    is about another matroid: both are refused.
 
     If it is given an answer, `check` checks all of its evidence, which has to say what the answer says:
 
@@ -88,10 +90,15 @@ def check(
     Raises `BadInput` if an answer has none of these, and `BadText` if a text is not evidence, with the byte at fault.
     """
     call = Call.begin(program, time_limit)
-    if isinstance(evidence, Answer):
-        return _check_answer(matrix_given(matrix), evidence, call)
     taken = matrix_given(matrix)
+    if isinstance(evidence, Answer):
+        wanted = asked_property(evidence.property_name, matrix)
+        if wanted != evidence.property_name:
+            return Checked(accepted=False, rule=f"the answer is for the other field: of this matroid {wanted} is asked")
+        return _check_answer(taken, evidence, call)
     checked = _check(taken, evidence, call)
+    if isinstance(matrix, MatroidValue) and matrix.field == 2 and checked.says == "no":
+        return Checked(accepted=False, rule="it is evidence on the 0/1 matrix, whose matroid over GF(2) may be regular")
     return checked if checked.accepted else replace(checked, hint=_hint(taken, evidence))
 
 

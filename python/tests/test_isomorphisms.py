@@ -87,6 +87,27 @@ class Isomorphisms(unittest.TestCase):
             yes += wanted
         self.assertIn(yes, range(20, 130))
 
+    def test_eight_elements_by_brute_force(self) -> None:
+        """Over all maps of seven or eight elements. Half of the pairs differ by one entry at most."""
+        draw, yes = random.Random(26), 0
+        for number in range(100):
+            field, height = FIELDS[number % 2], draw.randint(2, 5)
+            width = draw.choice((7, 8)) - height
+            entries = (0, 1, 1) if field == 2 else (0, 1, -1)
+            rows, others = ([[draw.choice(entries) for _ in range(width)] for _ in range(height)] for _ in "12")
+            if number % 4 < 2:
+                others = [list(row) for row in rows]
+                others[draw.randrange(height)][draw.randrange(width)] = draw.choice(entries)
+            pair = Matroid.of(rows, field), shuffled(draw, Matroid.of(others, field))
+            bases = [set(matroid.bases()) for matroid in pair]
+            maps = (dict(zip(pair[0].elements, image)) for image in itertools.permutations(pair[1].elements))
+            wanted = len(bases[0]) == len(bases[1]) and any(
+                all(frozenset(to[one] for one in basis) in bases[1] for basis in bases[0]) for to in maps
+            )
+            self.assertEqual(pair[0].is_isomorphic(pair[1]), wanted, [matroid.matrix.to_lists() for matroid in pair])
+            yes += wanted
+        self.assertIn(yes, range(20, 80))
+
     @needs_program
     def test_two_fields(self) -> None:
         draw = random.Random(24)

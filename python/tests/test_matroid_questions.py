@@ -5,10 +5,12 @@ from __future__ import annotations
 import itertools
 import random
 import unittest
+from collections import Counter
 
 import cmr_matrices as cmr
-from cmr_matrices import BadInput, Matrix, Matroid, check, excluded_minor
+from cmr_matrices import BadInput, Matrix, Matroid, check, excluded_minor, named
 from tests.support import FANO, needs_module, needs_program
+from tests.test_represented import bases
 
 TREES = {"regular": cmr.is_regular, "graphic": cmr.is_graphic, "cographic": cmr.is_cographic}
 KNOWN = {
@@ -19,6 +21,42 @@ KNOWN = {
     "R12": "yes no no",
 }
 NOT_REGULAR = ("F7", "F7*", "AG(3,2)", "T8", "U2,4", "W^4", "F7-", "P7", "R9*", "AG(2,3)")
+
+
+class Theorem(unittest.TestCase):
+    def test_regular_over_three_elements(self) -> None:
+        """A matrix is totally unimodular if and only if its matroid over GF(3) has the bases of its support over GF(2).
+
+        The bases are found by brute force. A matroid with a matrix over both fields is regular (Tutte 1958), and then the binary one by the
+        same basis is the support. Pivots and signs of lines keep the answer.
+        """
+        draw, yes = random.Random(32), 0
+        for _ in range(300):
+            shape = draw.randint(2, 4), draw.randint(2, 4)
+            rows = [[draw.choice((0, 1, -1, 1)) for _ in range(shape[1])] for _ in range(shape[0])]
+            wanted = is_totally_unimodular(rows)
+            yes += wanted
+            matroid = Matroid.of(rows, 3)
+            self.assertEqual(bases(matroid) == bases(Matroid.of(matroid.matrix.support())), wanted, rows)
+            for _ in range(3 if matroid.matrix.nonzeros else 0):
+                row, column, _ = draw.choice(matroid.matrix.nonzeros)
+                matroid = matroid.pivot(matroid.basis[row], matroid.others[column])
+                self.assertEqual(is_totally_unimodular(matroid.matrix.to_lists()), wanted)
+                signs = draw.choices((1, -1), k=shape[0])
+                signed = [[entry * sign for entry in line] for line, sign in zip(matroid.matrix.to_lists(), signs)]
+                self.assertEqual(is_totally_unimodular(signed), wanted)
+        self.assertIn(yes, range(60, 240))
+
+
+def is_totally_unimodular(rows: list[list[int]]) -> bool:
+    """Whether each square submatrix has determinant -1, 0 or 1: by all of them."""
+    height, width = len(rows), len(rows[0])
+    return all(
+        Matrix.of([[rows[row][column] for column in columns] for row in chosen]).determinant() in (-1, 0, 1)
+        for size in range(1, min(height, width) + 1)
+        for chosen in itertools.combinations(range(height), size)
+        for columns in itertools.combinations(range(width), size)
+    )
 
 
 @needs_program
@@ -52,6 +90,42 @@ class Questions(unittest.TestCase):
         for ask in (cmr.is_balanced, cmr.has_no_cycle_fault):
             with self.assertRaisesRegex(BadInput, "its matroid does not determine; ask about `matroid.matrix`"):
                 ask(binary)  # type: ignore[arg-type]
+
+    def test_evidence_on_another_matroid_is_refused(self) -> None:
+        """Over GF(2) this matrix represents a graphic matroid, and over GF(3) a whirl, with a violator of the same matrix."""
+        rows = [[1, 1, 0], [0, 1, 1], [1, 0, 1]]
+        wheel, whirl = Matroid.of(rows), Matroid.of(rows, 3)
+        for ask in TREES.values():
+            for one, other in ((wheel, whirl), (whirl, wheel)):
+                answer = ask(one, certificate=True)
+                self.assertTrue(check(one, answer))
+                self.assertRegex(check(other, answer).rule or "", "the answer is for the other field: of this matroid .* is asked")
+        violator = whirl.is_regular().violator
+        assert violator is not None
+        for evidence in (violator, violator.to_text()):
+            self.assertEqual([check(given, evidence).accepted for given in (whirl, rows, wheel)], [True, True, False])
+        self.assertIn("may be regular", check(wheel, violator).rule or "")
+        with self.assertRaisesRegex(BadInput, "its matroid does not determine"):
+            check(wheel, cmr.is_balanced(rows))
+
+    @needs_module("networkx")
+    def test_graphs_have_edges_by_elements(self) -> None:
+        """Also if two labels have one text. The graph has the bases of the matroid, or of its dual."""
+        import networkx
+
+        for name, ask, is_dual in (("W4", cmr.is_graphic, False), ("K5", cmr.is_graphic, False), ("K3,3*", cmr.is_cographic, True)):
+            for field in (2, 3):
+                matroid = Matroid.from_named(name, field)  # type: ignore[arg-type]
+                half = len(matroid) // 2
+                matroid = matroid.relabelled([*range(half), *map(str, range(len(matroid) - half))])
+                edges = ask(matroid, certificate=True).edges
+                graph = networkx.MultiGraph()
+                for element, ends in edges.items():
+                    graph.add_edge(*ends, name=element)
+                self.assertEqual(set(edges), set(matroid.elements))
+                self.assertEqual(set(Matroid.from_graph(graph).bases()), set((matroid.dual() if is_dual else matroid).bases()))
+        self.assertEqual(cmr.is_graphic(named("K4"), certificate=True).edges, {})
+        self.assertEqual(Matroid.from_named("K4").is_graphic().edges, {})
 
     def test_evidence_has_the_names_of_elements(self) -> None:
         wheel = Matroid.from_named("W4").relabelled(range(1, 9))
@@ -167,6 +241,77 @@ class Sums(unittest.TestCase):
             self.assertEqual(self.cycles(found), sums)
             self.assertEqual(found.connectivity([e for e in found.elements if isinstance(e, tuple) and e[0] == "one"]), 2)
         self.assertGreater(made, 3)
+
+    @needs_program
+    def test_compose_is_the_matrix_form(self) -> None:
+        draw = random.Random(43)
+
+        def drawn(height: int, width: int) -> list[list[int]]:
+            return [[draw.randrange(2) for _ in range(width)] for _ in range(height)]
+
+        made = Counter[str]()
+        for _ in range(20):
+            first, second = drawn(3, 4), drawn(4, 3)
+            names = ("abc", "defp"), ("qrst", "uvw")
+            one, two = (Matroid.of(rows, row_names=own[0], column_names=own[1]) for rows, own in zip((first, second), names))
+            if any(row[-1] for row in first) and any(second[0]):
+                made["two"] += 1
+                whole = Matroid.of(cmr.compose("two", first, second), row_names="abcrst", column_names="defuvw")
+                self.assertEqual(whole.circuits(), one.two_sum(two, "p", "q").circuits())
+            # The last row and two columns of the first matrix, and the first ones of the second matrix, as docs/DEFINITIONS.md has them.
+            a, b, c, d = drawn(3, 1), drawn(1, 3), drawn(1, 3), drawn(3, 1)
+            first = [*([*row, x, x] for row, (x,) in zip(drawn(3, 3), a)), [*c[0], 0, 1]]
+            second = [[1, 0, *b[0]], *([x, x, *row] for row, (x,) in zip(drawn(3, 3), d))]
+            one = Matroid.of(first, row_names="abcz", column_names="defxy")
+            two = Matroid.of(second, row_names="xrst", column_names="yzuvw")
+            try:
+                found = one.three_sum(two, ["x", "y", "z"])
+            except BadInput:
+                continue
+            made["delta"] += 1
+            whole = Matroid.of(cmr.compose("delta", first, second), row_names="abcrst", column_names="defuvw")
+            self.assertEqual(whole.circuits(), found.circuits())
+        self.assertGreater(min(made["two"], made["delta"]), 8, made)
+
+    def test_summands(self) -> None:
+        """Their sum has the bases of the whole, and labels stay, for all separations of random matroids with eight or nine elements."""
+        draw, made = random.Random(42), Counter[int]()
+        for number in range(24):
+            field = 2 + number % 2
+            rows = [[draw.choice((0, 0, 1) if field == 2 else (0, 1, -1)) for _ in range(4 + (number % 4 == 0))] for _ in range(4)]
+            names = range(4), [("c", column) for column in range(len(rows[0]))]
+            whole = Matroid.of(rows, field, row_names=names[0], column_names=names[1])  # type: ignore[arg-type]
+            for side in draw.sample([x for size in (2, 4) for x in itertools.combinations(whole.elements, size)], 30):
+                between = whole.connectivity(side)
+                if between > 2 or between == 2 and (field == 3 or len(side) < 4):
+                    with self.assertRaises(BadInput):
+                        whole.summands(side)
+                    continue
+                made[between] += 1
+                one, two = whole.summands(side)
+                sums = (one.direct_sum, lambda it: one.two_sum(it, "p", "p"), lambda it: one.three_sum(it, list("pqr")))
+                self.assertEqual(set(sums[between](two).bases()), set(whole.bases()))
+                self.assertEqual(set(one.elements) - set("pqr"), set(side))
+        self.assertGreater(min(made[0], made[1], made[2]), 2, made)
+
+    def test_summands_of_known_sums(self) -> None:
+        k5, plane = Matroid.from_named("K5"), Matroid.from_named("F7").relabelled({"1": "1-2", "2": "1-3", "4": "2-3"})
+        triangle = ["1-2", "1-3", "2-3"]
+        one, two = k5.three_sum(plane, triangle).summands([e for e in k5.elements if e not in triangle], triangle)
+        self.assertEqual((one.is_isomorphic(k5), two.is_isomorphic(plane)), (True, True))
+        self.assertEqual((one.is_circuit(triangle), two.is_circuit(triangle)), (True, True))
+        for wrong, piece in [
+            (lambda: k5.summands(["1-2", "1-3"]), "each side of a 3-sum has 4 elements or more"),
+            (lambda: k5.summands(["1-2"]), "each side of a 2-sum has 2 elements or more"),
+            (lambda: k5.summands([]), "each side of a 1-sum has 1 elements or more"),
+            (lambda: k5.summands(["1-2", "3-4", "1-5", "2-4"]), "are no separation of order 1, 2, or over GF.2. 3"),
+            (lambda: k5.summands(["x"]), "there is no element 'x'"),
+            (lambda: one.summands(one.elements[:1]), "each side of a 2-sum"),
+            (lambda: Matroid.of([[1, 1, 1]]).summands(["r0", "c0"], ["c1"]), "have the elements {c1}"),
+            (lambda: Matroid.of([[1, 1, 1]]).summands(["r0", "c0"], []), "1 elements in common, and here are 0 names"),
+        ]:
+            with self.assertRaisesRegex(BadInput, piece):
+                wrong()
 
     def cycles(self, matroid: Matroid) -> set[frozenset[object]]:
         """The disjoint unions of circuits of a binary matroid: the sums of fundamental circuits."""

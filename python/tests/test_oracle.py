@@ -9,7 +9,7 @@ from collections.abc import Iterable
 from typing import Literal
 
 from cmr_matrices import BadInput, Matroid
-from tests.support import FANO
+from tests.support import FANO, needs_module
 from tests.test_represented import FIELDS, bases, circuits, drawn
 
 Sets = set[frozenset[str]]
@@ -94,6 +94,41 @@ class Ranks(unittest.TestCase):
         large = Matroid.from_named("K12")
         self.assertTrue(large.is_3connected())
         self.assertEqual(large.connectivity([f"1-{node}" for node in range(2, 13)]), 10)
+
+    def test_tutte_polynomials(self) -> None:
+        """By the ranks of all sets, of the dual matroid, and as the literature has them."""
+        draw = random.Random(10)
+        for number in range(40):
+            matroid = drawn(draw, FIELDS[number % 2])
+            found, terms = bases(matroid), matroid.tutte_polynomial()
+            ranks = {one: max(len(one & basis) for basis in found) for one in subsets(matroid.elements)}
+            for x, y in ((1, 1), (2, 1), (2, 2), (3, 5), (-2, 7)):
+                value = sum(number * x**i * y**j for (i, j), number in terms.items())
+                self.assertEqual(value, sum((x - 1) ** (matroid.rank() - at) * (y - 1) ** (len(one) - at) for one, at in ranks.items()))
+            self.assertEqual(matroid.dual().tutte_polynomial(), {(j, i): number for (i, j), number in terms.items()})
+        for name, wanted in [
+            ("U2,4", {(2, 0): 1, (1, 0): 2, (0, 1): 2, (0, 2): 1}),
+            ("F7", {(3, 0): 1, (2, 0): 4, (1, 0): 3, (1, 1): 7, (0, 1): 3, (0, 2): 6, (0, 3): 3, (0, 4): 1}),
+            ("U0,0", {(0, 0): 1}),
+            ("U0,2", {(0, 2): 1}),
+            ("U2,2", {(2, 0): 1}),
+        ]:
+            self.assertEqual(Matroid.from_named(name).tutte_polynomial(), wanted)
+        # A complete graph on n nodes has n^(n - 2) spanning trees, and n! acyclic orientations.
+        terms = Matroid.from_named("K7").tutte_polynomial()
+        self.assertEqual((sum(terms.values()), sum(number * 2**i for (i, j), number in terms.items() if not j)), (7**5, 5040))
+        with self.assertRaisesRegex(BadInput, "more than 20000 flats"):
+            Matroid.from_named("K12").tutte_polynomial()
+
+    @needs_module("networkx")
+    @needs_module("sympy")
+    def test_tutte_polynomials_of_graphs(self) -> None:
+        import networkx
+        import sympy
+
+        for graph in (networkx.complete_graph(5), networkx.circular_ladder_graph(3), networkx.complete_bipartite_graph(3, 3)):
+            wanted = sympy.Poly(networkx.tutte_polynomial(graph), *sympy.symbols("x y")).as_dict()
+            self.assertEqual(Matroid.from_graph(graph).tutte_polynomial(), wanted)
 
     def test_what_is_refused(self) -> None:
         matroid = Matroid.of(FANO, row_names=(1, 2, 3), column_names=(4, 5, 6, 7))

@@ -25,6 +25,8 @@ FACTS = [
     ("Z4", False, False, False),
     ("V8", True, True, False),
     ("Petersen", True, True, False),
+    ("T12", False, False, False),
+    ("U3,4", True, True, True),
 ]
 
 

@@ -1,11 +1,13 @@
 """Writes the matrix of a matroid of the literature as a dense text for cmr: R10, R12, F7, K5, K3,3, W4, .., and with * their duals.
 
-K with one number is a complete graph, K with two numbers a complete bipartite graph, W with a number of spokes a wheel, and Z with a rank
-a binary spike with its tip. Other names are PG(3,2) and AG(3,2) of any dimension, S8, V8, Petersen, prism, cube and octahedron. The matrix
-A represents the matroid by [I A] over GF(2), and the transposed matrix represents the dual.
+K with one number is a complete graph, K with two numbers a complete bipartite graph, W with a number of spokes a wheel, Z with a rank a
+binary spike with its tip, and U with a rank and a size a uniform matroid. Other names are PG(3,2) and AG(3,2) of any dimension, S8, T12,
+V8, Petersen, prism, cube and octahedron. The matrix A represents the matroid by [I A] over GF(2), and the transposed matrix represents the
+dual.
 
-With --ternary the representation is over GF(3), with entries -1, 0 and 1. U2,4, F7-, P7, P8, R9, T8, W^3 and all whirls, AG(2,3) and all
-geometries over GF(3) are not binary, so they need --ternary.
+With --ternary the representation is over GF(3), with entries -1, 0 and 1. U2,4, R6, O7, P7, F7-, J, P8, R8, T8, R9, S(5,6,12), W^3 and all
+whirls, Q3(GF(3)*) and all ternary Dowling geometries, and AG(2,3) and all larger geometries over GF(3) are not binary, so they need
+--ternary.
 """
 
 from __future__ import annotations
