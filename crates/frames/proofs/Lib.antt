@@ -1,2 +1,3 @@
 pub mod FileLemmas
 pub mod RequestLemmas
+pub mod ReplyLemmas

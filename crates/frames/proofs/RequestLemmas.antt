@@ -222,7 +222,16 @@ words_short : (words : List (List ℕ)) → AllByRecursion IsWord words → AllB
 words_short [] all = tt
 words_short (word ∷ words) all = (all.0.short, words_short words all.1)
 
-no_more_files : (file : NamedBytes) (files : List NamedBytes) → IsFile file → [] ≡ files_text (file ∷ files) → ⊥
+-- the name and the bytes of a file are short
+pub record IsShortFile (file : NamedBytes) : Type 0 where
+  pub name : IsShort file.name
+  pub bytes : IsShort file.bytes
+
+files_short : (files : List NamedBytes) → AllByRecursion IsFile files → AllByRecursion IsShortFile files
+files_short [] all = tt
+files_short (file ∷ files) all = (record { name = all.0.name.short; bytes = all.0.bytes }, files_short files all.1)
+
+no_more_files : (file : NamedBytes) (files : List NamedBytes) → IsShortFile file → [] ≡ files_text (file ∷ files) → ⊥
 no_more_files file files is e =
     let one : [] ≡ netstrings (file.name ∷ []) ++ (netstring file.bytes ++ files_text files) = e ∙ append_assoc (netstring file.name) (netstring file.bytes) (files_text files) ∙ ap (λ (x : List ℕ). x ++ (netstring file.bytes ++ files_text files)) (sym (append-nil (netstring file.name))) in
     nothing (netstrings (file.name ∷ [])) (netstring file.bytes ++ files_text files) one (λ none. no_word file.name is.name (sym none))
@@ -231,18 +240,18 @@ no_more_files file files is e =
     nothing [] b e none = none refl
     nothing (x ∷ a) b e none = absurd (let lengths : 0 ≡ length (x ∷ (a ++ b)) = ap length e in omega arith)
 
-    no_word : (name : List ℕ) → IsWord name → [] ≡ netstrings (name ∷ []) → ⊥
-    no_word name word e = let same : [] ≡ name ∷ [] = one_row [] (name ∷ []) tt (word.short, tt) e in absurd (let lengths : 0 ≡ length (name ∷ []) = ap length same in omega arith)
+    no_word : (name : List ℕ) → IsShort name → [] ≡ netstrings (name ∷ []) → ⊥
+    no_word name short e = let same : [] ≡ name ∷ [] = one_row [] (name ∷ []) tt (short, tt) e in absurd (let lengths : 0 ≡ length (name ∷ []) = ap length same in omega arith)
 
-pub one_file_row : (files others : List NamedBytes) → AllByRecursion IsFile files → AllByRecursion IsFile others → files_text files ≡ files_text others → files ≡ others
+pub one_file_row : (files others : List NamedBytes) → AllByRecursion IsShortFile files → AllByRecursion IsShortFile others → files_text files ≡ files_text others → files ≡ others
 one_file_row [] [] all also e = refl
 one_file_row [] (other ∷ others) all also e = absurd (no_more_files other others also.0 e)
 one_file_row (file ∷ files) [] all also e = absurd (no_more_files file files all.0 (sym e))
 one_file_row (file ∷ files) (other ∷ others) all also e =
     let bytes : List ℕ = files_text (file ∷ files) in
     let names = one_netstring bytes file.name (netstring file.bytes ++ files_text files) other.name (netstring other.bytes ++ files_text others)
-    (record { whole = append_assoc (netstring file.name) (netstring file.bytes) (files_text files); short = all.0.name.short })
-    (record { whole = e ∙ append_assoc (netstring other.name) (netstring other.bytes) (files_text others); short = also.0.name.short }) in
+    (record { whole = append_assoc (netstring file.name) (netstring file.bytes) (files_text files); short = all.0.name })
+    (record { whole = e ∙ append_assoc (netstring other.name) (netstring other.bytes) (files_text others); short = also.0.name }) in
     let held = one_netstring (netstring file.bytes ++ files_text files) file.bytes (files_text files) other.bytes (files_text others)
     (record { whole = refl; short = all.0.bytes }) (record { whole = names.1; short = also.0.bytes }) in
     let rest : files ≡ others = one_file_row files others all.1 also.1 held.1 in
@@ -258,4 +267,7 @@ pub one_request : (bytes : List ℕ) (words others : List (List ℕ)) (files mor
 one_request bytes words others files more one other =
     let same = one_netstring bytes (netstrings words) (files_text files) (netstrings others) (files_text more)
     (record { whole = one.text; short = one.short }) (record { whole = other.text; short = other.short }) in
-    (one_row words others (words_short words one.all_words) (words_short others other.all_words) same.0, one_file_row files more one.all_files other.all_files same.1)
+    (
+      one_row words others (words_short words one.all_words) (words_short others other.all_words) same.0,
+      one_file_row files more (files_short files one.all_files) (files_short more other.all_files) same.1,
+    )

@@ -1,5 +1,5 @@
 //! Laws about the definitions. Each law is a function that does nothing: its contract is the law.
-ghost use Rattle.ghouila.specs.Laws.{CamionEquivalence, ViolatorsHaveNoSigning};
+ghost use Rattle.ghouila.specs.Laws.{CamionEquivalence, TransposesAreUnimodular, ViolatorsHaveNoSigning};
 ghost use Rattle.ghouila.specs.DeterminantLaws.{GhouilaHouriEquivalence};
 ghost use Rattle.ghouila.specs.IntegralLaws.{BasicSolutionsAreIntegral, HoffmanKruskalEquivalence};
 ghost use Rattle.ghouila.specs.NetworkLaws.{NetworkMatricesAreUnimodular, ConetworkMatricesAreUnimodular};
@@ -12,6 +12,11 @@ ghost use Rattle.ghouila.specs.SumLaws.{ReductionsKeepViolators, ComponentsDecid
 pub fn camion()
     ensures equivalence { CamionEquivalence }
     ensures unsigned { ViolatorsHaveNoSigning }
+{}
+
+/// A matrix is totally unimodular if and only if its transpose is.
+pub fn transposed_unimodular()
+    ensures { TransposesAreUnimodular }
 {}
 
 /// The signs of a matrix without violators are unique: two such matrices with one support agree after some rows and

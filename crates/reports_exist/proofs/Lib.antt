@@ -21,3 +21,6 @@ pub mod SignReports
 pub mod OrderReports
 pub mod OrderRanges
 pub mod RunReports
+pub mod SmallerBudgets
+pub mod DecidedMatrices
+pub mod AnsweredRuns

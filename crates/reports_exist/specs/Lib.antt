@@ -1,1 +1,3 @@
+pub mod AnsweredRuns
+pub mod DecidedMatrices
 pub mod Laws

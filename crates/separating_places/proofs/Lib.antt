@@ -1,2 +1,3 @@
 pub mod SameSets
 pub mod ChosenPlaces
+pub mod LateStates
