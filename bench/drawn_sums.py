@@ -30,7 +30,7 @@ R12 = [
 F7 = [[1, 0, 1, 1], [0, 1, 1, 1], [1, 1, 0, 1]]
 OTHER = {"flat": "tall", "tall": "flat", "line": "line"}
 
-MOST_PIECES, MOST_LINES = 16, 300
+MOST_PIECES, MOST_LINES, MOST_ARCS = 16, 300, 14
 
 BASES = ("as composed", "10 pivots", "300 pivots", "200 pivots, then sparse")
 PIVOTS = {"as composed": 0, "10 pivots": 10, "300 pivots": 300, "200 pivots, then sparse": 200}
@@ -101,10 +101,10 @@ def connecting(tree: Tree, arc: int, kind: str) -> tuple[list[int], list[Walk]] 
     return tall and ([arc, -arc], [tall[0] | {-arc: tall[1]}])
 
 
-def network(draw: Draw, first: str, last: str) -> Matrix | None:
+def network(draw: Draw, first: str, last: str, most: int) -> Matrix | None:
     """A network matrix that begins and ends with the connecting lines of these kinds, or None if the tree has none."""
-    tree = Tree(draw, draw.randint(4, 14))
-    columns = [tree.drawn() for _ in range(draw.randint(3, 14))]
+    tree = Tree(draw, draw.randint(4, most))
+    columns = [tree.drawn() for _ in range(draw.randint(3, most))]
     arcs = draw.sample(range(1, tree.size + 1), 2)
     start, end = (connecting(tree, arc, kind) for arc, kind in zip(arcs, (first, last)))
     if start is None or end is None:
@@ -118,14 +118,14 @@ def transposed(entries: Matrix) -> Matrix:
     return [list(column) for column in zip(*entries)]
 
 
-def piece(draw: Draw, first: str, last: str) -> Matrix:
-    """A network, or the transposed matrix of one, with these kinds of connecting lines; R10 and R12 are for two-sums."""
+def piece(draw: Draw, first: str, last: str, most: int = MOST_ARCS) -> Matrix:
+    """A network of up to `most` arcs, or a transposed one, with these kinds of connecting lines; R10 and R12 are for two-sums."""
     if first == last == "line" and draw.random() < 0.5:
         return [list(row) for row in draw.choice((R10, R12))]
     is_transposed = draw.random() < 0.5
     while True:
         kinds = (OTHER[first], OTHER[last]) if is_transposed else (first, last)
-        made = network(draw, *kinds)
+        made = network(draw, *kinds, most)
         if made is not None:
             return transposed(made) if is_transposed else made
 

@@ -140,17 +140,19 @@ waits_less left before after w inside less = record {
   left = w.left ∙ ap (λ (set : Bits). number_of_lines (λ x. not (has_column set.words x)) set.size) (sym inside);
 }
 
-pub takes : (line left : ℕ) (before after : Growth) → IsGrowth before left → before.fresh ≡ after.fresh ++ line ∷ [] → after.inside ≡ before.inside → HasTaken line before after
-takes line left before after w fresh inside = record {
-  inside_same = inside;
-  line_inside = w.fresh_inside line (pushed_last after.fresh before.fresh line fresh);
-  line_in = w.fresh_in line (pushed_last after.fresh before.fresh line fresh);
-  others = λ x h. elim (in_pushed after.fresh before.fresh line x fresh h) [ inl g ↦ inr g | inr e ↦ inl e ];
-  room_less =
-      let a = pushed_length after.fresh before.fresh line fresh in
-      let b = ap (λ (set : Bits). number_of_lines (λ x. not (has_column set.words x)) set.size) inside in
-      omega arith;
-}
+pub takes : (line left : ℕ) (before after : Growth) → IsGrowth before left → before.fresh ≡ line ∷ after.fresh → after.inside ≡ before.inside → HasTaken line before after
+takes line left before after w fresh inside =
+    let first : IsIn line before.fresh = subst (λ (z : List ℕ). IsIn line z) (sym fresh) (inl refl) in
+    record {
+      inside_same = inside;
+      line_inside = w.fresh_inside line first;
+      line_in = w.fresh_in line first;
+      others = λ x h. subst (λ (z : List ℕ). IsIn x z) fresh h;
+      room_less =
+          let a = ap (λ (z : List ℕ). length z) fresh in
+          let b = ap (λ (set : Bits). number_of_lines (λ x. not (has_column set.words x)) set.size) inside in
+          omega arith;
+    }
 
 -- ---- pulls, a word at a time
 

@@ -8,6 +8,7 @@ ghost use Rattle.line_growth.specs.Rules.{IsSumOf, sum_at};
 ghost use Rattle.line_growth.specs.GrowingLines.{DecidesUnlike, HasAdded, HasGrown, HasPulled, HasTaken, IsBitOf, IsNextOutside, count_left, is_inside};
 
 use crate::rule::{Multiple, Sum};
+use crate::waiting::Waiting;
 use cmr_base::columns::{next_column, outside};
 use cmr_base::{BitSet, MAX_ROWS, Matrix, Memory, columns_of, words_for};
 use std::alloc::Global;
@@ -19,7 +20,7 @@ use std::marker::Model;
 pub struct GrowingLines {
     inside: BitSet,
     left: u32,
-    fresh: Vec<u32>,
+    fresh: Waiting,
 }
 
 impl Model for GrowingLines {
@@ -27,9 +28,9 @@ impl Model for GrowingLines {
 
     ghost Value = { Growth };
 
-    ghost view = { λ lines. record { inside = lines.inside; fresh = lines.fresh.items } };
+    ghost view = { λ lines. record { inside = lines.inside; fresh = lines.fresh } };
 
-    ghost invariant = { λ lines. IsGrowth (record { inside = lines.inside; fresh = lines.fresh.items }) lines.left };
+    ghost invariant = { λ lines. IsGrowth (record { inside = lines.inside; fresh = lines.fresh }) lines.left };
 }
 
 impl GrowingLines {
@@ -42,7 +43,7 @@ impl GrowingLines {
         Ok(GrowingLines {
             inside: BitSet::new(alloc, size)?,
             left: size,
-            fresh: Vec::with_capacity(alloc, size as usize)?,
+            fresh: Waiting::new(alloc, size)?,
         })
     }
 
@@ -65,7 +66,7 @@ impl GrowingLines {
         self.fresh.clear();
         self.inside.copy(&other.inside);
         self.left = other.left;
-        self.fresh.extend_from_slice(&other.fresh)?;
+        self.fresh.copy(&other.fresh)?;
         Ok(())
     }
 
@@ -92,12 +93,12 @@ impl GrowingLines {
         self.fresh.len()
     }
 
-    /// A line whose pulls are not followed yet. The line then counts as followed.
+    /// The line that waits longest. It then counts as followed.
     pub fn next(&mut self) -> Option<u32>
         ensures { MatchOption result (length self.old.fresh ≡ 0) (λ line.
             HasTaken line self.old self.new) }
     {
-        self.fresh.pop()
+        self.fresh.next()
     }
 
     /// Adds a line.

@@ -5,6 +5,7 @@
 mod growing_lines;
 mod growing_set;
 mod rule;
+mod waiting;
 
 pub use growing_set::{GrowingSet, line_at};
 pub use rule::{Block, GrowthRule, SpreadLines, Sum};

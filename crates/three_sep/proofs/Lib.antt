@@ -10,3 +10,4 @@ pub mod OneFirstCut
 pub mod RowSearchLemmas
 pub mod KeptSideLemmas
 pub mod OtherLemmas
+pub mod TiedLemmas

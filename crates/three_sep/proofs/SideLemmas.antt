@@ -23,8 +23,10 @@ use Rattle.three_sep.specs.declared.connectors.Connectors.{Connectors}
 use Rattle.three_sep.specs.Connectors.{AreConnectorsOf, HasNoneParting, all_prefix, connectors_at, firsts, rule_of, seconds}
 use Rattle.three_sep.specs.NumberedSeeds.{HasLines, IsBeside, IsCrossing, IsGoodSeed, Seed}
 use Rattle.three_sep.specs.Searches.{HasCorners, HasNoGood, corner_prefix, first_at, held_lines, other_line, second_at}
-use Rattle.three_sep.proofs.CrossingLemmas.{closed_crossing, crossing_to, lower_crossing, upper_crossing}
-use Rattle.three_sep.proofs.SearchLemmas.{first_has, second_out, seed_at, seed_from_all, seed_from_corners, seed_from_first, seed_from_second, to_connector}
+use Rattle.three_sep.specs.TiedLines.{AreRefused}
+use Rattle.three_sep.proofs.CrossingLemmas.{closed_crossing, crossing_from, crossing_to, lower_crossing, upper_crossing}
+use Rattle.three_sep.proofs.TiedLemmas.{tied_other}
+use Rattle.three_sep.proofs.SearchLemmas.{first_has, of_connector, second_out, seed_at, seed_from_all, seed_from_corners, seed_from_first, seed_from_second, to_connector}
 
 -- ---- separations that do not exist
 
@@ -101,12 +103,21 @@ module _ (m : Matrix) (form : Form) (crossing : IsCrossing form) (c : Corners) w
     corners_none : HasNone S (Row c.two.row ∷ Column c.two.column ∷ [])
     corners_none = let none = second_out m (seed_at form (connectors_at c q o) x) S good in (none.0, (none.1, tt))
 
-  pub no_good_corners : HasNoneParting m (rule_of c) (Row c.one.row ∷ Column c.one.column ∷ []) (Row c.two.row ∷ Column c.two.column ∷ []) → HasNoGood m (corner_prefix form c)
-  no_good_corners refused s S h g0 =
+  pub no_good_refused : AreRefused m c → HasNoGood m (corner_prefix form c)
+  no_good_refused refused s S h g0 =
       let q = s.pair.first.other in
       let o = s.pair.second.other in
+      let seed = seed_at form (connectors_at c q o) s.line in
       let g = subst (λ (z : Seed). IsGoodSeed m z S) (seed_from_corners m form c s h) g0 in
-      refused S (crossing_closed q o s.line S g) (corners_has q o s.line S g) (corners_none q o s.line S g) (three_separation_of_seed (height m) m.width (entry m) form (first_at c q) (second_at c o) s.line S g).enough
+      let ties = crossing_from (entry m) (first_at c q) (second_at c o) form crossing g.0.values.tied in
+      let first_line = (of_connector (IsLine (height m) m.width) (first_is_flat form) (first_at c q) g.0.first_lines).2 in
+      let second_line = (of_connector (IsLine (height m) m.width) (second_is_flat form) (second_at c o) g.0.second_lines).2 in
+      let enough = (three_separation_of_seed (height m) m.width (entry m) form (first_at c q) (second_at c o) s.line S g).enough in
+      not_both (S (other_line (second_is_flat form) o))
+      (refused.no_tied S (crossing_closed q o s.line S g) (corners_has q o s.line S g) (corners_none q o s.line S g) enough
+      (other_line (first_is_flat form) q) (other_line (second_is_flat form) o) first_line second_line
+      (tied_other (entry m) (first_is_flat form) c.one c.two q ties.first_tied) (tied_other (entry m) (second_is_flat form) c.two c.one o ties.second_tied) (first_has m seed S g).2)
+      (second_out m seed S g).2
 
   pub no_good_side : (q : ℕ) → HasNoLeaving m (rule_of c) (held_lines form c q) (Row c.two.row ∷ Column c.two.column ∷ []) 4 → HasNoGood m (corner_prefix form c ++ q ∷ [])
   no_good_side q refused s S h g0 =

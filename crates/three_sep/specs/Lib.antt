@@ -10,3 +10,4 @@ pub mod HeldSides
 pub mod KeptSides
 pub mod FirstCuts
 pub mod CutSeeds
+pub mod TiedLines

@@ -14,6 +14,7 @@ mod refused_corners;
 mod row_search;
 mod search;
 mod sides;
+mod tied_lines;
 
 pub use cmr_base::{Connector, Form, Three};
 pub use first_cuts::first_cut;

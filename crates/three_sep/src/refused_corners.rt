@@ -1,28 +1,28 @@
 // Corners that a search has refused.
 ghost use Rattle.std.specs.Prelude.{◌≡◌, true};
 ghost use Rattle.std.specs.List.{All};
-ghost use Rattle.three_sep.specs.Connectors.{HasNoneAtCorners};
+ghost use Rattle.three_sep.specs.TiedLines.{AreRefused, corners_exchanged};
 
 use cmr_base::{Memory, Position, RowsAndColumns};
 use cuts::Corners;
 use std::alloc::Global;
 
 /// The number of corners that are kept.
-const MOST: usize = 100_000;
+const MOST: usize = 300_000;
 
-/// Pairs of corners: no separation of the matrix has (i, p) in side one and (k, j) in side two. They are noted in lexicographic order, and
-/// later visits in this order find them one after another: those before `next` are past.
+/// Pairs of corners: no good seed of the forms delta, Y and mixed has (i, p) in side one and (k, j) in side two, or the reverse. They are
+/// noted in lexicographic order, and later visits in this order find them one after another: those before `next` are past.
 #[derive(Drop)]
 pub struct RefusedCorners<'a> {
     pub matrix: &'a RowsAndColumns<'a>,
     noted: Vec<Corners>,
     next: usize,
-    ghost none_at: { All (HasNoneAtCorners matrix.now) noted.items },
+    ghost refused: { All (AreRefused matrix.now) noted.items },
 }
 
 impl<'a> RefusedCorners<'a> {
     ghost use Rattle.std.specs.Prelude.{◌≡◌, true};
-    ghost use Rattle.three_sep.specs.Connectors.{HasNoneAtCorners};
+    ghost use Rattle.three_sep.specs.TiedLines.{AreRefused};
 
     /// No corners of a matrix.
     pub fn new(alloc: Global, matrix: &'a RowsAndColumns<'a>) -> RefusedCorners<'a>
@@ -45,12 +45,43 @@ impl<'a> RefusedCorners<'a> {
     /// Decides whether these corners are the next noted ones, after those that come before them in the order. The latter are then past.
     pub fn has(&mut self, corners: &Corners) -> bool
         ensures matrix { self.new.matrix.now ≡ self.old.matrix.now }
-        ensures none { result ≡ true → HasNoneAtCorners self.old.matrix.now corners.now }
+        ensures refused { result ≡ true → AreRefused self.old.matrix.now corners.now }
     {
         'earlier: while self.next < self.noted.len() && is_before(&self.noted[self.next], corners) {
             self.next += 1;
         }
-        self.next < self.noted.len() && are_same(&self.noted[self.next], corners)
+        self.has_at(self.next, corners)
+    }
+
+    /// Decides whether the corners with their sides exchanged are noted.
+    pub fn has_exchanged(&self, corners: &Corners) -> bool
+        ensures { result ≡ true → AreRefused self.now.matrix.now corners.now }
+    {
+        let other = exchanged(corners);
+        let place = self.place_of(&other);
+        self.has_at(place, &other)
+    }
+
+    // Decides whether the corners are the noted ones at a place.
+    fn has_at(&self, place: usize, corners: &Corners) -> bool
+        ensures { result ≡ true → AreRefused self.now.matrix.now corners.now }
+    {
+        place < self.noted.len() && are_same(&self.noted[place], corners)
+    }
+
+    // By halving, the number of noted corners that come before these.
+    fn place_of(&self, corners: &Corners) -> usize {
+        let mut low = 0;
+        let mut high = self.noted.len();
+        'halving: while low < high {
+            let middle = low + (high - low) / 2;
+            if is_before(&self.noted[middle], corners) {
+                low = middle + 1;
+            } else {
+                high = middle;
+            }
+        }
+        low
     }
 
     /// Whether all noted corners are past.
@@ -60,7 +91,7 @@ impl<'a> RefusedCorners<'a> {
 
     /// Notes corners, which are then past, if all noted corners are past and there is room.
     pub fn note(&mut self, corners: &Corners) -> Result<(), Memory>
-        requires { HasNoneAtCorners self.old.matrix.now corners.now }
+        requires { AreRefused self.old.matrix.now corners.now }
         ensures { self.new.matrix.now ≡ self.old.matrix.now }
     {
         if self.is_past() && self.next < MOST {
@@ -69,6 +100,14 @@ impl<'a> RefusedCorners<'a> {
         }
         Ok(())
     }
+}
+
+// The corners with their sides exchanged.
+fn exchanged(corners: &Corners) -> Corners
+    ensures { result ≡ corners_exchanged corners.now }
+{
+    let Corners { one, two } = *corners;
+    Corners { one: two, two: one }
 }
 
 // Whether corners come before others in the lexicographic order.

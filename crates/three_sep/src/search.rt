@@ -73,7 +73,7 @@ impl<'a> Search<'a> {
     ghost use Rattle.cmr_base.specs.Separations.{IsTied, first_is_flat, second_is_flat};
     ghost use Rattle.cmr_base.specs.Seeds.{IsLine, form_number};
     ghost use Rattle.cuts.specs.LineCuts.{AreInside};
-    ghost use Rattle.three_sep.specs.Connectors.{HasNoneAtCorners};
+    ghost use Rattle.three_sep.specs.TiedLines.{AreRefused};
     ghost use Rattle.three_sep.specs.NumberedSeeds.{IsCrossing};
     ghost use Rattle.three_sep.specs.HeldSides.{HoldsFirst};
     ghost use Rattle.three_sep.specs.Searches.{HasCorners, HasNoGood, IsCorner, IsFoundSeparation, corner_prefix, other_line, second_at};
@@ -248,24 +248,19 @@ impl<'a> Search<'a> {
         Ok(None)
     }
 
-    // Decides whether a separation may have the first corner in side one and the second corner in side two. The search notes corners that
-    // it refuses, for the next forms. The second form notes corners that the first form did not visit in a list of their own.
+    // Decides whether a good seed may have the first corner in side one and the second corner in side two. The search notes corners that it
+    // refuses, for the next forms and with their sides exchanged. The second form notes corners that the first form did not visit in a list
+    // of their own.
     fn may_part(&mut self, corners: &Corners) -> Result<bool, Memory>
         requires { AreInside self.old.matrix.now corners.now }
         ensures matrix { self.new.matrix.now ≡ self.old.matrix.now }
-        ensures none { IfOk result (λ may. may ≡ false
-            → HasNoneAtCorners self.old.matrix.now corners.now) }
+        ensures refused { IfOk result (λ may. may ≡ false
+            → AreRefused self.old.matrix.now corners.now) }
     {
-        if self.refused.has(corners) {
+        if self.is_noted(corners) {
             return Ok(false);
         }
-        if self.refused_later.has(corners) {
-            return Ok(false);
-        }
-        let Corners { one, two } = *corners;
-        let first = [Line::Row(one.row), Line::Column(one.column)];
-        let second = [Line::Row(two.row), Line::Column(two.column)];
-        if self.sides.may_part(rule_at(corners), &first, &second)? {
+        if !self.is_refused(corners)? {
             return Ok(true);
         }
         if self.refused.is_past() {
@@ -274,6 +269,37 @@ impl<'a> Search<'a> {
         }
         self.refused_later.note(corners)?;
         Ok(false)
+    }
+
+    // Decides whether the search has noted corners.
+    fn is_noted(&mut self, corners: &Corners) -> bool
+        ensures matrix { self.new.matrix.now ≡ self.old.matrix.now }
+        ensures refused { result ≡ true → AreRefused self.old.matrix.now corners.now }
+    {
+        if corners.two.row < corners.one.row {
+            return self.refused.has_exchanged(corners) || self.refused_later.has_exchanged(corners);
+        }
+        if self.refused.has(corners) {
+            return true;
+        }
+        self.refused_later.has(corners)
+    }
+
+    // Decides whether no good seed has these corners, first by their tied lines, and then by other rows.
+    fn is_refused(&mut self, corners: &Corners) -> Result<bool, Memory>
+        requires { AreInside self.old.matrix.now corners.now }
+        ensures matrix { self.new.matrix.now ≡ self.old.matrix.now }
+        ensures refused { IfOk result (λ refused. refused ≡ true
+            → AreRefused self.old.matrix.now corners.now) }
+    {
+        if !self.sides.may_be_tied(corners)? {
+            return Ok(true);
+        }
+        let Corners { one, two } = *corners;
+        let first = [Line::Row(one.row), Line::Column(one.column)];
+        let second = [Line::Row(two.row), Line::Column(two.column)];
+        let may = self.sides.may_part(rule_at(corners), &first, &second)?;
+        Ok(!may)
     }
 
     // Decides whether q can be the other line of the first connector, and the closure of the first connector leaves the second corner. If so,

@@ -3,13 +3,13 @@ use Rattle.three_sep.specs.declared.search.Search.{Search}
 use Rattle.cmr_base.specs.Separations.{first_is_flat}
 use Rattle.three_sep.specs.Searches.{corner_prefix, line_count}
 use Rattle.three_sep.proofs.SearchLemmas.{below_line, found_some, none_more, level_ends, none_below_more, first_below}
-use Rattle.three_sep.proofs.SideLemmas.{no_good_corners}
+use Rattle.three_sep.proofs.SideLemmas.{no_good_refused}
 use Rattle.three_sep.proofs.KeptSideLemmas.{held_at_own}
 use Rattle.three_sep.proofs.search.Search.first_of_corners.Goals as goal
 use Rattle.three_sep.proofs.search.Search.first_of_corners.Goals.{then-branch+in_ok-three+in_default, else-branch}
 
 pub returns-then-not-branch-clause-found : goal.returns-then-not-branch-clause-found
-returns-then-not-branch-clause-found c = no_good_corners c.args.self.now.matrix.now c.args.form c.requires.crossing c.args.corners.now (c.in_ok-may_part.ensures.none c.if-not-branch.true)
+returns-then-not-branch-clause-found c = no_good_refused c.args.self.now.matrix.now c.args.form c.requires.crossing c.args.corners.now (c.in_ok-may_part.ensures.refused c.if-not-branch.true)
 
 pub hold_first-requires-clause-line : goal.hold_first-requires-clause-line
 hold_first-requires-clause-line c =
