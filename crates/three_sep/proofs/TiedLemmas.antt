@@ -45,8 +45,8 @@ module _ (m : Matrix) (rule : GrowthRule) (start : List Line) (lines : Matrix) (
     | inr h ↦ elim (cases_lt c other) [
       | inl k ↦ absurd (not_both (support lines across c) (is_nonzero_is (entry lines across c) nonzero) (none c h k))
       | inr k ↦
-          let e : c ≡ other = omega arith in
-          subst (λ (z : ℕ). Forces m rule start (other_line flat z)) (sym e) (here (subst (λ (z : ℕ). entry lines own z ≡ pos 0) e zero))
+          let same_place : c ≡ other = omega arith in
+          subst (λ (z : ℕ). Forces m rule start (other_line flat z)) (sym same_place) (here (subst (λ (z : ℕ). entry lines own z ≡ pos 0) same_place zero))
     ]
   ]
 

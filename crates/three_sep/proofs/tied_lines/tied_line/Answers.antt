@@ -6,11 +6,11 @@ use Rattle.three_sep.proofs.tied_lines.tied_line.Goals as goal
 
 pub tied_column-requires-2-clause-own : goal.tied_column-requires-2-clause-own
 tied_column-requires-2-clause-own c =
-    subst (λ (n : Matrix). c.args.own.column < height n) (sym c.by_columns.ensures.matrix) (let h = height-transposed c.args.matrix.now in omega (arith, h, c.requires.own_column))
+    subst (λ (n : Matrix). c.args.own.column < height n) (sym c.by_columns.ensures.matrix) (let heights = height-transposed c.args.matrix.now in omega (arith, heights, c.requires.own_column))
 
 pub tied_column-requires-2-clause-across : goal.tied_column-requires-2-clause-across
 tied_column-requires-2-clause-across c =
-    subst (λ (n : Matrix). c.args.across.column < height n) (sym c.by_columns.ensures.matrix) (let h = height-transposed c.args.matrix.now in omega (arith, h, c.requires.across_column))
+    subst (λ (n : Matrix). c.args.across.column < height n) (sym c.by_columns.ensures.matrix) (let heights = height-transposed c.args.matrix.now in omega (arith, heights, c.requires.across_column))
 
 pub returns : goal.returns
 returns c =

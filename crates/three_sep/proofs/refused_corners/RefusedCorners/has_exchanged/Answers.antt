@@ -5,5 +5,5 @@ use Rattle.three_sep.proofs.refused_corners.RefusedCorners.has_exchanged.Goals a
 
 pub returns : goal.returns
 returns c = λ same.
-    let m = c.args.self.now.matrix.now in
-    refused_exchanged m (corners_exchanged c.args.corners.now) (subst (AreRefused m) c.exchanged-other.ensures (c.has_at.ensures same))
+    let matrix = c.args.self.now.matrix.now in
+    refused_exchanged matrix (corners_exchanged c.args.corners.now) (subst (AreRefused matrix) c.exchanged-other.ensures (c.has_at.ensures same))

@@ -18,7 +18,7 @@ returns-then-not-branch-clause-refused c = λ e. rw c.args.self.now.sides_fit at
 
 pub returns-clause-refused : goal.returns-clause-refused
 returns-clause-refused c = λ e.
-    let m = c.args.self.now.matrix.now in
-    let d = c.args.corners.now in
+    let matrix = c.args.self.now.matrix.now in
+    let corners = c.args.corners.now in
     let none = rw c.args.self.now.sides_fit at (rw c.in_ok-may_be_tied.ensures.kept.matrix at (c.in_ok-may.ensures.none (not_is c.in_ok-may.may e))) in
-    refused_parting m d (subst (λ (r : GrowthRule). HasNoneParting m r (first_corner d) (second_corner d)) c.rule_at.ensures none)
+    refused_parting matrix corners (subst (λ (r : GrowthRule). HasNoneParting matrix r (first_corner corners) (second_corner corners)) c.rule_at.ensures none)

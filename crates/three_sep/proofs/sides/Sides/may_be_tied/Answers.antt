@@ -9,11 +9,11 @@ use Rattle.three_sep.proofs.sides.Sides.may_be_tied.Goals as goal
 
 pub returns-clause-refused : goal.returns-clause-refused
 returns-clause-refused c = λ refused.
-    let m = c.args.self.now.matrix.now in
-    let d = c.args.corners.now in
+    let matrix = c.args.self.now.matrix.now in
+    let corners = c.args.corners.now in
     let line = c.in-Some.line in
-    let far = c.in_ok-forces_tied.ensures.forced c.if-not-branch.false (line ∷ first_corner d) (c.in_ok-start.ensures.growing _ _ _) in
+    let far = c.in_ok-forces_tied.ensures.forced c.if-not-branch.false (line ∷ first_corner corners) (c.in_ok-start.ensures.growing _ _ _) in
     let forced = rw c.exchanged.ensures at (rw c.in_ok-forces_tied.ensures.kept.matrix at c.in_ok-forced.ensures.forced) in
     let near = forced (not_false c.in_ok-forced.forced refused) (line ∷ []) (c.in_ok-start-2.ensures.growing _ _ _) in
-    refused_through m d line (subst (λ (r : GrowthRule). ForcesTied m r (line ∷ first_corner d) d.two d.one) c.rule_at-rule.ensures far)
-    (subst (λ (r : GrowthRule). ForcesTied m (exchanged r) (line ∷ []) d.one d.two) c.rule_at-rule.ensures near)
+    refused_through matrix corners line (subst (λ (r : GrowthRule). ForcesTied matrix r (line ∷ first_corner corners) corners.two corners.one) c.rule_at-rule.ensures far)
+    (subst (λ (r : GrowthRule). ForcesTied matrix (exchanged r) (line ∷ []) corners.one corners.two) c.rule_at-rule.ensures near)
