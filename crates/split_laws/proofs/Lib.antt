@@ -1,0 +1,2 @@
+mod SplitSums
+pub mod SplitLemmas

@@ -1,0 +1,2 @@
+pub mod SignSplits
+pub mod SplitLaws
