@@ -1,0 +1,6 @@
+mod Attached
+mod Queues
+mod Turns
+mod MarkedLines
+mod Cycles
+mod Violations

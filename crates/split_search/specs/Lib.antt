@@ -1,0 +1,3 @@
+pub mod RowForests
+pub mod Paths
+pub mod Decisions
