@@ -1,0 +1,5 @@
+mod Marks
+mod ThinLines
+pub mod Removals
+pub mod RunsLeft
+mod Tests

@@ -1,0 +1,3 @@
+pub mod Nonzeros
+pub mod TwoCores
+pub mod CoreLaws
