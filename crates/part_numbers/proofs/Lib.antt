@@ -1,0 +1,2 @@
+pub mod NumberedParts
+mod PartRuns

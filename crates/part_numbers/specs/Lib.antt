@@ -1,0 +1,3 @@
+pub mod PartNumbering
+pub mod PartSearches
+pub mod NumberLaws
