@@ -1,0 +1,6 @@
+mod Restriction
+mod Freeness
+mod Thickness
+mod Openness
+mod PartLines
+mod Results

@@ -1,0 +1,4 @@
+pub mod Restrictions
+pub mod ThickLines
+pub mod Divisions
+pub mod Unimodularities
