@@ -1,0 +1,5 @@
+//! Tests of sparse matrices.
+#![tactic(auto)]
+
+#[cfg(test)]
+mod matrices;
