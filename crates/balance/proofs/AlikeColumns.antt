@@ -87,14 +87,16 @@ module _ (m : Matrix) (small : (i j : ℕ) → IsEntry (entry m i j)) (R C : Lis
         ]
       ]
 
-      go : ((c : ℕ) × IsIn c C × (c ≡ w)) ⊎ ((c : ℕ) → IsIn c C → c ≢ w) → ((c : ℕ) × IsIn c C × (IsSign (entry m j.u c) × IsSign (entry m j.v c))) ⊎ ((c : ℕ) → IsIn c C → IsSign (entry m j.u c) → IsSign (entry m j.v c) → ⊥)
+      go : ((c : ℕ) × IsIn c C × (c ≡ w)) ⊎ ((c : ℕ) → IsIn c C → c ≢ w)
+          → ((c : ℕ) × IsIn c C × (IsSign (entry m j.u c) × IsSign (entry m j.v c))) ⊎ ((c : ℕ) → IsIn c C → IsSign (entry m j.u c) → IsSign (entry m j.v c) → ⊥)
           → (c : ℕ) × IsIn c C × IsSign (entry m j.u c) × IsSign (entry m j.v c)
       go (inl (c, h, e)) k = (c, h, subst (λ x. IsSign (entry m j.u x)) (sym e) j.at_u, subst (λ x. IsSign (entry m j.v x)) (sym e) j.at_v)
       go (inr out) (inl (c, h, (s, t))) = (c, h, s, t)
       go (inr out) (inr none) = absurd (no_chord m small R C row_set column_set f before w w_in (λ h. out w h refl) (counted (λ i. entry m i w) R ∙ ap pos is) j.u j.v j.u_in j.v_in j.apart j.at_u j.at_v none)
 
   -- two columns of the fault that join the same rows are a fault together
-  pub never_alike : (c d : ℕ) → IsIn c C → IsIn d C → c ≢ d → ((i : ℕ) → IsIn i R → is_nonzero (entry m i c) ≡ is_nonzero (entry m i d)) → IsFour (sum_over R (λ i. entry m i c) +ℤ sum_over R (λ i. entry m i d)) → ⊥
+  pub never_alike : (c d : ℕ) → IsIn c C → IsIn d C → c ≢ d → ((i : ℕ) → IsIn i R → is_nonzero (entry m i c) ≡ is_nonzero (entry m i d))
+      → IsFour (sum_over R (λ i. entry m i c) +ℤ sum_over R (λ i. entry m i d)) → ⊥
   never_alike c d c_in d_in apart same four = go (some_nonzero (λ i. entry m i c) (λ i. small i c) R (λ e. let k = columns_two m small R C row_set column_set f before c c_in in omega (arith, sums)))
     where
       sign_of : (z : ℤ) → IsEntry z → is_nonzero z ≡ true → IsSign z
@@ -119,7 +121,8 @@ module _ (m : Matrix) (small : (i j : ℕ) → IsEntry (entry m i j)) (R C : Lis
               absurd (h (third_zero (λ x. entry m i x) (λ x. small i x) C (rows_two m small R C row_set column_set f before i i_in) c d j apart (λ k. off.1 (sym k)) (λ k. out.1 (sym k)) c_in d_in j_in
               (sign_of (entry m i c) (small i c) g) (sign_of (entry m i d) (small i d) (sym (same i i_in) ∙ g))))
 
-      column_part : (j : ℕ) → ((i : ℕ) → IsIn i R → is_nonzero (entry m i c) ≡ false → entry m i j ≡ pos 0) → sum_over (filter (λ i. is_nonzero (entry m i c)) R) (λ i. entry m i j) ≡ sum_over R (λ i. entry m i j)
+      column_part : (j : ℕ) → ((i : ℕ) → IsIn i R → is_nonzero (entry m i c) ≡ false → entry m i j ≡ pos 0)
+          → sum_over (filter (λ i. is_nonzero (entry m i c)) R) (λ i. entry m i j) ≡ sum_over R (λ i. entry m i j)
       column_part j zeros = sum_part (λ i. is_nonzero (entry m i c)) R (λ i. entry m i j) zeros
 
       first : sum_over (filter (λ i. is_nonzero (entry m i c)) R) (λ i. sum_over (filter (added (only c) d) C) (λ j. entry m i j)) ≡ sum_over R (λ i. entry m i d) +ℤ sum_over R (λ i. entry m i c)
@@ -157,7 +160,8 @@ module _ (m : Matrix) (small : (i j : ℕ) → IsEntry (entry m i j)) (R C : Lis
   pub fault_column : (c : ℕ) → IsIn c C → IsCandidate m R c
   fault_column c h = two_from_sum (λ i. entry m i c) R (columns_two m small R C row_set column_set f before c h)
 
-  one_support : (w c : ℕ) → IsCandidate m R w → IsCandidate m R c → (j : Joins w) → IsSign (entry m j.u c) → IsSign (entry m j.v c) → (i : ℕ) → IsIn i R → is_nonzero (entry m i w) ≡ is_nonzero (entry m i c)
+  one_support : (w c : ℕ) → IsCandidate m R w → IsCandidate m R c → (j : Joins w) → IsSign (entry m j.u c) → IsSign (entry m j.v c) → (i : ℕ) → IsIn i R
+      → is_nonzero (entry m i w) ≡ is_nonzero (entry m i c)
   one_support w c is is' j s t i h = elim (cases_eq i j.u) [
     | inl e ↦ subst (λ r. is_nonzero (entry m r w) ≡ is_nonzero (entry m r c)) (sym e) (sign_is_nonzero (entry m j.u w) j.at_u ∙ sym (sign_is_nonzero (entry m j.u c) s))
     | inr a ↦ elim (cases_eq i j.v) [
@@ -174,7 +178,8 @@ module _ (m : Matrix) (small : (i j : ℕ) → IsEntry (entry m i j)) (R C : Lis
     pub four : IsFour (sum_over R (λ i. entry m i w) +ℤ sum_over R (λ i. entry m i c))
 
   -- two columns that are a fault on the rows that they join
-  two_columns : (w c r : ℕ) → w < m.width → IsCandidate m R w → (j : Joins w) → IsIn c C → IsSign (entry m j.u c) → IsSign (entry m j.v c) → w ≢ c → IsTwoModFour (sum_over R (λ i. entry m i w) +ℤ sum_over R (λ i. entry m i c)) → IsIn r R → r ≢ j.u → r ≢ j.v → ⊥
+  two_columns : (w c r : ℕ) → w < m.width → IsCandidate m R w → (j : Joins w) → IsIn c C → IsSign (entry m j.u c) → IsSign (entry m j.v c) → w ≢ c
+      → IsTwoModFour (sum_over R (λ i. entry m i w) +ℤ sum_over R (λ i. entry m i c)) → IsIn r R → r ≢ j.u → r ≢ j.v → ⊥
   two_columns w c r w_in is j c_in s t apart two r_in r_u r_v = no_lesser m small R C row_set column_set f before (added (only j.u) j.v) (with_line w (c ∷ [])) r r_in (not_added (only j.u) j.v r (not_added (λ i. false) j.u r refl r_u) r_v)
       (increasing_column_set m (with_line w (c ∷ [])) (increases-with_line 0 m.width w (c ∷ []) out (omega arith) w_in (omega arith, below, tt))) rows
       (all_in (λ k. sum_over (filter (added (only j.u) j.v) R) (λ i. mark (entry m i k)) ≡ pos 2) (with_line w (c ∷ [])) (all-with_line (λ k. sum_over (filter (added (only j.u) j.v) R) (λ i. mark (entry m i k)) ≡ pos 2) w (c ∷ [])
@@ -223,7 +228,8 @@ module _ (m : Matrix) (small : (i j : ℕ) → IsEntry (entry m i j)) (R C : Lis
           both a b x y e g = omega (arith, sums)
 
   -- the fault's other column, if there are only two rows
-  other_column : (w c : ℕ) → IsCandidate m R w → (j : Joins w) → IsIn c C → IsSign (entry m j.u c) → IsSign (entry m j.v c) → IsTwoModFour (sum_over R (λ i. entry m i w) +ℤ sum_over R (λ i. entry m i c)) → ((r : ℕ) → IsIn r R → (r ≡ j.u) ⊎ (r ≡ j.v))
+  other_column : (w c : ℕ) → IsCandidate m R w → (j : Joins w) → IsIn c C → IsSign (entry m j.u c) → IsSign (entry m j.v c)
+      → IsTwoModFour (sum_over R (λ i. entry m i w) +ℤ sum_over R (λ i. entry m i c)) → ((r : ℕ) → IsIn r R → (r ≡ j.u) ⊎ (r ≡ j.v))
       → (d : ℕ) × IsIn d (filter (λ k. not (only c k)) C) × IsSign (entry m j.u d) → (d : ℕ) × IsAlike w d
   other_column w c is j c_in s t two few (d, h, a) = (
     d,
@@ -283,7 +289,8 @@ module _ (m : Matrix) (small : (i j : ℕ) → IsEntry (entry m i j)) (R C : Lis
               other : (r : ℕ) → ((r ≢ j.u) × (r ≢ j.v)) ⊎ ((r ≡ j.u) ⊎ (r ≡ j.v))
               other r = elim (cases_eq r j.u) [ inl e ↦ inr (inl e) | inr a ↦ elim (cases_eq r j.v) [ inl e ↦ inr (inr e) | inr b ↦ inl (a, b) ] ]
 
-              apart : IsTwoModFour (sum_over R (λ i. entry m i w) +ℤ sum_over R (λ i. entry m i c)) → ((r : ℕ) × IsIn r R × ((r ≢ j.u) × (r ≢ j.v))) ⊎ ((r : ℕ) → IsIn r R → (r ≡ j.u) ⊎ (r ≡ j.v)) → (d : ℕ) × IsAlike w d
+              apart : IsTwoModFour (sum_over R (λ i. entry m i w) +ℤ sum_over R (λ i. entry m i c))
+                  → ((r : ℕ) × IsIn r R × ((r ≢ j.u) × (r ≢ j.v))) ⊎ ((r : ℕ) → IsIn r R → (r ≡ j.u) ⊎ (r ≡ j.v)) → (d : ℕ) × IsAlike w d
               apart two (inl (r, r_in, (a, b))) = absurd (elim (cases_eq w c) [
                 | inl e ↦ two_mod_four_not_four (sum_over R (λ i. entry m i w) +ℤ sum_over R (λ i. entry m i w)) (subst (λ k. IsTwoModFour (sum_over R (λ i. entry m i w) +ℤ sum_over R (λ i. entry m i k))) (sym e) two) (four-double (sum_over R (λ i. entry m i w)) (column_even w is))
                 | inr different ↦ two_columns w c r w_in is j c_in s t different two r_in a b

@@ -50,7 +50,8 @@ one_more m from number none before k low high has = elim (cases_lt k number) [
 ]
 
 -- the first set whose kept columns make a fault, with these columns
-pub first_fault : (m : Matrix) → IsMatrix m → (number : ℕ) (rows columns : List ℕ) → number < 2 ^ height m → NoneBetween (MakeFaultAt m) 0 number → rows ≡ set_numbered (height m) 0 number → AreKept m rows columns → IsBalanceFault (entry m) rows columns
+pub first_fault : (m : Matrix) → IsMatrix m → (number : ℕ) (rows columns : List ℕ) → number < 2 ^ height m → NoneBetween (MakeFaultAt m) 0 number
+    → rows ≡ set_numbered (height m) 0 number → AreKept m rows columns → IsBalanceFault (entry m) rows columns
     → IsLeastFaultByRows m rows columns
 first_fault m is number rows columns inside none same kept fault = subst (λ (rs : List ℕ). IsLeastFaultByRows m rs columns) (sym same)
     (least_found m number columns inside before (record {

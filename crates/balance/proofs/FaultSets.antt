@@ -24,7 +24,8 @@ pub none_at_all : (m : Matrix) (number : ℕ) → 2 ^ height m ≤ number → Ha
 none_at_all m number end before rows columns row_set column_set f =
     before rows row_set (omega (arith, set_number-lt (height m) rows (row_set_increases m rows row_set))) columns column_set f
 
-pub least_found : (m : Matrix) (number : ℕ) (columns : List ℕ) → number < 2 ^ height m → HasNoFaultBelow m number → IsLeastFaultColumns m (set_numbered (height m) 0 number) columns → IsLeastFaultByRows m (set_numbered (height m) 0 number) columns
+pub least_found : (m : Matrix) (number : ℕ) (columns : List ℕ) → number < 2 ^ height m → HasNoFaultBelow m number
+    → IsLeastFaultColumns m (set_numbered (height m) 0 number) columns → IsLeastFaultByRows m (set_numbered (height m) 0 number) columns
 least_found m number columns small before least = record {
   row_set = row_set-numbered m number;
   columns_least = least;

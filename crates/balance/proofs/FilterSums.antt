@@ -11,7 +11,8 @@ use Rattle.cmr_base.specs.Sums.{sum_over}
 use Rattle.cmr_base.proofs.Integers.{sums}
 use Rattle.cmr_base.proofs.IncreasingLists.{IncreasesIn, increases_from_lower}
 
-split_one : (b : Bool) (x : ℕ) (ys zs : List ℕ) (f : ℕ → ℤ) (total : ℤ) → sum_over ys f +ℤ sum_over zs f ≡ total → sum_over (cond b (x ∷ ys) ys) f +ℤ sum_over (cond (not b) (x ∷ zs) zs) f ≡ f x +ℤ total
+split_one : (b : Bool) (x : ℕ) (ys zs : List ℕ) (f : ℕ → ℤ) (total : ℤ) → sum_over ys f +ℤ sum_over zs f ≡ total
+    → sum_over (cond b (x ∷ ys) ys) f +ℤ sum_over (cond (not b) (x ∷ zs) zs) f ≡ f x +ℤ total
 split_one true x ys zs f total e = omega (arith, sums)
 split_one false x ys zs f total e = omega (arith, sums)
 
@@ -117,7 +118,8 @@ pub all-with_line : (P : ℕ → Type 0) (n : ℕ) (xs : List ℕ) → P n → A
 all-with_line P n [] p h = (p, tt)
 all-with_line P n (x ∷ xs) p h = all_put P (nat_lt n x) n x xs (with_line n xs) p h.0 h.1 (all-with_line P n xs p h.1)
 
-increases_put : (b : Bool) (low high n x : ℕ) (xs ys : List ℕ) → nat_lt n x ≡ b → n ≢ x → low ≤ n → n < high → low ≤ x → x < high → IncreasesIn (x + 1) high xs → (x + 1 ≤ n → IncreasesIn (x + 1) high ys) → IncreasesIn low high (cond b (n ∷ x ∷ xs) (x ∷ ys))
+increases_put : (b : Bool) (low high n x : ℕ) (xs ys : List ℕ) → nat_lt n x ≡ b → n ≢ x → low ≤ n → n < high → low ≤ x → x < high → IncreasesIn (x + 1) high xs
+    → (x + 1 ≤ n → IncreasesIn (x + 1) high ys) → IncreasesIn low high (cond b (n ∷ x ∷ xs) (x ∷ ys))
 increases_put true low high n x xs ys e apart l h k i r s = let less : n < x = grind (arith, nat_tests) in (l, h, (omega arith, i, r))
 increases_put false low high n x xs ys e apart l h k i r s = let more : x ≤ n = grind (arith, nat_tests) in (k, i, s (omega arith))
 

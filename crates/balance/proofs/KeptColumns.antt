@@ -32,7 +32,8 @@ pub record IsMatched (t : ℕ → ℕ → Type 0) (xs ys : List ℕ) : Type 0 wh
   pub one_y : (x y z : ℕ) → IsIn x xs → IsIn y ys → IsIn z ys → t x y → t x z → y ≡ z
   pub one_x : (x z y : ℕ) → IsIn x xs → IsIn z xs → IsIn y ys → t x y → t z y → x ≡ z
 
-pub matched_sums : (r : ℤ → ℤ → Type 0) → r (pos 0) (pos 0) → ((a b c d : ℤ) → r a b → r c d → r (a +ℤ c) (b +ℤ d)) → (t : ℕ → ℕ → Type 0) (f g : ℕ → ℤ) (high : ℕ) (xs ys : List ℕ) → IsDistinct xs → IncreasesIn 0 high ys → IsMatched t xs ys
+pub matched_sums : (r : ℤ → ℤ → Type 0) → r (pos 0) (pos 0) → ((a b c d : ℤ) → r a b → r c d → r (a +ℤ c) (b +ℤ d))
+    → (t : ℕ → ℕ → Type 0) (f g : ℕ → ℤ) (high : ℕ) (xs ys : List ℕ) → IsDistinct xs → IncreasesIn 0 high ys → IsMatched t xs ys
     → ((x y : ℕ) → IsIn x xs → IsIn y ys → t x y → r (f x) (g y)) → r (sum_over xs f) (sum_over ys g)
 matched_sums r none more t f g high [] [] d s m each = none
 matched_sums r none more t f g high [] (y ∷ ys) d s m each = absurd ((m.from y (inl refl)).1)
@@ -70,7 +71,8 @@ first_below : (P : ℕ → Type 0) (n : ℕ) → ((x : ℕ) → x < n → P x �
 first_below P zero d = inr (λ x h p. omega arith)
 first_below P (suc n) d = go (first_below P n (λ x h. d x (omega arith))) (d n (omega arith))
   where
-    go : ((w : ℕ) × (w < n) × P w × ((x : ℕ) → x < w → P x → ⊥)) ⊎ ((x : ℕ) → x < n → P x → ⊥) → P n ⊎ (P n → ⊥) → ((w : ℕ) × (w < suc n) × P w × ((x : ℕ) → x < w → P x → ⊥)) ⊎ ((x : ℕ) → x < suc n → P x → ⊥)
+    go : ((w : ℕ) × (w < n) × P w × ((x : ℕ) → x < w → P x → ⊥)) ⊎ ((x : ℕ) → x < n → P x → ⊥) → P n ⊎ (P n → ⊥)
+        → ((w : ℕ) × (w < suc n) × P w × ((x : ℕ) → x < w → P x → ⊥)) ⊎ ((x : ℕ) → x < suc n → P x → ⊥)
     go (inl (w, h, p, low)) k = inl (w, omega arith, p, low)
     go (inr none) (inl p) = inl (n, omega arith, p, none)
     go (inr none) (inr never) = inr (λ x h p. elim (cases_eq x n) [ inl e ↦ never (subst P e p) | inr apart ↦ none x (omega arith) p ])
@@ -136,7 +138,8 @@ module _ (m : Matrix) (small : (i j : ℕ) → IsEntry (entry m i j)) (R C : Lis
           like : (d : ℕ) × Like w d → IsCandidate m R w → (IsCandidate m R w × Like w c) ⊎ (IsCandidate m R w × Like w c → ⊥)
           like (d, a) is = elim (cases_eq d c) [ inl e ↦ inl (is, subst (Like w) e a) | inr apart ↦ inr (λ p. apart (like_one w d c is a p.1)) ]
 
-      go : ((w : ℕ) × (w < suc c) × (IsCandidate m R w × Like w c) × ((x : ℕ) → x < w → IsCandidate m R x × Like x c → ⊥)) ⊎ ((x : ℕ) → x < suc c → IsCandidate m R x × Like x c → ⊥) → (w : ℕ) × IsIn w K × Like w c
+      go : ((w : ℕ) × (w < suc c) × (IsCandidate m R w × Like w c) × ((x : ℕ) → x < w → IsCandidate m R x × Like x c → ⊥)) ⊎ ((x : ℕ) → x < suc c → IsCandidate m R x × Like x c → ⊥)
+          → (w : ℕ) × IsIn w K × Like w c
       go (inr none) = absurd (none c (omega arith) (fault_candidate c h, like_itself c h))
       go (inl (w, l, p, low)) = (
         w,

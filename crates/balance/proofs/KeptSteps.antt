@@ -62,7 +62,8 @@ module _ (m : Matrix) (is : IsMatrix m) (rows : List ℕ) where
 
   module _ (column : ℕ) (inside : column < m.width) (before : List ℕ) (b : AreKeptBelow m rows column before) where
     -- if no kept column is alike, no candidate before the column is alike
-    no_earlier : (bound other : ℕ) → IsCandidate m rows column → ((other : ℕ) → IsIn other before → ¬ (AreAlikeColumns m rows other column)) → other < bound → other < column → IsCandidate m rows other → ¬ (AreAlikeColumns m rows other column)
+    no_earlier : (bound other : ℕ) → IsCandidate m rows column → ((other : ℕ) → IsIn other before → ¬ (AreAlikeColumns m rows other column)) → other < bound
+        → other < column → IsCandidate m rows other → ¬ (AreAlikeColumns m rows other column)
     no_earlier zero other candidate none l less is_one alike = omega arith
     no_earlier (suc bound) other candidate none l less is_one alike = none other ((b.members other).1 (
       less,
@@ -126,8 +127,10 @@ pub from_not : (b : Bool) → ¬ (IsTrue b) → IsTrue (not b)
 from_not true h = absurd (h refl)
 from_not false h = refl
 
-pub some_alike : (m : Matrix) (rows columns : List ℕ) (column k : ℕ) → k < length columns → AreAlikeColumns m rows (get_or columns k 0) column → (other : ℕ) × IsIn other columns × AreAlikeColumns m rows other column
+pub some_alike : (m : Matrix) (rows columns : List ℕ) (column k : ℕ) → k < length columns → AreAlikeColumns m rows (get_or columns k 0) column
+    → (other : ℕ) × IsIn other columns × AreAlikeColumns m rows other column
 some_alike m rows columns column k l a = (get_or columns k 0, in_at columns k l, a)
 
-pub none_alike : (m : Matrix) (rows columns : List ℕ) (column : ℕ) → AllByRecursion (λ other. ¬ (AreAlikeColumns m rows other column)) columns → (other : ℕ) × IsIn other columns × AreAlikeColumns m rows other column → ⊥
+pub none_alike : (m : Matrix) (rows columns : List ℕ) (column : ℕ) → AllByRecursion (λ other. ¬ (AreAlikeColumns m rows other column)) columns
+    → (other : ℕ) × IsIn other columns × AreAlikeColumns m rows other column → ⊥
 none_alike m rows columns column none (other, h, a) = all_in (λ other. ¬ (AreAlikeColumns m rows other column)) columns none other h a

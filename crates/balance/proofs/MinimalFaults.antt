@@ -57,7 +57,8 @@ module _ (m : Matrix) (small : (i j : ℕ) → IsEntry (entry m i j)) (R C : Lis
   across : (p q : ℕ → Bool) → IsClosed p q → (i j : ℕ) → IsIn i R → IsIn j C → (p i ≡ q j → ⊥) → entry m i j ≡ pos 0
   across p q c i j h k apart = elim (zero_or_sign (entry m i j) (small i j)) [ inl e ↦ e | inr u ↦ absurd (apart (c i j h k (sign_nonzero (entry m i j) u))) ]
 
-  part_rows : (p q : ℕ → Bool) → IsClosed p q → (g : ℤ → ℤ) → ((z : ℤ) → z ≡ pos 0 → g z ≡ pos 0) → (i : ℕ) → IsIn i R → p i ≡ true → sum_over (filter q C) (λ j. g (entry m i j)) ≡ sum_over C (λ j. g (entry m i j))
+  part_rows : (p q : ℕ → Bool) → IsClosed p q → (g : ℤ → ℤ) → ((z : ℤ) → z ≡ pos 0 → g z ≡ pos 0) → (i : ℕ) → IsIn i R → p i ≡ true
+      → sum_over (filter q C) (λ j. g (entry m i j)) ≡ sum_over C (λ j. g (entry m i j))
   part_rows p q c g keeps i h e = sum_part q C (λ j. g (entry m i j)) (λ j k out. keeps (entry m i j) (across p q c i j h k (λ same. true_apart (p i) (q j) same e out)))
 
   part_columns : (p q : ℕ → Bool) → IsClosed p q → (j : ℕ) → IsIn j C → q j ≡ true → sum_over (filter p R) (λ i. mark (entry m i j)) ≡ pos 2
@@ -309,7 +310,8 @@ module _ (m : Matrix) (small : (i j : ℕ) → IsEntry (entry m i j)) (R C : Lis
         (all_of_members (λ j. sum_over (filter p R) (λ i. mark (entry m i j)) ≡ pos 2) (filter q C)
         (λ j h. let k = in_filter q j C h in sum_part p R (λ i. mark (entry m i j)) (λ i g e. mark_zero (entry m i j) (a.across_columns i j g k.0 e k.1)) ∙ columns_two j k.0)))
 
-    arc_sum : (p q : ℕ → Bool) → IsArc p q → sum_over (filter p R) (λ i. sum_over (with_line w (filter q C)) (λ j. entry m i j)) ≡ sum_over R (λ i. entry m i w) +ℤ sum_over (filter q C) (λ j. sum_over R (λ i. entry m i j))
+    arc_sum : (p q : ℕ → Bool) → IsArc p q
+        → sum_over (filter p R) (λ i. sum_over (with_line w (filter q C)) (λ j. entry m i j)) ≡ sum_over R (λ i. entry m i w) +ℤ sum_over (filter q C) (λ j. sum_over R (λ i. entry m i j))
     arc_sum p q a =
         sum_over_same (filter p R) (λ i. sum_over (with_line w (filter q C)) (λ j. entry m i j)) (λ i. entry m i w +ℤ sum_over (filter q C) (λ j. entry m i j)) (all_of _ (λ i. sum-with_line w (filter q C) (λ j. entry m i j)) (filter p R))
         ∙ sum_over-add (filter p R) (λ i. entry m i w) (λ i. sum_over (filter q C) (λ j. entry m i j))

@@ -70,7 +70,8 @@ after_files_are writes (file ∷ files) =
     ((writes.texts ++ file.bytes ∷ []) ++ map (λ (f : File). f.bytes) files) (writes.texts ++ (file.bytes ∷ map (λ (f : File). f.bytes) files))
     (append_assoc writes.names (file.name ∷ []) (map (λ (f : File). f.name) files)) (append_assoc writes.texts (file.bytes ∷ []) (map (λ (f : File). f.bytes) files))
 
-same_files : (files : List NamedBytes) (others : List File) → map (λ (f : NamedBytes). f.name) files ≡ map (λ (f : File). f.name) others → map (λ (f : NamedBytes). f.bytes) files ≡ map (λ (f : File). f.bytes) others → files ≡ map named others
+same_files : (files : List NamedBytes) (others : List File) → map (λ (f : NamedBytes). f.name) files ≡ map (λ (f : File). f.name) others
+    → map (λ (f : NamedBytes). f.bytes) files ≡ map (λ (f : File). f.bytes) others → files ≡ map named others
 same_files [] [] names bytes = refl
 same_files [] (o ∷ os) names bytes = absurd (cc)
 same_files (f ∷ fs) [] names bytes = absurd (cc)
@@ -115,7 +116,8 @@ never_lacks held after (f ∷ g ∷ files) bytes e keeps =
     never_lacks held after (g ∷ files) more.0 more.1 keeps
 
 -- the files before a place were given, and the name at the place does not exist
-missing_at : (held : Names) (files : List InputFile) (place : ℕ) (name : List ℕ) (bytes : List (List ℕ)) → slice_get (map (λ (f : InputFile). f.name) files) place ≡ Some name → given held (take place files) ≡ texts bytes
+missing_at : (held : Names) (files : List InputFile) (place : ℕ) (name : List ℕ) (bytes : List (List ℕ))
+    → slice_get (map (λ (f : InputFile). f.name) files) place ≡ Some name → given held (take place files) ≡ texts bytes
     → is_none (held name) ≡ true → given held files ≡ not_there name
 missing_at held [] zero name bytes at e gone = absurd (cc)
 missing_at held [] (suc place) name bytes at e gone = absurd (cc)
@@ -149,7 +151,8 @@ kept_by_files : (held : Held) (files : List File) (name : List ℕ) → is_none 
 kept_by_files held [] name e = e
 kept_by_files held (file ∷ files) name e = kept_by_files (with_file held file) files name (kept_by_file held file name e)
 
-kept_left : (files : List File) (place : ℕ) (file : File) (before after : Held) → IsLeftAt files place file before after → (name : List ℕ) → is_none (before name) ≡ false → is_none (after name) ≡ false
+kept_left : (files : List File) (place : ℕ) (file : File) (before after : Held) → IsLeftAt files place file before after → (name : List ℕ)
+    → is_none (before name) ≡ false → is_none (after name) ≡ false
 kept_left files place file before after left name e = go (bytes_eq name file.name) refl
   where
     kept : (other : List ℕ) → is_none (before other) ≡ false → is_none (with_files before (take place files) other) ≡ false
@@ -191,7 +194,8 @@ line_whole before after old new line (inl is) none a b = is ∙ ap (λ (xs : Lis
 line_whole before after old new line (inr (rose, prefix)) none a b = absurd (never_rose (subst (λ (n : ℕ). Rose n 0) a (subst (λ (n : ℕ). Rose old n) b rose)))
 
 -- all of a report was written
-delivered_is : (standing : Standing) (before after : Devices) (files : List NamedBytes) (report : Report) (status : ℕ) → AreOfRequest standing before after files → IsDelivered report (telling_of standing) before after → status ≡ report.status
+delivered_is : (standing : Standing) (before after : Devices) (files : List NamedBytes) (report : Report) (status : ℕ)
+    → AreOfRequest standing before after files → IsDelivered report (telling_of standing) before after → status ≡ report.status
     → reply_with status after files ≡ reply_of report
 delivered_is standing before after files report status are d is = same_reply status report.status after.output report.output after.error report.error files (map named report.files) is
     (d.output are.output_tells ∙ ap (λ (xs : List ℕ). xs ++ report.output) are.output)
@@ -206,8 +210,10 @@ no_place [] (suc place) file at none = absurd (cc)
 no_place (f ∷ files) place file at none = absurd (cc)
 
 -- the files of a tool were given, and one of its report could not be written
-given_unwritten : (tool : Tool) (standing : Standing) (before after : Devices) (files : List NamedBytes) (report : Report) → AreOfRequest standing before after files → IsUnwritten report (telling_of standing) before after
-    → after.reads.names ≡ before.reads.names ++ take (length tool.inputs) (map (λ (f : InputFile). f.name) tool.inputs) → (g : Given) → given before.held tool.inputs ≡ g → ReportsGiven tool g report → ⊥
+given_unwritten : (tool : Tool) (standing : Standing) (before after : Devices) (files : List NamedBytes) (report : Report)
+    → AreOfRequest standing before after files → IsUnwritten report (telling_of standing) before after
+    → after.reads.names ≡ before.reads.names ++ take (length tool.inputs) (map (λ (f : InputFile). f.name) tool.inputs) → (g : Given)
+    → given before.held tool.inputs ≡ g → ReportsGiven tool g report → ⊥
 given_unwritten tool standing before after files report are u names (not_there name) is reports = reports
 given_unwritten tool standing before after files report are u names (too_much name) is reports = no_place report.files u.place u.file u.there (ap (λ (r : Report). r.files) reports)
 given_unwritten tool standing before after files report are u names (texts bytes) is reports = false_is_true (sym exists ∙ lost)
@@ -233,7 +239,8 @@ given_unwritten tool standing before after files report are u names (texts bytes
     lost = subst (λ (ns : List (List ℕ)). lacks_last after.held ns ≡ true) read (are.lacks u.failed)
 
 -- a file of a report could not be written
-some_unwritten : (ordered : Ordered) (standing : Standing) (before after : Devices) (files : List NamedBytes) (report : Report) → AreOfRequest standing before after files → IsUnwritten report (telling_of standing) before after
+some_unwritten : (ordered : Ordered) (standing : Standing) (before after : Devices) (files : List NamedBytes) (report : Report)
+    → AreOfRequest standing before after files → IsUnwritten report (telling_of standing) before after
     → ReportsSome ordered (between before.reads after.reads) report → (IsTrue standing.shelf_tells → Reports ordered before.held report) → ⊥
 some_unwritten nothing standing before after files report are u (is, read) reports = no_place report.files u.place u.file u.there (ap (λ (r : Report). r.files) is)
 some_unwritten (work tool) standing before after files report are u (gives_answer answer status error bytes count says read give) reports = given_unwritten tool standing before after files report are u read.have_begun (given before.held tool.inputs) refl (reports are.shelf_tells)
@@ -243,7 +250,8 @@ some_unwritten (work tool) standing before after files report are u (names_too_l
 -- ---- a file that cannot be read
 
 missing_file : (ordered : Ordered) (standing : Standing) (before after : Devices) (files : List NamedBytes) (name : List ℕ) → AreOfRequest standing before after files
-    → CannotRead ordered before.held standing.shelf_tells standing.shelf_is_calm (between before.reads after.reads) after.failed name → ((n : List ℕ) → after.held n ≡ before.held n) → Lacks ordered before.held name
+    → CannotRead ordered before.held standing.shelf_tells standing.shelf_is_calm (between before.reads after.reads) after.failed name
+    → ((n : List ℕ) → after.held n ≡ before.held n) → Lacks ordered before.held name
 missing_file nothing standing before after files name are cannot same = cannot
 missing_file (work tool) standing before after files name are u same =
     let there = u.there are.shelf_tells in
@@ -260,7 +268,8 @@ missing_file (work tool) standing before after files name are u same =
 
 -- ---- every ending
 
-pub is_reply : (ordered : Ordered) (standing : Standing) (before after : Devices) (files : List NamedBytes) (status : ℕ) → AreOfRequest standing before after files → HasEnded ordered standing before after status
+pub is_reply : (ordered : Ordered) (standing : Standing) (before after : Devices) (files : List NamedBytes) (status : ℕ)
+    → AreOfRequest standing before after files → HasEnded ordered standing before after status
     → IsReply ordered before.held (reply_with status after files)
 is_reply ordered standing before after files status are (runs.reported report some reports (delivered is d)) = reported report (reports are.shelf_tells) (delivered_is standing before after files report status are d is)
 is_reply ordered standing before after files status are (runs.reported report some reports (unwritten is u)) = absurd (some_unwritten ordered standing before after files report are u some reports)
@@ -283,8 +292,10 @@ no_fault zero short is none = refl
 no_fault (suc n) short is none = absurd (let t : nat_lt 0 (suc n) ≡ true = grind (arith, nat_tests) in false_is_true (sym none ∙ is ∙ t))
 
 -- what a run over the devices of a request gives
-pub run_says : (ordered : Ordered) (standing : Standing) (before after : Devices) (given : List NamedBytes) (written : List NamedBytes) (status : ℕ) → Runs ordered standing before after status → before.held ≡ all_laid nothing_held given
-    → ((answer : Answer) → status ≡ answer_status answer → MeansOrdered ordered before.held answer) → AreOfRequest standing before after written → IsReplyTo ordered given (reply_with status after written)
+pub run_says : (ordered : Ordered) (standing : Standing) (before after : Devices) (given : List NamedBytes) (written : List NamedBytes) (status : ℕ)
+    → Runs ordered standing before after status → before.held ≡ all_laid nothing_held given
+    → ((answer : Answer) → status ≡ answer_status answer → MeansOrdered ordered before.held answer) → AreOfRequest standing before after written
+    → IsReplyTo ordered given (reply_with status after written)
 run_says ordered standing before after given written status runs held means are = record {
   says = subst (λ (h : Held). IsReply ordered h (reply_with status after written)) held (is_reply ordered standing before after written status are runs.ended);
   means = λ answer is. subst (λ (h : Held). MeansOrdered ordered h answer) held (means answer is);

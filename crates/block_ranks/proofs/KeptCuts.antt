@@ -83,7 +83,8 @@ module _ (m : Matrix) (T : Lines) (small : HasTernaryEntries m) (cut : IsCut m T
   other_column c ec e = false≢true (sym ec ∙ (ap (λ (x : ℕ). T (Column x)) e ∙ et))
 
   -- the upper block is still a product
-  upper_after : (r c : ℕ) → r < height m → c < m.width → T (Row r) ≡ true → T (Column c) ≡ false → E r c ≡ E r cut.corners.two.column *ℤ (M cut.corners.one.row c *ℤ M cut.corners.one.row cut.corners.two.column)
+  upper_after : (r c : ℕ) → r < height m → c < m.width → T (Row r) ≡ true → T (Column c) ≡ false
+      → E r c ≡ E r cut.corners.two.column *ℤ (M cut.corners.one.row c *ℤ M cut.corners.one.row cut.corners.two.column)
   upper_after r c lr lc er ec = go (same_or_not r s)
     where
       lj : cut.corners.two.column < m.width
@@ -110,7 +111,8 @@ module _ (m : Matrix) (T : Lines) (small : HasTernaryEntries m) (cut : IsCut m T
           ∙ ap (λ (z : ℤ). z *ℤ (M cut.corners.one.row c *ℤ M cut.corners.one.row cut.corners.two.column)) (sym (elsewhere r cut.corners.two.column lr lj n nj))
 
   -- the lower block is still a product
-  lower_after : (r c : ℕ) → r < height m → c < m.width → T (Row r) ≡ false → T (Column c) ≡ true → E r c ≡ M r cut.corners.one.column *ℤ (E cut.corners.two.row c *ℤ M cut.corners.two.row cut.corners.one.column)
+  lower_after : (r c : ℕ) → r < height m → c < m.width → T (Row r) ≡ false → T (Column c) ≡ true
+      → E r c ≡ M r cut.corners.one.column *ℤ (E cut.corners.two.row c *ℤ M cut.corners.two.row cut.corners.one.column)
   lower_after r c lr lc er ec = go (same_or_not c t)
     where
       lk : cut.corners.two.row < height m

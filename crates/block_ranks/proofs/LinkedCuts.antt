@@ -107,7 +107,8 @@ module _ (m : Matrix) (is : IsMatrix m) (r c : ℕ) (lr : r < height m) (lc : c 
         (other_enough m T 4 (subst (λ (h : ℕ). AreEnough (first_lines h) (first_lines m.width) T 4) (same_height m r c place) cut.cut.enough)))
 
     -- the upper block is zero
-    upper_entry : (x y : ℕ) → x < height m → y < m.width → T (Row x) ≡ true → T (Column y) ≡ false → E x y ≡ E x cut.corners.two.column *ℤ (E cut.corners.one.row y *ℤ E cut.corners.one.row cut.corners.two.column)
+    upper_entry : (x y : ℕ) → x < height m → y < m.width → T (Row x) ≡ true → T (Column y) ≡ false
+        → E x y ≡ E x cut.corners.two.column *ℤ (E cut.corners.one.row y *ℤ E cut.corners.one.row cut.corners.two.column)
     upper_entry x y lx ly = upper_at n cut.cut.closed x y (row_after x lx) ly
 
     upper_product : (x y : ℕ) → x < height m → y < m.width → T (Row x) ≡ true → T (Column y) ≡ false → E x y ≡ product_at E r c x y

@@ -93,7 +93,8 @@ module _ (m : Matrix) (place : Position) (row : place.row < height m) (column : 
   before_cut by_rows after found e f pivoted cut =
       record { row = row; column = column; nonzero = nonzero; after = inr (subst HasCut (is_after by_rows after found e f pivoted) cut) }
 
-  pub not_before_cut : (by_rows after : Matrix) (found : Pivoted) → by_rows ≡ m → found ≡ Ternary after → IsPivoted by_rows place.row place.column found → IsMatrix after → HasNoCut after → ¬ (IsPlaceBeforeCut m place)
+  pub not_before_cut : (by_rows after : Matrix) (found : Pivoted) → by_rows ≡ m → found ≡ Ternary after → IsPivoted by_rows place.row place.column found
+      → IsMatrix after → HasNoCut after → ¬ (IsPlaceBeforeCut m place)
   not_before_cut by_rows after found e f pivoted is none before =
       let made = is_after by_rows after found e f pivoted in
       elim before.after [

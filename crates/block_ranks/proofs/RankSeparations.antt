@@ -18,7 +18,8 @@ use Rattle.block_ranks.proofs.RankBlocks.{product_block, two_block, zero_block}
 use Rattle.block_ranks.proofs.TurnedSides.{cut_after, turned_side}
 
 -- the same block by other tests
-same_rank : (M : ℕ → ℕ → ℤ) (P Q P' Q' : ℕ → Type 0) (rank : ℕ) → ((r : ℕ) → P r → P' r) → ((r : ℕ) → P' r → P r) → ((c : ℕ) → Q c → Q' c) → ((c : ℕ) → Q' c → Q c) → HasRank M P Q rank → HasRank M P' Q' rank
+same_rank : (M : ℕ → ℕ → ℤ) (P Q P' Q' : ℕ → Type 0) (rank : ℕ) → ((r : ℕ) → P r → P' r) → ((r : ℕ) → P' r → P r) → ((c : ℕ) → Q c → Q' c)
+    → ((c : ℕ) → Q' c → Q c) → HasRank M P Q rank → HasRank M P' Q' rank
 same_rank M P Q P' Q' rank up down up' down' h = record {
   rows = h.rows;
   columns = h.columns;

@@ -33,7 +33,8 @@ module _ (m : Matrix) (i : ℕ) (P : List ℕ) where
     from = λ p column l own other. more column ∙ at p column l own other (cases_lt p place);
   }
     where
-      at : (p column : ℕ) → p < place + 1 → support m i column ≡ true → support m (get_or P p 0) column ≡ true → (p < place) ⊎ (place ≤ p) → (has_column before.words column || is_shared place column) ≡ true
+      at : (p column : ℕ) → p < place + 1 → support m i column ≡ true → support m (get_or P p 0) column ≡ true → (p < place) ⊎ (place ≤ p)
+          → (has_column before.words column || is_shared place column) ≡ true
       at p column l own other (inl k) = or_left (has_column before.words column) (is_shared place column) (so.from p column k own other)
       at p column l own other (inr k) =
           let e : p ≡ place = omega arith in

@@ -85,7 +85,8 @@ module _ (M : ℕ → ℕ → Bool) where
       pub disagree_true : disagree cuts (length parts) a b ≡ true → ¬ (Agree M i (rows_at_part parts a) (rows_at_part parts b))
       disagree_true e = go (get_or cuts (a * length parts + b) false) (get_or cuts (b * length parts + a) false) e (w.right a b la lb) (w.right b a lb la)
         where
-          go : (s t : Bool) → (s && t) ≡ true → Denies s (IsUncutBy M i (rows_at_part parts a) (rows_at_part parts b)) → Denies t (IsUncutBy M i (rows_at_part parts b) (rows_at_part parts a)) → ¬ (Agree M i (rows_at_part parts a) (rows_at_part parts b))
+          go : (s t : Bool) → (s && t) ≡ true → Denies s (IsUncutBy M i (rows_at_part parts a) (rows_at_part parts b))
+              → Denies t (IsUncutBy M i (rows_at_part parts b) (rows_at_part parts a)) → ¬ (Agree M i (rows_at_part parts a) (rows_at_part parts b))
           go true true e n m = λ g. elim g [ inl u ↦ m u | inr u ↦ n u ]
           go true false e n m = cc
           go false t e n m = cc
@@ -93,7 +94,8 @@ module _ (M : ℕ → ℕ → Bool) where
       pub disagree_false : disagree cuts (length parts) a b ≡ false → Agree M i (rows_at_part parts a) (rows_at_part parts b)
       disagree_false e = go (get_or cuts (a * length parts + b) false) (get_or cuts (b * length parts + a) false) e (w.right a b la lb) (w.right b a lb la)
         where
-          go : (s t : Bool) → (s && t) ≡ false → Denies s (IsUncutBy M i (rows_at_part parts a) (rows_at_part parts b)) → Denies t (IsUncutBy M i (rows_at_part parts b) (rows_at_part parts a)) → Agree M i (rows_at_part parts a) (rows_at_part parts b)
+          go : (s t : Bool) → (s && t) ≡ false → Denies s (IsUncutBy M i (rows_at_part parts a) (rows_at_part parts b))
+              → Denies t (IsUncutBy M i (rows_at_part parts b) (rows_at_part parts a)) → Agree M i (rows_at_part parts a) (rows_at_part parts b)
           go true true e n m = cc
           go true false e n m = inl m
           go false t e n m = inr n

@@ -62,7 +62,8 @@ module _ (M : ℕ → ℕ → Bool) (S : List ℕ) (increases : IsStrictlyIncrea
       go q = none (place_of row S) (let m = q.in_range in omega arith) (subst (Splits M S) (sym q.there) s)
 
 module _ (m : Matrix) (S : List ℕ) (increases : IsStrictlyIncreasing S) where
-  pub searching_on : (p count : ℕ) (walk walk' : PartWalk) → IsSearching m S p walk → p < length S → HasPartRoom m walk' → ArePartNumbers (support m) S (get_or S p 0) (number_at walk'.part.items) count → count < 2
+  pub searching_on : (p count : ℕ) (walk walk' : PartWalk) → IsSearching m S p walk → p < length S → HasPartRoom m walk'
+      → ArePartNumbers (support m) S (get_or S p 0) (number_at walk'.part.items) count → count < 2
       → IsSearching m S (p + 1) walk'
   searching_on p count walk walk' w l room n few = record {
     room = room;

@@ -13,18 +13,24 @@ use Rattle.bridge_split.proofs.Forests.{was_reached, few_reached, root_reached, 
 
 module _ (table : CutTable) where
   -- the part at head, as the code reads it
-  pub part_low : (depths parents reached : List ℕ) (head part : ℕ) → IsGrowingForest (joins table) table.count (depth_at depths) (parent_at parents) reached head → head < length reached → part ≡ get_or reached head part → part < table.count
+  pub part_low : (depths parents reached : List ℕ) (head part : ℕ)
+      → IsGrowingForest (joins table) table.count (depth_at depths) (parent_at parents) reached head → head < length reached → part ≡ get_or reached head part
+      → part < table.count
   part_low depths parents reached head part w l e =
       subst (λ (v : ℕ). v < table.count) (sym (e ∙ get_or_default reached head part 0 l)) (w.are.inside (get_or reached head 0) (in_at reached head l))
 
-  pub depth_low : (depths parents reached : List ℕ) (head part depth : ℕ) → IsGrowingForest (joins table) table.count (depth_at depths) (parent_at parents) reached head → HasTreeRoom table.count depths parents → head < length reached
+  pub depth_low : (depths parents reached : List ℕ) (head part depth : ℕ)
+      → IsGrowingForest (joins table) table.count (depth_at depths) (parent_at parents) reached head → HasTreeRoom table.count depths parents
+      → head < length reached
       → part ≡ get_or reached head part → depth ≡ get_or depths part depth → depth ≤ head
   depth_low depths parents reached head part depth w room l e f =
       let m = part_low depths parents reached head part w l e in
       let g : depth ≡ depth_at depths (get_or reached head 0) = f ∙ get_or_default depths part depth 4294967295 (let r = room.depths_are in omega arith) ∙ ap (depth_at depths) (e ∙ get_or_default reached head part 0 l) in
       let h = w.are.low head l in omega arith
 
-  pub reaching_starts : (depths parents reached : List ℕ) (head part depth : ℕ) → IsGrowingForest (joins table) table.count (depth_at depths) (parent_at parents) reached head → HasTreeRoom table.count depths parents → head < length reached
+  pub reaching_starts : (depths parents reached : List ℕ) (head part depth : ℕ)
+      → IsGrowingForest (joins table) table.count (depth_at depths) (parent_at parents) reached head → HasTreeRoom table.count depths parents
+      → head < length reached
       → part ≡ get_or reached head part → depth ≡ get_or depths part depth → IsReachingFrom table reached depths parents reached head part depth 0
   reaching_starts depths parents reached head part depth w room l e f = record {
     room = room;
@@ -67,7 +73,8 @@ module _ (table : CutTable) where
             let h = head_now in omega arith
 
     -- a part that the search need not reach
-    pub reaching_passes : (depths' parents' reached' : List ℕ) → (upto ≡ part) ⊎ ((joins table part upto ≡ false) ⊎ ((far : ℕ) × (far ≡ get_or depths upto far) × (far ≢ 4294967295) × (far % 2 ≢ depth % 2) × (upto < table.count)))
+    pub reaching_passes : (depths' parents' reached' : List ℕ)
+        → (upto ≡ part) ⊎ ((joins table part upto ≡ false) ⊎ ((far : ℕ) × (far ≡ get_or depths upto far) × (far ≢ 4294967295) × (far % 2 ≢ depth % 2) × (upto < table.count)))
         → depths' ≡ depths → parents' ≡ parents → reached' ≡ reached → IsReachingFrom table before depths' parents' reached' head part depth (upto + 1)
     reaching_passes depths' parents' reached' h p q r = rw (p, q, r) (record {
       room = w.room;
@@ -84,7 +91,8 @@ module _ (table : CutTable) where
       depth_is = w.depth_is;
     })
       where
-        settled : (far : ℕ) × (far ≡ get_or depths upto far) × (far ≢ 4294967295) × (far % 2 ≢ depth % 2) × (upto < table.count) → IsSettledPair (joins table) table.count (depth_at depths) reached (get_or reached head 0) upto
+        settled : (far : ℕ) × (far ≡ get_or depths upto far) × (far ≢ 4294967295) × (far % 2 ≢ depth % 2) × (upto < table.count)
+            → IsSettledPair (joins table) table.count (depth_at depths) reached (get_or reached head 0) upto
         settled (far, f, some, parity, inside) =
             let e : far ≡ depth_at depths upto = f ∙ get_or_default depths upto far 4294967295 (let r = w.room.depths_are in omega arith) in
             record {
@@ -106,7 +114,8 @@ module _ (table : CutTable) where
 
   -- ---- a tree
 
-  pub growing_starts : (depths parents reached depths' parents' reached' : List ℕ) (start : ℕ) → IsSquare table → HasTreeRoom table.count depths parents → start < table.count → depth_at depths start ≡ 4294967295
+  pub growing_starts : (depths parents reached depths' parents' reached' : List ℕ) (start : ℕ) → IsSquare table → HasTreeRoom table.count depths parents
+      → start < table.count → depth_at depths start ≡ 4294967295
       → IsGrownForest (joins table) table.count (depth_at depths) (parent_at parents) reached → depths' ≡ set depths start 0 → parents' ≡ set parents start start → reached' ≡ reached ++ start ∷ []
       → IsGrowingFrom table reached depths' parents' reached' start (length reached)
   growing_starts depths parents reached depths' parents' reached' start square room inside none w p q r = rw (p, q, r) (record {
@@ -119,7 +128,8 @@ module _ (table : CutTable) where
   })
 
   module _ (before depths parents reached : List ℕ) (start head : ℕ) (w : IsGrowingFrom table before depths parents reached start head) where
-    pub growing_on : (depths' parents' reached' : List ℕ) → HasTreeRoom table.count depths' parents' → Extends reached reached' → IsGrowingForest (joins table) table.count (depth_at depths') (parent_at parents') reached' (head + 1)
+    pub growing_on : (depths' parents' reached' : List ℕ) → HasTreeRoom table.count depths' parents' → Extends reached reached'
+        → IsGrowingForest (joins table) table.count (depth_at depths') (parent_at parents') reached' (head + 1)
         → IsGrowingFrom table before depths' parents' reached' start (head + 1)
     growing_on depths' parents' reached' room extends growing = record {
       room = room;
@@ -136,7 +146,8 @@ module _ (table : CutTable) where
 
   -- ---- all trees
 
-  pub grown_starts : (depths parents reached : List ℕ) → IsSquare table → HasTreeRoom table.count depths parents → reached ≡ [] → ((x : ℕ) → depth_at depths x ≡ 4294967295) → IsGrownTo table depths parents reached 0
+  pub grown_starts : (depths parents reached : List ℕ) → IsSquare table → HasTreeRoom table.count depths parents → reached ≡ []
+      → ((x : ℕ) → depth_at depths x ≡ 4294967295) → IsGrownTo table depths parents reached 0
   grown_starts depths parents reached square room e free = rw e (record {
     room = room;
     grown = none_reached (joins table) table.count (depth_at depths) (parent_at parents) square.few free;
@@ -144,7 +155,8 @@ module _ (table : CutTable) where
   })
 
   module _ (depths parents reached : List ℕ) (place : ℕ) (w : IsGrownTo table depths parents reached place) where
-    pub grown_skips : (depths' parents' reached' : List ℕ) (far : ℕ) → place < table.count → far ≡ get_or depths place far → far ≢ 4294967295 → depths' ≡ depths → parents' ≡ parents → reached' ≡ reached
+    pub grown_skips : (depths' parents' reached' : List ℕ) (far : ℕ) → place < table.count → far ≡ get_or depths place far → far ≢ 4294967295 → depths' ≡ depths
+        → parents' ≡ parents → reached' ≡ reached
         → IsGrownTo table depths' parents' reached' (place + 1)
     grown_skips depths' parents' reached' far inside f some p q r = rw (p, q, r) (record {
       room = w.room;
@@ -154,7 +166,8 @@ module _ (table : CutTable) where
           (λ n. some (f ∙ get_or_default depths place far 4294967295 (let r = w.room.depths_are in omega arith) ∙ n)));
     })
 
-    pub grown_more : (depths' parents' reached' : List ℕ) → HasTreeRoom table.count depths' parents' → Extends reached reached' → IsIn place reached' → IsGrownForest (joins table) table.count (depth_at depths') (parent_at parents') reached'
+    pub grown_more : (depths' parents' reached' : List ℕ) → HasTreeRoom table.count depths' parents' → Extends reached reached' → IsIn place reached'
+        → IsGrownForest (joins table) table.count (depth_at depths') (parent_at parents') reached'
         → IsGrownTo table depths' parents' reached' (place + 1)
     grown_more depths' parents' reached' room extends here grown = record {
       room = room;

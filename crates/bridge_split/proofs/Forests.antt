@@ -101,7 +101,8 @@ module _ (D : ℕ → ℕ → Bool) (count : ℕ) where
           tops z (inl h) e = root_same z (other_than z h) ∙ are.top z h (sym (old z h) ∙ e)
           tops z (inr q) e = ap root' q ∙ root_now ∙ top (sym now ∙ ap depth' (sym q) ∙ e) ∙ sym q
 
-          ups : (z : ℕ) → IsIn z reached ⊎ (z ≡ x) → 0 < depth' z → IsIn (parent' z) (reached ++ x ∷ []) × (depth' z ≡ suc (depth' (parent' z))) × (D z (parent' z) ≡ true) × (root' z ≡ root' (parent' z))
+          ups : (z : ℕ) → IsIn z reached ⊎ (z ≡ x) → 0 < depth' z
+              → IsIn (parent' z) (reached ++ x ∷ []) × (depth' z ≡ suc (depth' (parent' z))) × (D z (parent' z) ≡ true) × (root' z ≡ root' (parent' z))
           ups z (inl h) l =
               let n = other_than z h in
               let u = are.up z h (subst (λ (v : ℕ). 0 < v) (old z h) l) in
@@ -132,7 +133,8 @@ module _ (D : ℕ → ℕ → Bool) (count : ℕ) where
 
   module _ (depth parent : ℕ → ℕ) (reached : List ℕ) (head upto : ℕ) (w : IsReachingForest D count depth parent reached head upto) (l : head < length reached) where
     -- the search reaches another number
-    pub joined_reached : (k d : ℕ) (depth' parent' : ℕ → ℕ) → upto < count → depth upto ≡ 4294967295 → depth' upto ≡ d → ((z : ℕ) → z ≢ upto → depth' z ≡ depth z) → parent' upto ≡ k → ((z : ℕ) → z ≢ upto → parent' z ≡ parent z)
+    pub joined_reached : (k d : ℕ) (depth' parent' : ℕ → ℕ) → upto < count → depth upto ≡ 4294967295 → depth' upto ≡ d
+        → ((z : ℕ) → z ≢ upto → depth' z ≡ depth z) → parent' upto ≡ k → ((z : ℕ) → z ≢ upto → parent' z ≡ parent z)
         → k ≡ get_or reached head 0 → d ≡ suc (depth k) → D upto k ≡ true → IsReachingForest D count depth' parent' (reached ++ upto ∷ []) head (suc upto)
     joined_reached k d depth' parent' inside none now same now_up same_up k_is d_is join =
         let are = w.growing.are in
@@ -170,7 +172,8 @@ module _ (D : ℕ → ℕ → Bool) (count : ℕ) where
         odd n e = omega arith
 
     -- a number that is not joined, or is settled
-    pub passes : (get_or reached head 0 ≡ upto) ⊎ ((D (get_or reached head 0) upto ≡ false) ⊎ IsSettledPair D count depth reached (get_or reached head 0) upto) → IsReachingForest D count depth parent reached head (suc upto)
+    pub passes : (get_or reached head 0 ≡ upto) ⊎ ((D (get_or reached head 0) upto ≡ false) ⊎ IsSettledPair D count depth reached (get_or reached head 0) upto)
+        → IsReachingForest D count depth parent reached head (suc upto)
     passes h = record {
       growing = w.growing;
       so_far = λ y m n e. elim (cases_lt y upto) [
@@ -204,7 +207,8 @@ module _ (D : ℕ → ℕ → Bool) (count : ℕ) where
     }
 
     -- a number with a depth of the same parity
-    pub conflict_here : D (get_or reached head 0) upto ≡ true → D upto (get_or reached head 0) ≡ true → get_or reached head 0 ≢ upto → depth upto ≢ 4294967295 → depth upto % 2 ≡ depth (get_or reached head 0) % 2
+    pub conflict_here : D (get_or reached head 0) upto ≡ true → D upto (get_or reached head 0) ≡ true → get_or reached head 0 ≢ upto → depth upto ≢ 4294967295
+        → depth upto % 2 ≡ depth (get_or reached head 0) % 2
         → IsConflict D count depth parent reached (get_or reached head 0) upto
     conflict_here join back other some parity =
         let h = was_reached depth parent reached upto w.growing.are some in

@@ -19,7 +19,8 @@ module _ (m : Matrix) (S : List ℕ) (i number x : ℕ) (from to : PartWalk) (hx
   same : (z : ℕ) → z ≢ x → number_at to.part.items z ≡ number_at from.part.items z
   same z n = ap (λ (v : List (Option ℕ)). number_at v z) set_is ∙ get_or-set_other from.part.items x z (Some number) None n
 
-  pub meets_one : (before : PartWalk) (met place : ℕ) → IsMeeting m S i number before from met place → IsWalkAt m i to → (column : ℕ) → has_column from.reached.words column ≡ true → support m x column ≡ true
+  pub meets_one : (before : PartWalk) (met place : ℕ) → IsMeeting m S i number before from met place → IsWalkAt m i to → (column : ℕ)
+      → has_column from.reached.words column ≡ true → support m x column ≡ true
       → ((c : ℕ) → has_column to.reached.words c ≡ (has_column from.reached.words c || (support m x c && not (support m i c)))) → IsMeeting m S i number before to (met + 1) (place + 1)
   meets_one before met place w room' column here meet more = record {
     room = room';
@@ -31,7 +32,8 @@ module _ (m : Matrix) (S : List ℕ) (i number x : ℕ) (from to : PartWalk) (hx
     few = let f = w.few in omega arith;
   }
 
-  pub starts_from : (place : ℕ) → IsStrictlyIncreasing S → IsBetween (support m) S i (number_at from.part.items) number → place < length S → x ≡ get_or S place 0 → ArePassedRows (support m) S i (number_at from.part.items) place → number < 1000
+  pub starts_from : (place : ℕ) → IsStrictlyIncreasing S → IsBetween (support m) S i (number_at from.part.items) number → place < length S
+      → x ≡ get_or S place 0 → ArePassedRows (support m) S i (number_at from.part.items) place → number < 1000
       → IsWalkAt m i to → ((c : ℕ) → has_column to.reached.words c ≡ (support m x c && not (support m i c))) → IsWalkingFrom m S i number x from to 1
   starts_from place increases b inside at before few room' more = record {
     room = room';
@@ -54,7 +56,8 @@ passes_one m S i number before now met place w free = record {
 }
 
 -- the walk has met the rows up to the next position
-pub passed_more : (M : ℕ → ℕ → Bool) (S : List ℕ) (i place : ℕ) (part part' : ℕ → Option ℕ) → ArePassedRows M S i part place → KeepsParts part part' → (get_or S place 0 ≡ i) ⊎ ((a : ℕ) × (part' (get_or S place 0) ≡ Some a))
+pub passed_more : (M : ℕ → ℕ → Bool) (S : List ℕ) (i place : ℕ) (part part' : ℕ → Option ℕ) → ArePassedRows M S i part place → KeepsParts part part'
+    → (get_or S place 0 ≡ i) ⊎ ((a : ℕ) × (part' (get_or S place 0) ≡ Some a))
     → ArePassedRows M S i part' (place + 1)
 passed_more M S i place part part' before keeps here = record {
   passed = more_placed (λ x. (x ≡ i) ⊎ ((a : ℕ) × (part' x ≡ Some a))) S place (λ p l. elim (before.passed p l) [ inl e ↦ inl e | inr f ↦ inr (f.0, keeps (get_or S p 0) f.0 f.1) ]) here;

@@ -53,7 +53,8 @@ module _ (part part' : ℕ → Option ℕ) (keeps : KeepsParts part part') where
   one_less_left [] x a h e f = absurd h
   one_less_left (y ∷ ys) x a h e f = go (is_none (part y)) (is_none (part' y)) refl refl h (replaced y) (not_more_left ys) (λ g. one_less_left ys x a g e f)
     where
-      go : (s t : Bool) → is_none (part y) ≡ s → is_none (part' y) ≡ t → (x ≡ y) ⊎ IsIn x ys → (s ≡ false → t ≡ false) → left_in ys part' ≤ left_in ys part → (IsIn x ys → left_in ys part' < left_in ys part)
+      go : (s t : Bool) → is_none (part y) ≡ s → is_none (part' y) ≡ t → (x ≡ y) ⊎ IsIn x ys → (s ≡ false → t ≡ false) → left_in ys part' ≤ left_in ys part
+          → (IsIn x ys → left_in ys part' < left_in ys part)
           → length (cond t (y ∷ filter (λ k. is_none (part' k)) ys) (filter (λ k. is_none (part' k)) ys)) < length (cond s (y ∷ filter (λ k. is_none (part k)) ys) (filter (λ k. is_none (part k)) ys))
       go true false p q h g l r = omega arith
       go true true p q (inl u) g l r = absurd (true≢false (sym q ∙ ap (λ k. is_none (part' k)) (sym u) ∙ ap is_none f))
@@ -185,7 +186,8 @@ module _ (M : ℕ → ℕ → Bool) (S : List ℕ) (i : ℕ) where
   -- ---- from one part to the next
 
   -- a part is complete if no row is touched
-  pub part_done : (part : ℕ → Option ℕ) (number : ℕ) (reached : ℕ → Bool) → IsWalkingPart M S i part number reached → ((x : ℕ) → IsIn x S → ¬ (IsTouched M i part reached x)) → IsBetween M S i part (suc number)
+  pub part_done : (part : ℕ → Option ℕ) (number : ℕ) (reached : ℕ → Bool) → IsWalkingPart M S i part number reached
+      → ((x : ℕ) → IsIn x S → ¬ (IsTouched M i part reached x)) → IsBetween M S i part (suc number)
   part_done part number reached w none = record {
     are = w.are;
     closed = λ j k a e l hk join. elim (cases_lt a number) [

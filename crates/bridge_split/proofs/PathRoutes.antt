@@ -22,7 +22,8 @@ module _ (D : ℕ → ℕ → Bool) (count : ℕ) where
         odd : (m n : ℕ) → n ≡ m → (1 + m + n) % 2 ≡ 1
         odd m n e = omega arith
 
-    pub route_prefix : (before mid after : List ℕ) (x k y : ℕ) → mid ≡ before ++ x ∷ [] → HasRoute D count depth mid after k y → x < count → D x k ≡ true → depth x ≡ suc (depth k) → HasRoute D count depth before after x y
+    pub route_prefix : (before mid after : List ℕ) (x k y : ℕ) → mid ≡ before ++ x ∷ [] → HasRoute D count depth mid after k y → x < count → D x k ≡ true
+        → depth x ≡ suc (depth k) → HasRoute D count depth before after x y
     route_prefix before mid after x k y e h l join deeper = record {
       rest = x ∷ h.rest;
       appended = h.appended ∙ ap (λ (v : List ℕ). v ++ h.rest) e ∙ append_assoc before (x ∷ []) h.rest;
@@ -33,7 +34,8 @@ module _ (D : ℕ → ℕ → Bool) (count : ℕ) where
         odd : (n a b c : ℕ) → a ≡ suc c → (n + c + b) % 2 ≡ 1 → (suc n + a + b) % 2 ≡ 1
         odd n a b c e f = omega arith
 
-    pub route_back : (before mid after : List ℕ) (x k y : ℕ) → after ≡ mid ++ y ∷ [] → HasRoute D count depth before mid x k → y < count → D k y ≡ true → depth y ≡ suc (depth k) → HasRoute D count depth before after x y
+    pub route_back : (before mid after : List ℕ) (x k y : ℕ) → after ≡ mid ++ y ∷ [] → HasRoute D count depth before mid x k → y < count → D k y ≡ true
+        → depth y ≡ suc (depth k) → HasRoute D count depth before after x y
     route_back before mid after x k y e h l join deeper = record {
       rest = h.rest ++ y ∷ [];
       appended = e ∙ ap (λ (v : List ℕ). v ++ y ∷ []) h.appended ∙ append_assoc before h.rest (y ∷ []);

@@ -44,7 +44,8 @@ module _ (p : ℕ → Bool) where
   three_count [] a b c ha hb hc ab ac bc ea eb ec = absurd ha
   three_count (x ∷ S) a b c ha hb hc ab ac bc ea eb ec = go (p x) refl ha hb hc (λ g h i. three_count S a b c g h i ab ac bc ea eb ec)
     where
-      go : (t : Bool) → p x ≡ t → (a ≡ x) ⊎ IsIn a S → (b ≡ x) ⊎ IsIn b S → (c ≡ x) ⊎ IsIn c S → (IsIn a S → IsIn b S → IsIn c S → 3 ≤ length (filter p S)) → 3 ≤ length (cond t (x ∷ filter p S) (filter p S))
+      go : (t : Bool) → p x ≡ t → (a ≡ x) ⊎ IsIn a S → (b ≡ x) ⊎ IsIn b S → (c ≡ x) ⊎ IsIn c S → (IsIn a S → IsIn b S → IsIn c S → 3 ≤ length (filter p S))
+          → 3 ≤ length (cond t (x ∷ filter p S) (filter p S))
       go t f (inl q) (inl r) hc k = absurd (ab (q ∙ sym r))
       go t f (inl q) (inr hb) (inl s) k = absurd (ac (q ∙ sym s))
       go t f (inr ha) (inl r) (inl s) k = absurd (bc (r ∙ sym s))
@@ -69,7 +70,9 @@ module _ (p : ℕ → Bool) where
   some_two [] d l = absurd (omega arith)
   some_two (x ∷ S) d l = go (p x) refl l (some_two S d.1)
     where
-      go : (t : Bool) → p x ≡ t → 2 ≤ length (cond t (x ∷ filter p S) (filter p S)) → (2 ≤ length (filter p S) → (a : ℕ) × (b : ℕ) × IsIn a S × IsIn b S × (a ≢ b) × (p a ≡ true) × (p b ≡ true)) → (a : ℕ) × (b : ℕ) × ((a ≡ x) ⊎ IsIn a S) × ((b ≡ x) ⊎ IsIn b S) × (a ≢ b) × (p a ≡ true) × (p b ≡ true)
+      go : (t : Bool) → p x ≡ t → 2 ≤ length (cond t (x ∷ filter p S) (filter p S))
+          → (2 ≤ length (filter p S) → (a : ℕ) × (b : ℕ) × IsIn a S × IsIn b S × (a ≢ b) × (p a ≡ true) × (p b ≡ true))
+          → (a : ℕ) × (b : ℕ) × ((a ≡ x) ⊎ IsIn a S) × ((b ≡ x) ⊎ IsIn b S) × (a ≢ b) × (p a ≡ true) × (p b ≡ true)
       go true f l k = let r = some_one S (omega arith) in (x, r.0, inl refl, inr r.1, (λ e. d.0 (subst (λ (v : ℕ). IsIn v S) (sym e) r.1)), f, r.2)
       go false f l k = let r = k (omega arith) in (r.0, r.1, inr r.2, inr r.3, r.4, r.5, r.6)
 
@@ -78,7 +81,8 @@ module _ (M : ℕ → ℕ → Bool) where
   three_here column [] d l = absurd (omega arith)
   three_here column (x ∷ S) d l = go (M x column) refl l (three_here column S d.1)
     where
-      go : (t : Bool) → M x column ≡ t → 3 ≤ length (cond t (x ∷ filter (λ row. M row column) S) (filter (λ row. M row column) S)) → (3 ≤ length (filter (λ row. M row column) S) → HasThree M S column) → HasThree M (x ∷ S) column
+      go : (t : Bool) → M x column ≡ t → 3 ≤ length (cond t (x ∷ filter (λ row. M row column) S) (filter (λ row. M row column) S))
+          → (3 ≤ length (filter (λ row. M row column) S) → HasThree M S column) → HasThree M (x ∷ S) column
       go true f l k =
           let r = some_two (λ row. M row column) S d.1 (omega arith) in
           record {

@@ -23,7 +23,8 @@ pub record AreJoining (m : Matrix) (row from kept : ℕ) (labels : List ℕ) : T
   pub here : (x : ℕ) → x < from → entry m row x ≢ pos 0 → get_or labels x 0 ≡ kept
 
 -- the first column of the row
-pub first_label : (m rows : Matrix) (row first kept : ℕ) (parts : ColumnParts) → HasPartsBefore m row parts → rows ≡ m → ((x : ℕ) → 0 ≤ x → x < first → support rows row x ≡ false) → get_or parts.labels.items first 0 ≡ kept
+pub first_label : (m rows : Matrix) (row first kept : ℕ) (parts : ColumnParts) → HasPartsBefore m row parts → rows ≡ m
+    → ((x : ℕ) → 0 ≤ x → x < first → support rows row x ≡ false) → get_or parts.labels.items first 0 ≡ kept
     → AreJoining m row (first + 1) kept parts.labels.items
 first_label m rows row first kept parts w same zeros is_kept = record {
   long = w.one_each;
@@ -61,7 +62,8 @@ module _ (m rows : Matrix) (row from column kept : ℕ) (labels : List ℕ) (is 
     }
 
 -- all columns of the row have one label
-all_joined : (m : Matrix) (row kept : ℕ) (parts : ColumnParts) → IsMatrix m → length parts.labels.items ≡ m.width → AreJoinedBefore m row parts.labels.items → ((x : ℕ) → entry m row x ≢ pos 0 → get_or parts.labels.items x 0 ≡ kept)
+all_joined : (m : Matrix) (row kept : ℕ) (parts : ColumnParts) → IsMatrix m → length parts.labels.items ≡ m.width → AreJoinedBefore m row parts.labels.items
+    → ((x : ℕ) → entry m row x ≢ pos 0 → get_or parts.labels.items x 0 ≡ kept)
     → HasPartsBefore m (row + 1) parts
 all_joined m row kept parts is long before here = record {
   matrix = is;
@@ -73,7 +75,8 @@ all_joined m row kept parts is long before here = record {
 }
 
 -- no column of the row is left
-pub row_joined : (m rows : Matrix) (row from kept : ℕ) (parts : ColumnParts) → IsMatrix m → rows ≡ m → ((x : ℕ) → from ≤ x → support rows row x ≡ false) → AreJoining m row from kept parts.labels.items → HasPartsBefore m (row + 1) parts
+pub row_joined : (m rows : Matrix) (row from kept : ℕ) (parts : ColumnParts) → IsMatrix m → rows ≡ m → ((x : ℕ) → from ≤ x → support rows row x ≡ false)
+    → AreJoining m row from kept parts.labels.items → HasPartsBefore m (row + 1) parts
 row_joined m rows row from kept parts is same zeros w = all_joined m row kept parts is w.long w.joined (λ x one. elim (cases_lt x from) [
   | inl low ↦ w.here x low one
   | inr high ↦ absurd (one (row_zero m rows row x same (zeros x high)))

@@ -24,7 +24,8 @@ pair_two x y false (inl e) (inr f) s d = (pos 0, rw (e, f) refl)
 pair_two x y false (inr e) (inl f) s d = (pos 0, rw (e, f) refl)
 
 -- a test of two entries for equality determines their sum
-entries_two : (m : Matrix) (i j k l : ℕ) (b : Bool) → ((i j : ℕ) → IsEntry (entry m i j)) → entry m i j ≢ pos 0 → entry m k l ≢ pos 0 → (b ≡ true → entry m i j ≡ entry m k l) → (b ≡ false → entry m i j ≢ entry m k l) → TwoIf b (entry m i j +ℤ entry m k l)
+entries_two : (m : Matrix) (i j k l : ℕ) (b : Bool) → ((i j : ℕ) → IsEntry (entry m i j)) → entry m i j ≢ pos 0 → entry m k l ≢ pos 0
+    → (b ≡ true → entry m i j ≡ entry m k l) → (b ≡ false → entry m i j ≢ entry m k l) → TwoIf b (entry m i j +ℤ entry m k l)
 entries_two m i j k l b is u v s d = pair_two (entry m i j) (entry m k l) b (sign_of m i j is u) (sign_of m k l is v) s d
 
 pub two_not : (z : ℤ) (odd : Bool) → TwoIf odd z → IsTwoModFour z → odd ≡ true

@@ -12,7 +12,8 @@ use Rattle.ghouila.proofs.Cycles.{below, cycle_violates, inner_row, column_even}
 use Rattle.ghouila.proofs.Routes.{Route, route, place_cycle, sum_by_places, rows_apart, columns_apart}
 
 -- a violator over lists of the same lines
-pub violator_members : (M : ℕ → ℕ → ℤ) (R C A B : List ℕ) → ((f : ℕ → ℤ) → sum_over A f ≡ sum_over R f) → ((f : ℕ → ℤ) → sum_over B f ≡ sum_over C f) → IsWithin A R → IsWithin B C → IsViolator M R C → IsViolator M A B
+pub violator_members : (M : ℕ → ℕ → ℤ) (R C A B : List ℕ) → ((f : ℕ → ℤ) → sum_over A f ≡ sum_over R f) → ((f : ℕ → ℤ) → sum_over B f ≡ sum_over C f)
+    → IsWithin A R → IsWithin B C → IsViolator M R C → IsViolator M A B
 violator_members M R C A B rows columns a b v = record {
   even_rows = all_of_members (λ i. IsEven (sum_over B (λ j. M i j))) A (λ i h. subst IsEven (sym (columns (λ j. M i j))) (all_in (λ x. IsEven (sum_over C (λ j. M x j))) R v.even_rows i (a i h)));
   even_columns = all_of_members (λ j. IsEven (sum_over A (λ i. M i j))) B (λ j h. subst IsEven (sym (rows (λ i. M i j))) (all_in (λ x. IsEven (sum_over R (λ i. M i x))) C v.even_columns j (b j h)));

@@ -52,7 +52,8 @@ module _ (m values : Matrix) (t c d : ℕ) (walk : Walk) (w : HasWalked m values
       positive (suc j) e = omega arith
 
   -- the trail to column d ends with the row of this step, and d
-  pub key_is : (key : List ℕ) → key ≡ w.key (step_at walk.steps.items (place_in walk.places.items d)).before → w.key (place_in walk.places.items d) ≡ (key ++ (step_at walk.steps.items (place_in walk.places.items d)).row ∷ []) ++ d ∷ []
+  pub key_is : (key : List ℕ) → key ≡ w.key (step_at walk.steps.items (place_in walk.places.items d)).before
+      → w.key (place_in walk.places.items d) ≡ (key ++ (step_at walk.steps.items (place_in walk.places.items d)).row ∷ []) ++ d ∷ []
   key_is key e =
       w.queue.parent (place_in walk.places.items d) later_step (w.queue.listed d met).0
       ∙ ap (λ (x : ℕ). w.key (step_at walk.steps.items (place_in walk.places.items d)).before ++ (step_at walk.steps.items (place_in walk.places.items d)).row ∷ x ∷ []) (w.queue.listed d met).1
@@ -88,7 +89,8 @@ module _ (m : Matrix) (t c d : ℕ) (walk : Walk) (w : HasWalked m m t c walk) (
     here = is_place m m t c d walk w order met first last lines lines_are
 
     -- whether its cycle has the sum 2 modulo 4
-    is_fault_if : (same : Bool) → TwoIf same (entry m t c +ℤ entry m t d) → ((flip is_two_at same ≡ true) → IsFaultAt (entry m) t c d lines) × (IsFaultAt (entry m) t c d lines → flip is_two_at same ≡ true)
+    is_fault_if : (same : Bool) → TwoIf same (entry m t c +ℤ entry m t d)
+        → ((flip is_two_at same ≡ true) → IsFaultAt (entry m) t c d lines) × (IsFaultAt (entry m) t c d lines → flip is_two_at same ≡ true)
     is_fault_if same two = (
       (λ f. record { place = here; two_mod_four = subst IsTwoModFour (sym sum) (subst (λ (b : Bool). TwoIf b (path_sum (entry m) c d lines +ℤ (entry m t c +ℤ entry m t d))) f whole) }),
       (λ f. two_not (path_sum (entry m) c d lines +ℤ (entry m t c +ℤ entry m t d)) (flip is_two_at same) whole (subst IsTwoModFour sum f.two_mod_four)),
@@ -107,7 +109,8 @@ module _ (m : Matrix) (t c d : ℕ) (walk : Walk) (w : HasWalked m m t c walk) (
         whole = two_add is_two_at same (path_sum (entry m) c d lines) (entry m t c +ℤ entry m t d) (sum_two m m t c d walk w order met first last lines lines_are) two
 
   -- the same, without the lines
-  pub fault_if : (same : Bool) → TwoIf same (entry m t c +ℤ entry m t d) → ((flip is_two_at same ≡ true) → (lines : List ℕ) × IsFaultAt (entry m) t c d lines) × ((lines : List ℕ) × IsFaultAt (entry m) t c d lines → flip is_two_at same ≡ true)
+  pub fault_if : (same : Bool) → TwoIf same (entry m t c +ℤ entry m t d)
+      → ((flip is_two_at same ≡ true) → (lines : List ℕ) × IsFaultAt (entry m) t c d lines) × ((lines : List ℕ) × IsFaultAt (entry m) t c d lines → flip is_two_at same ≡ true)
   fault_if same two =
       let lines = w.key (step_at walk.steps.items (place_in walk.places.items d)).before ++ (step_at walk.steps.items (place_in walk.places.items d)).row ∷ [] in
       let k = key_is m m t c d walk w order met (w.key (step_at walk.steps.items (place_in walk.places.items d)).before) refl in
@@ -116,7 +119,8 @@ module _ (m : Matrix) (t c d : ℕ) (walk : Walk) (w : HasWalked m m t c walk) (
         (λ f. v.1 (subst (IsFaultAt (entry m) t c d) (place_unique (entry m) t c d f.0 lines f.1.place (here lines k)) f.1)),
       )
 
-pub column_fault : (m : Matrix) (t c d : ℕ) (lines : List ℕ) → (path : List ℕ) × IsFaultAt (entry m) t c d path → IsCyclePlace (entry m) t c d lines → ((y : ℕ) → y < d → HasNoFaultAt m t c y) → IsColumnFault m t c d lines
+pub column_fault : (m : Matrix) (t c d : ℕ) (lines : List ℕ) → (path : List ℕ) × IsFaultAt (entry m) t c d path → IsCyclePlace (entry m) t c d lines
+    → ((y : ℕ) → y < d → HasNoFaultAt m t c y) → IsColumnFault m t c d lines
 column_fault m t c d lines f place none = record { fault = subst (IsFaultAt (entry m) t c d) (place_unique (entry m) t c d f.0 lines f.1.place place) f.1; least = none }
 
 -- ---- another column, or another row
@@ -128,14 +132,16 @@ one_more_last m t c d before here y l = elim (cases_lt y d) [
 ]
 
 -- columns in which the row is 0 are no first columns
-pub zeros_first : (m a : Matrix) (t from first : ℕ) → a ≡ m → ((x y : ℕ) → x < from → HasNoFaultAt m t x y) → ((x : ℕ) → from ≤ x → x < first → support a t x ≡ false) → (x y : ℕ) → x < first → HasNoFaultAt m t x y
+pub zeros_first : (m a : Matrix) (t from first : ℕ) → a ≡ m → ((x y : ℕ) → x < from → HasNoFaultAt m t x y)
+    → ((x : ℕ) → from ≤ x → x < first → support a t x ≡ false) → (x y : ℕ) → x < first → HasNoFaultAt m t x y
 zeros_first m a t from first is before zeros x y l path f = elim (cases_lt x from) [
   | inl low ↦ before x y low path f
   | inr high ↦ f.place.first (zero_is (entry m t x) (sym (ap (λ (b : Matrix). support b t x) is) ∙ zeros x high l))
 ]
 
 -- columns in which the row is 0 are last columns of no place
-pub zeros_last : (m a : Matrix) (t c from last : ℕ) → a ≡ m → ((y : ℕ) → y < from → HasNoFaultAt m t c y) → ((y : ℕ) → from ≤ y → y < last → support a t y ≡ false) → (y : ℕ) → y < last → HasNoFaultAt m t c y
+pub zeros_last : (m a : Matrix) (t c from last : ℕ) → a ≡ m → ((y : ℕ) → y < from → HasNoFaultAt m t c y)
+    → ((y : ℕ) → from ≤ y → y < last → support a t y ≡ false) → (y : ℕ) → y < last → HasNoFaultAt m t c y
 zeros_last m a t c from last is before zeros y l path f = elim (cases_lt y from) [
   | inl lt ↦ before y lt path f
   | inr ge ↦ f.place.last (zero_is (entry m t y) (sym (ap (λ (x : Matrix). support x t y) is) ∙ zeros y ge l))
@@ -143,7 +149,8 @@ zeros_last m a t c from last is before zeros y l path f = elim (cases_lt y from)
 
 -- the first fault of the first row with one
 pub first_of_rows : (m : Matrix) (t : ℕ) (found : Option Fault) (f : Fault) → found ≡ Some f → ((r x y : ℕ) → r < t → HasNoFaultAt m r x y)
-    → MatchOption found ((x y : ℕ) → HasNoFaultAt m t x y) (λ f. (f.row ≡ t) × IsColumnFault m t f.first f.last f.lines.items × ((x y : ℕ) → x < f.first → HasNoFaultAt m t x y)) → IsFirstFault m f.row f.first f.last f.lines.items
+    → MatchOption found ((x y : ℕ) → HasNoFaultAt m t x y) (λ f. (f.row ≡ t) × IsColumnFault m t f.first f.last f.lines.items × ((x y : ℕ) → x < f.first → HasNoFaultAt m t x y))
+    → IsFirstFault m f.row f.first f.last f.lines.items
 first_of_rows m t found f is before h = go (subst (λ (o : Option Fault). MatchOption o ((x y : ℕ) → HasNoFaultAt m t x y) (λ f. (f.row ≡ t) × IsColumnFault m t f.first f.last f.lines.items × ((x y : ℕ) → x < f.first → HasNoFaultAt m t x y))) is h)
   where
     go : (f.row ≡ t) × IsColumnFault m t f.first f.last f.lines.items × ((x y : ℕ) → x < f.first → HasNoFaultAt m t x y) → IsFirstFault m f.row f.first f.last f.lines.items
@@ -160,7 +167,8 @@ first_of_rows m t found f is before h = go (subst (λ (o : Option Fault). MatchO
 
 -- ---- values read from a walk
 
-pub met_step : (m values : Matrix) (t c d : ℕ) (walk : Walk) (place : ℕ) (step : ReachedColumn) → HasWalked m values t c walk → d < m.width → place ≡ get_or walk.places.items d place → place_in walk.places.items d < 4294967295 → step ≡ get_or walk.steps.items place step
+pub met_step : (m values : Matrix) (t c d : ℕ) (walk : Walk) (place : ℕ) (step : ReachedColumn) → HasWalked m values t c walk → d < m.width
+    → place ≡ get_or walk.places.items d place → place_in walk.places.items d < 4294967295 → step ≡ get_or walk.steps.items place step
     → step_at walk.steps.items (place_in walk.places.items d) ≡ step
 met_step m values t c d walk place step w l e met f =
     let a : place_in walk.places.items d ≡ place = any_default walk.places.items d 4294967295 place (omega (arith, w.fits.one_each, w.fits.columns)) ∙ sym e in
@@ -168,7 +176,8 @@ met_step m values t c d walk place step w l e met f =
 
 -- ---- the path, backwards
 
-pub begin_back : (m values : Matrix) (t c d : ℕ) (walk : Walk) (step : ReachedColumn) (lines : List ℕ) → c < d → place_in walk.places.items d < 4294967295 → step_at walk.steps.items (place_in walk.places.items d) ≡ step → lines ≡ step.row ∷ []
+pub begin_back : (m values : Matrix) (t c d : ℕ) (walk : Walk) (step : ReachedColumn) (lines : List ℕ) → c < d → place_in walk.places.items d < 4294967295
+    → step_at walk.steps.items (place_in walk.places.items d) ≡ step → lines ≡ step.row ∷ []
     → (w : HasWalked m values t c walk) → w.key (place_in walk.places.items d) ≡ w.key step.before ++ (reverse lines ++ d ∷ [])
 begin_back m values t c d walk step lines order met e f w =
     key_is m values t c d walk w order met (w.key (step_at walk.steps.items (place_in walk.places.items d)).before) refl
@@ -176,12 +185,14 @@ begin_back m values t c d walk step lines order met e f w =
     ∙ append_assoc (w.key step.before) (step.row ∷ []) (d ∷ [])
     ∙ ap (λ (v : List ℕ). w.key step.before ++ (reverse v ++ d ∷ [])) (sym f)
 
-pub before_in : (m values : Matrix) (t c d : ℕ) (walk : Walk) (step : ReachedColumn) → HasWalked m values t c walk → c < d → place_in walk.places.items d < 4294967295 → step_at walk.steps.items (place_in walk.places.items d) ≡ step → step.before < length walk.steps.items
+pub before_in : (m values : Matrix) (t c d : ℕ) (walk : Walk) (step : ReachedColumn) → HasWalked m values t c walk → c < d
+    → place_in walk.places.items d < 4294967295 → step_at walk.steps.items (place_in walk.places.items d) ≡ step → step.before < length walk.steps.items
 before_in m values t c d walk step w order met e =
     let a = w.queue.earlier (place_in walk.places.items d) (later_step m values t c d walk w order met) (w.queue.listed d met).0 in
     let b = ap (λ (s : ReachedColumn). s.before) e in let k = (w.queue.listed d met).0 in omega arith
 
-pub earlier_place : (m values : Matrix) (t c : ℕ) (walk : Walk) (place : ℕ) (step : ReachedColumn) → HasWalked m values t c walk → place ≢ 0 → place < length walk.steps.items → step ≡ get_or walk.steps.items place step → step.before < place
+pub earlier_place : (m values : Matrix) (t c : ℕ) (walk : Walk) (place : ℕ) (step : ReachedColumn) → HasWalked m values t c walk → place ≢ 0
+    → place < length walk.steps.items → step ≡ get_or walk.steps.items place step → step.before < place
 earlier_place m values t c walk place step w other l e =
     let a = w.queue.earlier place (positive place other) l in
     let b = ap (λ (s : ReachedColumn). s.before) (step_is walk.steps.items place step l e) in omega arith
@@ -189,7 +200,8 @@ earlier_place m values t c walk place step w other l e =
     positive : (n : ℕ) → n ≢ 0 → 0 < n
     positive n h = omega arith
 
-pub go_back : (m values : Matrix) (t c d : ℕ) (walk : Walk) (place : ℕ) (step : ReachedColumn) (lines more : List ℕ) → place ≢ 0 → place < length walk.steps.items → step ≡ get_or walk.steps.items place step → more ≡ (lines ++ step.column ∷ []) ++ step.row ∷ []
+pub go_back : (m values : Matrix) (t c d : ℕ) (walk : Walk) (place : ℕ) (step : ReachedColumn) (lines more : List ℕ) → place ≢ 0
+    → place < length walk.steps.items → step ≡ get_or walk.steps.items place step → more ≡ (lines ++ step.column ∷ []) ++ step.row ∷ []
     → ((w : HasWalked m values t c walk) → w.key (place_in walk.places.items d) ≡ w.key place ++ (reverse lines ++ d ∷ []))
     → (w : HasWalked m values t c walk) → w.key (place_in walk.places.items d) ≡ w.key step.before ++ (reverse more ++ d ∷ [])
 go_back m values t c d walk place step lines more other l e f before w =
@@ -201,7 +213,8 @@ go_back m values t c d walk place step lines more other l e f before w =
     positive : (n : ℕ) → n ≢ 0 → 0 < n
     positive n h = omega arith
 
-pub path_back : (m values : Matrix) (t c d : ℕ) (walk : Walk) (place : ℕ) (lines path : List ℕ) → HasWalked m values t c walk → c < d → place_in walk.places.items d < 4294967295 → entry m t c ≢ pos 0 → entry m t d ≢ pos 0 → place ≡ 0 → path ≡ reverse lines
+pub path_back : (m values : Matrix) (t c d : ℕ) (walk : Walk) (place : ℕ) (lines path : List ℕ) → HasWalked m values t c walk → c < d
+    → place_in walk.places.items d < 4294967295 → entry m t c ≢ pos 0 → entry m t d ≢ pos 0 → place ≡ 0 → path ≡ reverse lines
     → ((w : HasWalked m values t c walk) → w.key (place_in walk.places.items d) ≡ w.key place ++ (reverse lines ++ d ∷ [])) → IsCyclePlace (entry m) t c d path
 path_back m values t c d walk place lines path w order met first last z e k =
     is_place m values t c d walk w order met first last path

@@ -110,5 +110,6 @@ module _ (a s : Matrix) (is : IsMatrix a) (signs : AreSigns a s) (t c d : ℕ) (
   cycle_two two (inr q) (inl place) = absurd (let k = o.place.order in let l = place.1.order in let e = q.0 in let f = q.1 in omega arith)
 
   -- the sum of the cycle
-  pub forced_four : (two : Bool) → HasPlaceWith a s t c d two → ((sum : ℤ) → TwoIf two sum → IsZeroModFour ((entry s t c +ℤ v) +ℤ sum)) → IsZeroModFour (submatrix_sum (with_entry s t d v) cycle.rows cycle.columns)
+  pub forced_four : (two : Bool) → HasPlaceWith a s t c d two → ((sum : ℤ) → TwoIf two sum → IsZeroModFour ((entry s t c +ℤ v) +ℤ sum))
+      → IsZeroModFour (submatrix_sum (with_entry s t d v) cycle.rows cycle.columns)
   forced_four two place closes = subst IsZeroModFour (sym total) (closes (path_sum (entry (with_entry s t d v)) o.first o.last o.path) (cycle_two two o.ends place))

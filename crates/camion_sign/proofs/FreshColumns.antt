@@ -40,14 +40,16 @@ module _ (one two reached : List ℕ) (from column word : ℕ) (same : two ≡ r
         λ x l h. elim (cases_lt x column) [ inl before ↦ none x l before | inr after ↦ first.1 x after h ],
       )
 
-  pub fresh_skips : ((x : ℕ) → from ≤ x → x < column → is_fresh one reached x ≡ false) → word / 2 ^ (column % 64) ≡ 0 → (x : ℕ) → from ≤ x → x < column - column % 64 + 64 → is_fresh one reached x ≡ false
+  pub fresh_skips : ((x : ℕ) → from ≤ x → x < column → is_fresh one reached x ≡ false) → word / 2 ^ (column % 64) ≡ 0 → (x : ℕ) → from ≤ x
+      → x < column - column % 64 + 64 → is_fresh one reached x ≡ false
   fresh_skips none empty x l h = elim (cases_lt x column) [
     | inl before ↦ none x l before
     | inr after ↦ none_by_bits (is_fresh one reached) column word fits bits_are empty x after h
   ]
 
 -- the lowest bit of a word
-pub lowest_bit : (word : ℕ) → 0 < word → word < 2 ^ 64 → (trailing_zeros w64 word < 64) × (has_bit word (trailing_zeros w64 word) ≡ true) × ((k : ℕ) → k < trailing_zeros w64 word → has_bit word k ≡ false)
+pub lowest_bit : (word : ℕ) → 0 < word → word < 2 ^ 64
+    → (trailing_zeros w64 word < 64) × (has_bit word (trailing_zeros w64 word) ≡ true) × ((k : ℕ) → k < trailing_zeros w64 word → has_bit word k ≡ false)
 lowest_bit word some fits =
     let found = bit_at-trailing_zeros w64 word some fits in
     (found.0, ap (λ (n : ℕ). eqb n 1) found.1, λ k l. ap (λ (n : ℕ). eqb n 1) (found.2 k l))
@@ -74,8 +76,10 @@ module _ (m : Matrix) (column : ℕ) (words used : List ℕ) (are : (r : ℕ) �
 -- ---- the set of reached columns
 
 -- only the first column is reached
-pub begins_in_step : (m : Matrix) (t c : ℕ) (places : List ℕ) (size column : ℕ) (old cleared made : Bits) → places ≡ replicate size 4294967295 → size ≡ old.size → column < old.size → cleared.size ≡ old.size → made.size ≡ cleared.size
-    → ((x : ℕ) → has_column cleared.words x ≡ false) → ((x : ℕ) → has_column made.words x ≡ true → (x ≡ column) ⊎ (has_column cleared.words x ≡ true)) → has_column made.words column ≡ true → AreInStep m t c (set places column 0) made
+pub begins_in_step : (m : Matrix) (t c : ℕ) (places : List ℕ) (size column : ℕ) (old cleared made : Bits) → places ≡ replicate size 4294967295 → size ≡ old.size
+    → column < old.size → cleared.size ≡ old.size → made.size ≡ cleared.size
+    → ((x : ℕ) → has_column cleared.words x ≡ false) → ((x : ℕ) → has_column made.words x ≡ true → (x ≡ column) ⊎ (has_column cleared.words x ≡ true))
+    → has_column made.words column ≡ true → AreInStep m t c (set places column 0) made
 begins_in_step m t c places size column old cleared made is size_is inside cleared_size made_size none only here = record {
   has = λ x needed h. elim (only x h) [
     | inl e ↦ subst (λ (y : ℕ). place_in (set places column 0) y < 4294967295) (sym e) (let at = get_or-set_same places column 0 4294967295 low in omega arith)
@@ -93,7 +97,8 @@ begins_in_step m t c places size column old cleared made is size_is inside clear
     low = omega (arith, long, size_is, inside)
 
 -- the earlier columns of row t are in the set too
-pub passed_in_step : (m : Matrix) (t c : ℕ) (places : List ℕ) (old new : Bits) → AreInStep m t c places old → ((x : ℕ) → has_column new.words x ≡ true → (has_column old.words x ≡ true) ⊎ ((entry m t x ≢ pos 0) × (x < c)))
+pub passed_in_step : (m : Matrix) (t c : ℕ) (places : List ℕ) (old new : Bits) → AreInStep m t c places old
+    → ((x : ℕ) → has_column new.words x ≡ true → (has_column old.words x ≡ true) ⊎ ((entry m t x ≢ pos 0) × (x < c)))
     → ((x : ℕ) → has_column old.words x ≡ true → has_column new.words x ≡ true) → AreInStep m t c places new
 passed_in_step m t c places old new step only kept = record {
   has = λ x needed h. elim (only x h) [

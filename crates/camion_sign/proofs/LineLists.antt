@@ -43,7 +43,8 @@ pushed P x list list2 b p e = rw e (record {
 -- ---- lines gathered by repeatedly taking the least
 
 -- there is no other line up to the least line
-pub built_up : (lines found : List ℕ) (from to : ℕ) → from ≤ to → ((x : ℕ) → IsIn x lines → x < to → x < from) → IsBuilt (λ line. IsIn line lines) from found → IsBuilt (λ line. IsIn line lines) to found
+pub built_up : (lines found : List ℕ) (from to : ℕ) → from ≤ to → ((x : ℕ) → IsIn x lines → x < to → x < from) → IsBuilt (λ line. IsIn line lines) from found
+    → IsBuilt (λ line. IsIn line lines) to found
 built_up lines found from to l none b = record {
   increasing = b.increasing;
   members = λ y. (
@@ -70,7 +71,8 @@ module _ (lines : List ℕ) (bound : ℕ) (next : Option ℕ) (found : List ℕ)
   pub line_above : (line : ℕ) → within next bound ≡ Some line → (k : ℕ) → k < length found → get_or found k 0 < line
   line_above line e = above (λ x. IsIn x lines) line found (built_to_line line e)
 
-  pub line_gathered : (line : ℕ) (after : Option ℕ) (more : List ℕ) → within next bound ≡ Some line → more ≡ found ++ line ∷ [] → IsLeastFrom lines (line + 1) after → IsGathering lines bound after more
+  pub line_gathered : (line : ℕ) (after : Option ℕ) (more : List ℕ) → within next bound ≡ Some line → more ≡ found ++ line ∷ []
+      → IsLeastFrom lines (line + 1) after → IsGathering lines bound after more
   line_gathered line after more e f least = record {
     from = line + 1;
     inside = let l = (within_is next bound line e).1 in omega arith;
@@ -92,7 +94,8 @@ module _ (lines : List ℕ) (bound : ℕ) (next : Option ℕ) (found : List ℕ)
           some true t e = absurd (cc)
           some false t e = absurd (cc)
 
-pub fewer_left : (lines : List ℕ) (bound : ℕ) (next after : Option ℕ) (line : ℕ) → within next bound ≡ Some line → IsLeastFrom lines (line + 1) after → left_to_gather bound after < left_to_gather bound next
+pub fewer_left : (lines : List ℕ) (bound : ℕ) (next after : Option ℕ) (line : ℕ) → within next bound ≡ Some line → IsLeastFrom lines (line + 1) after
+    → left_to_gather bound after < left_to_gather bound next
 fewer_left lines bound next after line e least = subst (λ o. left_to_gather bound after < left_to_gather bound o) (sym (within_is next bound line e).0) (go after least)
   where
     go : (o : Option ℕ) → IsLeastFrom lines (line + 1) o → left_to_gather bound o < suc (bound - line)
@@ -140,7 +143,8 @@ cycle_fault_is m t c d lines R C {high = high} {wide = wide} is f h w rows colum
     column_low j (inr (inr g)) = let l = path_columns_low m t c d lines is high_t f.fault.place.is_path j g in omega arith
 
 -- the complete lists, with the lines as the two calls received them
-pub fault_lines : (m : Matrix) (o : Option Fault) (f : Fault) (rows_of columns_of R C : List ℕ) {high wide : ℕ} → IsMatrix m → o ≡ Some f → MatchOption o (HasNoCycleFault (entry m)) (λ f. IsFirstFault m f.row f.first f.last f.lines.items)
+pub fault_lines : (m : Matrix) (o : Option Fault) (f : Fault) (rows_of columns_of R C : List ℕ) {high wide : ℕ} → IsMatrix m → o ≡ Some f
+    → MatchOption o (HasNoCycleFault (entry m)) (λ f. IsFirstFault m f.row f.first f.last f.lines.items)
     → rows_of ≡ f.lines.items → columns_of ≡ f.lines.items → high ≡ height m → wide ≡ m.width
     → IsBuilt (λ x. IsIn x (cycle_rows f.row rows_of)) high R → IsBuilt (λ x. IsIn x (cycle_columns f.first f.last columns_of)) wide C → IsCycleFault m R C
 fault_lines m o f rows_of columns_of R C {high = high} {wide = wide} is e found a b h w rows columns =
@@ -150,7 +154,8 @@ fault_lines m o f rows_of columns_of R C {high = high} {wide = wide} is e found 
     (subst (λ (l : List ℕ). IsBuilt (λ x. IsIn x (cycle_columns f.first f.last l)) wide C) b columns)
 
 -- the lines of the cycle of a place
-pub cycle_lines_are : (m : Matrix) (t c d : ℕ) (lines rows_of columns_of R C : List ℕ) {high wide : ℕ} → IsMatrix m → IsCyclePlace (entry m) t c d lines → rows_of ≡ lines → columns_of ≡ lines → high ≡ height m → wide ≡ m.width
+pub cycle_lines_are : (m : Matrix) (t c d : ℕ) (lines rows_of columns_of R C : List ℕ) {high wide : ℕ} → IsMatrix m → IsCyclePlace (entry m) t c d lines
+    → rows_of ≡ lines → columns_of ≡ lines → high ≡ height m → wide ≡ m.width
     → IsBuilt (λ x. IsIn x (cycle_rows t rows_of)) high R → IsBuilt (λ x. IsIn x (cycle_columns c d columns_of)) wide C → IsCycleLines m t c d (record { rows = R; columns = C })
 cycle_lines_are m t c d lines rows_of columns_of R C {high = high} {wide = wide} is place a b h w built_rows built_columns = record {
   path = lines;

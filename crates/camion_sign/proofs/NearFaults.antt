@@ -86,14 +86,16 @@ abbrev pub IsIfTouched : Matrix → ℕ → (ℕ → Bool) → ℕ → Type 0
 IsIfTouched m t columns d = (r : ℕ) → r < t → entry m r d ≢ pos 0 → columns d ≡ true
 
 -- all columns of the row have been visited
-pub all_waiting : (m rows : Matrix) (t from : ℕ) (columns : ℕ → Bool) → rows ≡ m → ((d : ℕ) → from ≤ d → support rows t d ≡ false) → ((d : ℕ) → d < from → entry m t d ≢ pos 0 → IsIfTouched m t columns d) → AreWaiting m t 0 columns
+pub all_waiting : (m rows : Matrix) (t from : ℕ) (columns : ℕ → Bool) → rows ≡ m → ((d : ℕ) → from ≤ d → support rows t d ≡ false)
+    → ((d : ℕ) → d < from → entry m t d ≢ pos 0 → IsIfTouched m t columns d) → AreWaiting m t 0 columns
 all_waiting m rows t from columns same zeros added d r low one early touches = elim (cases_lt d from) [
   | inl before ↦ added d before one r early touches
   | inr after ↦ absurd (one (row_zero m rows t d same (zeros d after)))
 ]
 
 -- a column is no longer waiting
-pub waits_after : (m : Matrix) (t c : ℕ) (old new : List ℕ) → AreWaiting m t c (has_column old) → ((x : ℕ) → has_column new x ≡ false → (x ≡ c) ⊎ (has_column old x ≡ false)) → AreWaiting m t (c + 1) (has_column new)
+pub waits_after : (m : Matrix) (t c : ℕ) (old new : List ℕ) → AreWaiting m t c (has_column old)
+    → ((x : ℕ) → has_column new x ≡ false → (x ≡ c) ⊎ (has_column old x ≡ false)) → AreWaiting m t (c + 1) (has_column new)
 waits_after m t c old new waits only d r l n early touches = true_is (has_column new d) (λ f. elim (only d f) [
   | inl e ↦ omega arith
   | inr o ↦ not_both (has_column old d) (waits d r (omega arith) n early touches) o

@@ -32,14 +32,17 @@ module _ (a s : Matrix) (row column from : ℕ) (none : (c : ℕ) → c < from �
     | inr past ↦ let e : next ≡ c = omega arith in subst (λ x. ¬ (IsForcedBy a s row column x)) e here
   ]
 
-pub column_passed : (a s : Matrix) (row column : ℕ) → (IsUnsignedOne a s row column → (c : ℕ) → ¬ (IsForcedBy a s row column c)) → ((d : ℕ) → d < column → IsUnsignedOne a s row d → (c : ℕ) → ¬ (IsForcedBy a s row d c)) → (d : ℕ) → d < column + 1 → IsUnsignedOne a s row d → (c : ℕ) → ¬ (IsForcedBy a s row d c)
+pub column_passed : (a s : Matrix) (row column : ℕ) → (IsUnsignedOne a s row column → (c : ℕ) → ¬ (IsForcedBy a s row column c))
+    → ((d : ℕ) → d < column → IsUnsignedOne a s row d → (c : ℕ) → ¬ (IsForcedBy a s row d c)) → (d : ℕ) → d < column + 1 → IsUnsignedOne a s row d → (c : ℕ)
+    → ¬ (IsForcedBy a s row d c)
 column_passed a s row column here none d l = elim (cases_lt d column) [
   | inl before ↦ none d before
   | inr past ↦ let e : column ≡ d = omega arith in subst (λ x. IsUnsignedOne a s row x → (c : ℕ) → ¬ (IsForcedBy a s row x c)) e here
 ]
 
 -- a new sign keeps all other signs
-pub ones_kept : (a s after : Matrix) → IsMatrix a → AreSigns a s → (row column : ℕ) (v : ℤ) → IsSign v → IsUnsignedOne a s row column → after ≡ with_entry s row column v → (d : ℕ) → IsUnsignedOne a after row d → IsUnsignedOne a s row d
+pub ones_kept : (a s after : Matrix) → IsMatrix a → AreSigns a s → (row column : ℕ) (v : ℤ) → IsSign v → IsUnsignedOne a s row column
+    → after ≡ with_entry s row column v → (d : ℕ) → IsUnsignedOne a after row d → IsUnsignedOne a s row d
 ones_kept a s after is signs row column v u here e d unsigned = elim (cases_eq d column) [
   | inl same ↦ subst (IsUnsignedOne a s row) (sym same) here
   | inr apart ↦ record { one = unsigned.one; no_sign = sym (more.other row d (inr apart)) ∙ ap (λ (t : Matrix). entry t row d) (sym e) ∙ unsigned.no_sign }

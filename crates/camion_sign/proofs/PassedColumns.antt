@@ -12,7 +12,8 @@ use Rattle.camion_sign.specs.Signings.{KnowsSigned}
 use Rattle.chains.proofs.GivenSigns.{HasOneMore, keeps}
 
 -- a row without signs
-pub row_begun : (a s : Matrix) (row : ℕ) (signed : SignedColumns) → ((j : ℕ) → entry s row j ≡ pos 0) → length signed.passed.items ≡ a.width → signed.columns.items ≡ [] → ((d : ℕ) → get_or signed.passed.items d 0 ≡ 0) → KnowsSigned a s row signed
+pub row_begun : (a s : Matrix) (row : ℕ) (signed : SignedColumns) → ((j : ℕ) → entry s row j ≡ pos 0) → length signed.passed.items ≡ a.width
+    → signed.columns.items ≡ [] → ((d : ℕ) → get_or signed.passed.items d 0 ≡ 0) → KnowsSigned a s row signed
 row_begun a s row signed unsigned long e start = record {
   one_each = long;
   within = λ d. let z = start d in omega arith;
@@ -26,14 +27,16 @@ module _ (a s : Matrix) (row : ℕ) (signed : SignedColumns) (knows : KnowsSigne
   columns = signed.columns.items
 
   -- all of them are passed
-  pub none_forces : (column place : ℕ) → length columns ≤ place → ((k : ℕ) → k < place → (path : List ℕ) → ¬ (IsPlaceOf a row (get_or columns k 0) column path)) → (c : ℕ) → ¬ (IsForcedBy a s row column c)
+  pub none_forces : (column place : ℕ) → length columns ≤ place → ((k : ℕ) → k < place → (path : List ℕ) → ¬ (IsPlaceOf a row (get_or columns k 0) column path))
+      → (c : ℕ) → ¬ (IsForcedBy a s row column c)
   none_forces column place l none c forced = go (knows.listed c forced.0)
     where
       go : (k : ℕ) × (k < length columns) × (get_or columns k 0 ≡ c) → ⊥
       go (k, inside, e) = none k (omega arith) forced.1.0 (subst (λ x. IsPlaceOf a row x column forced.1.0) (sym e) forced.1.1)
 
   -- the column passes another signed column
-  pub place_passed : (column place x : ℕ) → x ≡ get_or columns place 0 → ((path : List ℕ) → ¬ (IsPlaceOf a row x column path)) → ((k : ℕ) → k < place → (path : List ℕ) → ¬ (IsPlaceOf a row (get_or columns k 0) column path))
+  pub place_passed : (column place x : ℕ) → x ≡ get_or columns place 0 → ((path : List ℕ) → ¬ (IsPlaceOf a row x column path))
+      → ((k : ℕ) → k < place → (path : List ℕ) → ¬ (IsPlaceOf a row (get_or columns k 0) column path))
       → (k : ℕ) → k < place + 1 → (path : List ℕ) → ¬ (IsPlaceOf a row (get_or columns k 0) column path)
   place_passed column place x e here none k l = elim (cases_lt k place) [
     | inl before ↦ none k before

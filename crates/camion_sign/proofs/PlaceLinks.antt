@@ -27,7 +27,8 @@ module _ (m values : Matrix) (t c d : ℕ) (walk : Walk) (w : HasWalked m values
   shows_none z small e unreached = record { small = small; place = λ h. absurd (h e); none = λ h path p. w.none d path p.order p.last unreached p.is_path }
 
   -- the walk has reached it
-  pub shows_place : (z : ℤ) → IsEntry z → z ≢ pos 0 → place_in walk.places.items d < 4294967295 → is_minus z ≡ (step_at walk.steps.items (place_in walk.places.items d)).is_two → ShowsPlace m values t c d z
+  pub shows_place : (z : ℤ) → IsEntry z → z ≢ pos 0 → place_in walk.places.items d < 4294967295
+      → is_minus z ≡ (step_at walk.steps.items (place_in walk.places.items d)).is_two → ShowsPlace m values t c d z
   shows_place z small h met minus = record {
     small = small;
     place = λ _. (lines, is_place m values t c d walk w order met first last lines key, subst (λ (b : Bool). TwoIf b (path_sum (entry values) c d lines)) (sym minus) (sum_two m values t c d walk w order met first last lines key));
@@ -95,10 +96,12 @@ touched_more m row old new words touched are size added = record {
 
 -- ---- the known places after another walk
 
-shows_still : (m values old new : Matrix) (t c x : ℕ) → x ≢ c → ((a b : ℕ) → a ≢ c → entry new a b ≡ entry old a b) → ShowsPlacesFrom m values t x m.width old → ShowsPlacesFrom m values t x m.width new
+shows_still : (m values old new : Matrix) (t c x : ℕ) → x ≢ c → ((a b : ℕ) → a ≢ c → entry new a b ≡ entry old a b) → ShowsPlacesFrom m values t x m.width old
+    → ShowsPlacesFrom m values t x m.width new
 shows_still m values old new t c x apart others shows d order l one = subst (ShowsPlace m values t x d) (sym (others x d apart)) (shows d order l one)
 
-pub known_more : (m values : Matrix) (t c : ℕ) (old new : RowPlaces) → KnowsPlaces m values t old → HasWalked m values t c new.walk → ShowsPlacesFrom m values t c m.width new.links → ((a b : ℕ) → a ≢ c → entry new.links a b ≡ entry old.links a b) → AreSquare m new.links
+pub known_more : (m values : Matrix) (t c : ℕ) (old new : RowPlaces) → KnowsPlaces m values t old → HasWalked m values t c new.walk
+    → ShowsPlacesFrom m values t c m.width new.links → ((a b : ℕ) → a ≢ c → entry new.links a b ≡ entry old.links a b) → AreSquare m new.links
     → new.known.items ≡ set old.known.items c true → new.walked ≡ Some c → new.parts ≡ old.parts → new.touched ≡ old.touched → new.waiting.size ≡ old.waiting.size → KnowsPlaces m values t new
 known_more m values t c old new knows walked shows others square e is_there parts touched waiting = record {
   room = record {
@@ -121,7 +124,9 @@ known_more m values t c old new knows walked shows others square e is_there part
     some_same a b e = cc
 
 -- nothing is known at the beginning of a row
-pub begin_row : (m values : Matrix) (t : ℕ) (old new : RowPlaces) → HasRoomForPlaces m t old → HasValuesBefore m values t → new.parts ≡ old.parts → new.walk ≡ old.walk → new.links ≡ old.links → new.walked ≡ None → new.known.items ≡ replicate (length old.known.items) false → new.touched ≡ old.touched → new.waiting ≡ old.waiting → KnowsPlaces m values t new
+pub begin_row : (m values : Matrix) (t : ℕ) (old new : RowPlaces) → HasRoomForPlaces m t old → HasValuesBefore m values t → new.parts ≡ old.parts
+    → new.walk ≡ old.walk → new.links ≡ old.links → new.walked ≡ None → new.known.items ≡ replicate (length old.known.items) false → new.touched ≡ old.touched
+    → new.waiting ≡ old.waiting → KnowsPlaces m values t new
 begin_row m values t old new room signs parts walk links walked known touched waiting = record {
   room = record {
     parts = subst (HasPartsBefore m t) (sym parts) room.parts;

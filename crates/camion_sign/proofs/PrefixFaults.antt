@@ -44,7 +44,8 @@ module _ (m : Matrix) (is : IsMatrix m) (count : ℕ) (few : count ≤ height m)
 
 -- a search in all rows
 pub first_of_all : {E : Type 0} (m : Matrix) (end : ℕ) (result : Result (Option Fault) E) → end ≡ height m
-    → IfOk result (λ found. MatchOption found (HasNoFaultBefore m end) (λ f. IsFirstFault m f.row f.first f.last f.lines.items)) → IfOk result (λ found. MatchOption found (HasNoCycleFault (entry m)) (λ f. IsFirstFault m f.row f.first f.last f.lines.items))
+    → IfOk result (λ found. MatchOption found (HasNoFaultBefore m end) (λ f. IsFirstFault m f.row f.first f.last f.lines.items))
+    → IfOk result (λ found. MatchOption found (HasNoCycleFault (entry m)) (λ f. IsFirstFault m f.row f.first f.last f.lines.items))
 first_of_all m end (Err x) high h = h
 first_of_all m end (Ok None) high h = λ t c d path fault. let low = row_in m t c fault.place.first in h t c d path (omega arith) fault
 first_of_all m end (Ok (Some f)) high h = h

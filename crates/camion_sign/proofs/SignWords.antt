@@ -56,7 +56,8 @@ opposite_bits common a b fa fb e k small h same = true≢false (sym (part_bits c
 
 module _ (support minus other other_minus : List ℕ) (chunk : ℕ) where
   -- the bits of a column in its chunk
-  common_bit : (x : ℕ) → 64 * chunk + x % 64 ≡ x → x % 64 < 64 → has_column support x ≡ true → has_column other x ≡ true → has_bit (bit_and (get_or support chunk 0) (get_or other chunk 0)) (x % 64) ≡ true
+  common_bit : (x : ℕ) → 64 * chunk + x % 64 ≡ x → x % 64 < 64 → has_column support x ≡ true → has_column other x ≡ true
+      → has_bit (bit_and (get_or support chunk 0) (get_or other chunk 0)) (x % 64) ≡ true
   common_bit x at small a b =
       has_bit-and (get_or support chunk 0) (get_or other chunk 0) (x % 64)
       ∙ ap₂ (λ s t. s && t) (sym (column_at support chunk (x % 64) small) ∙ ap (has_column support) at ∙ a) (sym (column_at other chunk (x % 64) small) ∙ ap (has_column other) at ∙ b)
@@ -109,7 +110,8 @@ same_sign a b (inl e) (inr f) n = absurd (true≢false (sym (ap is_minus f) ∙ 
 same_sign a b (inr e) (inl f) n = absurd (true≢false (sym (ap is_minus e) ∙ n ∙ ap is_minus f))
 
 -- the sum of two nonzeros of a row, by their signs
-pub signs_two : (m : Matrix) (row x y : ℕ) (words : List ℕ) (same : Bool) → words ≡ words_of (words_for m.width) is_minus (row_of m row) → ((i j : ℕ) → IsEntry (entry m i j)) → x < m.width → y < m.width → entry m row x ≢ pos 0 → entry m row y ≢ pos 0
+pub signs_two : (m : Matrix) (row x y : ℕ) (words : List ℕ) (same : Bool) → words ≡ words_of (words_for m.width) is_minus (row_of m row)
+    → ((i j : ℕ) → IsEntry (entry m i j)) → x < m.width → y < m.width → entry m row x ≢ pos 0 → entry m row y ≢ pos 0
     → (same ≡ true → has_column words x ≡ has_column words y) → (has_column words x ≡ has_column words y → same ≡ true) → TwoIf same (entry m row x +ℤ entry m row y)
 signs_two m row x y words same is small low high from to equal back =
     let one = sign_of m row x small from in

@@ -23,7 +23,8 @@ use Rattle.camion_sign.proofs.PassedColumns.{row_begun, signed_more}
 use Rattle.chains.proofs.ChainViolators.{unsigned_signs, entry-unsigned}
 
 -- another sign leaves fewer ones without sign
-pub fewer_unsigned : (a s t : Matrix) (row column : ℕ) (v : ℤ) → IsSign v → HasOneMore s t row column v → IsUnsignedOne a s row column → (n : ℕ) → column < n → unsigned_before a t row n < unsigned_before a s row n
+pub fewer_unsigned : (a s t : Matrix) (row column : ℕ) (v : ℤ) → IsSign v → HasOneMore s t row column v → IsUnsignedOne a s row column → (n : ℕ) → column < n
+    → unsigned_before a t row n < unsigned_before a s row n
 fewer_unsigned a s t row column v u more here zero l = absurd (omega arith)
 fewer_unsigned a s t row column v u more here (suc n) l = elim (cases_lt column n) [
   | inl lt ↦ let k = fewer_unsigned a s t row column v u more here n lt in
@@ -47,8 +48,10 @@ module _ (a s : Matrix) (is : IsMatrix a) (row column : ℕ) (v : ℤ) (u : IsSi
     later = λ i j l. more.other i j (inl (omega arith)) ∙ turn.later i j l;
   }
 
-  pub state_more : (steps : List SignStep) (step : SignStep) (kept : KeptSteps) → LeadTo (IsNextSign a) (unsigned a) steps s → IsNextSign a s step v → signed_by s step v ≡ with_entry s row column v → HasKept (steps ++ step ∷ []) kept
-      → (after : Matrix) → after ≡ with_entry s row column v → (signed more_signed : SignedColumns) → KnowsSigned a s row signed → more_signed.columns.items ≡ signed.columns.items ++ column ∷ [] → more_signed.passed.items ≡ signed.passed.items
+  pub state_more : (steps : List SignStep) (step : SignStep) (kept : KeptSteps) → LeadTo (IsNextSign a) (unsigned a) steps s → IsNextSign a s step v
+      → signed_by s step v ≡ with_entry s row column v → HasKept (steps ++ step ∷ []) kept
+      → (after : Matrix) → after ≡ with_entry s row column v → (signed more_signed : SignedColumns) → KnowsSigned a s row signed
+      → more_signed.columns.items ≡ signed.columns.items ++ column ∷ [] → more_signed.passed.items ≡ signed.passed.items
       → IsAtRow a row (record { signs = after; steps = kept; signed = more_signed })
   state_more steps step kept lead next e f after g signed more_signed known h k = record {
     signs = subst (AreSigns a) (sym g) (signs_more a s is.rectangular signs row column v here.one u);
@@ -62,7 +65,8 @@ module _ (a s : Matrix) (is : IsMatrix a) (row column : ℕ) (v : ℤ) (u : IsSi
   pub fewer_more : (after : Matrix) → after ≡ with_entry s row column v → unsigned_before a after row a.width < unsigned_before a s row a.width
   fewer_more after g = subst (λ x. unsigned_before a x row a.width < unsigned_before a s row a.width) (sym g) (fewer_unsigned a s (with_entry s row column v) row column v u more here a.width (column_in a row column is.rectangular here.one))
 
-pub start_state : (a : Matrix) (signing : Signing) → signing.signs ≡ unsigned a → HasKept [] signing.steps → length signing.signed.passed.items ≡ a.width → signing.signed.columns.items ≡ [] → ((d : ℕ) → get_or signing.signed.passed.items d 0 ≡ 0) → IsAtRow a 0 signing
+pub start_state : (a : Matrix) (signing : Signing) → signing.signs ≡ unsigned a → HasKept [] signing.steps → length signing.signed.passed.items ≡ a.width
+    → signing.signed.columns.items ≡ [] → ((d : ℕ) → get_or signing.signed.passed.items d 0 ≡ 0) → IsAtRow a 0 signing
 start_state a signing e f long none passed = record {
   signs = subst (AreSigns a) (sym e) (unsigned_signs a);
   turn = record { earlier = λ i j l. absurd (omega arith); later = λ i j l. subst (λ x. entry x i j ≡ pos 0) (sym e) (entry-unsigned a i j) };
@@ -91,7 +95,8 @@ pub earlier_same : (s after : Matrix) (row column : ℕ) (v : ℤ) → after ≡
 earlier_same s after row column v e i j l = ap (λ (m : Matrix). entry m i j) e ∙ entry-with_entry_other_row s row column v i j (λ q. omega arith)
 
 -- all ones of the row are signed
-pub row_ended : (a : Matrix) (row : ℕ) (signing : Signing) (begun : SignedColumns) → IsAtRow a row signing → ((d : ℕ) → ¬ (IsUnsignedOne a signing.signs row d)) → begun.columns.items ≡ [] → length begun.passed.items ≡ length signing.signed.passed.items → ((d : ℕ) → get_or begun.passed.items d 0 ≡ 0)
+pub row_ended : (a : Matrix) (row : ℕ) (signing : Signing) (begun : SignedColumns) → IsAtRow a row signing → ((d : ℕ) → ¬ (IsUnsignedOne a signing.signs row d))
+    → begun.columns.items ≡ [] → length begun.passed.items ≡ length signing.signed.passed.items → ((d : ℕ) → get_or begun.passed.items d 0 ≡ 0)
     → IsAtRow a (row + 1) (record { signs = signing.signs; steps = signing.steps; signed = begun })
 row_ended a row signing begun state all none long passed = record {
   signs = state.signs;

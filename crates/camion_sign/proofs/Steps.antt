@@ -37,7 +37,8 @@ pub row_one : (m rows : Matrix) (r x : ℕ) → rows ≡ m → support rows r x 
 row_one m rows r x same one = nonzero_is (entry m r x) (sym (ap (λ (a : Matrix). support a r x) same) ∙ one)
 
 -- what holds for the nonzeros before `from` and for the next one holds for all nonzeros up to the next one
-pub column_after : (m rows : Matrix) (row from column : ℕ) (P : ℕ → Type 0) → rows ≡ m → ((x : ℕ) → from ≤ x → x < column → support rows row x ≡ false) → ((x : ℕ) → x < from → entry m row x ≢ pos 0 → P x) → P column
+pub column_after : (m rows : Matrix) (row from column : ℕ) (P : ℕ → Type 0) → rows ≡ m → ((x : ℕ) → from ≤ x → x < column → support rows row x ≡ false)
+    → ((x : ℕ) → x < from → entry m row x ≢ pos 0 → P x) → P column
     → (x : ℕ) → x < column + 1 → entry m row x ≢ pos 0 → P x
 column_after m rows row from column P same zeros before here x l one = elim (cases_lt x from) [
   | inl low ↦ before x low one
@@ -106,7 +107,8 @@ grows_same walk = record { longer = omega arith; steps = λ j l. refl; places = 
 
 -- ---- the columns of a row
 
-pub start_row : (m values : Matrix) (t c h r : ℕ) (from : ReachedColumn) (walk : Walk) → IsWalking m values t c h r walk → IsOpen m t h walk → from ≡ get_or walk.steps.items h from → IsReaching m values t c h r 0 from walk walk
+pub start_row : (m values : Matrix) (t c h r : ℕ) (from : ReachedColumn) (walk : Walk) → IsWalking m values t c h r walk → IsOpen m t h walk
+    → from ≡ get_or walk.steps.items h from → IsReaching m values t c h r 0 from walk walk
 start_row m values t c h r from walk w o e = record {
   fits = w.fits;
   in_step = w.in_step;
@@ -122,11 +124,14 @@ start_row m values t c h r from walk w o e = record {
 
 module _ (m values : Matrix) (t c h r low : ℕ) (from : ReachedColumn) (old walk : Walk) (w : IsReaching m values t c h r low from old walk) where
   -- a column that the walk has reached before is met
-  passed : (x : ℕ) → low ≤ x → place_in walk.places.items x < 4294967295 → IsMet (entry m) (entry values) t c m.width (progress walk.steps.items walk.places.items walk.used.words) w.key x (w.key h ++ r ∷ x ∷ [])
+  passed : (x : ℕ) → low ≤ x → place_in walk.places.items x < 4294967295
+      → IsMet (entry m) (entry values) t c m.width (progress walk.steps.items walk.places.items walk.used.words) w.key x (w.key h ++ r ∷ x ∷ [])
   passed x after met = met_before (entry m) (entry values) t c m.width (progress walk.steps.items walk.places.items walk.used.words) w.key h r x (λ s y. (r < s) ⊎ ((r ≡ s) × (low ≤ y))) w.prefix w.within met (inr (refl, after))
 
   -- the walk has reached the columns of the row below `high` before
-  pub pass_columns : (high : ℕ) → low ≤ high → ((x : ℕ) → low ≤ x → x < high → entry m r x ≢ pos 0 → IsWanted (entry m) t c x → place_in walk.places.items x < 4294967295) → IsReaching m values t c h r high from old walk
+  pub pass_columns : (high : ℕ) → low ≤ high
+      → ((x : ℕ) → low ≤ x → x < high → entry m r x ≢ pos 0 → IsWanted (entry m) t c x → place_in walk.places.items x < 4294967295)
+      → IsReaching m values t c h r high from old walk
   pass_columns high up there = record {
     fits = w.fits;
     in_step = w.in_step;
@@ -144,7 +149,9 @@ module _ (m values : Matrix) (t c h r low : ℕ) (from : ReachedColumn) (old wal
   }
 
   -- all columns of the row are met, if those from `low` on are reached
-  pub met_all : ((x : ℕ) → low ≤ x → entry m r x ≢ pos 0 → IsWanted (entry m) t c x → place_in walk.places.items x < 4294967295) → (x : ℕ) → entry m r x ≢ pos 0 → IsWanted (entry m) t c x → IsMet (entry m) (entry values) t c m.width (progress walk.steps.items walk.places.items walk.used.words) w.key x (w.key h ++ r ∷ x ∷ [])
+  pub met_all : ((x : ℕ) → low ≤ x → entry m r x ≢ pos 0 → IsWanted (entry m) t c x → place_in walk.places.items x < 4294967295) → (x : ℕ) → entry m r x ≢ pos 0
+      → IsWanted (entry m) t c x
+      → IsMet (entry m) (entry values) t c m.width (progress walk.steps.items walk.places.items walk.used.words) w.key x (w.key h ++ r ∷ x ∷ [])
   met_all rest x n z = elim (cases_lt x low) [
     | inl before ↦ w.met x before n z
     | inr after ↦ passed x after (rest x after n z)
@@ -153,7 +160,8 @@ module _ (m values : Matrix) (t c h r low : ℕ) (from : ReachedColumn) (old wal
 -- the walk reaches a column of the row now
 module _ (m values : Matrix) (t c h r x : ℕ) (from : ReachedColumn) (old walk : Walk) (w : IsReaching m values t c h r x from old walk) where
   pub reach_column : (walk2 : Walk) (same : Bool) → x < m.width → entry m r x ≢ pos 0 → place_in walk.places.items x ≡ 4294967295
-      → Goes (entry m) (entry values) t c m.width (progress walk.steps.items walk.places.items walk.used.words) w.key h → r < t → entry m r from.column ≢ pos 0 → TwoIf same (entry values r from.column +ℤ entry values r x)
+      → Goes (entry m) (entry values) t c m.width (progress walk.steps.items walk.places.items walk.used.words) w.key h → r < t → entry m r from.column ≢ pos 0
+      → TwoIf same (entry values r from.column +ℤ entry values r x)
       → walk2.steps.items ≡ walk.steps.items ++ record { column = x; row = r; before = h; is_two = flip from.is_two same } ∷ []
       → walk2.places.items ≡ set walk.places.items x (length walk.steps.items) → walk2.used ≡ walk.used
       → walk2.reached.size ≡ walk.reached.size → AreInStep m t c walk2.places.items walk2.reached
@@ -241,7 +249,8 @@ module _ (m values : Matrix) (t c h r x : ℕ) (from : ReachedColumn) (old walk 
       ]
 
 -- the walk has reached all columns of the row: the row is taken
-pub end_row : (m values : Matrix) (t c h r low : ℕ) (from : ReachedColumn) (old walk walk2 : Walk) → IsReaching m values t c h r low from old walk → ((x : ℕ) → low ≤ x → entry m r x ≢ pos 0 → IsWanted (entry m) t c x → place_in walk.places.items x < 4294967295)
+pub end_row : (m values : Matrix) (t c h r low : ℕ) (from : ReachedColumn) (old walk walk2 : Walk) → IsReaching m values t c h r low from old walk
+    → ((x : ℕ) → low ≤ x → entry m r x ≢ pos 0 → IsWanted (entry m) t c x → place_in walk.places.items x < 4294967295)
     → walk2.steps.items ≡ walk.steps.items → walk2.places.items ≡ walk.places.items → HasOneMore walk.used r walk2.used → walk2.reached ≡ walk.reached → IsWalking m values t c h (r + 1) walk2
 end_row m values t c h r low from old walk walk2 w rest steps2 places2 used2 reached2 = record {
   fits = record {
@@ -280,13 +289,15 @@ end_row m values t c h r low from old walk walk2 w rest steps2 places2 used2 rea
   });
 }
 
-pub same_goes : (m values : Matrix) (t c h r low : ℕ) (from : ReachedColumn) (old walk : Walk) (w : IsReaching m values t c h r low from old walk) → IsOpen m t h old → Goes (entry m) (entry values) t c m.width (progress walk.steps.items walk.places.items walk.used.words) w.key h
+pub same_goes : (m values : Matrix) (t c h r low : ℕ) (from : ReachedColumn) (old walk : Walk) (w : IsReaching m values t c h r low from old walk)
+    → IsOpen m t h old → Goes (entry m) (entry values) t c m.width (progress walk.steps.items walk.places.items walk.used.words) w.key h
 same_goes m values t c h r low from old walk w o = elim o.goes [ inl z ↦ inl z | inr z ↦ inr (ap (λ (v : ReachedColumn). entry m t v.column) (w.grows.steps h o.within) ∙ z) ]
 
 -- ---- the columns of a word
 
 -- what a walk reaches from itself on
-pub reach_self : (m values : Matrix) (t c h r low : ℕ) (from : ReachedColumn) (old walk : Walk) → IsReaching m values t c h r low from old walk → IsReaching m values t c h r low (step_at walk.steps.items h) walk walk
+pub reach_self : (m values : Matrix) (t c h r low : ℕ) (from : ReachedColumn) (old walk : Walk) → IsReaching m values t c h r low from old walk
+    → IsReaching m values t c h r low (step_at walk.steps.items h) walk walk
 reach_self m values t c h r low from old walk w = record {
   fits = w.fits;
   in_step = w.in_step;
@@ -299,7 +310,8 @@ reach_self m values t c h r low from old walk w = record {
   met = w.met;
 }
 
-pub reach_more : (m values : Matrix) (t c h r low high : ℕ) (from : ReachedColumn) (old walk walk2 : Walk) → IsReaching m values t c h r low from old walk → IsReaching m values t c h r high (step_at walk.steps.items h) walk walk2 → IsReaching m values t c h r high from old walk2
+pub reach_more : (m values : Matrix) (t c h r low high : ℕ) (from : ReachedColumn) (old walk walk2 : Walk) → IsReaching m values t c h r low from old walk
+    → IsReaching m values t c h r high (step_at walk.steps.items h) walk walk2 → IsReaching m values t c h r high from old walk2
 reach_more m values t c h r low high from old walk walk2 w v = record {
   fits = v.fits;
   in_step = v.in_step;
@@ -316,7 +328,8 @@ reach_more m values t c h r low high from old walk walk2 w v = record {
   met = v.met;
 }
 
-pub start_chunk : (m values : Matrix) (t c h r chunk rest : ℕ) (from : ReachedColumn) (old walk : Walk) (columns : List ℕ) → IsReaching m values t c h r (64 * chunk) from old walk → ((x : ℕ) → has_column columns x ≡ support m r x)
+pub start_chunk : (m values : Matrix) (t c h r chunk rest : ℕ) (from : ReachedColumn) (old walk : Walk) (columns : List ℕ)
+    → IsReaching m values t c h r (64 * chunk) from old walk → ((x : ℕ) → has_column columns x ≡ support m r x)
     → ((k : ℕ) → k < 64 → has_bit rest k ≡ (has_bit (get_or columns chunk 0) k && not (has_bit (get_or walk.reached.words chunk 0) k))) → IsReachingChunk m values t c h r chunk rest from old walk
 start_chunk m values t c h r chunk rest from old walk columns w are bits = record {
   low = 64 * chunk;
@@ -340,8 +353,10 @@ module _ (m values : Matrix) (t c h r chunk rest : ℕ) (from : ReachedColumn) (
       (subst (λ (y : ℕ). entry m r y ≢ pos 0) (sym at) n) (subst (IsWanted (entry m) t c) (sym at) z)))
 
   -- the walk has reached the column of the bit
-  pub next_bit : (bit rest2 place : ℕ) (walk2 : Walk) → bit < 64 → IsReaching m values t c h r (64 * chunk + bit + 1) from old walk2 → walk2.places.items ≡ set walk.places.items (64 * chunk + bit) place
-      → w.low ≤ 64 * chunk + bit → has_bit rest2 bit ≡ false → ((k : ℕ) → k < bit → has_bit rest k ≡ false) → ((k : ℕ) → k < 64 → k ≢ bit → has_bit rest2 k ≡ has_bit rest k) → IsReachingChunk m values t c h r chunk rest2 from old walk2
+  pub next_bit : (bit rest2 place : ℕ) (walk2 : Walk) → bit < 64 → IsReaching m values t c h r (64 * chunk + bit + 1) from old walk2
+      → walk2.places.items ≡ set walk.places.items (64 * chunk + bit) place
+      → w.low ≤ 64 * chunk + bit → has_bit rest2 bit ≡ false → ((k : ℕ) → k < bit → has_bit rest k ≡ false)
+      → ((k : ℕ) → k < 64 → k ≢ bit → has_bit rest2 k ≡ has_bit rest k) → IsReachingChunk m values t c h r chunk rest2 from old walk2
   next_bit bit rest2 place walk2 small state places2 low gone none same = record {
     low = 64 * chunk + bit + 1;
     up = omega arith;
@@ -362,7 +377,8 @@ module _ (m values : Matrix) (t c h r chunk rest : ℕ) (from : ReachedColumn) (
 
 -- ---- the rows of a column
 
-pub start_rows : (m values : Matrix) (t c h pending : ℕ) (walk : Walk) → IsWalking m values t c h 0 walk → IsOpen m t h walk → pending ≤ m.width → NoneWaits m t c pending walk.places.items → IsSpreading m values t c h 0 pending walk walk
+pub start_rows : (m values : Matrix) (t c h pending : ℕ) (walk : Walk) → IsWalking m values t c h 0 walk → IsOpen m t h walk → pending ≤ m.width
+    → NoneWaits m t c pending walk.places.items → IsSpreading m values t c h 0 pending walk walk
 start_rows m values t c h pending walk w o l waits = record {
   walking = w;
   low_in = omega arith;
@@ -451,7 +467,8 @@ pub untouched : (m columns : Matrix) (t x : ℕ) → IsMatrix m → columns ≡ 
 untouched m columns t x is same zeros r early meets = meets (column_zero m columns r x is same (zeros r early))
 
 -- a column that does not wait is not met by an earlier row
-pub waits_or : (m : Matrix) (t c from end : ℕ) (places columns : List ℕ) (reached : Bits) → AreInStep m t c places reached → AreWaiting m t (c + 1) (has_column columns) → ((d : ℕ) → from ≤ d → d < end → has_column columns d ≡ true → has_column reached.words d ≡ true)
+pub waits_or : (m : Matrix) (t c from end : ℕ) (places columns : List ℕ) (reached : Bits) → AreInStep m t c places reached
+    → AreWaiting m t (c + 1) (has_column columns) → ((d : ℕ) → from ≤ d → d < end → has_column columns d ≡ true → has_column reached.words d ≡ true)
     → (d : ℕ) → c < d → from ≤ d → d < end → entry m t d ≢ pos 0 → (place_in places d ≢ 4294967295) ⊎ IsUntouched m t d
 waits_or m t c from end places columns reached step waiting met d order up below n = elim (two_cases (has_column columns d)) [
   | inl has ↦ inl (λ e. let l = step.has d (inr order) (met d up below has) in omega arith)
@@ -461,7 +478,8 @@ waits_or m t c from end places columns reached step waiting met d order up below
 -- ---- the whole walk
 
 -- the first columns do not wait
-pub pass_first : (m values : Matrix) (t c pending : ℕ) (walk : Walk) (columns : List ℕ) → IsGoing m values t c 0 (c + 1) walk → AreInStep m t c walk.places.items walk.reached → AreWaiting m t (c + 1) (has_column columns) → c + 1 ≤ pending → pending ≤ m.width
+pub pass_first : (m values : Matrix) (t c pending : ℕ) (walk : Walk) (columns : List ℕ) → IsGoing m values t c 0 (c + 1) walk
+    → AreInStep m t c walk.places.items walk.reached → AreWaiting m t (c + 1) (has_column columns) → c + 1 ≤ pending → pending ≤ m.width
     → ((d : ℕ) → c + 1 ≤ d → d < pending → has_column columns d ≡ true → has_column walk.reached.words d ≡ true) → IsGoing m values t c 0 pending walk
 pass_first m values t c pending walk columns g step waiting up inside met = record {
   state = elim g.state [ inl w ↦ inl w | inr s ↦ inr (let e = s.0 in omega arith, s.1) ];
@@ -504,7 +522,8 @@ smaller m values t c h pending walk g l k =
     let f = few (entry m) (entry values) t c m.width (progress walk.steps.items walk.places.items walk.used.words) w.key w.prefix.queue in omega arith
 
 -- a trail cannot go on through a column in which row t is not 0
-pub skip_place : (m values : Matrix) (t c h pending pending2 : ℕ) (walk walk2 : Walk) (step : ReachedColumn) → IsGoing m values t c h pending walk → pending < m.width → h < length walk.steps.items → h ≢ 0 → step ≡ get_or walk.steps.items h step → entry m t step.column ≢ pos 0
+pub skip_place : (m values : Matrix) (t c h pending pending2 : ℕ) (walk walk2 : Walk) (step : ReachedColumn) → IsGoing m values t c h pending walk
+    → pending < m.width → h < length walk.steps.items → h ≢ 0 → step ≡ get_or walk.steps.items h step → entry m t step.column ≢ pos 0
     → walk2 ≡ walk → pending2 ≡ pending → IsGoing m values t c (h + 1) pending2 walk2
 skip_place m values t c h pending pending2 walk walk2 step g l k other step_is' n e f =
     subst (λ (v : Walk). IsGoing m values t c (h + 1) pending2 v) (sym e) (subst (λ (v : ℕ). IsGoing m values t c (h + 1) v walk) (sym f) (record {
@@ -522,7 +541,9 @@ skip_place m values t c h pending pending2 walk walk2 step g l k other step_is' 
     w : IsWalking m values t c h 0 walk
     w = is_walking m values t c h pending walk g l
 
-pub went_on : (m values : Matrix) (t c h pending pending2 : ℕ) (walk walk2 : Walk) → IsWalking m values t c (h + 1) 0 walk ⊎ ((pending ≡ m.width) × HasSettled m values t c walk) → pending ≤ m.width → NoneWaits m t c pending walk.places.items → walk2 ≡ walk → pending2 ≡ pending → IsGoing m values t c (h + 1) pending2 walk2
+pub went_on : (m values : Matrix) (t c h pending pending2 : ℕ) (walk walk2 : Walk)
+    → IsWalking m values t c (h + 1) 0 walk ⊎ ((pending ≡ m.width) × HasSettled m values t c walk) → pending ≤ m.width
+    → NoneWaits m t c pending walk.places.items → walk2 ≡ walk → pending2 ≡ pending → IsGoing m values t c (h + 1) pending2 walk2
 went_on m values t c h pending pending2 walk walk2 state l waits e f =
     subst (λ (v : Walk). IsGoing m values t c (h + 1) pending2 v) (sym e) (subst (λ (v : ℕ). IsGoing m values t c (h + 1) v walk) (sym f) (record { state = state; pending_in = l; waits = waits }))
 
@@ -531,7 +552,8 @@ path_touches m t c d [] h = absurd h
 path_touches m t c d (r ∷ []) h = (r, h.0, h.2)
 path_touches m t c d (r ∷ j ∷ lines) h = path_touches m t j d lines h.4
 
-pub end_walk : (m values : Matrix) (t c h pending : ℕ) (walk : Walk) → IsGoing m values t c h pending walk → t < height m → (length walk.steps.items ≤ h) ⊎ (m.width ≤ pending) → HasWalked m values t c walk
+pub end_walk : (m values : Matrix) (t c h pending : ℕ) (walk : Walk) → IsGoing m values t c h pending walk → t < height m
+    → (length walk.steps.items ≤ h) ⊎ (m.width ≤ pending) → HasWalked m values t c walk
 end_walk m values t c h pending walk g tall end = elim g.state [
   | inl w ↦ elim (cases_lt h (length walk.steps.items)) [
     | inl lt ↦ from_settled w.fits w.key w.prefix.queue
@@ -542,7 +564,10 @@ end_walk m values t c h pending walk g tall end = elim g.state [
   | inr s ↦ from_settled s.1.fits s.1.key s.1.queue s.1.settled (let e = s.0 in omega arith)
 ]
   where
-    from_settled : HasPlacesAndMarks m walk → (key : ℕ → List ℕ) → IsQueue (entry m) (entry values) t c m.width (progress walk.steps.items walk.places.items walk.used.words) key → IsSettled (entry m) (entry values) t c m.width (progress walk.steps.items walk.places.items walk.used.words) key → m.width ≤ pending → HasWalked m values t c walk
+    from_settled : HasPlacesAndMarks m walk → (key : ℕ → List ℕ)
+        → IsQueue (entry m) (entry values) t c m.width (progress walk.steps.items walk.places.items walk.used.words) key
+        → IsSettled (entry m) (entry values) t c m.width (progress walk.steps.items walk.places.items walk.used.words) key → m.width ≤ pending
+        → HasWalked m values t c walk
     from_settled fits key queue settled wide = record {
       fits = fits;
       key = key;

@@ -90,7 +90,8 @@ module _ (M : ℕ → ℕ → ℤ) (t : ℕ) where
   goes_is x [] d g = g
   goes_is x (r ∷ lines) d g = g
 
-  pub trail_more : (c : ℕ) (lines : List ℕ) (r x : ℕ) → IsTrail M t c lines → (lines ≡ []) ⊎ (M t (trail_end c lines) ≡ pos 0) → r < t → M r (trail_end c lines) ≢ pos 0 → M r x ≢ pos 0 → IsTrail M t c (lines ++ r ∷ x ∷ [])
+  pub trail_more : (c : ℕ) (lines : List ℕ) (r x : ℕ) → IsTrail M t c lines → (lines ≡ []) ⊎ (M t (trail_end c lines) ≡ pos 0) → r < t
+      → M r (trail_end c lines) ≢ pos 0 → M r x ≢ pos 0 → IsTrail M t c (lines ++ r ∷ x ∷ [])
   trail_more c [] r x h g l a b = (l, a, b, tt, tt)
   trail_more c (s ∷ []) r x h g l a b = absurd h
   trail_more c (s ∷ y ∷ lines) r x (k, d, e, o, more) (inl q) l a b = absurd (let n = ap length q in omega arith)

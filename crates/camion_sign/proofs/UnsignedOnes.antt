@@ -43,7 +43,8 @@ pub none_until : (a s : Matrix) (row from column : ℕ) → ((d : ℕ) → d < f
 none_until a s row from column before next d below one = elim (cases_lt d from) [ inl early ↦ before d early one | inr late ↦ absurd (next.least d late below one) ]
 
 -- the first one without sign that is forced
-pub forced_next : (a s : Matrix) (row column : ℕ) (forced : ForcedOne) → IsUnsignedOne a s row column → ((d : ℕ) → d < column → IsUnsignedOne a s row d → (c : ℕ) → ¬ (IsForcedBy a s row d c)) → IsForcedAt a s row column forced → IsForcedNext a s row forced
+pub forced_next : (a s : Matrix) (row column : ℕ) (forced : ForcedOne) → IsUnsignedOne a s row column
+    → ((d : ℕ) → d < column → IsUnsignedOne a s row d → (c : ℕ) → ¬ (IsForcedBy a s row d c)) → IsForcedAt a s row column forced → IsForcedNext a s row forced
 forced_next a s row column forced here before at =
     subst (λ (x : ℕ). IsForcedColumn a s row x × IsPartner a s row x forced.partner × ShowsPlaceOf a s row forced.partner x forced.mark → IsForcedNext a s row forced) at.column_is
     (λ all. record { column = all.0; partner = all.1; mark = all.2 }) (record { here = here; least = before }, at.partner, at.mark)

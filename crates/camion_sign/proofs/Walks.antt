@@ -75,7 +75,8 @@ module _ (M V : ℕ → ℕ → ℤ) (t c n : ℕ) where
     met_before h r x P w l met p = (met, inl (w.prefix (s.place x) r x (w.queue.listed x met).0 l p))
 
     -- position h is done: the walk has taken all rows before t that meet its column
-    pub next : (h r0 x0 : ℕ) (P Q : ℕ → ℕ → Type 0) → IsPrefix M V t c n s key h P → h < s.count → P r0 x0 → ((r : ℕ) → Goes M V t c n s key h → r < t → M r (s.column h) ≢ pos 0 → s.used r ≡ true) → IsPrefix M V t c n s key (suc h) Q
+    pub next : (h r0 x0 : ℕ) (P Q : ℕ → ℕ → Type 0) → IsPrefix M V t c n s key h P → h < s.count → P r0 x0
+        → ((r : ℕ) → Goes M V t c n s key h → r < t → M r (s.column h) ≢ pos 0 → s.used r ≡ true) → IsPrefix M V t c n s key (suc h) Q
     next h r0 x0 P Q w l p all = record {
       queue = w.queue;
       fits = omega arith;
@@ -116,7 +117,9 @@ module _ (M V : ℕ → ℕ → ℤ) (t c n : ℕ) where
         at_start : s.place c ≡ 0
         at_start = ap s.place (sym w.first) ∙ w.placed 0 w.some
 
-        go : (lines ≡ []) ⊎ HasLast M t c lines → ((prefix : List ℕ) → length prefix < size → IsTrail M t c prefix → (prefix ≡ []) ⊎ IsWanted M t c (trail_end c prefix) → IsMet M V t c n s key (trail_end c prefix) prefix ⊎ Late prefix) → IsMet M V t c n s key (trail_end c lines) lines ⊎ Late lines
+        go : (lines ≡ []) ⊎ HasLast M t c lines
+            → ((prefix : List ℕ) → length prefix < size → IsTrail M t c prefix → (prefix ≡ []) ⊎ IsWanted M t c (trail_end c prefix) → IsMet M V t c n s key (trail_end c prefix) prefix ⊎ Late prefix)
+            → IsMet M V t c n s key (trail_end c lines) lines ⊎ Late lines
         go (inl e) k = subst (λ (v : List ℕ). IsMet M V t c n s key (trail_end c v) v ⊎ Late v) (sym e) (inl (let a = at_start in omega arith, inr (ap key at_start ∙ w.start)))
         go (inr p) k = subst (λ (v : List ℕ). IsMet M V t c n s key (trail_end c v) v ⊎ Late v) (sym p.lines_are)
             (subst (λ (x : ℕ). IsMet M V t c n s key x (p.prefix ++ p.row ∷ p.column ∷ []) ⊎ Late (p.prefix ++ p.row ∷ p.column ∷ [])) (sym (end_more M t c p.prefix p.row p.column p.trail))
@@ -139,7 +142,8 @@ module _ (M V : ℕ → ℕ → ℤ) (t c n : ℕ) where
                 p.early (subst (λ (y : ℕ). M p.row y ≢ pos 0) (sym v.1) p.from) p.to needed met.1
 
     -- if everything is settled, the trails to the columns that are met are least
-    pub least : IsQueue M V t c n s key → IsSettled M V t c n s key → (d : ℕ) (lines : List ℕ) → c < d → s.place d < 4294967295 → IsTrail M t c lines → trail_end c lines ≡ d → IsUpTo (key (s.place d)) lines
+    pub least : IsQueue M V t c n s key → IsSettled M V t c n s key → (d : ℕ) (lines : List ℕ) → c < d → s.place d < 4294967295 → IsTrail M t c lines
+        → trail_end c lines ≡ d → IsUpTo (key (s.place d)) lines
     least w settled d lines order met h e =
         elim (compare (λ (ls : List ℕ). (j : ℕ) → j < s.count → IsShortlexBefore (key j) ls) w (λ ls r x late j l. before_trans (key j) ls (ls ++ r ∷ x ∷ []) (late j l) (longer_before ls r x)) settled (suc (length lines)) lines (omega arith) h (inr (inr (omega (arith, order, e))))) [
           | inl v ↦ subst (λ (y : ℕ). IsUpTo (key (s.place y)) lines) e v.1
@@ -159,7 +163,8 @@ module _ (M V : ℕ → ℕ → ℤ) (t c n : ℕ) where
         inl (v.0, up_to_trans (key (s.place x)) (key i ++ r ∷ x ∷ []) (lines ++ r ∷ x ∷ []) v.1 (up_to_more (key i) lines r x le))
 
   -- the walk begins
-  pub begin : (s : Progress) (P : ℕ → ℕ → Type 0) → c < n → s.count ≡ 1 → s.column 0 ≡ c → s.is_two 0 ≡ false → s.place c ≡ 0 → ((z : ℕ) → z ≢ c → s.place z ≡ 4294967295) → ((r : ℕ) → s.used r ≡ false) → IsPrefix M V t c n s (λ j. []) 0 P
+  pub begin : (s : Progress) (P : ℕ → ℕ → Type 0) → c < n → s.count ≡ 1 → s.column 0 ≡ c → s.is_two 0 ≡ false → s.place c ≡ 0
+      → ((z : ℕ) → z ≢ c → s.place z ≡ 4294967295) → ((r : ℕ) → s.used r ≡ false) → IsPrefix M V t c n s (λ j. []) 0 P
   begin s P inside one first even place places unused = record {
     queue = record {
       some = omega arith;

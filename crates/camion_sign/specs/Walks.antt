@@ -155,7 +155,8 @@ pub record IsReaching (m values : Matrix) (t c h r low : ℕ) (from : ReachedCol
   pub from_is : step_at walk.steps.items h ≡ from
   pub key : ℕ → List ℕ
   pub prefix : IsPrefix (entry m) (entry values) t c m.width (progress walk.steps.items walk.places.items walk.used.words) key h (λ s x. (r < s) ⊎ ((r ≡ s) × (low ≤ x)))
-  pub met : (x : ℕ) → x < low → entry m r x ≢ pos 0 → IsWanted (entry m) t c x → IsMet (entry m) (entry values) t c m.width (progress walk.steps.items walk.places.items walk.used.words) key x (key h ++ r ∷ x ∷ [])
+  pub met : (x : ℕ) → x < low → entry m r x ≢ pos 0 → IsWanted (entry m) t c x
+      → IsMet (entry m) (entry values) t c m.width (progress walk.steps.items walk.places.items walk.used.words) key x (key h ++ r ∷ x ∷ [])
 
 -- the same within the columns of a word, where `rest` has the needed columns that are not reached
 pub record IsReachingChunk (m values : Matrix) (t c h r chunk rest : ℕ) (from : ReachedColumn) (old walk : Walk) : Type 0 where
@@ -164,7 +165,8 @@ pub record IsReachingChunk (m values : Matrix) (t c h r chunk rest : ℕ) (from 
   pub inside : low ≤ 64 * chunk + 64
   pub state : IsReaching m values t c h r low from old walk
   pub open_bit : (k : ℕ) → k < 64 → has_bit rest k ≡ true → (low ≤ 64 * chunk + k) × (entry m r (64 * chunk + k) ≢ pos 0) × (place_in walk.places.items (64 * chunk + k) ≡ UNREACHED)
-  pub closed_bit : (k : ℕ) → k < 64 → has_bit rest k ≡ false → low ≤ 64 * chunk + k → entry m r (64 * chunk + k) ≢ pos 0 → IsWanted (entry m) t c (64 * chunk + k) → place_in walk.places.items (64 * chunk + k) < UNREACHED
+  pub closed_bit : (k : ℕ) → k < 64 → has_bit rest k ≡ false → low ≤ 64 * chunk + k → entry m r (64 * chunk + k) ≢ pos 0
+      → IsWanted (entry m) t c (64 * chunk + k) → place_in walk.places.items (64 * chunk + k) < UNREACHED
 
 -- no row before t meets the column
 abbrev pub IsUntouched : Matrix → ℕ → ℕ → Type 0

@@ -65,13 +65,15 @@ broken_before m prefix back refusal h = record {
   path_is = h.path_is;
 }
 
-pub answers_below : (m : Matrix) (path : List ℕ) (pivots : List MadePivot) (due : Due) (tree : Tree) (answer : Option Refusal) → KeepsAll m (place_of path pivots due tree) → AnswersOn m (nodes_below path pivots tree) answer
+pub answers_below : (m : Matrix) (path : List ℕ) (pivots : List MadePivot) (due : Due) (tree : Tree) (answer : Option Refusal)
+    → KeepsAll m (place_of path pivots due tree) → AnswersOn m (nodes_below path pivots tree) answer
     → AnswersOn m (places_from path pivots due tree) answer
 answers_below m path pivots due tree answer here h =
     subst (λ nodes. AnswersOn m nodes answer) (sym (opened path pivots due tree)) (answers_after m (place_of path pivots due tree ∷ []) (nodes_below path pivots tree) answer (here, tt) h)
 
 -- the children of a node satisfy `IsValidNode` if the node does
-pub children_valid : (m : Matrix) (lines : LineSet) (finding : Finding) (trees : Trees) → IsValidNode m (Branch lines finding trees) → (levels : ℕ) × AreLines m lines × AreTreesWithin lines levels trees
+pub children_valid : (m : Matrix) (lines : LineSet) (finding : Finding) (trees : Trees) → IsValidNode m (Branch lines finding trees)
+    → (levels : ℕ) × AreLines m lines × AreTreesWithin lines levels trees
 children_valid m lines finding trees (parent, levels, are, within) = (levels - 1, lines_within m lines parent within.1 are, within.4)
 
 pub first_valid : (m : Matrix) (lines : LineSet) (finding : Finding) (tree : Tree) (trees : Trees) → IsValidNode m (Branch lines finding (MoreTrees tree trees)) → IsValidNode m tree
@@ -100,7 +102,8 @@ last_rule rule.NotPivot = omega arith
 last_rule rule.BelowPivot = omega arith
 
 module _ (m : Matrix) (path : List ℕ) (pivots : List MadePivot) (due : Due) (tree : Tree) where
-  keeps_own : HasItsSizes m due → HasItsLines due (lines_at_root tree) → (broken : Rule) → (rule_number broken ≡ 16 → MayStand pivots (finding_of tree)) → Demands broken (matrix_after m pivots) (lines_at_root tree) (finding_of tree) (lines_of_each (trees_below tree))
+  keeps_own : HasItsSizes m due → HasItsLines due (lines_at_root tree) → (broken : Rule) → (rule_number broken ≡ 16 → MayStand pivots (finding_of tree))
+      → Demands broken (matrix_after m pivots) (lines_at_root tree) (finding_of tree) (lines_of_each (trees_below tree))
       → Keeps m (place_of path pivots due tree) broken
   keeps_own sizes has rule.Size may h = sizes
   keeps_own sizes has rule.Lines may h = has
@@ -172,7 +175,9 @@ module _ (here : Matrix) (below_pivot : Bool) (due : Due) (tree : Tree) (sizes :
 
   module _ (has : HasItsLines due (lines_at_root tree)) where
     -- demands on the current matrix are demands on the matrix after the pivots
-    after_demands : (m : Matrix) (pivots : List MadePivot) → IsAfter m pivots here below_pivot → (r : Rule) → Demands r here (lines_at_root tree) (finding_of tree) (lines_of_each (trees_below tree)) → Demands r (matrix_after m pivots) (lines_at_root tree) (finding_of tree) (lines_of_each (trees_below tree))
+    after_demands : (m : Matrix) (pivots : List MadePivot) → IsAfter m pivots here below_pivot → (r : Rule)
+        → Demands r here (lines_at_root tree) (finding_of tree) (lines_of_each (trees_below tree))
+        → Demands r (matrix_after m pivots) (lines_at_root tree) (finding_of tree) (lines_of_each (trees_below tree))
     after_demands m pivots after r h = subst (λ w. Demands r w (lines_at_root tree) (finding_of tree) (lines_of_each (trees_below tree))) (sym after.matrix) h
 
     -- if the lines are right, a broken rule on the finding is the first broken rule
@@ -187,18 +192,21 @@ module _ (here : Matrix) (below_pivot : Bool) (due : Due) (tree : Tree) (sizes :
     own_kept own may = λ m pivots path after broken. keeps_own m path pivots due tree (sizes m pivots after) has broken (λ e. may pivots after.pivoted) (after_demands m pivots after broken (own_demands here tree own broken))
 
     -- the same at a place at which the finding is allowed
-    pub own_rule_at : ((pivots : List MadePivot) → has_pivot pivots ≡ below_pivot → MayStand pivots (finding_of tree)) → (answer : Option Rule) → IsOwnRule here tree answer → IsRuleAt here below_pivot due tree answer
+    pub own_rule_at : ((pivots : List MadePivot) → has_pivot pivots ≡ below_pivot → MayStand pivots (finding_of tree)) → (answer : Option Rule)
+        → IsOwnRule here tree answer → IsRuleAt here below_pivot due tree answer
     own_rule_at may None own = own_kept own may
     own_rule_at may (Some broken) own = own_refused broken own
 
-    pub below_pivot_refused : IsOwnRule here tree None → ((pivots : List MadePivot) → has_pivot pivots ≡ below_pivot → ¬ (MayStand pivots (finding_of tree))) → IsRuleAt here below_pivot due tree (Some rule.BelowPivot)
+    pub below_pivot_refused : IsOwnRule here tree None → ((pivots : List MadePivot) → has_pivot pivots ≡ below_pivot → ¬ (MayStand pivots (finding_of tree)))
+        → IsRuleAt here below_pivot due tree (Some rule.BelowPivot)
     below_pivot_refused own may_not = λ m pivots path after. record {
       breaks = may_not pivots after.pivoted;
       keeps = λ earlier l. keeps_own m path pivots due tree (sizes m pivots after) has earlier (λ e. absurd (omega (arith, e, l))) (after_demands m pivots after earlier (own_demands here tree own earlier));
     }
 
     -- the test of findings below pivots decides
-    pub below_pivot_decides : (may : Bool) → ((pivots : List MadePivot) → has_pivot pivots ≡ below_pivot → IsTrue may ↔ MayStand pivots (finding_of tree)) → IsOwnRule here tree None → IsRuleAt here below_pivot due tree (unless may rule.BelowPivot)
+    pub below_pivot_decides : (may : Bool) → ((pivots : List MadePivot) → has_pivot pivots ≡ below_pivot → IsTrue may ↔ MayStand pivots (finding_of tree))
+        → IsOwnRule here tree None → IsRuleAt here below_pivot due tree (unless may rule.BelowPivot)
     below_pivot_decides true is own = own_kept own (λ pivots e. (is pivots e).0 refl)
     below_pivot_decides false is own = below_pivot_refused own (λ pivots e valid. true≢false (sym ((is pivots e).1 valid)))
 
@@ -244,7 +252,8 @@ pub root_matrix : (m : Matrix) (pivots : List MadePivot) (here : Matrix) → IsA
 root_matrix m [] here after = after.matrix
 root_matrix m (last ∷ pivots) here after = absurd (true≢false after.pivoted)
 
-pub root_sizes : (here : Matrix) (rows columns : ℕ) → rows ≡ height here → columns ≡ here.width → (m : Matrix) (pivots : List MadePivot) → IsAfter m pivots here false → HasItsSizes m (AllLines rows columns)
+pub root_sizes : (here : Matrix) (rows columns : ℕ) → rows ≡ height here → columns ≡ here.width → (m : Matrix) (pivots : List MadePivot)
+    → IsAfter m pivots here false → HasItsSizes m (AllLines rows columns)
 root_sizes here rows columns e f m pivots after = subst (λ w. HasItsSizes w (AllLines rows columns)) (sym (root_matrix m pivots here after)) (e, f)
 
 -- the root has no pivot above it

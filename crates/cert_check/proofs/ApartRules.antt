@@ -47,12 +47,14 @@ none_counted : (row column : ℕ) (children : List LineSet) → count_by (λ chi
 none_counted row column [] e = refl
 none_counted row column (child ∷ children) e = go (is_among child.rows row) refl e (λ f. none_counted row column children f)
   where
-    go : (b : Bool) → is_among child.rows row ≡ b → count_by (λ child. is_among child.rows row) (child ∷ children) ≡ 0 → (count_by (λ child. is_among child.rows row) children ≡ 0 → list_any (has_both row column) children ≡ false)
+    go : (b : Bool) → is_among child.rows row ≡ b → count_by (λ child. is_among child.rows row) (child ∷ children) ≡ 0
+        → (count_by (λ child. is_among child.rows row) children ≡ 0 → list_any (has_both row column) children ≡ false)
         → list_any (has_both row column) (child ∷ children) ≡ false
     go true f e rest = absurd (let g = count_yes (λ child. is_among child.rows row) child children f in omega (arith, e, g))
     go false f e rest = rw f (rest (sym (count_no (λ child. is_among child.rows row) child children f) ∙ e))
 
-pub beside_here : (all : List LineSet) (row : ℕ) (child : LineSet) (rest : List LineSet) → is_among child.rows row ≡ true → IsBeside all row (child ∷ rest) → (column : ℕ) → list_any (has_both row column) all ≡ is_among child.columns column
+pub beside_here : (all : List LineSet) (row : ℕ) (child : LineSet) (rest : List LineSet) → is_among child.rows row ≡ true → IsBeside all row (child ∷ rest)
+    → (column : ℕ) → list_any (has_both row column) all ≡ is_among child.columns column
 beside_here all row child rest f h column =
     let none = none_counted row column rest (let g = count_yes (λ child. is_among child.rows row) child rest f in let e = h.one in omega (arith, g, e)) in
     h.same column ∙ rw (f, none) (or_false (is_among child.columns column))
@@ -66,7 +68,8 @@ beside_later all row child rest f h = record {
 pub beside_none : (all : List LineSet) (row : ℕ) → IsBeside all row [] → ⊥
 beside_none all row h = let e = h.one in omega (arith, e)
 
-pub inside_test : (M : ℕ → ℕ → ℤ) (children : List LineSet) (row : ℕ) (inside columns : List ℕ) (b : Bool) → ((column : ℕ) → list_any (λ child. is_among child.rows row && is_among child.columns column) children ≡ is_among inside column)
+pub inside_test : (M : ℕ → ℕ → ℤ) (children : List LineSet) (row : ℕ) (inside columns : List ℕ) (b : Bool)
+    → ((column : ℕ) → list_any (λ child. is_among child.rows row && is_among child.columns column) children ≡ is_among inside column)
     → IsTrue b ↔ AllByRecursion (λ column. M row column ≢ pos 0 → is_among inside column ≡ true) columns
     → IsTrue b ↔ AllByRecursion (λ column. M row column ≢ pos 0 → list_any (λ child. is_among child.rows row && is_among child.columns column) children ≡ true) columns
 inside_test M children row inside columns b same h = (
@@ -99,7 +102,8 @@ nonzeros_from M lines children apart =
     (all_contain lines.rows)
 
 apart_test : (M : ℕ → ℕ → ℤ) (lines : LineSet) (nodes : List Node) (b : Bool) → 2 ≤ length nodes → AllByRecursion (λ child. 0 < size_of child) (line_sets nodes)
-    → AllByRecursion (λ row. count_by (λ child. is_among child.rows row) (line_sets nodes) ≡ 1) lines.rows → AllByRecursion (λ column. count_by (λ child. is_among child.columns column) (line_sets nodes) ≡ 1) lines.columns
+    → AllByRecursion (λ row. count_by (λ child. is_among child.rows row) (line_sets nodes) ≡ 1) lines.rows
+    → AllByRecursion (λ column. count_by (λ child. is_among child.columns column) (line_sets nodes) ≡ 1) lines.columns
     → IsTrue b ↔ HasNonzeros M (line_sets nodes) lines.rows lines.columns → IsTrue b ↔ AreApart M lines (line_sets nodes)
 apart_test M lines nodes b two filled rows columns h = (
   (λ t. record {
@@ -115,8 +119,10 @@ apart_test M lines nodes b two filled rows columns h = (
 )
 
 -- the same for lists that contain the lines
-pub apart_tested : (M : ℕ → ℕ → ℤ) (lines : LineSet) (rows columns : List ℕ) (nodes : List Node) (b : Bool) → rows ≡ lines.rows → columns ≡ lines.columns → 2 ≤ length nodes → AllByRecursion (λ child. 0 < size_of child) (line_sets nodes)
-    → AllByRecursion (λ row. count_by (λ child. is_among child.rows row) (line_sets nodes) ≡ 1) rows → AllByRecursion (λ column. count_by (λ child. is_among child.columns column) (line_sets nodes) ≡ 1) columns
+pub apart_tested : (M : ℕ → ℕ → ℤ) (lines : LineSet) (rows columns : List ℕ) (nodes : List Node) (b : Bool) → rows ≡ lines.rows → columns ≡ lines.columns
+    → 2 ≤ length nodes → AllByRecursion (λ child. 0 < size_of child) (line_sets nodes)
+    → AllByRecursion (λ row. count_by (λ child. is_among child.rows row) (line_sets nodes) ≡ 1) rows
+    → AllByRecursion (λ column. count_by (λ child. is_among child.columns column) (line_sets nodes) ≡ 1) columns
     → IsTrue b ↔ HasNonzeros M (line_sets nodes) rows columns → IsTrue b ↔ AreApart M lines (line_sets nodes)
 apart_tested M lines rows columns nodes b e f two filled by_rows by_columns h =
     apart_test M lines nodes b two filled (subst (AllByRecursion (λ row. count_by (λ child. is_among child.rows row) (line_sets nodes) ≡ 1)) e by_rows)
@@ -135,6 +141,7 @@ apart_decides m lines children false h = ((λ d. true≢false (sym (h.1 d))), be
     before rule.NotApart l = absurd (omega (arith, l))
     before _ l = tt
 
-pub apart_says : (m : Matrix) (lines : LineSet) (children : NodeList) (nodes : List Node) (b : Bool) → nodes ≡ nodes_in children → IsTrue b ↔ AreApart (entry m) lines (line_sets nodes) → IsFirstBrokenRule m lines OneSum (lines_of_each (trees_of children)) (unless b rule.NotApart)
+pub apart_says : (m : Matrix) (lines : LineSet) (children : NodeList) (nodes : List Node) (b : Bool) → nodes ≡ nodes_in children
+    → IsTrue b ↔ AreApart (entry m) lines (line_sets nodes) → IsFirstBrokenRule m lines OneSum (lines_of_each (trees_of children)) (unless b rule.NotApart)
 apart_says m lines children nodes b e h =
     apart_decides m lines (lines_of_each (trees_of children)) b (subst (λ each. IsTrue b ↔ AreApart (entry m) lines each) (ap line_sets e ∙ sym (children_lines children)) h)

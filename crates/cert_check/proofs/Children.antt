@@ -27,7 +27,9 @@ pub record AreLeft (here : Matrix) (below_pivot : Bool) (path : List ℕ) (tree 
   pub lines_are : AreLines here (lines_at_root tree)
   pub levels : ℕ
   pub within : AreTreesWithin (lines_at_root tree) levels (trees_from rest)
-  pub answers : (m : Matrix) (pivots : List MadePivot) → IsAfter m pivots here below_pivot → (answer : Option Refusal) → AnswersOn m (places_below path pivots (lines_at_root tree) (finding_of tree) number (trees_from rest)) answer → AnswersOn m (nodes_below path pivots tree) answer
+  pub answers : (m : Matrix) (pivots : List MadePivot) → IsAfter m pivots here below_pivot → (answer : Option Refusal)
+      → AnswersOn m (places_below path pivots (lines_at_root tree) (finding_of tree) number (trees_from rest)) answer
+      → AnswersOn m (nodes_below path pivots tree) answer
 
 -- no pivot is made between a node of another kind and its children
 abbrev pub IsNoPivot : Tree → Type 0

@@ -30,7 +30,8 @@ use Rattle.cert_check.proofs.Answering.{kind_is, pivoted_is, children_valid}
 use Rattle.cert_check.proofs.SumRules.{false_not}
 
 -- the finding of a node decides
-pub own_of : (m : Matrix) (node : Node) (k : Kind) (f : Finding) (trees : Trees) (answer : Option Rule) → node.kind ≡ k → said k ≡ (f, trees) → IsFirstBrokenRule m node.lines f (lines_of_each trees) answer → IsOwnRule m (tree_of node) answer
+pub own_of : (m : Matrix) (node : Node) (k : Kind) (f : Finding) (trees : Trees) (answer : Option Rule) → node.kind ≡ k → said k ≡ (f, trees)
+    → IsFirstBrokenRule m node.lines f (lines_of_each trees) answer → IsOwnRule m (tree_of node) answer
 own_of m node k f trees answer e h first = subst (λ tree. IsOwnRule m tree answer) (sym (kind_is node k f trees e h)) first
 
 branch_valid : (m : Matrix) (node : Node) (k : Kind) (f : Finding) (trees : Trees) → node.kind ≡ k → said k ≡ (f, trees) → IsValidNode m (tree_of node) → IsValidNode m (Branch node.lines f trees)
@@ -51,7 +52,8 @@ violator_lines m node fault e valid = go (branch_valid m node (kind.Violator fau
     go : IsValidNode m (Branch node.lines (Violator fault) NoTrees) → AreLines m fault
     go (parent, levels, are, within) = lines_within m fault node.lines within.2 (lines_within m node.lines parent within.1 are)
 
-pub two_lines : (m : Matrix) (node : Node) (two : Two) (one_child two_child : Box Node Global) → node.kind ≡ kind.TwoSum two one_child two_child → IsValidNode m (tree_of node) → Contains node.lines.rows two.row × Contains node.lines.columns two.column
+pub two_lines : (m : Matrix) (node : Node) (two : Two) (one_child two_child : Box Node Global) → node.kind ≡ kind.TwoSum two one_child two_child
+    → IsValidNode m (tree_of node) → Contains node.lines.rows two.row × Contains node.lines.columns two.column
 two_lines m node two one_child two_child e valid = go (branch_valid m node (kind.TwoSum two one_child two_child) (TwoSum two) (two_trees (tree_of one_child.value) (tree_of two_child.value)) e (said_two_sum two one_child two_child) valid)
   where
     go : IsValidNode m (Branch node.lines (TwoSum two) (two_trees (tree_of one_child.value) (tree_of two_child.value))) → Contains node.lines.rows two.row × Contains node.lines.columns two.column
@@ -61,10 +63,12 @@ pub three_lines : (m : Matrix) (node : Node) (t : Three) (one_child two_child : 
     → HasConnector (first_is_flat t.form) node.lines.rows node.lines.columns t.first × HasConnector (second_is_flat t.form) node.lines.rows node.lines.columns t.second
 three_lines m node t one_child two_child e valid = go (branch_valid m node (kind.ThreeSum t one_child two_child) (ThreeSum t) (two_trees (tree_of one_child.value) (tree_of two_child.value)) e (said_three_sum t one_child two_child) valid)
   where
-    go : IsValidNode m (Branch node.lines (ThreeSum t) (two_trees (tree_of one_child.value) (tree_of two_child.value))) → HasConnector (first_is_flat t.form) node.lines.rows node.lines.columns t.first × HasConnector (second_is_flat t.form) node.lines.rows node.lines.columns t.second
+    go : IsValidNode m (Branch node.lines (ThreeSum t) (two_trees (tree_of one_child.value) (tree_of two_child.value)))
+        → HasConnector (first_is_flat t.form) node.lines.rows node.lines.columns t.first × HasConnector (second_is_flat t.form) node.lines.rows node.lines.columns t.second
     go (parent, levels, are, within) = (within.2.1, within.2.2)
 
-pub pivot_lines : (m : Matrix) (node : Node) (place : Position) (child : Box Node Global) → node.kind ≡ kind.Pivoted place child → IsValidNode m (tree_of node) → Contains node.lines.rows place.row × Contains node.lines.columns place.column
+pub pivot_lines : (m : Matrix) (node : Node) (place : Position) (child : Box Node Global) → node.kind ≡ kind.Pivoted place child → IsValidNode m (tree_of node)
+    → Contains node.lines.rows place.row × Contains node.lines.columns place.column
 pivot_lines m node place child e valid = go (subst (IsValidNode m) (pivoted_is node place child e) valid)
   where
     go : IsValidNode m (Branch node.lines (Pivoted place) (one_tree (tree_of child.value))) → Contains node.lines.rows place.row × Contains node.lines.columns place.column
@@ -89,7 +93,8 @@ few_lines a b rows columns least e f g h = subst (λ n. min rows n ≤ 24) f (su
 pub part_sizes : (m : Matrix) (lines : LineSet) (whole : Matrix) → whole ≡ part m lines → min (height whole) whole.width ≡ min (length lines.rows) (length lines.columns)
 part_sizes m lines whole e = ap (λ p. min (height p) p.width) e ∙ ap (λ n. min n (length lines.columns)) (length-map lines.rows (λ row. map (entry m row) lines.columns))
 
-pub enumerated_says : (m : Matrix) (lines : LineSet) (whole : Matrix) (b : Bool) → whole ≡ part m lines → min (length lines.rows) (length lines.columns) ≤ 24 → IsTrue b ↔ HasNoViolator whole → Says m lines Enumerated (unless b rule.NotClean)
+pub enumerated_says : (m : Matrix) (lines : LineSet) (whole : Matrix) (b : Bool) → whole ≡ part m lines → min (length lines.rows) (length lines.columns) ≤ 24
+    → IsTrue b ↔ HasNoViolator whole → Says m lines Enumerated (unless b rule.NotClean)
 enumerated_says m lines whole b e few h = go b (subst (λ p. IsTrue b ↔ HasNoViolator p) e h)
   where
     go : (b : Bool) → IsTrue b ↔ HasNoViolator (part m lines) → Says m lines Enumerated (unless b rule.NotClean)
@@ -123,7 +128,8 @@ r10_says m lines whole b e is h = go b (subst IsR10 e is) (subst (λ p. IsTrue b
         before rule.CycleFault l = absurd (omega (arith, l))
         before _ l = tt
 
-pub pivot_says : (m : Matrix) (lines : LineSet) (place : Position) (yes : Bool) → entry m place.row place.column ≢ pos 0 → IsTrue yes ↔ IsTernaryPivot m lines place → Says m lines (Pivoted place) (unless yes rule.NotPivot)
+pub pivot_says : (m : Matrix) (lines : LineSet) (place : Position) (yes : Bool) → entry m place.row place.column ≢ pos 0
+    → IsTrue yes ↔ IsTernaryPivot m lines place → Says m lines (Pivoted place) (unless yes rule.NotPivot)
 pivot_says m lines place true nonzero h children = kept
   where
     kept : (broken : Rule) → Demands broken m lines (Pivoted place) children

@@ -70,7 +70,8 @@ blocks_are M s t upper lower made e f h = (
 
 -- the blocks of rank one of the forms delta, y and mixed
 pub made_blocks : (M : ℕ → ℕ → ℤ) (s : Sides) (t : Three) (made : Bool) → (t.form ≡ Delta) ⊎ ((t.form ≡ YForm) ⊎ (t.form ≡ Mixed))
-    → IsTrue made ↔ (AreEntries M s.rows_one s.columns_two (product_at M t.first.row t.second.column) × AreEntries M s.rows_two s.columns_one (product_at M t.second.row t.first.column)) → IsTrue made ↔ AreThreeBlocks M s t
+    → IsTrue made ↔ (AreEntries M s.rows_one s.columns_two (product_at M t.first.row t.second.column) × AreEntries M s.rows_two s.columns_one (product_at M t.second.row t.first.column))
+    → IsTrue made ↔ AreThreeBlocks M s t
 made_blocks M s t made form h =
     let upper = product_at M t.first.row t.second.column in
     let lower = product_at M t.second.row t.first.column in
@@ -161,7 +162,8 @@ three_says m lines t s fine e enough connectors sign blocks =
 
 -- ---- reductions
 
-pub fewer_lines : (m : Matrix) (lines fewer : LineSet) (line : Line) → AreLines m lines → fewer.rows ≡ rows_without lines.rows line → fewer.columns ≡ columns_without lines.columns line → AreLines m fewer
+pub fewer_lines : (m : Matrix) (lines fewer : LineSet) (line : Line) → AreLines m lines → fewer.rows ≡ rows_without lines.rows line
+    → fewer.columns ≡ columns_without lines.columns line → AreLines m fewer
 fewer_lines m lines fewer (Row row) are e f = record {
   rows = record { increasing = subst IsStrictlyIncreasing (sym e) (IsStrictlyIncreasing-filter (λ other. not (eqb other row)) lines.rows are.rows.increasing); in_range = subst (AllBelow (height m)) (sym e) (kept_lines (height m) (λ other. not (eqb other row)) lines.rows are.rows.in_range) };
   columns = record { increasing = subst IsStrictlyIncreasing (sym f) are.columns.increasing; in_range = subst (AllBelow m.width) (sym f) are.columns.in_range };
@@ -175,7 +177,8 @@ fewer_lines m lines fewer (Column column) are e f = record {
 }
 
 -- another step
-pub reduced_more : {step : Line} (M : ℕ → ℕ → ℤ) (left fewer : LineSet) (steps rest : List Line) (Whole : Type 0) → HasLine left.rows left.columns step × IsSome (line_reason false M left.rows left.columns step)
+pub reduced_more : {step : Line} (M : ℕ → ℕ → ℤ) (left fewer : LineSet) (steps rest : List Line) (Whole : Type 0)
+    → HasLine left.rows left.columns step × IsSome (line_reason false M left.rows left.columns step)
     → fewer.rows ≡ rows_without left.rows step → fewer.columns ≡ columns_without left.columns step → steps ≡ step ∷ rest
     → AreReductions M left.rows left.columns steps ↔ Whole → AreReductions M fewer.rows fewer.columns rest ↔ Whole
 reduced_more {step = step} M left fewer steps rest Whole here e f order whole = (

@@ -35,7 +35,8 @@ use Rattle.chains.specs.ChainTexts.{limited, line_in, increasing_line_in, word_i
 abbrev Ends : {A : Type 0} → (Text → Result A (Fault ChainKind)) → List (List ℕ) → A → Type 0
 Ends parse words x = (size : ℕ) (ws : List (ℕ × List ℕ)) → texts_of ws ≡ words → parse (record { size = size; words = ws }) ≡ Ok x
 
-end_then : {A B : Type 0} (p : Reader ChainKind A) (q : A → Text → Result B (Fault ChainKind)) (prefix back : List (List ℕ)) (a : A) (b : B) → Again p prefix a → Ends (q a) back b → Ends (λ t. p t >>= λ r. q r.0 r.1) (prefix ++ back) b
+end_then : {A B : Type 0} (p : Reader ChainKind A) (q : A → Text → Result B (Fault ChainKind)) (prefix back : List (List ℕ)) (a : A) (b : B) → Again p prefix a
+    → Ends (q a) back b → Ends (λ t. p t >>= λ r. q r.0 r.1) (prefix ++ back) b
 end_then {A} p q prefix back a b P Q size ws e =
     let s = split_texts ws prefix back e in
     ap (λ w. p (record { size = size; words = w }) >>= λ (r : A × Text). q r.0 r.1) s.words_are
@@ -66,7 +67,8 @@ again_line most before line few h above =
     (again_wrap (field Short (increasing_line_in most (last_number before))) (λ (number : ℕ). before ++ (number - 1) ∷ []) (number_of_line line ∷ []) (line + 1)
     (again_field Short (increasing_line_in most (last_number before)) (number_of_line line) (line + 1) (increasing_again most (last_number before) line few h above)))
 
-again_lines : (most : ℕ) (before lines : List ℕ) → most ≤ 1000 → IncreasesIn (last_number before) most lines → Again (times (another_line most) (length lines) before) (map number_of_line lines) (before ++ lines)
+again_lines : (most : ℕ) (before lines : List ℕ) → most ≤ 1000 → IncreasesIn (last_number before) most lines
+    → Again (times (another_line most) (length lines) before) (map number_of_line lines) (before ++ lines)
 again_lines most before [] few increases = subst (λ xs. Again {K = ChainKind} (λ text. Ok (before, text)) [] xs) (sym (append-nil before)) (again_done before)
 again_lines most before (line ∷ lines) few increases =
     let last : last_number (before ++ line ∷ []) ≡ line + 1 = fold_push (λ (before line : ℕ). line + 1) 0 before line in
@@ -225,7 +227,8 @@ step_solid height width (Free row column) few_rows few_columns inside increasing
 step_solid height width (Forced row column cycle) few_rows few_columns inside increasing =
     (forced_solid, (decimal_word (row + 1) (let h = inside.0 in omega (arith, h, few_rows)), (decimal_word (column + 1) (let h = inside.1 in omega (arith, h, few_columns)), line_set_solid height width cycle few_rows few_columns inside.2 increasing)))
 
-steps_solid : (height width : ℕ) (steps : List SignStep) → height ≤ 1000 → width ≤ 1000 → AllByRecursion (IsStepIn height width) steps → AllByRecursion IsIncreasingStep steps → AllByRecursion (AllByRecursion IsWord) (map step_words steps)
+steps_solid : (height width : ℕ) (steps : List SignStep) → height ≤ 1000 → width ≤ 1000 → AllByRecursion (IsStepIn height width) steps
+    → AllByRecursion IsIncreasingStep steps → AllByRecursion (AllByRecursion IsWord) (map step_words steps)
 steps_solid height width [] few_rows few_columns inside increasing = tt
 steps_solid height width (step ∷ steps) few_rows few_columns inside increasing = (step_solid height width step few_rows few_columns inside.0 increasing.0, steps_solid height width steps few_rows few_columns inside.1 increasing.1)
 

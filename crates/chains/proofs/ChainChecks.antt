@@ -33,15 +33,19 @@ in_lines lines k line l e = subst (λ x. IsIn x lines) e (in_at lines k l)
 pub not_in_lines : (lines : List ℕ) (line count : ℕ) → length lines ≤ count → ((k : ℕ) → k < count → get_or lines k 0 ≢ line) → ¬ (IsIn line lines)
 not_in_lines lines line count all none i = let p = place_is line lines i in none (place_of line lines) (let l = p.in_range in omega arith) p.there
 
-pub all_signed_from : (a s : Matrix) (rows columns : List ℕ) (row column : ℕ) → AllByRecursion (λ i. AllByRecursion (λ j. ¬ (IsOpenBut a s row column i j)) columns) rows → AllSignedBut a s rows columns row column
+pub all_signed_from : (a s : Matrix) (rows columns : List ℕ) (row column : ℕ)
+    → AllByRecursion (λ i. AllByRecursion (λ j. ¬ (IsOpenBut a s row column i j)) columns) rows → AllSignedBut a s rows columns row column
 all_signed_from a s rows columns row column h i j g k one other z = all_in (λ j. ¬ (IsOpenBut a s row column i j)) columns (all_in (λ i. AllByRecursion (λ j. ¬ (IsOpenBut a s row column i j)) columns) rows h i g) j k (record { open_one = record { one = one; no_sign = z }; other = other })
 
-pub row_signed_from : (a s : Matrix) (rows columns : List ℕ) (row column i : ℕ) → IsIn i rows → AllSignedBut a s rows columns row column → AllByRecursion (λ j. ¬ (IsOpenBut a s row column i j)) columns
+pub row_signed_from : (a s : Matrix) (rows columns : List ℕ) (row column i : ℕ) → IsIn i rows → AllSignedBut a s rows columns row column
+    → AllByRecursion (λ j. ¬ (IsOpenBut a s row column i j)) columns
 row_signed_from a s rows columns row column i g h = all_of_members (λ j. ¬ (IsOpenBut a s row column i j)) columns (λ j k o. h i j g k o.open_one.one o.other o.open_one.no_sign)
 
 -- the sign of a forced step
-pub forced_from : (a s : Matrix) (row column : ℕ) (cycle : LineSet) (v : ℤ) → IsMatrix a → AreSigns a s → IsUnsignedOne a s row column → IsRowSet a cycle.rows → IsColumnSet a cycle.columns → IsIn row cycle.rows → IsIn column cycle.columns
-    → HasTwoEach a cycle.rows cycle.columns → AllSignedBut a s cycle.rows cycle.columns row column → IsSign v → IsZeroModFour (submatrix_sum s cycle.rows cycle.columns +ℤ v) → IsForcedStep a s row column cycle v
+pub forced_from : (a s : Matrix) (row column : ℕ) (cycle : LineSet) (v : ℤ) → IsMatrix a → AreSigns a s → IsUnsignedOne a s row column → IsRowSet a cycle.rows
+    → IsColumnSet a cycle.columns → IsIn row cycle.rows → IsIn column cycle.columns
+    → HasTwoEach a cycle.rows cycle.columns → AllSignedBut a s cycle.rows cycle.columns row column → IsSign v
+    → IsZeroModFour (submatrix_sum s cycle.rows cycle.columns +ℤ v) → IsForcedStep a s row column cycle v
 forced_from a s row column cycle v is signs here row_set column_set row_here column_here two_each others u four = record {
   here = here;
   row_set = row_set;
@@ -54,7 +58,8 @@ forced_from a s row column cycle v is signs here row_set column_set row_here col
   four = subst IsZeroModFour (sym (forced_sum a s row column cycle v is signs here row_set column_set row_here column_here)) four;
 }
   where
-    forced_sum : (a s : Matrix) (row column : ℕ) (cycle : LineSet) (v : ℤ) → IsMatrix a → AreSigns a s → IsUnsignedOne a s row column → IsRowSet a cycle.rows → IsColumnSet a cycle.columns → IsIn row cycle.rows → IsIn column cycle.columns
+    forced_sum : (a s : Matrix) (row column : ℕ) (cycle : LineSet) (v : ℤ) → IsMatrix a → AreSigns a s → IsUnsignedOne a s row column → IsRowSet a cycle.rows
+        → IsColumnSet a cycle.columns → IsIn row cycle.rows → IsIn column cycle.columns
         → submatrix_sum (with_entry s row column v) cycle.rows cycle.columns ≡ submatrix_sum s cycle.rows cycle.columns +ℤ v
     forced_sum a s row column cycle v is signs here row_set column_set row_here column_here =
         plain (submatrix_sum (with_entry s row column v) cycle.rows cycle.columns) (submatrix_sum s cycle.rows cycle.columns) (entry (with_entry s row column v) row column) (entry s row column) v
@@ -67,7 +72,8 @@ forced_from a s row column cycle v is signs here row_set column_set row_here col
         plain x y p q v e f g = omega (arith, sums)
 
 -- the converse: the rule determines the sum before
-pub forced_rest : (a s : Matrix) (row column : ℕ) (cycle : LineSet) (v : ℤ) → IsMatrix a → AreSigns a s → IsForcedStep a s row column cycle v → IsZeroModFour (submatrix_sum s cycle.rows cycle.columns +ℤ v)
+pub forced_rest : (a s : Matrix) (row column : ℕ) (cycle : LineSet) (v : ℤ) → IsMatrix a → AreSigns a s → IsForcedStep a s row column cycle v
+    → IsZeroModFour (submatrix_sum s cycle.rows cycle.columns +ℤ v)
 forced_rest a s row column cycle v is signs rule = subst IsZeroModFour
     (plain (submatrix_sum (with_entry s row column v) cycle.rows cycle.columns) (submatrix_sum s cycle.rows cycle.columns) (entry (with_entry s row column v) row column) (entry s row column) v
     (one_entry (entry (with_entry s row column v)) (entry s) cycle.rows cycle.columns row column
@@ -103,14 +109,16 @@ lead_once a s end other (step ∷ steps) is signs (v, rule, rest) (w, rule', res
     lead_once a (signed_by s step v) end other steps is (rule_signs a s step v is signs rule) rest (subst (λ x. LeadTo (KeepsRule a) (signed_by s step x) steps other) same rest')
 
 -- if all steps keep their rules, so do the steps from each position on
-pub lead_from : (a s end middle : Matrix) (steps : List SignStep) (n : ℕ) → IsMatrix a → AreSigns a s → LeadTo (KeepsRule a) s steps end → LeadTo (KeepsRule a) s (take n steps) middle → LeadTo (KeepsRule a) middle (drop n steps) end
+pub lead_from : (a s end middle : Matrix) (steps : List SignStep) (n : ℕ) → IsMatrix a → AreSigns a s → LeadTo (KeepsRule a) s steps end
+    → LeadTo (KeepsRule a) s (take n steps) middle → LeadTo (KeepsRule a) middle (drop n steps) end
 lead_from a s end middle steps zero is signs lead e = subst (λ x. LeadTo (KeepsRule a) x steps end) e lead
 lead_from a s end middle [] (suc n) is signs lead e = subst (λ x. LeadTo (KeepsRule a) x [] end) e lead
 lead_from a s end middle (step ∷ steps) (suc n) is signs (v, rule, rest) (w, rule', rest') =
     let same = one_sign a s step w v is signs rule' rule in
     lead_from a (signed_by s step v) end middle steps n is (rule_signs a s step v is signs rule) rest (subst (λ x. LeadTo (KeepsRule a) (signed_by s step x) (take n steps) middle) same rest')
 
-pub signed_violator : (a s : Matrix) (lines : LineSet) (column : ℕ) → AreSigns a s → IsStrictlyIncreasing lines.rows → IsStrictlyIncreasing lines.columns → AllBelow (height a) lines.rows → AllBelow a.width lines.columns → AllSignedBut a s lines.rows lines.columns (height a) column
+pub signed_violator : (a s : Matrix) (lines : LineSet) (column : ℕ) → AreSigns a s → IsStrictlyIncreasing lines.rows → IsStrictlyIncreasing lines.columns
+    → AllBelow (height a) lines.rows → AllBelow a.width lines.columns → AllSignedBut a s lines.rows lines.columns (height a) column
     → IsViolator (entry s) lines.rows lines.columns → IsSignedViolator a s lines
 signed_violator a s lines column signs rows_increase columns_increase rows_in columns_in all v = record {
   row_set = record { increasing = rows_increase; in_range = rows_in };
@@ -119,7 +127,8 @@ signed_violator a s lines column signs rows_increase columns_increase rows_in co
   violator = v;
 }
 
-pub two_each_from : (a : Matrix) (rows columns : List ℕ) → AllByRecursion (λ row. sum_over columns (λ column. entry a row column) ≡ pos 2) rows → AllByRecursion (λ column. sum_over rows (λ row. entry a row column) ≡ pos 2) columns → HasTwoEach a rows columns
+pub two_each_from : (a : Matrix) (rows columns : List ℕ) → AllByRecursion (λ row. sum_over columns (λ column. entry a row column) ≡ pos 2) rows
+    → AllByRecursion (λ column. sum_over rows (λ row. entry a row column) ≡ pos 2) columns → HasTwoEach a rows columns
 two_each_from a rows columns h g = record {
   row_twos = all_in (λ row. sum_over columns (λ column. entry a row column) ≡ pos 2) rows h;
   column_twos = all_in (λ column. sum_over rows (λ row. entry a row column) ≡ pos 2) columns g;
@@ -147,7 +156,8 @@ neither (negsuc a) v h g (inr e) (k, f) = let x : 4 - 1 - a % 4 ≢ 1 = h in let
 pub none_closes : (z r : ℤ) → r ≡ int_rem_euclid z (pos 4) → of_z w32 r ≢ 1 → of_z w32 r ≢ 3 → (v : ℤ) → IsSign v → ¬ (IsZeroModFour (z +ℤ v))
 none_closes z r e h g v u four = neither z v (λ f. h (ap (of_z w32) e ∙ f)) (λ f. g (ap (of_z w32) e ∙ f)) u four
 
-pub forced_option : (a s : Matrix) (row column : ℕ) (cycle : LineSet) (sum : ℤ) (found : Option ℤ) → IsMatrix a → AreSigns a s → IsUnsignedOne a s row column → IsRowSet a cycle.rows → IsColumnSet a cycle.columns → IsIn row cycle.rows → IsIn column cycle.columns
+pub forced_option : (a s : Matrix) (row column : ℕ) (cycle : LineSet) (sum : ℤ) (found : Option ℤ) → IsMatrix a → AreSigns a s → IsUnsignedOne a s row column
+    → IsRowSet a cycle.rows → IsColumnSet a cycle.columns → IsIn row cycle.rows → IsIn column cycle.columns
     → HasTwoEach a cycle.rows cycle.columns → AllSignedBut a s cycle.rows cycle.columns row column → sum ≡ submatrix_sum s cycle.rows cycle.columns
     → MatchOption found ((v : ℤ) → IsSign v → ¬ (IsZeroModFour (sum +ℤ v))) (λ v. IsSign v × IsZeroModFour (sum +ℤ v))
     → MatchOption found ((v : ℤ) → ¬ (IsForcedStep a s row column cycle v)) (IsForcedStep a s row column cycle)
@@ -158,7 +168,8 @@ forced_option a s row column cycle sum (Some v) is signs here row_set column_set
 -- ---- the steps that the check has followed
 
 -- all steps before the first that breaks its rule
-pub followed_to : (a s : Matrix) (steps : List SignStep) (n : ℕ) (tested : SignStep) → n < length steps → tested ≡ get_or steps n tested → AreSigns a s → LeadTo (KeepsRule a) (unsigned a) (take n steps) s
+pub followed_to : (a s : Matrix) (steps : List SignStep) (n : ℕ) (tested : SignStep) → n < length steps → tested ≡ get_or steps n tested → AreSigns a s
+    → LeadTo (KeepsRule a) (unsigned a) (take n steps) s
     → ((v : ℤ) → ¬ (KeepsRule a s tested v)) → HasFollowed a steps (record { signs = s; kept = n })
 followed_to a s steps n tested l e signs lead none = record {
   within = omega (arith, l);
@@ -184,11 +195,13 @@ followed_all a s steps n count l e signs lead = record {
 
 -- ---- the whole chain
 
-breaks_of : (a s : Matrix) (lines : LineSet) (rest : List SignStep) → 0 < length rest → ((step : SignStep) (more : List SignStep) → rest ≡ step ∷ more → (v : ℤ) → ¬ (KeepsRule a s step v)) → Breaks a s rest lines
+breaks_of : (a s : Matrix) (lines : LineSet) (rest : List SignStep) → 0 < length rest
+    → ((step : SignStep) (more : List SignStep) → rest ≡ step ∷ more → (v : ℤ) → ¬ (KeepsRule a s step v)) → Breaks a s rest lines
 breaks_of a s lines [] l h = absurd (omega arith)
 breaks_of a s lines (step ∷ more) l h = h step more refl
 
-pub step_broken : (a : Matrix) (chain : SizedChain) (steps : List SignStep) (followed : Followed) → HasChainSizes a chain → steps ≡ chain.chain.steps → HasFollowed a steps followed → followed.kept < length steps → IsFirstBrokenPart a chain (followed.kept + 1)
+pub step_broken : (a : Matrix) (chain : SizedChain) (steps : List SignStep) (followed : Followed) → HasChainSizes a chain → steps ≡ chain.chain.steps
+    → HasFollowed a steps followed → followed.kept < length steps → IsFirstBrokenPart a chain (followed.kept + 1)
 step_broken a chain steps followed sizes e h l = go (subst (λ x. HasFollowed a x followed) e h) (subst (λ x. followed.kept < length x) e l)
   where
     go : HasFollowed a chain.chain.steps followed → followed.kept < length chain.chain.steps → IsFirstBrokenPart a chain (followed.kept + 1)
@@ -202,7 +215,8 @@ step_broken a chain steps followed sizes e h l = go (subst (λ x. HasFollowed a 
 all_kept : (a : Matrix) (steps : List SignStep) (followed : Followed) → HasFollowed a steps followed → ¬ (followed.kept < length steps) → LeadTo (KeepsRule a) (unsigned a) steps followed.signs
 all_kept a steps followed f l = subst (λ x. LeadTo (KeepsRule a) (unsigned a) x followed.signs) (take_all followed.kept steps (let k = f.within in omega arith)) f.leads
 
-pub violator_broken : (a : Matrix) (chain : SizedChain) (steps : List SignStep) (followed : Followed) → HasChainSizes a chain → steps ≡ chain.chain.steps → HasFollowed a steps followed → ¬ (followed.kept < length steps)
+pub violator_broken : (a : Matrix) (chain : SizedChain) (steps : List SignStep) (followed : Followed) → HasChainSizes a chain → steps ≡ chain.chain.steps
+    → HasFollowed a steps followed → ¬ (followed.kept < length steps)
     → ¬ (IsSignedViolator a followed.signs chain.chain.violator) → IsFirstBrokenPart a chain (length steps + 1)
 violator_broken a chain steps followed sizes e h l none = record {
   before = length steps;
@@ -218,10 +232,12 @@ violator_broken a chain steps followed sizes e h l none = record {
   );
 }
 
-pub signs_of_sound : (a : Matrix) (chain : SizedChain) (steps : List SignStep) (followed : Followed) (signs : Matrix) → IsMatrix a → steps ≡ chain.chain.steps → HasFollowed a steps followed → IsSoundChain a chain signs → IsSoundChain a chain followed.signs
+pub signs_of_sound : (a : Matrix) (chain : SizedChain) (steps : List SignStep) (followed : Followed) (signs : Matrix) → IsMatrix a → steps ≡ chain.chain.steps
+    → HasFollowed a steps followed → IsSoundChain a chain signs → IsSoundChain a chain followed.signs
 signs_of_sound a chain steps followed signs is e h sound = go (subst (λ x. HasFollowed a x followed) e h)
   where
-    step_kept : (s end : Matrix) (rest : List SignStep) → 0 < length rest → LeadTo (KeepsRule a) s rest end → ((step : SignStep) (more : List SignStep) → rest ≡ step ∷ more → (v : ℤ) → ¬ (KeepsRule a s step v)) → ⊥
+    step_kept : (s end : Matrix) (rest : List SignStep) → 0 < length rest → LeadTo (KeepsRule a) s rest end
+        → ((step : SignStep) (more : List SignStep) → rest ≡ step ∷ more → (v : ℤ) → ¬ (KeepsRule a s step v)) → ⊥
     step_kept s end [] l lead none = omega arith
     step_kept s end (step ∷ more) l (v, rule, rest) none = none step more refl v rule
 
@@ -233,7 +249,8 @@ signs_of_sound a chain steps followed signs is e h sound = go (subst (λ x. HasF
     ]
 
 -- another step that keeps its rule
-pub step_kept : (a s t : Matrix) (steps : List SignStep) (n : ℕ) (tested given : SignStep) (v w : ℤ) → n < length steps → tested ≡ get_or steps n tested → given ≡ get_or steps n given → KeepsRule a s tested v → w ≡ v → t ≡ signed_by s given w
+pub step_kept : (a s t : Matrix) (steps : List SignStep) (n : ℕ) (tested given : SignStep) (v w : ℤ) → n < length steps → tested ≡ get_or steps n tested
+    → given ≡ get_or steps n given → KeepsRule a s tested v → w ≡ v → t ≡ signed_by s given w
     → LeadTo (KeepsRule a) (unsigned a) (take n steps) s → IsMatrix a → AreSigns a s → AreSigns a t × LeadTo (KeepsRule a) (unsigned a) (take (n + 1) steps) t
 step_kept a s t steps n tested given v w l e f rule g h lead is signs = (
   subst (AreSigns a) (sym made) (rule_signs a s tested v is signs rule),

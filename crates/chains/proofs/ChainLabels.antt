@@ -47,10 +47,12 @@ linked_label a s labels w [] x y e = ap (label_in a labels) e
 linked_label a s labels w (k ∷ lines) x y (j, rest) = one_label a s labels w x k j ∙ linked_label a s labels w lines k y rest
 
 -- a step is free if and only if the labels differ
-pub free_by_labels : (a s : Matrix) (labels : List ℕ) (row column : ℕ) → AreLabels a s labels → row < height a → column < a.width → IsUnsignedOne a s row column → (label_in a labels (Row row) ≢ label_in a labels (Column column)) → IsFreeStep a s row column
+pub free_by_labels : (a s : Matrix) (labels : List ℕ) (row column : ℕ) → AreLabels a s labels → row < height a → column < a.width → IsUnsignedOne a s row column
+    → (label_in a labels (Row row) ≢ label_in a labels (Column column)) → IsFreeStep a s row column
 free_by_labels a s labels row column w l m here differ = record { here = here; apart = λ links. differ (linked_label a s labels w links.0 (Row row) (Column column) links.1) }
 
-pub free_labels : (a s : Matrix) (labels : List ℕ) (row column : ℕ) → AreLabels a s labels → row < height a → column < a.width → IsFreeStep a s row column → label_in a labels (Row row) ≢ label_in a labels (Column column)
+pub free_labels : (a s : Matrix) (labels : List ℕ) (row column : ℕ) → AreLabels a s labels → row < height a → column < a.width → IsFreeStep a s row column
+    → label_in a labels (Row row) ≢ label_in a labels (Column column)
 free_labels a s labels row column w l m free e = free.apart (w.linked (Row row) (Column column) l m e)
 
 module _ (a s t : Matrix) (labels more_labels : List ℕ) (r c : ℕ) (v : ℤ) (u : IsSign v) (more : HasOneMore s t r c v) (signs : AreSigns a t) (w : AreLabels a s labels) (r_in : r < height a) (c_in : c < a.width)
@@ -106,7 +108,8 @@ pub differ_test : (x y z : ℕ) → y ≡ z → (not (nat_eq x y) ≡ true) ↔ 
 differ_test x y z e = ((λ h f. true_is_false (sym h ∙ ap not (is_eq x y (f ∙ sym e)))), (λ d. ap not (is_ne x y (λ f. d (f ∙ e)))))
 
 -- after another sign
-labels_given : (a s t : Matrix) (labels made : List ℕ) (row column n : ℕ) (v : ℤ) → IsMatrix a → AreSigns a s → IsUnsignedOne a s row column → IsSign v → AreLabels a s labels → t ≡ with_entry s row column v → n ≡ height a
+labels_given : (a s t : Matrix) (labels made : List ℕ) (row column n : ℕ) (v : ℤ) → IsMatrix a → AreSigns a s → IsUnsignedOne a s row column → IsSign v
+    → AreLabels a s labels → t ≡ with_entry s row column v → n ≡ height a
     → made ≡ map (λ l. cond (nat_eq l (get_or labels (n + column) 0)) (get_or labels row 0) l) labels → AreLabels a t made
 labels_given a s t labels made row column n v is signs here u w e f g =
     subst (λ x. AreLabels a x made) (sym e) (labels_more a s (with_entry s row column v) labels made row column v u (one_more a s is.rectangular signs row column v here.one) (signs_more a s is.rectangular signs row column v here.one u) w
@@ -114,7 +117,9 @@ labels_given a s t labels made row column n v is signs here u w e f g =
     (subst (λ k. made ≡ map (λ l. cond (nat_eq l (get_or labels (k + column) 0)) (get_or labels row 0) l) labels) f g))
 
 -- if a step keeps its rule
-pub step_labels : (a s t : Matrix) (labels made : List ℕ) (step : SignStep) (row column n : ℕ) (v : ℤ) → IsMatrix a → AreSigns a s → IsUnsignedOne a s (step_row step) (step_column step) → IsSign v → AreLabels a s labels
-    → row ≡ step_row step → column ≡ step_column step → t ≡ with_entry s row column v → n ≡ height a → made ≡ map (λ l. cond (nat_eq l (get_or labels (n + column) 0)) (get_or labels row 0) l) labels → AreLabels a t made
+pub step_labels : (a s t : Matrix) (labels made : List ℕ) (step : SignStep) (row column n : ℕ) (v : ℤ) → IsMatrix a → AreSigns a s
+    → IsUnsignedOne a s (step_row step) (step_column step) → IsSign v → AreLabels a s labels
+    → row ≡ step_row step → column ≡ step_column step → t ≡ with_entry s row column v → n ≡ height a
+    → made ≡ map (λ l. cond (nat_eq l (get_or labels (n + column) 0)) (get_or labels row 0) l) labels → AreLabels a t made
 step_labels a s t labels made step row column n v is signs here u w e f g h k =
     labels_given a s t labels made row column n v is signs (subst (λ i. IsUnsignedOne a s i column) (sym e) (subst (λ j. IsUnsignedOne a s (step_row step) j) (sym f) here)) u w g h k

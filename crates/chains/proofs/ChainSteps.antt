@@ -9,7 +9,8 @@ use Rattle.chains.specs.declared.step.SignStep.{SignStep}
 use Rattle.chains.specs.declared.step.SizedChain.{SizedChain}
 use Rattle.chains.specs.ChainTexts.{next_step, another_step, line_set_words, step_words, chain_lines, chain_text}
 
-pub step_made : (height width : ℕ) (steps more : List SignStep) (step : SignStep) (text rest : Text) → next_step height width text ≡ Ok (step, rest) → more ≡ steps ++ step ∷ [] → another_step height width steps text ≡ Ok (more, rest)
+pub step_made : (height width : ℕ) (steps more : List SignStep) (step : SignStep) (text rest : Text) → next_step height width text ≡ Ok (step, rest)
+    → more ≡ steps ++ step ∷ [] → another_step height width steps text ≡ Ok (more, rest)
 step_made height width steps more step text rest e f = rw (e, f) refl
 
 fold-lines : (draft : Draft) (lines more : List (List (List ℕ))) → fold with_line draft (lines ++ more) ≡ fold with_line (fold with_line draft lines) more

@@ -219,7 +219,8 @@ module _ (a : Matrix) (is : IsTernary a) (binary : IsBinary a) (lines : LineSet)
         | inr u ↦ m.same i j (rule.others i j h g (λ e. sign_nonzero (N i j) u ((m.support i j).0 e)) d)
       ]
 
-      go : IsZeroModFour (sum_over cycle.rows (λ i. sum_over cycle.columns (λ j. N i j))) ⊎ IsTwoModFour (sum_over cycle.rows (λ i. sum_over cycle.columns (λ j. N i j))) → (IsMatched a (with_entry s r c v) N → Found a N) → Found a N
+      go : IsZeroModFour (sum_over cycle.rows (λ i. sum_over cycle.columns (λ j. N i j))) ⊎ IsTwoModFour (sum_over cycle.rows (λ i. sum_over cycle.columns (λ j. N i j)))
+          → (IsMatched a (with_entry s r c v) N → Found a N) → Found a N
       go (inr two) again = record {
         rows = cycle.rows;
         columns = cycle.columns;

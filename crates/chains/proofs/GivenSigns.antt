@@ -20,7 +20,8 @@ pub record HasOneMore (s t : Matrix) (r c : ℕ) (v : ℤ) : Type 0 where
   pub other : (i j : ℕ) → (i ≢ r) ⊎ (j ≢ c) → entry t i j ≡ entry s i j
 
 -- one more step
-pub lead_more : (Rule : Matrix → SignStep → ℤ → Type 0) (s end : Matrix) (steps : List SignStep) (step : SignStep) (v : ℤ) → LeadTo Rule s steps end → Rule end step v → LeadTo Rule s (steps ++ step ∷ []) (signed_by end step v)
+pub lead_more : (Rule : Matrix → SignStep → ℤ → Type 0) (s end : Matrix) (steps : List SignStep) (step : SignStep) (v : ℤ) → LeadTo Rule s steps end
+    → Rule end step v → LeadTo Rule s (steps ++ step ∷ []) (signed_by end step v)
 lead_more Rule s end [] step v e rule = subst (λ x. LeadTo Rule x (step ∷ []) (signed_by end step v)) (sym e) (v, rule, refl)
 lead_more Rule s end (x ∷ steps) step v (w, first, rest) rule = (w, first, lead_more Rule (signed_by s x w) end steps step v rest rule)
 

@@ -24,7 +24,8 @@ count_set xs c v h e u =
     let one : ◌≡◌ {A = ℕ} (cond (is_nonzero v) 1 0) 1 = ap (λ (t : Bool). cond t 1 0) (sign_is_nonzero v u) in
     omega (arith, changed, none, one)
 
-nonzeros_set : (rows : List (List ℤ)) (r c : ℕ) (v : ℤ) → r < length rows → c < length (get_or rows r []) → get_or (get_or rows r []) c (pos 0) ≡ pos 0 → IsSign v → nonzeros_of (set rows r (set (get_or rows r []) c v)) ≡ nonzeros_of rows + 1
+nonzeros_set : (rows : List (List ℤ)) (r c : ℕ) (v : ℤ) → r < length rows → c < length (get_or rows r []) → get_or (get_or rows r []) c (pos 0) ≡ pos 0
+    → IsSign v → nonzeros_of (set rows r (set (get_or rows r []) c v)) ≡ nonzeros_of rows + 1
 nonzeros_set [] r c v h k e u = absurd (omega (arith, h))
 nonzeros_set (row ∷ rows) zero c v h k e u = let one = count_set row c v k e u in omega (arith, one)
 nonzeros_set (row ∷ rows) (suc r) c v h k e u = let one = nonzeros_set rows r c v (omega (arith, h)) k e u in omega (arith, one)
@@ -73,8 +74,10 @@ few_kept a steps signs is are leads =
     omega (arith, few, mul-le-mul_left (height a) columns, mul-le-mul_right 1000 rows)
 
 -- the steps that the check has followed
-pub few_followed : (a : Matrix) (steps : List SignStep) (kept : ℕ) (signs : Matrix) → kept ≤ length steps → IsMatrix a → AreSigns a signs → LeadTo (KeepsRule a) (unsigned a) (take kept steps) signs → kept ≤ 1000000
+pub few_followed : (a : Matrix) (steps : List SignStep) (kept : ℕ) (signs : Matrix) → kept ≤ length steps → IsMatrix a → AreSigns a signs
+    → LeadTo (KeepsRule a) (unsigned a) (take kept steps) signs → kept ≤ 1000000
 few_followed a steps kept signs within is are leads = let few = few_kept a (take kept steps) signs is are leads in omega (arith, few, length-take-le kept steps within)
 
-pub few_all : (a : Matrix) (steps : List SignStep) (kept : ℕ) (signs : Matrix) → length steps ≤ kept → IsMatrix a → AreSigns a signs → LeadTo (KeepsRule a) (unsigned a) (take kept steps) signs → length steps ≤ 1000000
+pub few_all : (a : Matrix) (steps : List SignStep) (kept : ℕ) (signs : Matrix) → length steps ≤ kept → IsMatrix a → AreSigns a signs
+    → LeadTo (KeepsRule a) (unsigned a) (take kept steps) signs → length steps ≤ 1000000
 few_all a steps kept signs all is are leads = few_kept a steps signs is are (subst (λ xs. LeadTo (KeepsRule a) (unsigned a) xs signs) (take_all kept steps all) leads)

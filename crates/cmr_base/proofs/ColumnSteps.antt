@@ -31,7 +31,8 @@ module _ (old : Matrix) (column : ℕ) (entries : List ℤ) where
         less i j (inl k) = inl k
         less i j (inr l) = inr (omega arith)
 
-    pub entry_written : (value : ℤ) → value ≡ get_or entries count (pos 0) → IsEntry value → count < height new → column < new.width → IsColumnWritten old (with_entry new count column value) column entries (count + 1)
+    pub entry_written : (value : ℤ) → value ≡ get_or entries count (pos 0) → IsEntry value → count < height new → column < new.width
+        → IsColumnWritten old (with_entry new count column value) column entries (count + 1)
     entry_written value is small low near = record {
       is_matrix = is_matrix-with_entry new count column value low small before.is_matrix;
       height_same = height-with_entry new count column value ∙ before.height_same;
@@ -98,7 +99,8 @@ module _ (arcs walks : List Pair) where
           (get_or_past (replicate (length arcs) (replicate (length walks) (pos 0))) row [] (omega (arith, l, length-replicate (length arcs) (replicate (length walks) (pos 0)))))
 
   pub one_path_written : (old new : Matrix) (count : ℕ) (entries : List ℤ) → ArePathsWritten arcs walks old count → length entries ≡ length arcs
-      → IsDirectedPathOf arcs (length arcs) (λ row. get_or entries row (pos 0)) (tail walks count) (head walks count) → IsColumnWritten old new count entries (length entries) → ArePathsWritten arcs walks new (count + 1)
+      → IsDirectedPathOf arcs (length arcs) (λ row. get_or entries row (pos 0)) (tail walks count) (head walks count)
+      → IsColumnWritten old new count entries (length entries) → ArePathsWritten arcs walks new (count + 1)
   one_path_written old new count entries before each path here = record {
     is_matrix = here.is_matrix;
     height_is = here.height_same ∙ before.height_is;

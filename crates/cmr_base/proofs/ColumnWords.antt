@@ -55,7 +55,8 @@ row_columns m row is l column = go (cases_lt (column / 64) (words_for m.width))
 pub words_long : (m : Matrix) (row : ℕ) (words : List ℕ) → words ≡ words_of (words_for m.width) is_nonzero (row_of m row) → length words ≡ words_for m.width
 words_long m row words is = ap length is ∙ length-words_of (words_for m.width) is_nonzero (row_of m row)
 
-pub words_columns : (m : Matrix) (row : ℕ) (words : List ℕ) → words ≡ words_of (words_for m.width) is_nonzero (row_of m row) → IsMatrix m → row < height m → (column : ℕ) → has_column words column ≡ support m row column
+pub words_columns : (m : Matrix) (row : ℕ) (words : List ℕ) → words ≡ words_of (words_for m.width) is_nonzero (row_of m row) → IsMatrix m → row < height m
+    → (column : ℕ) → has_column words column ≡ support m row column
 words_columns m row words is shape l column = ap (λ ws. has_column ws column) is ∙ row_columns m row shape l column
 
 -- ---- columns that are added
@@ -64,7 +65,8 @@ module _ (test : ℕ → Bool) (before : List ℕ) where
   pub added_none : IsAdded test before before 0
   added_none = record { size = refl; done = λ column l. absurd (omega arith); left = λ column l. refl }
 
-  pub added_word : (after : List ℕ) (chunk old word : ℕ) → IsAdded test before after chunk → chunk < length after → old ≡ get_or after chunk old → ((k : ℕ) → k < 64 → has_bit word k ≡ test (64 * chunk + k))
+  pub added_word : (after : List ℕ) (chunk old word : ℕ) → IsAdded test before after chunk → chunk < length after → old ≡ get_or after chunk old
+      → ((k : ℕ) → k < 64 → has_bit word k ≡ test (64 * chunk + k))
       → IsAdded test before (set after chunk (bit_or old word)) (chunk + 1)
   added_word after chunk old word a l is bits = record {
     size = length-set after chunk (bit_or old word) ∙ a.size;
@@ -162,7 +164,8 @@ empty_more words chunk so none k h = elim (cases_lt k (64 * chunk)) [
 ]
 
 module _ (one two : List ℕ) (chunk : ℕ) where
-  pub unshared : ((k : ℕ) → k < 64 * chunk → has_column one k ≡ true → has_column two k ≡ false) → ((k : ℕ) → k < 64 → has_bit (get_or one chunk 0) k ≡ true → has_bit (get_or two chunk 0) k ≡ true → ⊥)
+  pub unshared : ((k : ℕ) → k < 64 * chunk → has_column one k ≡ true → has_column two k ≡ false)
+      → ((k : ℕ) → k < 64 → has_bit (get_or one chunk 0) k ≡ true → has_bit (get_or two chunk 0) k ≡ true → ⊥)
       → (k : ℕ) → k < 64 * (chunk + 1) → has_column one k ≡ true → has_column two k ≡ false
   unshared so none k h a = elim (cases_lt k (64 * chunk)) [
     | inl l ↦ so k l a
@@ -216,7 +219,8 @@ module _ (words : List ℕ) (from column : ℕ) (fits : get_or words (column / 6
         λ c l h. elim (cases_lt c column) [ inl before ↦ none c l before | inr after ↦ first.1 c after h ],
       )
 
-  pub next_skips : ((c : ℕ) → from ≤ c → c < column → has_column words c ≡ false) → get_or words (column / 64) 0 / 2 ^ (column % 64) ≡ 0 → (c : ℕ) → from ≤ c → c < column - column % 64 + 64 → has_column words c ≡ false
+  pub next_skips : ((c : ℕ) → from ≤ c → c < column → has_column words c ≡ false) → get_or words (column / 64) 0 / 2 ^ (column % 64) ≡ 0 → (c : ℕ) → from ≤ c
+      → c < column - column % 64 + 64 → has_column words c ≡ false
   next_skips none empty c l h = elim (cases_lt c column) [
     | inl before ↦ none c l before
     | inr after ↦ none_by_bits (has_column words) column (get_or words (column / 64) 0) fits bits_are empty c after h

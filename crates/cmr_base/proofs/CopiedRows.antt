@@ -53,7 +53,8 @@ one_place width chosen places count increasing below inside are = record {
     here : get_or (set places column count) column 0 ≡ count
     here = get_or-set_same places column count 0 (let b = below count inside in let w = are.long in omega arith)
 
-pub all_places : (width : ℕ) (chosen places : List ℕ) (count : ℕ) → IsStrictlyIncreasing chosen → AllBelow width chosen → width ≤ 1000 → length chosen ≤ count → AreSomePlaces width chosen count places → ArePlaces width chosen places
+pub all_places : (width : ℕ) (chosen places : List ℕ) (count : ℕ) → IsStrictlyIncreasing chosen → AllBelow width chosen → width ≤ 1000 → length chosen ≤ count
+    → AreSomePlaces width chosen count places → ArePlaces width chosen places
 all_places width chosen places count increasing below few all are = record {
   long = are.long;
   there = λ k l. are.there k (omega arith);
@@ -168,7 +169,8 @@ module _ (m : Matrix) (rows columns : List ℕ) where
     empty = λ i l h column. ap (λ (t : Matrix). entry t i column) e ∙ zero_entry (length rows) (length columns) i column h;
   }
 
-  pub one_row_copied : (old new : Matrix) (count : ℕ) → AreRowsCopied m rows columns count old → IsRowCopied m (get_or rows count 0) columns count old new → AreRowsCopied m rows columns (count + 1) new
+  pub one_row_copied : (old new : Matrix) (count : ℕ) → AreRowsCopied m rows columns count old → IsRowCopied m (get_or rows count 0) columns count old new
+      → AreRowsCopied m rows columns (count + 1) new
   one_row_copied old new count before here = record {
     is_matrix = here.is_matrix;
     height_is = here.height_same ∙ before.height_is;

@@ -59,7 +59,8 @@ module _ (P : Matrix → Type 0) (m : Matrix) where
   each inherits (x ∷ ls) R C A B r c (inr (p, g)) line (inr h) there =
       each inherits ls (rows_without R x) (columns_without C x) A B (rows_increase x R r) (columns_increase x C c) g line h there
 
-  pub greedy_set_minimal : IsInherited P m → (rows columns : List ℕ) → ¬ P (submatrix m (first_lines (height m)) (first_lines m.width)) → IsGreedySet P m rows columns → IsMinimalWithout P m rows columns
+  pub greedy_set_minimal : IsInherited P m → (rows columns : List ℕ) → ¬ P (submatrix m (first_lines (height m)) (first_lines m.width))
+      → IsGreedySet P m rows columns → IsMinimalWithout P m rows columns
   greedy_set_minimal inherits A B lack g =
       let R = first_lines (height m) in
       let C = first_lines m.width in

@@ -77,7 +77,8 @@ module _ (beyond : ℕ → ℕ → Bool) where
         not_in : ¬ (IsIn h (rows_of (grown beyond L)))
         not_in m = (o.0 h (subst (λ (z : List ℕ). IsIn h z) (rows-grown L) m)).0 refl
 
-        go : (b : Bool) → x h ≡ b → (j ≡ h) ⊎ IsIn j L → (IsIn j L → beyond_in (grown beyond L) j (node_of (grown beyond L) x) ≡ x j) → (IsIn j L → beyond_in (grown beyond L) j (node_of (grown beyond L) (λ j. beyond j h)) ≡ beyond j h)
+        go : (b : Bool) → x h ≡ b → (j ≡ h) ⊎ IsIn j L → (IsIn j L → beyond_in (grown beyond L) j (node_of (grown beyond L) x) ≡ x j)
+            → (IsIn j L → beyond_in (grown beyond L) j (node_of (grown beyond L) (λ j. beyond j h)) ≡ beyond j h)
             → beyond_in (grown beyond (h ∷ L)) j (cond b (suc (length (grown beyond L))) (node_of (grown beyond L) x)) ≡ x j
         go true e (inl f) r q = rw (self_eq (suc (length (grown beyond L))), is_eq j h f) (sym (ap x f ∙ e))
         go true e (inr m) r q = rw (self_eq (suc (length (grown beyond L))), is_ne j h (λ f. (o.0 j m).0 (sym f))) (q m ∙ sym (passed e m))

@@ -130,7 +130,8 @@ module _ (m n : ℕ) (M : ℕ → ℕ → ℤ) (upper lower : ℕ → ℕ → �
       go true g h = subst P (line_same x y g) p
       go false g h = f h
 
-  grow : (start : List Line) (k : ℕ) (T : Lines) → count_outside m n T ≤ k → HasAll T start → ((U : Lines) → IsClosed m n M upper lower U → HasAll U start → (x : Line) → IsLine m n x → T x ≡ true → U x ≡ true)
+  grow : (start : List Line) (k : ℕ) (T : Lines) → count_outside m n T ≤ k → HasAll T start
+      → ((U : Lines) → IsClosed m n M upper lower U → HasAll U start → (x : Line) → IsLine m n x → T x ≡ true → U x ≡ true)
       → (S : Lines) × IsGrown m n M upper lower start S
   grow start zero T l has least = go (next T)
     where

@@ -58,7 +58,8 @@ pub count_less : (x : ℕ) (p : ℕ → Bool) (k : ℕ) → count p k ≤ suc (c
 count_less x p zero = omega arith
 count_less x p (suc k) = go (nat_eq x k) refl (p k) (count_less x p k)
   where
-    go : (t : Bool) → nat_eq x k ≡ t → (s : Bool) → count p k ≤ suc (count (less x p) k) → cond s (suc (count p k)) (count p k) ≤ suc (cond (cond t false s) (suc (count (less x p) k)) (count (less x p) k))
+    go : (t : Bool) → nat_eq x k ≡ t → (s : Bool) → count p k ≤ suc (count (less x p) k)
+        → cond s (suc (count p k)) (count p k) ≤ suc (cond (cond t false s) (suc (count (less x p) k)) (count (less x p) k))
     go true e true h = plain (count p k) (count (less x p) k) (count_same p (less x p) k (λ y l. sym (ap (λ (t : Bool). cond t false (p y)) (is_ne x y (λ f. absurd (no x y k l f e))))))
       where
         no : (x y k : ℕ) → y < k → x ≡ y → nat_eq x k ≡ true → ⊥
@@ -75,7 +76,8 @@ pub count_more : (x : ℕ) (p : ℕ → Bool) (k : ℕ) → x < k → p x ≡ tr
 count_more x p zero l e = absurd (omega arith)
 count_more x p (suc k) l e = go (nat_eq x k) refl (p k) refl (λ l. count_more x p k l e)
   where
-    go : (t : Bool) → nat_eq x k ≡ t → (s : Bool) → p k ≡ s → (x < k → count p k ≡ suc (count (less x p) k)) → cond s (suc (count p k)) (count p k) ≡ suc (cond (cond t false s) (suc (count (less x p) k)) (count (less x p) k))
+    go : (t : Bool) → nat_eq x k ≡ t → (s : Bool) → p k ≡ s → (x < k → count p k ≡ suc (count (less x p) k))
+        → cond s (suc (count p k)) (count p k) ≡ suc (cond (cond t false s) (suc (count (less x p) k)) (count (less x p) k))
     go true f true g h = ap suc (count_same p (less x p) k (λ y m. sym (ap (λ (t : Bool). cond t false (p y)) (is_ne x y (λ i. absurd (no x y k m i f))))))
       where
         no : (x y k : ℕ) → y < k → x ≡ y → nat_eq x k ≡ true → ⊥

@@ -106,7 +106,8 @@ pub without_shorter : (i : ℕ) (xs : List ℕ) → IsIn i xs → length (withou
 without_shorter i [] h = absurd h
 without_shorter i (x ∷ xs) h = go (eqb x i) refl h (λ g. without_shorter i xs g) (without_short i xs)
   where
-    go : (b : Bool) → eqb x i ≡ b → (i ≡ x) ⊎ IsIn i xs → (IsIn i xs → length (without xs i) < length xs) → length (without xs i) ≤ length xs → length (cond (not b) (x ∷ without xs i) (without xs i)) < length (x ∷ xs)
+    go : (b : Bool) → eqb x i ≡ b → (i ≡ x) ⊎ IsIn i xs → (IsIn i xs → length (without xs i) < length xs) → length (without xs i) ≤ length xs
+        → length (cond (not b) (x ∷ without xs i) (without xs i)) < length (x ∷ xs)
     go true e h k s = omega arith
     go false e (inl q) k s = absurd (eqb-false x i e (sym q))
     go false e (inr h) k s = let m = k h in omega (arith, m)

@@ -24,7 +24,8 @@ other_side false false only all = all refl
 abbrev pub AreOthers : Bits → Bits → Type 0
 AreOthers set rest = ((x : ℕ) → has_column rest.words x ≡ true → (x < set.size) × (has_column set.words x ≡ false)) × ((x : ℕ) → x < set.size → has_column set.words x ≡ false → has_column rest.words x ≡ true)
 
-pub other_lines : (mask rest : LineMask) → AreOthers mask.rows rest.rows → AreOthers mask.columns rest.columns → (x : Line) → IsLine mask.rows.size mask.columns.size x → as_set rest x ≡ not (as_set mask x)
+pub other_lines : (mask rest : LineMask) → AreOthers mask.rows rest.rows → AreOthers mask.columns rest.columns → (x : Line)
+    → IsLine mask.rows.size mask.columns.size x → as_set rest x ≡ not (as_set mask x)
 other_lines mask rest rows columns = each_line (λ x. IsLine mask.rows.size mask.columns.size x → as_set rest x ≡ not (as_set mask x))
     (λ r l. other_side (has_column mask.rows.words r) (has_column rest.rows.words r) (λ e. (rows.0 r e).1) (rows.1 r l))
     (λ c l. other_side (has_column mask.columns.words c) (has_column rest.columns.words c) (λ e. (columns.0 c e).1) (columns.1 c l))

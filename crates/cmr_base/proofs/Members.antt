@@ -130,7 +130,8 @@ sum_over-removed x (y ∷ ys) f h g = go (nat_eq y x) refl g (λ i. sum_over-rem
     swap : (a b c d : ℤ) → c ≡ b +ℤ d → a +ℤ c ≡ b +ℤ (a +ℤ d)
     swap a b c d e = omega (arith, sums)
 
-    go : (b : Bool) → nat_eq y x ≡ b → (x ≡ y) ⊎ IsIn x ys → (IsIn x ys → sum_over ys f ≡ f x +ℤ sum_over (removed x ys) f) → f y +ℤ sum_over ys f ≡ f x +ℤ sum_over (cond b (removed x ys) (y ∷ removed x ys)) f
+    go : (b : Bool) → nat_eq y x ≡ b → (x ≡ y) ⊎ IsIn x ys → (IsIn x ys → sum_over ys f ≡ f x +ℤ sum_over (removed x ys) f)
+        → f y +ℤ sum_over ys f ≡ f x +ℤ sum_over (cond b (removed x ys) (y ∷ removed x ys)) f
     go true e g k = let q : y ≡ x = eq_of y x e in
         rw (removed_none x ys (λ i. h.0 (subst (λ (v : ℕ). IsIn v ys) (sym q) i))) (ap (λ (v : ℕ). f v +ℤ sum_over ys f) q)
     go false e (inl q) k = absurd (ne_of y x e (sym q))

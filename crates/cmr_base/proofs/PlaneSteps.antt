@@ -65,7 +65,8 @@ ones-words_of (suc count) test zs h =
     ∙ ap₂ (λ (a b : ℕ). a + b) (ones-bits_of test (take 64 zs)) (ones-words_of count test (drop 64 zs) (omega (arith, length-drop 64 zs)))
     ∙ sum_by-take-drop (λ x. cond (test x) 1 0) zs 64
 
-pub ones-rows : (words : ℕ) (rows : List (List ℤ)) → ((row : ℕ) → row < length rows → length (get_or rows row []) ≤ 64 * words) → sum_by count_ones (flat_map (words_of words is_nonzero) rows) ≡ nonzeros_of rows
+pub ones-rows : (words : ℕ) (rows : List (List ℤ)) → ((row : ℕ) → row < length rows → length (get_or rows row []) ≤ 64 * words)
+    → sum_by count_ones (flat_map (words_of words is_nonzero) rows) ≡ nonzeros_of rows
 ones-rows words [] short = refl
 ones-rows words (row ∷ rows) short =
     sum_by-append count_ones (words_of words is_nonzero row) (flat_map (words_of words is_nonzero) rows)
@@ -115,7 +116,8 @@ module _ (m : Matrix) (test : ℤ → Bool) (plane : List ℕ) (row column : ℕ
       others k small other ∙ old_bit row (column / 64) k row_in chunk_in small
       ∙ ap (λ z. cond (test z) 1 0) (sym (entry-with_entry_other_column m row column value row_in (64 * (column / 64) + k) (λ e. other (omega arith))))
 
-  in_row : (chunk k : ℕ) → chunk < words → k < 64 → (chunk ≡ column / 64) ⊎ (chunk ≢ column / 64) → bit_at (get_or after (row * words + chunk) 0) k ≡ cond (test (entry (with_entry m row column value) row (64 * chunk + k))) 1 0
+  in_row : (chunk k : ℕ) → chunk < words → k < 64 → (chunk ≡ column / 64) ⊎ (chunk ≢ column / 64)
+      → bit_at (get_or after (row * words + chunk) 0) k ≡ cond (test (entry (with_entry m row column value) row (64 * chunk + k))) 1 0
   in_row chunk k in_words small (inl e) =
       subst (λ b. bit_at (get_or after (row * words + b) 0) k ≡ cond (test (entry (with_entry m row column value) row (64 * b + k))) 1 0) (sym e)
       (ap (λ n. bit_at n k) (get_or-set_same plane place word 0 inside) ∙ in_word k small (cases_eq k (column % 64)))
@@ -123,7 +125,8 @@ module _ (m : Matrix) (test : ℤ → Bool) (plane : List ℕ) (row column : ℕ
       kept row chunk k row_in in_words small (λ e. other (omega arith))
       (entry-with_entry_other_column m row column value row_in (64 * chunk + k) (λ e. other (omega arith)))
 
-  each : (r chunk k : ℕ) → r < height m → chunk < words → k < 64 → (r ≡ row) ⊎ (r ≢ row) → bit_at (get_or after (r * words + chunk) 0) k ≡ cond (test (entry (with_entry m row column value) r (64 * chunk + k))) 1 0
+  each : (r chunk k : ℕ) → r < height m → chunk < words → k < 64 → (r ≡ row) ⊎ (r ≢ row)
+      → bit_at (get_or after (r * words + chunk) 0) k ≡ cond (test (entry (with_entry m row column value) r (64 * chunk + k))) 1 0
   each r chunk k in_height in_words small (inl e) =
       subst (λ n. bit_at (get_or after (n * words + chunk) 0) k ≡ cond (test (entry (with_entry m row column value) n (64 * chunk + k))) 1 0) (sym e)
       (in_row chunk k in_words small (cases_eq chunk (column / 64)))

@@ -67,7 +67,8 @@ pub length-words_of : (count : ℕ) (test : ℤ → Bool) (zs : List ℤ) → le
 length-words_of zero test zs = refl
 length-words_of (suc count) test zs = ap suc (length-words_of count test (drop 64 zs))
 
-pub words_of_more : (count word : ℕ) (test : ℤ → Bool) (zs : List ℤ) → word < count → words_of (count - word) test (drop (64 * word) zs) ≡ bits_of test (take 64 (drop (64 * word) zs)) ∷ words_of (count - (word + 1)) test (drop (64 * (word + 1)) zs)
+pub words_of_more : (count word : ℕ) (test : ℤ → Bool) (zs : List ℤ) → word < count
+    → words_of (count - word) test (drop (64 * word) zs) ≡ bits_of test (take 64 (drop (64 * word) zs)) ∷ words_of (count - (word + 1)) test (drop (64 * (word + 1)) zs)
 words_of_more count word test zs h =
     let next : count - word ≡ suc (count - (word + 1)) = omega arith in
     let further : 64 * word + 64 ≡ 64 * (word + 1) = omega arith in
@@ -79,7 +80,8 @@ pub length-rows : (f : List ℤ → List ℕ) (words : ℕ) (rows : List (List �
 length-rows f words [] each = sym (zero-mul words)
 length-rows f words (row ∷ rows) each = omega (arith, length-append (f row) (flat_map f rows), each row, length-rows f words rows each, suc-mul (length rows) words)
 
-pub row_at : (f : List ℤ → List ℕ) (words : ℕ) (rows : List (List ℤ)) (r : ℕ) → ((row : List ℤ) → length (f row) ≡ words) → r < length rows → take words (drop (r * words) (flat_map f rows)) ≡ f (get_or rows r [])
+pub row_at : (f : List ℤ → List ℕ) (words : ℕ) (rows : List (List ℤ)) (r : ℕ) → ((row : List ℤ) → length (f row) ≡ words) → r < length rows
+    → take words (drop (r * words) (flat_map f rows)) ≡ f (get_or rows r [])
 row_at f words [] r each h = absurd (omega arith)
 row_at f words (row ∷ rows) zero each h =
     ap (λ n. take words (drop n (f row ++ flat_map f rows))) (zero-mul words)
@@ -111,7 +113,8 @@ word-words_of (suc count) test zs (suc chunk) h =
     word-words_of count test (drop 64 zs) chunk (omega arith)
     ∙ ap (λ (rest : List ℤ). bits_of test (take 64 rest)) (drop-drop (64 * chunk) 64 zs ∙ ap (λ n. drop n zs) further)
 
-pub word-rows : (words : ℕ) (test : ℤ → Bool) (rows : List (List ℤ)) (row chunk : ℕ) → row < length rows → chunk < words → get_or (flat_map (words_of words test) rows) (row * words + chunk) 0 ≡ word_of test (get_or rows row []) chunk
+pub word-rows : (words : ℕ) (test : ℤ → Bool) (rows : List (List ℤ)) (row chunk : ℕ) → row < length rows → chunk < words
+    → get_or (flat_map (words_of words test) rows) (row * words + chunk) 0 ≡ word_of test (get_or rows row []) chunk
 word-rows words test rows row chunk in_rows in_words =
     sym (get_or-drop (row * words) (flat_map (words_of words test) rows) chunk 0)
     ∙ sym (get_or-take words (drop (row * words) (flat_map (words_of words test) rows)) chunk 0 in_words)
@@ -119,7 +122,8 @@ word-rows words test rows row chunk in_rows in_words =
     ∙ word-words_of words test (get_or rows row []) chunk in_words
 
 -- one bit of a word
-pub bit-word_of : (test : ℤ → Bool) (zs : List ℤ) (chunk place : ℕ) → test (pos 0) ≡ false → place < 64 → bit_at (word_of test zs chunk) place ≡ cond (test (get_or zs (64 * chunk + place) (pos 0))) 1 0
+pub bit-word_of : (test : ℤ → Bool) (zs : List ℤ) (chunk place : ℕ) → test (pos 0) ≡ false → place < 64
+    → bit_at (word_of test zs chunk) place ≡ cond (test (get_or zs (64 * chunk + place) (pos 0))) 1 0
 bit-word_of test zs chunk place none small =
     bit_at-bits_of test (take 64 (drop (64 * chunk) zs)) place none
     ∙ ap (λ z. cond (test z) 1 0) (get_or-take 64 (drop (64 * chunk) zs) place (pos 0) small ∙ get_or-drop (64 * chunk) zs place (pos 0))
@@ -149,7 +153,8 @@ pub one_bit : (b : Bool) → eqb (cond b 1 0) 1 ≡ b
 one_bit true = refl
 one_bit false = refl
 
-pub in_rows : (words : ℕ) (test : ℤ → Bool) (rows : List (List ℤ)) (row column : ℕ) → test (pos 0) ≡ false → row < length rows → column / 64 < words → is_in words (flat_map (words_of words test) rows) row column ≡ test (get_or (get_or rows row []) column (pos 0))
+pub in_rows : (words : ℕ) (test : ℤ → Bool) (rows : List (List ℤ)) (row column : ℕ) → test (pos 0) ≡ false → row < length rows → column / 64 < words
+    → is_in words (flat_map (words_of words test) rows) row column ≡ test (get_or (get_or rows row []) column (pos 0))
 in_rows words test rows row column none in_height in_words =
     let same : 64 * (column / 64) + column % 64 ≡ column = omega arith in
     ap (λ word. has_bit word (column % 64)) (word-rows words test rows row (column / 64) in_height in_words)

@@ -54,7 +54,8 @@ reproduced_by_columns Signs net m T count ends = (
 )
 
 pub reproduced_by_slices : (comparison : Comparison) (net : Network) (m : Matrix) (arcs walks : List Pair) → arcs ≡ net.arcs → walks ≡ net.walks
-    → IsTree arcs (height m) → length walks ≡ m.width → AreEndsInRange walks (height m) → IsReproduced comparison net m ↔ ((column : ℕ) → column < m.width → IsColumnPath comparison arcs walks m column)
+    → IsTree arcs (height m) → length walks ≡ m.width → AreEndsInRange walks (height m)
+    → IsReproduced comparison net m ↔ ((column : ℕ) → column < m.width → IsColumnPath comparison arcs walks m column)
 reproduced_by_slices comparison net m arcs walks e f T count ends =
     subst (λ (a : List Pair). IsReproduced comparison net m ↔ ((column : ℕ) → column < m.width → IsColumnPath comparison a walks m column)) (sym e)
     (subst (λ (w : List Pair). IsReproduced comparison net m ↔ ((column : ℕ) → column < m.width → IsColumnPath comparison net.arcs w m column)) (sym f)

@@ -111,7 +111,8 @@ module _ (arcs : List Pair) (signs : List ℤ) where
       own false true = refl
       own false false = refl
 
-      go : (r ≡ s.arc) ⊎ (r ≢ s.arc) → direction (map reversed_step steps) r ≡ negated (minus_at signs r) (direction steps r) → direction (reversed_step s ∷ map reversed_step steps) r ≡ negated (minus_at signs r) (direction (s ∷ steps) r)
+      go : (r ≡ s.arc) ⊎ (r ≢ s.arc) → direction (map reversed_step steps) r ≡ negated (minus_at signs r) (direction steps r)
+          → direction (reversed_step s ∷ map reversed_step steps) r ≡ negated (minus_at signs r) (direction (s ∷ steps) r)
       go (inl e) h = rw (is_eq r s.arc e) (own (minus_at signs s.arc) s.forwards ∙ ap (λ (k : ℕ). negated (minus_at signs k) (cond s.forwards (pos 1) (negsuc 0))) (sym e))
       go (inr n) h = rw (is_ne r s.arc n) h
 
@@ -219,7 +220,8 @@ reversed_realises net M N m n row_signs column_signs k R = record {
     one_of false i k = k
 
     -- the path of a column, reversed if the column's sign is -1
-    along : (c : ℕ) (b : Bool) → c < n → IsDirectedPathOf (reversed_pairs net.arcs row_signs) m (λ r. negated b (negated (minus_at row_signs r) (M r c))) (cond b (head net.walks c) (tail net.walks c)) (cond b (tail net.walks c) (head net.walks c))
+    along : (c : ℕ) (b : Bool) → c < n
+        → IsDirectedPathOf (reversed_pairs net.arcs row_signs) m (λ r. negated b (negated (minus_at row_signs r) (M r c))) (cond b (head net.walks c) (tail net.walks c)) (cond b (tail net.walks c) (head net.walks c))
     along c true l = path-way_back (reversed_pairs net.arcs row_signs) m (λ r. negated (minus_at row_signs r) (M r c)) (tail net.walks c) (head net.walks c) (path-reversed net.arcs row_signs m (λ r. M r c) (tail net.walks c) (head net.walks c) (R.paths c l))
     along c false l = path-reversed net.arcs row_signs m (λ r. M r c) (tail net.walks c) (head net.walks c) (R.paths c l)
 

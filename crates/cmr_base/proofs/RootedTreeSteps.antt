@@ -285,7 +285,8 @@ walked_on arcs place links links' links'' places places'' w l f g first second R
     go k (inr m) h end = let e : place ≡ k = omega (arith, m, h) in subst (λ (n : ℕ). AreReached arcs links'' end (node_at links'' n)) e (here end)
 
 -- if no neighbour is missing, each walk from a node that has a place ends in a node that has a place
-walk_stays : (arcs : List Pair) (links : List Link) (places : List ℕ) → IsWalked arcs (length links) links places → (x : ℕ) (steps : List WalkStep) (y : ℕ) → IsWalk arcs x steps y → HasNode links x → HasNode links y
+walk_stays : (arcs : List Pair) (links : List Link) (places : List ℕ) → IsWalked arcs (length links) links places → (x : ℕ) (steps : List WalkStep) (y : ℕ)
+    → IsWalk arcs x steps y → HasNode links x → HasNode links y
 walk_stays arcs links places w x [] y walk h = subst (HasNode links) walk h
 walk_stays arcs links places w x (step ∷ steps) y walk (place, l, e) =
     walk_stays arcs links places w (to arcs step) steps y walk.2 (over step.forwards (walk.1 ∙ sym e))
@@ -318,7 +319,8 @@ to_root arcs links places R (suc n) (suc place) l h =
     walk-then arcs (node_at links (suc place)) (node_at links (link_at links (suc place)).above) 0 first.0 first.1
     (to_root arcs links places R n (link_at links (suc place)).above (omega (arith, j.0, l)) (omega (arith, j.0, h)))
 
-pub whole_tree : (arcs : List Pair) (m : ℕ) (links : List Link) (places : List ℕ) → length arcs ≡ m → AreEndsInRange arcs m → IsRooted arcs links places → suc m ≤ length links → IsTree arcs m × IsSpanning arcs links places
+pub whole_tree : (arcs : List Pair) (m : ℕ) (links : List Link) (places : List ℕ) → length arcs ≡ m → AreEndsInRange arcs m → IsRooted arcs links places
+    → suc m ≤ length links → IsTree arcs m × IsSpanning arcs links places
 whole_tree arcs m links places count ends R many = (record { count = count; nodes = λ row l. ends row (omega (arith, l, count)); linked = linked }, record { rooted = R; whole = whole })
   where
     whole : length links ≡ suc (length arcs)

@@ -61,7 +61,8 @@ pub fewer : (p : ℕ → Bool) (x : ℕ) (xs : List ℕ) → IsIn x xs → p x �
 fewer p x [] h e = absurd h
 fewer p x (y ∷ ys) h e = go (p y) refl h (fewer_or_same p ys) (λ i. fewer p x ys i e)
   where
-    go : (t : Bool) → p y ≡ t → (x ≡ y) ⊎ IsIn x ys → length (filter p ys) ≤ length ys → (IsIn x ys → length (filter p ys) < length ys) → length (cond t (y ∷ filter p ys) (filter p ys)) < suc (length ys)
+    go : (t : Bool) → p y ≡ t → (x ≡ y) ⊎ IsIn x ys → length (filter p ys) ≤ length ys → (IsIn x ys → length (filter p ys) < length ys)
+        → length (cond t (y ∷ filter p ys) (filter p ys)) < suc (length ys)
     go true f (inl i) l r = absurd (not_both (p y) f (ap p (sym i) ∙ e))
     go true f (inr i) l r = let m = r i in omega arith
     go false f i l r = omega arith

@@ -20,7 +20,8 @@ use Rattle.cmr_base.proofs.PlaneWords.{in_rows, words_from_bits}
 -- ---- a row
 
 module _ (words columns : List ℕ) (start : ℕ) (before : List ℕ) where
-  pub run_chosen : (column place size : ℕ) (now after : List ℕ) → IsRowChosen words columns start place before now → IsRunAdded words column size (start + place) now after → IsRun columns column place size
+  pub run_chosen : (column place size : ℕ) (now after : List ℕ) → IsRowChosen words columns start place before now
+      → IsRunAdded words column size (start + place) now after → IsRun columns column place size
       → ((k : ℕ) → k < length columns → has_column before (start + k) ≡ false) → IsRowChosen words columns start (place + size) before after
   run_chosen column place size now after so added is empty = record {
     long = added.long ∙ so.long;

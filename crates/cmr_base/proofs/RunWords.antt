@@ -114,7 +114,8 @@ module _ (words : List ℕ) (column size : ℕ) (before : List ℕ) (at place ol
     ];
   }
     where
-      outside : (c : ℕ) → c / 64 ≡ chunk → (c < 64 * at + place) ⊎ (64 * at + place + size ≤ c) → (c % 64 < place % 64) ⊎ (place % 64 ≤ c % 64) → has_bit (bits * 2 ^ (place % 64) % 2 ^ 64) (c % 64) ≡ false
+      outside : (c : ℕ) → c / 64 ≡ chunk → (c < 64 * at + place) ⊎ (64 * at + place + size ≤ c) → (c % 64 < place % 64) ⊎ (place % 64 ≤ c % 64)
+          → has_bit (bits * 2 ^ (place % 64) % 2 ^ 64) (c % 64) ≡ false
       outside c e h (inl l) = shifted_low bits (place % 64) (c % 64) (omega arith) l
       outside c e (inl h) (inr l) = absurd (omega (arith, e, h, l))
       outside c e (inr h) (inr l) = shifted_high bits (place % 64) (c % 64) (omega arith) l ∙ past (c % 64 - place % 64) (omega (arith, e, h, l))

@@ -38,7 +38,8 @@ back_not false true h e = absurd (false≢true (h refl))
 back_not false false h e = refl
 
 -- a larger set leaves fewer lines
-pub outside_grows : (m n : ℕ) (S T : Lines) → ((x : Line) → IsLine m n x → S x ≡ true → T x ≡ true) → count_lines_in (opposite T) (first_lines m) (first_lines n) ≤ count_lines_in (opposite S) (first_lines m) (first_lines n)
+pub outside_grows : (m n : ℕ) (S T : Lines) → ((x : Line) → IsLine m n x → S x ≡ true → T x ≡ true)
+    → count_lines_in (opposite T) (first_lines m) (first_lines n) ≤ count_lines_in (opposite S) (first_lines m) (first_lines n)
 outside_grows m n S T h =
     let g = inside_grows m n (λ x. not (T x)) (λ x. not (S x)) (λ x l e. back_not (T x) (S x) (h x l) e) in
     let a = outside_is m n S in

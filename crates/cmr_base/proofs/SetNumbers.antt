@@ -45,7 +45,8 @@ cancel : (first m n : ℕ) → m * 2 ^ first ≡ n * 2 ^ first → m ≡ n
 cancel first m n e = eq_of_mul-eq-mul_right (2 ^ first) (pow_pos first) m n e
 
 -- each set has a unique number
-pub set_numbered-unique : (count first high : ℕ) (lines : List ℕ) (number : ℕ) → high ≡ first + count → IncreasesIn first high lines → set_number lines ≡ number * 2 ^ first → set_numbered count first number ≡ lines
+pub set_numbered-unique : (count first high : ℕ) (lines : List ℕ) (number : ℕ) → high ≡ first + count → IncreasesIn first high lines
+    → set_number lines ≡ number * 2 ^ first → set_numbered count first number ≡ lines
 set_numbered-unique zero first high [] number end increases e = refl
 set_numbered-unique zero first high (line ∷ lines) number end increases e = absurd (omega (arith, increases.0, increases.1))
 set_numbered-unique (suc count) first high [] number end increases e =
@@ -76,12 +77,14 @@ set_numbered-unique (suc count) first high (line ∷ lines) number end increases
 ]
 
 -- one more line, which is in the set or not
-pub numbered_more : (prefix : List ℕ) (count line number : ℕ) → line < count → number % 2 ≡ 1 → (prefix ++ line ∷ []) ++ set_numbered (count - (line + 1)) (line + 1) (number / 2) ≡ prefix ++ set_numbered (count - line) line number
+pub numbered_more : (prefix : List ℕ) (count line number : ℕ) → line < count → number % 2 ≡ 1
+    → (prefix ++ line ∷ []) ++ set_numbered (count - (line + 1)) (line + 1) (number / 2) ≡ prefix ++ set_numbered (count - line) line number
 numbered_more prefix count line number h odd =
     let e : count - line ≡ suc (count - (line + 1)) = omega arith in
     rw (append_assoc, e) (rw odd refl)
 
-pub numbered_less : (prefix : List ℕ) (count line number : ℕ) → line < count → number % 2 ≢ 1 → prefix ++ set_numbered (count - (line + 1)) (line + 1) (number / 2) ≡ prefix ++ set_numbered (count - line) line number
+pub numbered_less : (prefix : List ℕ) (count line number : ℕ) → line < count → number % 2 ≢ 1
+    → prefix ++ set_numbered (count - (line + 1)) (line + 1) (number / 2) ≡ prefix ++ set_numbered (count - line) line number
 numbered_less prefix count line number h other =
     let e : count - line ≡ suc (count - (line + 1)) = omega arith in
     let even : number % 2 ≡ 0 = omega arith in

@@ -29,10 +29,12 @@ pub kept_entry : (old x : ℤ) (i : ℕ) → i ≤ MAX_COLUMNS → neg_ℤ (pos 
 kept_entry old x i few low high small = let l = small.low in let h = small.high in omega (arith, ints)
 
 -- it also represents a sum of at most a thousand rows with a thousand entries each
-pub kept_row : (old x : ℤ) (i : ℕ) → i < MAX_ROWS → neg_ℤ (pos (MAX_COLUMNS * i)) ≤ℤ old → old ≤ℤ pos (MAX_COLUMNS * i) → neg_ℤ (pos MAX_COLUMNS) ≤ℤ x → x ≤ℤ pos MAX_COLUMNS → to_z w32 (of_z w32 (old +ℤ to_z w32 (of_z w32 x))) ≡ old +ℤ x
+pub kept_row : (old x : ℤ) (i : ℕ) → i < MAX_ROWS → neg_ℤ (pos (MAX_COLUMNS * i)) ≤ℤ old → old ≤ℤ pos (MAX_COLUMNS * i) → neg_ℤ (pos MAX_COLUMNS) ≤ℤ x
+    → x ≤ℤ pos MAX_COLUMNS → to_z w32 (of_z w32 (old +ℤ to_z w32 (of_z w32 x))) ≡ old +ℤ x
 kept_row old x i few low high from to = omega (arith, ints)
 
-pub row_fits : (old x : ℤ) (i : ℕ) → i < MAX_ROWS → neg_ℤ (pos (MAX_COLUMNS * i)) ≤ℤ old → old ≤ℤ pos (MAX_COLUMNS * i) → neg_ℤ (pos MAX_COLUMNS) ≤ℤ x → x ≤ℤ pos MAX_COLUMNS → SFits w32 (old +ℤ to_z w32 (of_z w32 x))
+pub row_fits : (old x : ℤ) (i : ℕ) → i < MAX_ROWS → neg_ℤ (pos (MAX_COLUMNS * i)) ≤ℤ old → old ≤ℤ pos (MAX_COLUMNS * i) → neg_ℤ (pos MAX_COLUMNS) ≤ℤ x
+    → x ≤ℤ pos MAX_COLUMNS → SFits w32 (old +ℤ to_z w32 (of_z w32 x))
 row_fits old x i few low high from to = omega (arith, ints)
 
 pub lower_row : (old x new : ℤ) (i : ℕ) → new ≡ old +ℤ x → neg_ℤ (pos (MAX_COLUMNS * i)) ≤ℤ old → neg_ℤ (pos MAX_COLUMNS) ≤ℤ x → neg_ℤ (pos (MAX_COLUMNS * (i + 1))) ≤ℤ new

@@ -13,7 +13,8 @@ pub found_is : (test : ℕ → Bool) (xs : List ℕ) → is_some (find test xs) 
 found_is test [] e = true_is_false (sym e)
 found_is test (x ∷ xs) e = go (test x) refl e (λ h. found_is test xs h)
   where
-    go : (b : Bool) → test x ≡ b → is_some (cond b (Some x) (find test xs)) ≡ true → (is_some (find test xs) ≡ true → (y : ℕ) × IsIn y xs × (test y ≡ true)) → (y : ℕ) × IsIn y (x ∷ xs) × (test y ≡ true)
+    go : (b : Bool) → test x ≡ b → is_some (cond b (Some x) (find test xs)) ≡ true → (is_some (find test xs) ≡ true → (y : ℕ) × IsIn y xs × (test y ≡ true))
+        → (y : ℕ) × IsIn y (x ∷ xs) × (test y ≡ true)
     go true t e k = (x, inl refl, t)
     go false t e k = let w = k e in (w.0, inr w.1, w.2)
 

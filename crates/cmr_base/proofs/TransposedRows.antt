@@ -59,7 +59,8 @@ less_of_two a b (inl e) = omega arith
 less_of_two a b (inr e) = omega arith
 
 -- a word without one of its bits is less
-pub less_without : (word next place : ℕ) → word < 2 ^ 64 → next < 2 ^ 64 → has_bit word place ≡ true → has_bit next place ≡ false → ((k : ℕ) → k < 64 → k ≢ place → bit_at next k ≡ bit_at word k) → next < word
+pub less_without : (word next place : ℕ) → word < 2 ^ 64 → next < 2 ^ 64 → has_bit word place ≡ true → has_bit next place ≡ false
+    → ((k : ℕ) → k < 64 → k ≢ place → bit_at next k ≡ bit_at word k) → next < word
 less_without word next place fits less there gone same = elim (cases_eq next word) [
   | inl e ↦ absurd (true≢false (sym there ∙ ap (λ w. has_bit w place) (sym e) ∙ gone))
   | inr d ↦ omega (arith, and_le_l word next, common, d)
@@ -145,7 +146,8 @@ module _ (to row : ℕ) (words before : List ℕ) where
     others = λ column r l h. refl;
   }
 
-  pub word_transposed : (chunk : ℕ) (now after : List ℕ) → row < 64 * to → IsRowTransposed to row words (64 * chunk) before now → IsWordTransposed to row (64 * chunk) (get_or words chunk 0) now after → IsRowTransposed to row words (64 * (chunk + 1)) before after
+  pub word_transposed : (chunk : ℕ) (now after : List ℕ) → row < 64 * to → IsRowTransposed to row words (64 * chunk) before now
+      → IsWordTransposed to row (64 * chunk) (get_or words chunk 0) now after → IsRowTransposed to row words (64 * (chunk + 1)) before after
   word_transposed chunk now after low so here = record {
     long = here.long ∙ so.long;
     are_words = λ are. here.are_words (so.are_words are);
@@ -198,7 +200,8 @@ module _ (width : ℕ) (plane : List ℕ) where
     }
 
     -- if a row has a bit, the plane has room for it
-    pub room : (rows row column : ℕ) (made words : List ℕ) → row < rows → HasNoBitPast plane rows width → words ≡ take (words_for width) (drop (row * words_for width) plane) → length words ≡ words_for width
+    pub room : (rows row column : ℕ) (made words : List ℕ) → row < rows → HasNoBitPast plane rows width
+        → words ≡ take (words_for width) (drop (row * words_for width) plane) → length words ≡ words_for width
         → length made ≡ width * to → has_column words column ≡ true → column * to + to ≤ length made
     room rows row column made words l ends is long whole e =
         let all : (column + 1) * to ≤ width * to = mul-le-mul_right to (omega (arith, inside (cases_lt column (64 * words_for width)) (cases_lt column width))) in

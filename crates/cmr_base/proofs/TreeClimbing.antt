@@ -40,7 +40,8 @@ direction-between r (x ∷ prefix) back step n = go (same_or_not r x.arc) (direc
     go (inr m) k = rw (is_ne r x.arc m) k
 
 module _ (arcs : List Pair) where
-  walk-prefix : (x : ℕ) (prefix : List WalkStep) (y : ℕ) (step : WalkStep) (z : ℕ) → IsWalk arcs x prefix y → step.arc < length arcs → from arcs step ≡ y → to arcs step ≡ z → IsWalk arcs x (prefix ++ step ∷ []) z
+  walk-prefix : (x : ℕ) (prefix : List WalkStep) (y : ℕ) (step : WalkStep) (z : ℕ) → IsWalk arcs x prefix y → step.arc < length arcs → from arcs step ≡ y
+      → to arcs step ≡ z → IsWalk arcs x (prefix ++ step ∷ []) z
   walk-prefix x [] y step z w l e f = (l, e ∙ sym w, f)
   walk-prefix x (a ∷ prefix) y step z w l e f = (w.0, w.1, walk-prefix (to arcs a) prefix y step z w.2 l e f)
 

@@ -64,7 +64,8 @@ pub length-plane : (m : Matrix) (test : ℤ → Bool) (plane : List ℕ) → pla
 length-plane m test plane is = ap length is ∙ length-rows (words_of (words_for m.width) test) (words_for m.width) m.rows (length-words_of (words_for m.width) test)
 
 -- the word of an entry is in a plane
-pub place_in : (a : Inside) (m : Matrix) (test : ℤ → Bool) (plane : List ℕ) (r c : ℕ) → matrix_of a ≡ m → plane ≡ flat_map (words_of (words_for m.width) test) m.rows → r < height m → c < m.width → r * words_for a.columns + c / 64 < length plane
+pub place_in : (a : Inside) (m : Matrix) (test : ℤ → Bool) (plane : List ℕ) (r c : ℕ) → matrix_of a ≡ m
+    → plane ≡ flat_map (words_of (words_for m.width) test) m.rows → r < height m → c < m.width → r * words_for a.columns + c / 64 < length plane
 place_in a m test plane r c e is hr hc =
     let wide = width_is a m e in
     let inside : c / 64 < words_for m.width = omega arith in
@@ -72,7 +73,8 @@ place_in a m test plane r c e is hr hc =
     (omega (arith, length-plane m test plane is, mul-add-lt r (words_for m.width) (c / 64) (height m) hr inside))
 
 -- the words of a row in a plane
-pub row_inside : (m : Matrix) (test : ℤ → Bool) (plane : List ℕ) (row words : ℕ) → plane ≡ flat_map (words_of (words_for m.width) test) m.rows → words ≡ words_for m.width → row < height m → row * words + words ≤ length plane
+pub row_inside : (m : Matrix) (test : ℤ → Bool) (plane : List ℕ) (row words : ℕ) → plane ≡ flat_map (words_of (words_for m.width) test) m.rows
+    → words ≡ words_for m.width → row < height m → row * words + words ≤ length plane
 row_inside m test plane row words is e h =
     let all : (row + 1) * words ≤ height m * words = mul-le-mul_right words (omega arith) in
     omega (arith, all, length-plane m test plane is, ap (λ n. height m * n) e)

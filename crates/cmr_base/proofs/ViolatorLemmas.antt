@@ -33,7 +33,8 @@ violator-odd_times M rows columns v =
     (rows_once (λ column row. M row column) columns (odd_times rows) (violator-transposed M (odd_times rows) columns (rows_once M rows columns v)))
 
 -- violators of matrices that are equal on these lines
-pub violator_same : (M N : ℕ → ℕ → ℤ) (rows columns : List ℕ) → AllByRecursion (λ row. AllByRecursion (λ column. M row column ≡ N row column) columns) rows → IsViolator M rows columns → IsViolator N rows columns
+pub violator_same : (M N : ℕ → ℕ → ℤ) (rows columns : List ℕ) → AllByRecursion (λ row. AllByRecursion (λ column. M row column ≡ N row column) columns) rows
+    → IsViolator M rows columns → IsViolator N rows columns
 violator_same M N rows columns same v =
     let row_sums : AllByRecursion (λ row. sum_over columns (M row) ≡ sum_over columns (N row)) rows =
     all_weaker (λ row. AllByRecursion (λ column. M row column ≡ N row column) columns) (λ row. sum_over columns (M row) ≡ sum_over columns (N row)) (λ row. sum_over_same columns (M row) (N row)) rows same in
@@ -48,13 +49,15 @@ violator_same M N rows columns same v =
     column_at [] = tt
     column_at (column ∷ columns) = (tt, column_at columns)
 
-    by_column : (rows columns : List ℕ) → AllByRecursion (λ row. AllByRecursion (λ column. M row column ≡ N row column) columns) rows → AllByRecursion (λ column. AllByRecursion (λ row. M row column ≡ N row column) rows) columns
+    by_column : (rows columns : List ℕ) → AllByRecursion (λ row. AllByRecursion (λ column. M row column ≡ N row column) columns) rows
+        → AllByRecursion (λ column. AllByRecursion (λ row. M row column ≡ N row column) rows) columns
     by_column [] columns h = column_at columns
     by_column (row ∷ rows) columns h = all_both (λ column. M row column ≡ N row column) (λ column. AllByRecursion (λ r. M r column ≡ N r column) rows) (λ column. AllByRecursion (λ r. M r column ≡ N r column) (row ∷ rows))
         (λ column first later. (first, later)) columns h.0 (by_column rows columns h.1)
 
 -- the order of the rows does not matter
-pub violator_rows_reordered : (M : ℕ → ℕ → ℤ) (item : ℕ) (fewer rows others columns : List ℕ) → HasOneMore item fewer rows → HasOneMore item fewer others → IsViolator M rows columns → IsViolator M others columns
+pub violator_rows_reordered : (M : ℕ → ℕ → ℤ) (item : ℕ) (fewer rows others columns : List ℕ) → HasOneMore item fewer rows → HasOneMore item fewer others
+    → IsViolator M rows columns → IsViolator M others columns
 violator_rows_reordered M item fewer rows others columns h k v = record {
   even_rows = all-one_more (λ row. IsEven (sum_over columns (M row))) item fewer others k (item_of_one_more (λ row. IsEven (sum_over columns (M row))) item fewer rows h v.even_rows)
       (all_without (λ row. IsEven (sum_over columns (M row))) item fewer rows h v.even_rows);
@@ -65,7 +68,8 @@ violator_rows_reordered M item fewer rows others columns h k v = record {
     sums : (f : ℕ → ℤ) → sum_over rows f ≡ sum_over others f
     sums f = sum_over-one_more item fewer rows f h ∙ sym (sum_over-one_more item fewer others f k)
 
-pub violator_columns_reordered : (M : ℕ → ℕ → ℤ) (item : ℕ) (fewer rows columns others : List ℕ) → HasOneMore item fewer columns → HasOneMore item fewer others → IsViolator M rows columns → IsViolator M rows others
+pub violator_columns_reordered : (M : ℕ → ℕ → ℤ) (item : ℕ) (fewer rows columns others : List ℕ) → HasOneMore item fewer columns → HasOneMore item fewer others
+    → IsViolator M rows columns → IsViolator M rows others
 violator_columns_reordered M item fewer rows columns others h k v =
     violator-transposed (λ column row. M row column) others rows (violator_rows_reordered (λ column row. M row column) item fewer columns others rows h k (violator-transposed M rows columns v))
 

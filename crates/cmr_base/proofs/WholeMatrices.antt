@@ -19,7 +19,8 @@ pub all_lines_make : (m : Matrix) (R C : List ℕ) → IsMatrix m → R ≡ firs
 all_lines_make m R C is r c = ap₂ (submatrix m) r c ∙ whole_submatrix m is
 
 -- matrices of one size with the same entries
-pub same_matrix : (m n : Matrix) → IsRectangular m → IsRectangular n → height m ≡ height n → m.width ≡ n.width → ((row column : ℕ) → row < height m → column < m.width → entry m row column ≡ entry n row column) → m ≡ n
+pub same_matrix : (m n : Matrix) → IsRectangular m → IsRectangular n → height m ≡ height n → m.width ≡ n.width
+    → ((row column : ℕ) → row < height m → column < m.width → entry m row column ≡ entry n row column) → m ≡ n
 same_matrix m n long_m long_n high wide entries = ap₂ (λ (rows : List (List ℤ)) (width : ℕ). let x : Matrix = record { rows = rows; width = width } in x) rows wide
   where
     long : (row : ℕ) → row < height m → length (row_of m row) ≡ length (row_of n row)

@@ -16,7 +16,8 @@ pub count_parts : (p : ℕ → Bool) (a k : ℕ) → count p (a + k) ≡ count p
 count_parts p a zero = let e : a + 0 ≡ a = omega arith in ap (count p) e ∙ (let z : count p a ≡ count p a + 0 = omega arith in z)
 count_parts p a (suc k) = let e : a + suc k ≡ suc (a + k) = omega arith in ap (count p) e ∙ go (p (a + k)) (count_parts p a k)
   where
-    go : (t : Bool) → count p (a + k) ≡ count p a + count (λ i. p (a + i)) k → cond t (suc (count p (a + k))) (count p (a + k)) ≡ count p a + cond t (suc (count (λ i. p (a + i)) k)) (count (λ i. p (a + i)) k)
+    go : (t : Bool) → count p (a + k) ≡ count p a + count (λ i. p (a + i)) k
+        → cond t (suc (count p (a + k))) (count p (a + k)) ≡ count p a + cond t (suc (count (λ i. p (a + i)) k)) (count (λ i. p (a + i)) k)
     go true h = omega (arith, h)
     go false h = h
 
@@ -47,7 +48,8 @@ ones_first (suc k) n =
     go (suc (suc b)) l h = absurd (omega arith)
 
 -- a word that has the first bits of another word and no other bits
-pub ones_of_first : (first word places : ℕ) → first < 2 ^ 64 → places ≤ 64 → ((k : ℕ) → k < places → has_bit first k ≡ has_bit word k) → ((k : ℕ) → places ≤ k → has_bit first k ≡ false) → count_ones first ≡ count (has_bit word) places
+pub ones_of_first : (first word places : ℕ) → first < 2 ^ 64 → places ≤ 64 → ((k : ℕ) → k < places → has_bit first k ≡ has_bit word k)
+    → ((k : ℕ) → places ≤ k → has_bit first k ≡ false) → count_ones first ≡ count (has_bit word) places
 ones_of_first first word places fits few inside past =
     let whole : first ≡ first % 2 ^ 64 = omega (arith, fits) in
     let e : 64 ≡ places + (64 - places) = omega (arith, few) in
@@ -56,7 +58,8 @@ ones_of_first first word places fits few inside past =
     ap count_ones whole ∙ ones_first 64 first ∙ ap (count (has_bit first)) e ∙ count_parts (has_bit first) places (64 - places) ∙ omega (arith, later, sooner)
 
 -- the columns of one more word
-pub count_chunk : (words : List ℕ) (chunk places before first : ℕ) → before ≡ count (has_column words) (64 * chunk) → places ≤ 64 → first ≡ count (has_bit (get_or words chunk 0)) places → before + first ≡ count (has_column words) (64 * chunk + places)
+pub count_chunk : (words : List ℕ) (chunk places before first : ℕ) → before ≡ count (has_column words) (64 * chunk) → places ≤ 64
+    → first ≡ count (has_bit (get_or words chunk 0)) places → before + first ≡ count (has_column words) (64 * chunk + places)
 count_chunk words chunk places before first so few here =
     let same = count_same (λ i. has_column words (64 * chunk + i)) (has_bit (get_or words chunk 0)) places (λ i l. column_at words chunk i (omega (arith, l, few))) in
     let parts = count_parts (has_column words) (64 * chunk) places in

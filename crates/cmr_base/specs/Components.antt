@@ -47,7 +47,8 @@ pub record AreComponents (m : Matrix) (parts : List LineSet) : Type 0 where
   pub column_sets : (a : ℕ) → a < length parts → IsColumnSet m (part_at parts a).columns
   pub components : (a : ℕ) → a < length parts → IsComponent (height m) m.width (entry m) (listed (part_at parts a).rows (part_at parts a).columns)
   pub all : (line : Line) → IsLine (height m) m.width line → (a : ℕ) × (a < length parts) × HasLine (part_at parts a).rows (part_at parts a).columns line
-  pub once : (a b : ℕ) (line : Line) → a < length parts → b < length parts → HasLine (part_at parts a).rows (part_at parts a).columns line → HasLine (part_at parts b).rows (part_at parts b).columns line → a ≡ b
+  pub once : (a b : ℕ) (line : Line) → a < length parts → b < length parts → HasLine (part_at parts a).rows (part_at parts a).columns line
+      → HasLine (part_at parts b).rows (part_at parts b).columns line → a ≡ b
   pub ordered : (a b : ℕ) → a < b → b < length parts → first_number (height m) (part_at parts a) < first_number (height m) (part_at parts b)
 
 -- sets of lines that cover the given rows and columns; the lines of two different sets cross in zeros

@@ -47,5 +47,6 @@ pub record IsRowChosen (words columns : List ℕ) (start count : ℕ) (before af
 pub record IsPlaneChosen (width : ℕ) (plane rows columns : List ℕ) (count : ℕ) (made : List ℕ) : Type 0 where
   pub long : length made ≡ length rows * words_for (length columns)
   pub are_words : AreWords made
-  pub chosen : (i k : ℕ) → i < count → k < length columns → has_column made (64 * (i * words_for (length columns)) + k) ≡ has_column plane (64 * (slice_index rows i * words_for width) + slice_index columns k)
+  pub chosen : (i k : ℕ) → i < count → k < length columns
+      → has_column made (64 * (i * words_for (length columns)) + k) ≡ has_column plane (64 * (slice_index rows i * words_for width) + slice_index columns k)
   pub empty : (i k : ℕ) → i < length rows → k < 64 * words_for (length columns) → (count ≤ i) ⊎ (length columns ≤ k) → has_column made (64 * (i * words_for (length columns)) + k) ≡ false

@@ -34,7 +34,8 @@ module _ (p : TestedProperty) (o : TestOrder) (m : Matrix) where
       sym (lines_back o.transposed minimal)
       ∙ ap tested (one_minimal (Has p) (tested_matrix o.transposed m) o.minimal (tested minimal) (tested other) a.asked b.asked) ∙ lines_back o.transposed other
 
-  graph_files_alike : (net other : Net) → IsShown p o m net → IsShown p o m other → (name : Option (List ℕ)) → AllAlike HoldAlikeNetworks (asked_file name (written_graph o.transposed net)) (asked_file name (written_graph o.transposed other))
+  graph_files_alike : (net other : Net) → IsShown p o m net → IsShown p o m other → (name : Option (List ℕ))
+      → AllAlike HoldAlikeNetworks (asked_file name (written_graph o.transposed net)) (asked_file name (written_graph o.transposed other))
   graph_files_alike net other is is' None = tt
   graph_files_alike net other is is' (Some name) = (networks refl p o.transposed m net other is.shows is'.shows refl refl, tt)
 

@@ -22,7 +22,8 @@ use Rattle.cmr_classes.specs.GraphMatrix.{GraphDecides, GraphMeans, IsMatrixOf, 
 use Rattle.cmr_classes.proofs.GraphicNetworkAnswers.{path_lawful}
 
 -- a matrix that was made from a network
-pub matrix_made : (p : TestedProperty) (net : SizedNetwork) (r : Result Matrix Memory) → IfOk r IsMatrix → IfOk r (λ m. height m ≡ net.rows) → IfOk r (λ m. m.width ≡ net.columns) → IfOk r (IsTestable p) → IfOk r (Shows p net.net)
+pub matrix_made : (p : TestedProperty) (net : SizedNetwork) (r : Result Matrix Memory) → IfOk r IsMatrix → IfOk r (λ m. height m ≡ net.rows)
+    → IfOk r (λ m. m.width ≡ net.columns) → IfOk r (IsTestable p) → IfOk r (Shows p net.net)
     → IfOk r (IsMatrixOf p net)
 matrix_made p net (Ok m) shape rows columns testable shows = record { is_matrix = shape; rows = rows; columns = columns; testable = testable; shows = shows }
 matrix_made p net (Err memory) shape rows columns testable shows = tt
@@ -75,11 +76,13 @@ test_inputs p o = go o.from_graph
     go false = refl
 
 -- with `-c` the tool decides on the graph
-pub decides_on_graph : (p : TestedProperty) (o : TestOrder) (bytes : List (List ℕ)) (ended : Result Outcome Stop) → o.from_graph ≡ true → IsDecision ((graph_matrix_tool p o.file).Reports bytes) ended → IsDecision ((test_tool p o).Reports bytes) ended
+pub decides_on_graph : (p : TestedProperty) (o : TestOrder) (bytes : List (List ℕ)) (ended : Result Outcome Stop) → o.from_graph ≡ true
+    → IsDecision ((graph_matrix_tool p o.file).Reports bytes) ended → IsDecision ((test_tool p o).Reports bytes) ended
 decides_on_graph p o bytes ended graph decided =
     subst (λ (b : Bool). IsDecision ((either_tool b (graph_matrix_tool p o.file) (path_tool p o)).Reports bytes) ended) (sym graph) decided
 
 -- without `-c` it decides on the matrix
-pub decides_on_matrix : (p : TestedProperty) (o : TestOrder) (bytes : List (List ℕ)) (ended : Result Outcome Stop) → o.from_graph ≡ false → IsDecision ((path_tool p o).Reports bytes) ended → IsDecision ((test_tool p o).Reports bytes) ended
+pub decides_on_matrix : (p : TestedProperty) (o : TestOrder) (bytes : List (List ℕ)) (ended : Result Outcome Stop) → o.from_graph ≡ false
+    → IsDecision ((path_tool p o).Reports bytes) ended → IsDecision ((test_tool p o).Reports bytes) ended
 decides_on_matrix p o bytes ended plain decided =
     subst (λ (b : Bool). IsDecision ((either_tool b (graph_matrix_tool p o.file) (path_tool p o)).Reports bytes) ended) (sym plain) decided

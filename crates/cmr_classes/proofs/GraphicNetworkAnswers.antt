@@ -35,7 +35,8 @@ has_shown Graphic m net binary shows = (binary, (net, shows))
 has_shown Network m net testable shows = (net, shows)
 
 -- a matrix is not graphic if no tree has its support
-pub graphic_found : (m : Matrix) (found : Option Net) → MatchOption found (¬ (HasGraphicSupport m)) (λ net. ReproducesSupport net m) → MatchOption found (¬ (IsGraphic m)) (λ net. ReproducesSupport net m)
+pub graphic_found : (m : Matrix) (found : Option Net) → MatchOption found (¬ (HasGraphicSupport m)) (λ net. ReproducesSupport net m)
+    → MatchOption found (¬ (IsGraphic m)) (λ net. ReproducesSupport net m)
 graphic_found m None none = λ graphic. none graphic.1
 graphic_found m (Some net) shows = shows
 
@@ -45,7 +46,8 @@ shown_network Graphic net m shows = shows.network
 shown_network Network net m shows = shows.network
 
 -- the minimal set that is found if a matrix lacks a property
-pub minimal_found : (P : Matrix → Type 0) (m : Matrix) (r : Result (Option LineSet) Memory) → ¬ (P m) → IfOk r (λ found. MatchOption found (P m) (λ lines. (¬ (P m)) × IsGreedySet P m lines.rows lines.columns))
+pub minimal_found : (P : Matrix → Type 0) (m : Matrix) (r : Result (Option LineSet) Memory) → ¬ (P m)
+    → IfOk r (λ found. MatchOption found (P m) (λ lines. (¬ (P m)) × IsGreedySet P m lines.rows lines.columns))
     → IfOk r (λ found. IfSome found (λ lines. IsMinimalWithout P m lines.rows lines.columns)) → IfOk r (λ found. IsSomeAnd found (IsMinimalSet P m))
 minimal_found P m (Ok None) lacks found minimal = absurd (lacks found)
 minimal_found P m (Ok (Some lines)) lacks found minimal = record { greedy = found.1; minimal = minimal }

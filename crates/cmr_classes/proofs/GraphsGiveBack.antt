@@ -45,7 +45,8 @@ record IsWritten (p : TestedProperty) (m : Matrix) (report : Report) (name : Lis
   files : report.files ≡ record { name = name; bytes = graph_text net } ∷ []
   shows : Shows p net m
 
-is_written : (p : TestedProperty) (o : TestOrder) (m : Matrix) (report : Report) (name : List ℕ) → o.transposed ≡ false → o.graph ≡ Some name → TestDecides p o m report → report.status ≡ answer_status Yes → IsWritten p m report name
+is_written : (p : TestedProperty) (o : TestOrder) (m : Matrix) (report : Report) (name : List ℕ) → o.transposed ≡ false → o.graph ≡ Some name
+    → TestDecides p o m report → report.status ≡ answer_status Yes → IsWritten p m report name
 is_written p o m report name plain asked (yes net shown e) status = record {
   net = net;
   files = ap (λ (r : Report). r.files) e ∙ ap (λ (g : Option (List ℕ)). asked_file g (written_graph o.transposed net)) asked ∙ ap (λ (t : Bool). asked_file (Some name) (written_graph t net)) plain;

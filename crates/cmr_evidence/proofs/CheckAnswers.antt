@@ -71,7 +71,8 @@ one_tree m t r s (accepted sound means e) (refused path broken is f) = absurd (s
 one_tree m t r s (refused path broken is e) (accepted sound means f) = absurd (sound_unbroken m (places t.rows t.columns t.root) path broken sound is)
 one_tree m t r s (refused path broken is e) (refused path' broken' is' f) = status_of r _ e ∙ sym (status_of s _ f)
 
-by_verdict : (m : Matrix) (t : PlainTree) (sound : IsSoundFor m t) (v : Verdict) → verdict_of t.root ≡ v → VerdictMeans m v → (answer : Answer) → (accepted_report m v).status ≡ answer_status answer → TreeMeans m t answer
+by_verdict : (m : Matrix) (t : PlainTree) (sound : IsSoundFor m t) (v : Verdict) → verdict_of t.root ≡ v → VerdictMeans m v → (answer : Answer)
+    → (accepted_report m v).status ≡ answer_status answer → TreeMeans m t answer
 by_verdict m t sound verdicts.Yes e means Yes is = (sound, e, unimodular m means.unimodular)
 by_verdict m t sound verdicts.Yes e means No is = absurd (omega arith)
 by_verdict m t sound verdicts.Yes e means Undecided is = absurd (omega arith)
@@ -183,7 +184,8 @@ module _ (file : List ℕ) where
   one_evidence kinds.Chain bytes m r s a b = one_of_text faults.Chain file (ChainDecides m) (one_chain m) (chain (text_of bytes)) r s a b
   one_evidence kinds.Violator bytes m r s a b = one_of_text faults.Matrix file (ViolatorDecides m) (one_violator m) (named_lines (height m) m.width (text_of bytes)) r s a b
 
-  evidence_says : (kind : EvidenceKind) (bytes : List ℕ) (m : Matrix) (r : Report) (answer : Answer) → EvidenceReports file kind m bytes r → r.status ≡ answer_status answer → EvidenceMeans kind m bytes answer
+  evidence_says : (kind : EvidenceKind) (bytes : List ℕ) (m : Matrix) (r : Report) (answer : Answer) → EvidenceReports file kind m bytes r
+      → r.status ≡ answer_status answer → EvidenceMeans kind m bytes answer
   evidence_says kinds.Tree bytes m r answer a is =
       let found = answered faults.Tree file (TreeDecides m) (tree (text_of bytes)) r answer a is in
       (found.0, found.1, tree_says m found.0 r answer found.2 is)
@@ -206,7 +208,8 @@ module _ (o : CheckOrder) where
       let found = answered faults.Matrix o.matrix (λ m. EvidenceReports o.evidence kind m evidence) (matrix_in o.form (is_of_support kind) matrix) r answer a is in
       (found.0, found.1, evidence_says o.evidence kind evidence found.0 r answer found.2 is)
 
-  evidence_fault : (kind : EvidenceKind) (m : Matrix) (evidence : List ℕ) (r : Report) → EvidenceReports o.evidence kind m evidence r → r.status ≡ failure_status Text → IsFaultOfFile (evidence_files o.matrix o.evidence) r
+  evidence_fault : (kind : EvidenceKind) (m : Matrix) (evidence : List ℕ) (r : Report) → EvidenceReports o.evidence kind m evidence r
+      → r.status ≡ failure_status Text → IsFaultOfFile (evidence_files o.matrix o.evidence) r
   evidence_fault kinds.Tree m evidence = fault_of_last faults.Tree o.evidence (TreeDecides m) (evidence_files o.matrix o.evidence) (1, omega arith, refl) (tree_answers m) (tree (text_of evidence))
   evidence_fault kinds.Chain m evidence = fault_of_last faults.Chain o.evidence (ChainDecides m) (evidence_files o.matrix o.evidence) (1, omega arith, refl) (chain_answers m) (chain (text_of evidence))
   evidence_fault kinds.Violator m evidence = fault_of_last faults.Matrix o.evidence (ViolatorDecides m) (evidence_files o.matrix o.evidence) (1, omega arith, refl) (violator_answers m) (named_lines (height m) m.width (text_of evidence))

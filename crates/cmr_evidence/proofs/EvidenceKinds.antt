@@ -31,7 +31,8 @@ first_word : {A B K : Type 0} (short : K) (parse : List ℕ → Result A K) (tex
 first_word short parse text next y e = let first = bind_ok (field short parse text) next y e in (first.0.0, first.0.1, field_ok short parse text first.0.0 first.0.1 first.1)
 
 -- this word decides the kind of the evidence
-by_first : {A K : Type 0} (parse : List ℕ → Result A K) (bytes : List ℕ) (x : A) (rest : Text) (kind : EvidenceKind) → Fielded parse (text_of bytes) x rest → ((word : List ℕ) → parse word ≡ Ok x → kind_named word ≡ kind)
+by_first : {A K : Type 0} (parse : List ℕ → Result A K) (bytes : List ℕ) (x : A) (rest : Text) (kind : EvidenceKind) → Fielded parse (text_of bytes) x rest
+    → ((word : List ℕ) → parse word ≡ Ok x → kind_named word ≡ kind)
     → evidence_kind bytes ≡ kind
 by_first parse bytes x rest kind read named = ap kind_of_words read.words_are ∙ named read.word.1 read.parsed
 
@@ -40,7 +41,8 @@ by_first parse bytes x rest kind read named = ap kind_of_words read.words_are �
 titled : (word : List ℕ) (x : Title) → title_in word ≡ Ok x → kind_named word ≡ kinds.Tree
 titled word x e = go (bytes_eq word (codes "cmr-tree")) (bytes_eq word (codes "cmr-pivots")) (bytes_eq word (codes "cmr-chain")) e
   where
-    go : (a b c : Bool) → (if a then Ok title.Tree else (if b then Ok title.Pivots else Err kinds_of_tree.WrongVersion)) ≡ Ok x → (if a then kinds.Tree else if b then kinds.Tree else if c then kinds.Chain else kinds.Violator) ≡ kinds.Tree
+    go : (a b c : Bool) → (if a then Ok title.Tree else (if b then Ok title.Pivots else Err kinds_of_tree.WrongVersion)) ≡ Ok x
+        → (if a then kinds.Tree else if b then kinds.Tree else if c then kinds.Chain else kinds.Violator) ≡ kinds.Tree
     go true b c e = refl
     go false true c e = refl
     go false false c e = absurd (cc)

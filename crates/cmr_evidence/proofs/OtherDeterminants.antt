@@ -30,7 +30,8 @@ module _ (M : ℕ → ℕ → ℤ) where
   abbrev IsOther : List ℕ → List ℕ → Type 0
   IsOther P Q = (length P ≡ length Q) × (¬ IsEntry (minor M Q P))
 
-  entry_unless_other : (P Q : List ℕ) → IsEntry (minor M Q P) ⊎ (¬ IsEntry (minor M Q P)) → (length P < length Q) ⊎ (length Q ≤ length P) → (length Q < length P) ⊎ (length P ≤ length Q) → HasEntry P Q ⊎ IsOther P Q
+  entry_unless_other : (P Q : List ℕ) → IsEntry (minor M Q P) ⊎ (¬ IsEntry (minor M Q P)) → (length P < length Q) ⊎ (length Q ≤ length P)
+      → (length Q < length P) ⊎ (length P ≤ length Q) → HasEntry P Q ⊎ IsOther P Q
   entry_unless_other P Q (inl is) a b = inl (λ e. is)
   entry_unless_other P Q (inr other) (inl less) b = inl (λ e. absurd (omega arith))
   entry_unless_other P Q (inr other) (inr a) (inl less) = inl (λ e. absurd (omega arith))

@@ -95,7 +95,9 @@ seen_from ended tells before held reads writes failed faults after status same a
     seen : (report : Report) (after : Devices) → IsDelivered report tells (after_reading before before.held reads before.writes failed faults) after → IsDelivered report tells before after
     seen report after d = record { files = d.files; writes = d.writes; output = d.output; output_taken = d.output_taken; error = d.error; error_taken = d.error_taken }
 
-    carried : (report : Report) (after : Devices) (status : ℕ) → IsCarriedOut report tells (after_reading before before.held reads before.writes failed faults) after status → IsCarriedOut report tells before after status
+    carried : (report : Report) (after : Devices) (status : ℕ)
+        → IsCarriedOut report tells (after_reading before before.held reads before.writes failed faults) after status
+        → IsCarriedOut report tells before after status
     carried report after status (delivered e d) = delivered e (seen report after d)
     carried report after status (unwritten e u) = unwritten e (record {
       place = u.place;
@@ -120,7 +122,8 @@ seen_from ended tells before held reads writes failed faults after status same a
       cause = c.cause;
     })
 
-    later : (ended : Result Outcome Stop) (after : Devices) (status : ℕ) → CarriesOut ended tells (after_reading before before.held reads before.writes failed faults) after status → CarriesOut ended tells before after status
+    later : (ended : Result Outcome Stop) (after : Devices) (status : ℕ)
+        → CarriesOut ended tells (after_reading before before.held reads before.writes failed faults) after status → CarriesOut ended tells before after status
     later (Ok outcome) after status done = carried (outcome_report outcome) after status done
     later (Err stop) after status done = (done.0, seen (stop_report stop) after done.1)
 
@@ -198,13 +201,15 @@ is_reported : (ordered : Ordered) → IsLawfulOrder ordered → (held : Held) (e
 is_reported ordered law held ended report a b = record { reports = a; status = one_status ordered law held ended report a b }
 
 -- a missing file has no report
-none_of_missing : (ordered : Ordered) (held : Held) (tells calm : Bool) (reads : Between) (failed : Bool) (name : List ℕ) → CannotRead ordered held tells calm reads failed name → IsTrue tells → IsTrue calm
+none_of_missing : (ordered : Ordered) (held : Held) (tells calm : Bool) (reads : Between) (failed : Bool) (name : List ℕ)
+    → CannotRead ordered held tells calm reads failed name → IsTrue tells → IsTrue calm
     → (report : Report) → ¬ (Reports ordered held report)
 none_of_missing nothing held tells calm reads failed name at told is_calm report is = at
 none_of_missing (work tool) held tells calm reads failed name at told is_calm report is = subst (λ g. ReportsGiven tool g report) (at.missing told is_calm) is
 
 -- or there is no status
-the_status : (ordered : Ordered) → IsLawfulOrder ordered → (held : Held) (tells calm : Bool) (reads : Between) (failed : Bool) (ended : Result Outcome Stop) → Ends ordered held tells calm reads failed ended → IsTrue tells → (report : Report) → Reports ordered held report
+the_status : (ordered : Ordered) → IsLawfulOrder ordered → (held : Held) (tells calm : Bool) (reads : Between) (failed : Bool) (ended : Result Outcome Stop)
+    → Ends ordered held tells calm reads failed ended → IsTrue tells → (report : Report) → Reports ordered held report
     → IsReported ordered held (ended_report ended) report ⊎ (((ended_report ended).status ≡ failure_status failures.Device) × (IsTrue calm → ⊥)) ⊎ (ended ≡ Err stops.Memory)
 the_status ordered law held tells calm reads failed (Ok outcome) ends told report is = inl (is_reported ordered law held _ report (ends.1 told) is)
 the_status nothing law held tells calm reads failed (Err stops.BadWords) ends told report is = inl (is_reported nothing law held _ report refl is)
@@ -219,7 +224,8 @@ stop_status : (ended : Result Outcome Stop) (status : ℕ) → IfErr ended (λ s
 stop_status ended status h stop e = subst (λ r. IfErr r (λ s. status ≡ (stop_report s).status)) e h
 
 -- only refused words end with their status
-refused_words : (ordered : Ordered) (held : Held) (tells calm : Bool) (reads : Between) (failed : Bool) (ended : Result Outcome Stop) → Ends ordered held tells calm reads failed ended → (ended_report ended).status ≡ failure_status failures.Words → IsNothing ordered
+refused_words : (ordered : Ordered) (held : Held) (tells calm : Bool) (reads : Between) (failed : Bool) (ended : Result Outcome Stop)
+    → Ends ordered held tells calm reads failed ended → (ended_report ended).status ≡ failure_status failures.Words → IsNothing ordered
 refused_words ordered held tells calm reads failed (Ok outcome) ends e = absurd (answered_or_failed (answer_status outcome.answer) outcome.answer failures.Words refl e)
 refused_words ordered held tells calm reads failed (Err stops.BadWords) ends e = ends.0
 refused_words ordered held tells calm reads failed (Err (stops.TooLong name)) ends e = absurd (omega arith)
@@ -238,16 +244,20 @@ is_status (Err stops.Memory) = inr (failures.Memory, refl)
 
 -- ---- what an answer means of the texts that were read
 
-means_report : (tool : Tool) → IsLawful tool → (reads : Between) (report : Report) (answer : Answer) → IsReportOf tool reads report → report.status ≡ answer_status answer → MeansRead (work tool) reads answer
+means_report : (tool : Tool) → IsLawful tool → (reads : Between) (report : Report) (answer : Answer) → IsReportOf tool reads report
+    → report.status ≡ answer_status answer → MeansRead (work tool) reads answer
 means_report tool law reads report answer (gives_answer given s e bytes count d all gave) is = (bytes, count, all, gave, law.means bytes report answer d is)
 means_report tool law reads report answer (names_fault name kind place same bytes count d all gave) is = absurd (answered_or_failed report.status answer failures.Text is (status_of report _ same))
 means_report tool law reads report answer (names_too_long place name at same all gave) is = absurd (answered_or_failed report.status answer failures.Text is (status_of report _ same))
 
-means_some : (ordered : Ordered) → IsLawfulOrder ordered → (reads : Between) (report : Report) (answer : Answer) → ReportsSome ordered reads report → report.status ≡ answer_status answer → MeansRead ordered reads answer
+means_some : (ordered : Ordered) → IsLawfulOrder ordered → (reads : Between) (report : Report) (answer : Answer) → ReportsSome ordered reads report
+    → report.status ≡ answer_status answer → MeansRead ordered reads answer
 means_some nothing law reads report answer some is = absurd (answered_or_failed report.status answer failures.Words is (status_of report _ some.0))
 means_some (work tool) law reads report answer some is = means_report tool law reads report answer some is
 
-means_ended_read : (ordered : Ordered) → IsLawfulOrder ordered → (held : Held) (tells calm : Bool) (reads : Between) (failed : Bool) (ended : Result Outcome Stop) → Ends ordered held tells calm reads failed ended → (answer : Answer)
+means_ended_read : (ordered : Ordered) → IsLawfulOrder ordered
+    → (held : Held) (tells calm : Bool) (reads : Between) (failed : Bool) (ended : Result Outcome Stop) → Ends ordered held tells calm reads failed ended
+    → (answer : Answer)
     → (ended_report ended).status ≡ answer_status answer → MeansRead ordered reads answer
 means_ended_read ordered law held tells calm reads failed (Ok outcome) ends answer is = means_some ordered law reads (outcome_report outcome) answer ends.0 is
 means_ended_read ordered law held tells calm reads failed (Err stops.BadWords) ends answer is = absurd (answered_or_failed _ answer failures.Words is refl)
@@ -310,7 +320,8 @@ means_given tool law held (not_there name) e r answer a is = absurd a
 means_given tool law held (too_much name) e r answer a is = absurd (answered_or_failed r.status answer failures.Text is (status_of r _ a))
 means_given tool law held (texts bytes) e r answer a is = (bytes, e, law.means bytes r answer a is)
 
-means_ended : (tool : Tool) → IsLawful tool → (held : Held) (tells calm : Bool) (reads : Between) (failed : Bool) (ended : Result Outcome Stop) → Ends (work tool) held tells calm reads failed ended → IsTrue tells → (answer : Answer)
+means_ended : (tool : Tool) → IsLawful tool → (held : Held) (tells calm : Bool) (reads : Between) (failed : Bool) (ended : Result Outcome Stop)
+    → Ends (work tool) held tells calm reads failed ended → IsTrue tells → (answer : Answer)
     → (ended_report ended).status ≡ answer_status answer → Means tool held answer
 means_ended tool law held tells calm reads failed (Ok outcome) ends told answer is = means_given tool law held (given held tool.inputs) refl (outcome_report outcome) answer (ends.1 told) is
 means_ended tool law held tells calm reads failed (Err stops.BadWords) ends told answer is = absurd (answered_or_failed _ answer failures.Words is refl)
@@ -335,7 +346,8 @@ means_without_files tool held reads answer none read =
 -- ---- what is decided on what was read
 
 pub decided_ends : (tool : Tool) (held : Held) (tells calm : Bool) (reads : Between) (failed : Bool) (bytes : List (List ℕ)) (ended : Result Outcome Stop) → length bytes ≡ length tool.inputs
-    → AreAllRead tool.inputs reads → (IsTrue tells → given held tool.inputs ≡ texts bytes) → HaveGiven tool.inputs bytes reads → IsDecision (tool.Reports bytes) ended → Ends (work tool) held tells calm reads failed ended
+    → AreAllRead tool.inputs reads → (IsTrue tells → given held tool.inputs ≡ texts bytes) → HaveGiven tool.inputs bytes reads
+    → IsDecision (tool.Reports bytes) ended → Ends (work tool) held tells calm reads failed ended
 decided_ends tool held tells calm reads failed bytes (Ok outcome) count all read gave d =
     (gives_answer outcome.answer refl refl bytes count d all gave, λ told. subst (λ g. ReportsGiven tool g (outcome_report outcome)) (sym (read told)) d)
 decided_ends tool held tells calm reads failed bytes (Err stops.BadWords) count all read gave d = absurd d

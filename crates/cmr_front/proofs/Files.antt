@@ -92,7 +92,8 @@ room_at before room files k file h is same rooms =
     (subst (λ o. IsSomeAnd o (λ most. length (file_of file).bytes ≤ most)) (sym (same (file_of file).name)) r.0, tt)
 
 -- the file at a place
-pub file_at : (files : List OutputFile) (k : ℕ) (found : OutputFile) (file : File) → k < length files → found ≡ get_or files k found → slice_get (map file_of files) k ≡ Some file → file_of found ≡ file
+pub file_at : (files : List OutputFile) (k : ℕ) (found : OutputFile) (file : File) → k < length files → found ≡ get_or files k found
+    → slice_get (map file_of files) k ≡ Some file → file_of found ≡ file
 file_at files k found file h is e =
     let same : Some (file_of found) ≡ Some file = sym (there files k found h is) ∙ e in
     cc

@@ -35,5 +35,6 @@ read_alone held file bytes e = go (reading held file) e
 pub read_same : (held later : Held) (file : InputFile) → later file.name ≡ held file.name → reading later file ≡ reading held file
 read_same held later file e = ap (reading_of (most_bytes file.kind)) e
 
-pub both_given : (held : Held) (file other : InputFile) (bytes text : List ℕ) → reading held file ≡ whole bytes → reading held other ≡ whole text → given held (file ∷ other ∷ []) ≡ texts (bytes ∷ text ∷ [])
+pub both_given : (held : Held) (file other : InputFile) (bytes text : List ℕ) → reading held file ≡ whole bytes → reading held other ≡ whole text
+    → given held (file ∷ other ∷ []) ≡ texts (bytes ∷ text ∷ [])
 both_given held file other bytes text e f = ap₂ (λ x y. and_then file.name x (and_then other.name y (texts []))) e f

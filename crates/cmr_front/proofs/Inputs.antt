@@ -117,7 +117,8 @@ one_more_begun before mid after inputs k h so_far more =
     ∙ ap (λ (names : List (List ℕ)). before.names ++ names) (one_name_more inputs k h ∙ ap (λ (n : ℕ). take n (names_of inputs)) (sym (add-one k)))
 
 -- one more text, within the limit of its file
-within_more : (inputs : List Input) (k : ℕ) (bytes : List (List ℕ)) (text : List ℕ) → k < length inputs → length bytes ≡ k → AreWithinLimits (map input_file inputs) bytes → length text ≤ most_bytes (file_at inputs k).kind
+within_more : (inputs : List Input) (k : ℕ) (bytes : List (List ℕ)) (text : List ℕ) → k < length inputs → length bytes ≡ k
+    → AreWithinLimits (map input_file inputs) bytes → length text ≤ most_bytes (file_at inputs k).kind
     → AreWithinLimits (map input_file inputs) (bytes ++ text ∷ [])
 within_more [] k bytes text h count within here = absurd (omega arith)
 within_more (input ∷ inputs) zero [] text h count within here = (here, tt)
@@ -126,7 +127,8 @@ within_more (input ∷ inputs) (suc k) [] text h count within here = absurd (ome
 within_more (input ∷ inputs) (suc k) (first ∷ bytes) text h count within here = (within.0, within_more inputs k bytes text (omega arith) (omega arith) within.1 here)
 
 -- one more text, at most one byte longer than the limit of its file
-nearly_more : (inputs : List Input) (k : ℕ) (bytes : List (List ℕ)) (text : List ℕ) → k < length inputs → length bytes ≡ k → AreNearlyWithin (map input_file inputs) bytes → length text ≤ most_bytes (file_at inputs k).kind + 1
+nearly_more : (inputs : List Input) (k : ℕ) (bytes : List (List ℕ)) (text : List ℕ) → k < length inputs → length bytes ≡ k
+    → AreNearlyWithin (map input_file inputs) bytes → length text ≤ most_bytes (file_at inputs k).kind + 1
     → AreNearlyWithin (map input_file inputs) (bytes ++ text ∷ [])
 nearly_more [] k bytes text h count within here = absurd (omega arith)
 nearly_more (input ∷ inputs) zero [] text h count within here = (here, tt)
@@ -140,7 +142,8 @@ nearly_within [] (text ∷ bytes) within = absurd within
 nearly_within (file ∷ files) (text ∷ bytes) within = let here = within.0 in (omega (arith, here), nearly_within files bytes within.1)
 
 -- the reads that were begun have given these texts
-pub begun_with : (files : List InputFile) (bytes : List (List ℕ)) (count : ℕ) (reads : Between) → length bytes ≡ count → HaveBegun files count reads → HaveGiven files bytes reads → HaveBegunWith files bytes reads
+pub begun_with : (files : List InputFile) (bytes : List (List ℕ)) (count : ℕ) (reads : Between) → length bytes ≡ count → HaveBegun files count reads
+    → HaveGiven files bytes reads → HaveBegunWith files bytes reads
 begun_with files bytes count reads is begun gave = record {
   have_begun = subst (λ (n : ℕ). HaveBegun files n reads) (sym is) begun;
   given = gave.given;
@@ -171,7 +174,8 @@ take_files (input ∷ inputs) (suc k) = ap (λ (files : List InputFile). input_f
 module _ (held mid : Held) (tells tells' calm calm' : Bool) (inputs : List Input) (k : ℕ) (before : List (List ℕ)) (reads : Between) (failed : Bool) where
   pub stopped_at : (stop : Stop) → k < length inputs → ((name : List ℕ) → mid name ≡ held name) → (IsTrue tells → IsTrue tells') → (IsTrue calm → IsTrue calm')
       → (IsTrue tells → given held (map input_file (take k inputs)) ≡ texts before) → AreRead (map input_file inputs) (k + 1) k reads
-      → (mid_texts : List (List ℕ)) → length before ≡ k → mid_texts ≡ reads.before.texts ++ before → AreWithinLimits (map input_file inputs) before → StopsOnText (file_at inputs k) mid_texts reads.after.texts stop
+      → (mid_texts : List (List ℕ)) → length before ≡ k → mid_texts ≡ reads.before.texts ++ before → AreWithinLimits (map input_file inputs) before
+      → StopsOnText (file_at inputs k) mid_texts reads.after.texts stop
       → ((stop_report stop).status ≡ failure_status failures.Device → IsTrue failed)
       → StopsReading (file_at inputs k) mid tells' calm' stop → StopsInputs (map input_file inputs) held tells calm reads failed stop
   stopped_at stops.BadWords h same told is_calm read up_to mid_texts count so_far within gave cause stopped = stopped

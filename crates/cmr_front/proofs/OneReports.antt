@@ -20,7 +20,8 @@ module _ (Alike : Report → Report → Type 0) (equal : (r s : Report) → r �
   alike_of_text kind_of file Decides (Err fault) one r s a b = equal r s (a ∙ sym b)
 
   -- a matrix that is read is within the limits
-  pub alike_of_matrix : (source : Source) (Decides : Matrix → Report → Type 0) → ((m : Matrix) → IsMatrix m → (r s : Report) → Decides m r → Decides m s → Alike r s) → (bytes : List (List ℕ)) (r s : Report)
+  pub alike_of_matrix : (source : Source) (Decides : Matrix → Report → Type 0)
+      → ((m : Matrix) → IsMatrix m → (r s : Report) → Decides m r → Decides m s → Alike r s) → (bytes : List (List ℕ)) (r s : Report)
       → ReportsMatrix source Decides bytes r → ReportsMatrix source Decides bytes s → Alike r s
   alike_of_matrix source Decides one [] r s a b = absurd a
   alike_of_matrix source Decides one (bytes ∷ []) r s a b =

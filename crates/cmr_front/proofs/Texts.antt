@@ -73,7 +73,8 @@ module _ (On : List ℕ → List ℕ → Report → Type 0) where
       → IsDecision (On (bytes_of t) (bytes_of u)) r → IsDecision (ReportsPair On (map bytes_of ts)) r
   decided_on_two ts t u r two is are d = subst (λ bytes. IsDecision (ReportsPair On bytes) r) (sym (two_texts ts t u two is are)) d
 
-  pub one_report_of_pair : ((first second : List ℕ) (r t : Report) → On first second r → On first second t → r ≡ t) → (Says : List ℕ → List ℕ → Answer → Type 0) (files : List InputFile) → HasOneReport (pair_tool files On Says)
+  pub one_report_of_pair : ((first second : List ℕ) (r t : Report) → On first second r → On first second t → r ≡ t)
+      → (Says : List ℕ → List ℕ → Answer → Type 0) (files : List InputFile) → HasOneReport (pair_tool files On Says)
   one_report_of_pair one Says files [] r t a b = absurd a
   one_report_of_pair one Says files (first ∷ []) r t a b = absurd a
   one_report_of_pair one Says files (first ∷ second ∷ []) r t a b = one first second r t a b

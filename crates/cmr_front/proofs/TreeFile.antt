@@ -25,5 +25,6 @@ tree_lawful file Decides Says one says answers =
     (λ bytes. fault_of_last faults.Tree file Decides (evidence_file file ∷ []) (0, omega arith, refl) answers (tree (text_of bytes)))
 
 -- it has one report if its decisions on trees have one
-pub one_report_of_tree : (file : List ℕ) (Decides : PlainTree → Report → Type 0) (Says : PlainTree → Answer → Type 0) → ((t : PlainTree) (r s : Report) → Decides t r → Decides t s → r ≡ s) → HasOneReport (tree_tool file Decides Says)
+pub one_report_of_tree : (file : List ℕ) (Decides : PlainTree → Report → Type 0) (Says : PlainTree → Answer → Type 0)
+    → ((t : PlainTree) (r s : Report) → Decides t r → Decides t s → r ≡ s) → HasOneReport (tree_tool file Decides Says)
 one_report_of_tree file Decides Says one = one_report_of_one (ReportsTree file Decides) (λ bytes. one_report_of_text faults.Tree file Decides one (tree (text_of bytes))) (SaysOfTree Says) (evidence_file file)

@@ -70,7 +70,8 @@ pub data IsReportOf (tool : Tool) (reads : Between) (report : Report) : Type 0 w
       → AreAllRead tool.inputs reads → HaveGiven tool.inputs bytes reads → IsReportOf tool reads report
   names_fault : (name : List ℕ) (kind : FaultKind) (place : ℕ) → report ≡ bad_text name kind place → (bytes : List (List ℕ)) → length bytes ≡ length tool.inputs → tool.Reports bytes report
       → AreAllRead tool.inputs reads → HaveGiven tool.inputs bytes reads → IsReportOf tool reads report
-  names_too_long : (place : ℕ) (name : List ℕ) → IsNameAt tool.inputs place name → report ≡ too_long name → AreRead tool.inputs (place + 1) place reads → GivesTooMuch tool.inputs place reads → IsReportOf tool reads report
+  names_too_long : (place : ℕ) (name : List ℕ) → IsNameAt tool.inputs place name → report ≡ too_long name → AreRead tool.inputs (place + 1) place reads
+      → GivesTooMuch tool.inputs place reads → IsReportOf tool reads report
 
 -- the reports over every shelf
 abbrev pub ReportsSome : Ordered → Between → Report → Type 0
@@ -80,10 +81,14 @@ ReportsSome (work tool) reads report = IsReportOf tool reads report
 -- How a run ends: a report is carried out, a file cannot be read, or an allocation fails. In the last two cases only the line of
 -- standard error is written. If the shelf tells its bytes, the report is a report on the contents of the names.
 pub data HasEnded (ordered : Ordered) (standing : Standing) (before after : Devices) (status : ℕ) : Type 0 where
-  reported : (report : Report) → ReportsSome ordered (between before.reads after.reads) report → (IsTrue standing.shelf_tells → Reports ordered before.held report) → IsCarriedOut report (telling_of standing) before after status → HasEnded ordered standing before after status
-  unread : (name : List ℕ) → CannotRead ordered before.held standing.shelf_tells standing.shelf_is_calm (between before.reads after.reads) after.failed name → Rose before.shelf_faults after.shelf_faults
+  reported : (report : Report) → ReportsSome ordered (between before.reads after.reads) report
+      → (IsTrue standing.shelf_tells → Reports ordered before.held report) → IsCarriedOut report (telling_of standing) before after status
+      → HasEnded ordered standing before after status
+  unread : (name : List ℕ) → CannotRead ordered before.held standing.shelf_tells standing.shelf_is_calm (between before.reads after.reads) after.failed name
+      → Rose before.shelf_faults after.shelf_faults
       → status ≡ failure_status failures.Device → IsDelivered (cannot_read name) (telling_of standing) before after → HasEnded ordered standing before after status
-  no_memory : BeginsInOrder ordered (between before.reads after.reads) → status ≡ failure_status failures.Memory → IsDelivered out_of_memory (telling_of standing) before after → HasEnded ordered standing before after status
+  no_memory : BeginsInOrder ordered (between before.reads after.reads) → status ≡ failure_status failures.Memory
+      → IsDelivered out_of_memory (telling_of standing) before after → HasEnded ordered standing before after status
 
 -- The promise of a run, for every order.
 pub record Runs (ordered : Ordered) (standing : Standing) (before after : Devices) (status : ℕ) : Type 0 where

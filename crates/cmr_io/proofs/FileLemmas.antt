@@ -30,14 +30,16 @@ has_name-none name (file ∷ files) other =
     rw (other 0 file (omega arith)) (has_name-none name files (λ k x lt. other (suc k) x (omega arith)))
 
 -- no file before the index has the name
-pub IsFirst-none_before : (name : List ℕ) (files : List File) (i : ℕ) (file : File) → ((k : ℕ) (x : File) → k < i → is_named name (get_or files k x) ≡ false) → i < length files → is_named name (get_or files i file) ≡ true → IsFirstFile name files i
+pub IsFirst-none_before : (name : List ℕ) (files : List File) (i : ℕ) (file : File) → ((k : ℕ) (x : File) → k < i → is_named name (get_or files k x) ≡ false)
+    → i < length files → is_named name (get_or files i file) ≡ true → IsFirstFile name files i
 IsFirst-none_before name [] i file other lt named = absurd (omega arith)
 IsFirst-none_before name (x ∷ files) zero file other lt named = named
 IsFirst-none_before name (x ∷ files) (suc i) file other lt named =
     (other 0 x (omega arith), IsFirst-none_before name files i file (λ k y below. other (suc k) y (omega arith)) (omega arith) named)
 
 -- a file that replaces the first file with its name
-pub IsFirst-set : (name : List ℕ) (files : List File) (i : ℕ) (file old : File) → IsFirstFile name files i → old ≡ get_or files i old → file_name file ≡ file_name old → IsFirstFile name (set files i file) i
+pub IsFirst-set : (name : List ℕ) (files : List File) (i : ℕ) (file old : File) → IsFirstFile name files i → old ≡ get_or files i old
+    → file_name file ≡ file_name old → IsFirstFile name (set files i file) i
 IsFirst-set name [] i file old h is same = absurd h
 IsFirst-set name (x ∷ files) zero file old h is same = is_named-same name file x true (same ∙ ap file_name is) h
 IsFirst-set name (x ∷ files) (suc i) file old h is same = (h.0, IsFirst-set name files i file old h.1 is same)
@@ -49,18 +51,21 @@ of_first-none view name (file ∷ files) h =
     rw p.0 (of_first-none view name files p.1)
 
 -- the view of the first file with a name
-pub of_first-first : {A : Type 0} → (view : File → Option A) (name : List ℕ) (files : List File) (i : ℕ) (file : File) → IsFirstFile name files i → file ≡ get_or files i file → of_first view files name ≡ view file
+pub of_first-first : {A : Type 0} → (view : File → Option A) (name : List ℕ) (files : List File) (i : ℕ) (file : File) → IsFirstFile name files i
+    → file ≡ get_or files i file → of_first view files name ≡ view file
 of_first-first view name [] i file h is = absurd h
 of_first-first view name (x ∷ files) zero file h is = rw (h, is) refl
 of_first-first view name (x ∷ files) (suc i) file h is = rw h.0 (of_first-first view name files i file h.1 is)
 
 -- the view of a file that replaces the first file with a name
-pub of_first-set : {A : Type 0} → (view : File → Option A) (name : List ℕ) (files : List File) (i : ℕ) (file old : File) → i < length files → IsFirstFile name files i → old ≡ get_or files i old → file_name file ≡ file_name old → of_first view (set files i file) name ≡ view file
+pub of_first-set : {A : Type 0} → (view : File → Option A) (name : List ℕ) (files : List File) (i : ℕ) (file old : File) → i < length files
+    → IsFirstFile name files i → old ≡ get_or files i old → file_name file ≡ file_name old → of_first view (set files i file) name ≡ view file
 of_first-set view name files i file old lt h is same =
     of_first-first view name (set files i file) i file (IsFirst-set name files i file old h is same) (sym (get_or-set_same files i file file lt))
 
 -- the other names, after a file is replaced
-pub of_first-set_other : {A : Type 0} → (view : File → Option A) (name other : List ℕ) (files : List File) (i : ℕ) (file old : File) → other ≢ name → IsFirstFile name files i → old ≡ get_or files i old → file_name file ≡ file_name old → of_first view (set files i file) other ≡ of_first view files other
+pub of_first-set_other : {A : Type 0} → (view : File → Option A) (name other : List ℕ) (files : List File) (i : ℕ) (file old : File) → other ≢ name
+    → IsFirstFile name files i → old ≡ get_or files i old → file_name file ≡ file_name old → of_first view (set files i file) other ≡ of_first view files other
 of_first-set_other view name other [] i file old ne h is same = absurd h
 of_first-set_other view name other (x ∷ files) zero file old ne h is same =
     let before : is_named other x ≡ false = is_other (file_name x) name other h ne in
@@ -68,7 +73,8 @@ of_first-set_other view name other (x ∷ files) zero file old ne h is same =
 of_first-set_other view name other (x ∷ files) (suc i) file old ne h is same = rw (of_first-set_other view name other files i file old ne h.1 is same) refl
 
 -- a file that is replaced by a file with the same view
-pub of_first-set_same : {A : Type 0} → (view : File → Option A) (name : List ℕ) (files : List File) (i : ℕ) (file old : File) → i < length files → old ≡ get_or files i old → file_name file ≡ file_name old → view file ≡ view old → of_first view (set files i file) name ≡ of_first view files name
+pub of_first-set_same : {A : Type 0} → (view : File → Option A) (name : List ℕ) (files : List File) (i : ℕ) (file old : File) → i < length files
+    → old ≡ get_or files i old → file_name file ≡ file_name old → view file ≡ view old → of_first view (set files i file) name ≡ of_first view files name
 of_first-set_same view name [] i file old lt is same shown = absurd (omega arith)
 of_first-set_same view name (x ∷ files) zero file old lt is same shown =
     let named : is_named name file ≡ is_named name x = ap (λ (bytes : List ℕ). bytes_eq bytes name) (same ∙ ap file_name is) in
@@ -76,13 +82,15 @@ of_first-set_same view name (x ∷ files) zero file old lt is same shown =
 of_first-set_same view name (x ∷ files) (suc i) file old lt is same shown = rw (of_first-set_same view name files i file old (omega arith) is same shown) refl
 
 -- a file that is added
-pub of_first-push : {A : Type 0} → (view : File → Option A) (name : List ℕ) (files : List File) (file : File) → has_name name files ≡ false → file_name file ≡ name → of_first view (files ++ file ∷ []) name ≡ view file
+pub of_first-push : {A : Type 0} → (view : File → Option A) (name : List ℕ) (files : List File) (file : File) → has_name name files ≡ false
+    → file_name file ≡ name → of_first view (files ++ file ∷ []) name ≡ view file
 of_first-push view name [] file none same = rw ((bytes_eq-Decides (file_name file) name).1 same) refl
 of_first-push view name (x ∷ files) file none same =
     let p = not_either (is_named name x) (has_name name files) none in
     rw p.0 (of_first-push view name files file p.1 same)
 
-pub of_first-push_other : {A : Type 0} → (view : File → Option A) (name other : List ℕ) (files : List File) (file : File) → other ≢ name → file_name file ≡ name → of_first view (files ++ file ∷ []) other ≡ of_first view files other
+pub of_first-push_other : {A : Type 0} → (view : File → Option A) (name other : List ℕ) (files : List File) (file : File) → other ≢ name → file_name file ≡ name
+    → of_first view (files ++ file ∷ []) other ≡ of_first view files other
 of_first-push_other view name other [] file ne same = rw (is_other (file_name file) name other ((bytes_eq-Decides (file_name file) name).1 same) ne) refl
 of_first-push_other view name other (x ∷ files) file ne same = rw (of_first-push_other view name other files file ne same) refl
 
@@ -91,7 +99,8 @@ if_none true x none = none
 if_none false x none = refl
 
 -- a file that is added and has no view
-pub of_first-push_none : {A : Type 0} → (view : File → Option A) (name : List ℕ) (files : List File) (file : File) → view file ≡ None → of_first view (files ++ file ∷ []) name ≡ of_first view files name
+pub of_first-push_none : {A : Type 0} → (view : File → Option A) (name : List ℕ) (files : List File) (file : File) → view file ≡ None
+    → of_first view (files ++ file ∷ []) name ≡ of_first view files name
 of_first-push_none view name [] file none = if_none (is_named name file) (view file) none
 of_first-push_none view name (x ∷ files) file none = rw (of_first-push_none view name files file none) refl
 
@@ -159,7 +168,8 @@ content_in-writable files i h =
     of_first-first held_by (name_at files i) files i at.0 first at.1 ∙ rw there (ap Some (sym (bytes_at-read files i at.0 within at.1)))
 
 -- a file that is written and has no room left is as long as its room
-pub room_in-full : (files : List File) (i : ℕ) → is_writable_at files i ≡ true → unwrap_or (room_in files (name_at files i)) 0 - length (bytes_at files i) ≡ 0 → room_in files (name_at files i) ≡ Some (length (bytes_at files i))
+pub room_in-full : (files : List File) (i : ℕ) → is_writable_at files i ≡ true → unwrap_or (room_in files (name_at files i)) 0 - length (bytes_at files i) ≡ 0
+    → room_in files (name_at files i) ≡ Some (length (bytes_at files i))
 room_in-full files i h full =
     let first = IsFirst-writable files i h in
     let within = IsFirst-within (name_at files i) files i first in
@@ -170,7 +180,8 @@ room_in-full files i h full =
     rw (room, bytes) (room_is_full (at.0).is_there (at.0).room (length (at.0).bytes.items) (is_writable-read files i at.0 h at.1) left)
 
 -- the content of a name that is written
-pub content_in-got : (files : List File) (begun : Begun) → is_writing begun ≡ true → ((file : ℕ) → file_written begun ≡ Some file → is_writable_at files file ≡ true) → content_in files (target_by files begun) ≡ Some (got_by files begun)
+pub content_in-got : (files : List File) (begun : Begun) → is_writing begun ≡ true
+    → ((file : ℕ) → file_written begun ≡ Some file → is_writable_at files file ≡ true) → content_in files (target_by files begun) ≡ Some (got_by files begun)
 content_in-got files Nothing writing writable = absurd (cc)
 content_in-got files (Read file at) writing writable = absurd (cc)
 content_in-got files (Write file) writing writable = content_in-writable files file (writable file refl)
@@ -180,7 +191,9 @@ pub copied_and_left : (bytes copy : List ℕ) (at n : ℕ) → copy ≡ take n (
 copied_and_left bytes copy at n same = rw (same, ← drop-drop n at bytes) (sym (take-append-drop n (drop at bytes)))
 
 -- a writable file replaces a file
-pub Writes-set : (name : List ℕ) (files : List File) (i : ℕ) (file old : File) (bytes : List ℕ) → i < length files → IsFirstFile name files i → old ≡ get_or files i old → file_name file ≡ file_name old → room_for file ≡ room_for old → held_by file ≡ Some bytes → file.bytes.items ≡ bytes → is_writable file ≡ true → Writes files (set files i file) i bytes
+pub Writes-set : (name : List ℕ) (files : List File) (i : ℕ) (file old : File) (bytes : List ℕ) → i < length files → IsFirstFile name files i
+    → old ≡ get_or files i old → file_name file ≡ file_name old → room_for file ≡ room_for old → held_by file ≡ Some bytes → file.bytes.items ≡ bytes
+    → is_writable file ≡ true → Writes files (set files i file) i bytes
 Writes-set name files i file old bytes lt h is same room held items writable =
     let first : IsFirstFile name (set files i file) i = IsFirst-set name files i file old h is same in
     let here : file ≡ get_or (set files i file) i file = sym (get_or-set_same files i file file lt) in

@@ -97,7 +97,8 @@ texts_on before bytes new reads after into count is texts items =
     ∙ ap (with_more before) (sym items)
 
 -- an allocation failed
-pub text-refused : {A : Type 0} (most : ℕ) (with_text : List ℕ → List (List ℕ)) (after : List (List ℕ)) (text : List ℕ) (result : Result (Vec ℕ A) ReadError) → after ≡ with_text text → length text ≤ most + 1
+pub text-refused : {A : Type 0} (most : ℕ) (with_text : List ℕ → List (List ℕ)) (after : List (List ℕ)) (text : List ℕ) (result : Result (Vec ℕ A) ReadError)
+    → after ≡ with_text text → length text ≤ most + 1
     → IsErrAnd result (λ e. e ≡ Memory) → GivesText {A = A} most with_text after result
 text-refused {A} most with_text after text result texts within is =
     let at : GivesText {A = A} most with_text after (Err Memory) = record {

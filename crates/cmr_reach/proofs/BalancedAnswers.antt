@@ -48,7 +48,8 @@ pub cycle_is_fault : (m : Matrix) (lines : LineSet) → IsMatrix m → IsCycleFa
 cycle_is_fault m lines shape is = record { row_set = is.row_set; column_set = is.column_set; balance_fault = cycle_fault_unbalanced m (is_ternary m shape) lines.rows lines.columns is }
 
 -- all decompositions within a budget and with this number of pivots say yes, or none does
-pub undecomposed : (budget pivots : ℕ) (m : Matrix) (tree : Tree) → IsTreeFor (height m) m.width tree → IsShapeWith budget pivots m tree → ¬ (verdict_of tree ≡ verdicts.Yes) → ¬ (IsDecomposed budget pivots m)
+pub undecomposed : (budget pivots : ℕ) (m : Matrix) (tree : Tree) → IsTreeFor (height m) m.width tree → IsShapeWith budget pivots m tree
+    → ¬ (verdict_of tree ≡ verdicts.Yes) → ¬ (IsDecomposed budget pivots m)
 undecomposed budget pivots m tree is shape apart other = apart (one_verdict budget pivots m tree other.tree is other.is_tree shape other.shape ∙ other.verdict)
 
 pub tree_for : (m : Matrix) (tree : SizedTree) → tree.rows ≡ height m → tree.columns ≡ m.width → IsDecTree tree → IsTreeFor (height m) m.width (tree_of tree.root)
@@ -103,7 +104,8 @@ module _ (o : BalancedOrder) (m : Matrix) where
   says_open is Undecided e = is
   says_open is Refused e = absurd (omega arith)
 
-  says_found : NeedsSearch o.budget o.pivots m → (found : LeastSubmatrix) → HasSearchedFaults m o.budget found → (answer : Answer) → (search_report o m found).status ≡ answer_status answer → BalancedMeans o m answer
+  says_found : NeedsSearch o.budget o.pivots m → (found : LeastSubmatrix) → HasSearchedFaults m o.budget found → (answer : Answer)
+      → (search_report o m found).status ≡ answer_status answer → BalancedMeans o m answer
   says_found needed Clean has answer e = says_yes has.1 answer e
   says_found needed (Found lines) has answer e = says_no lines (least_is_fault m lines has.1) answer e
   says_found needed (TooMany shorter) has answer e = says_open (record { needed = needed; above = subst (λ n. o.budget < n) has.1 has.0 }) answer e

@@ -18,10 +18,12 @@ use Rattle.cmr_reach.proofs.CamionAnswers.{not_both}
 use Rattle.cmr_reach.proofs.OneFault.{one_least_fault}
 
 -- faults with the same lines have the same reports
-same_fault : (label : List ℕ) (name : Option (List ℕ)) (m : Matrix) (fault other : LineSet) → (fault.rows ≡ other.rows) × (fault.columns ≡ other.columns) → fault_report label name m fault ≡ fault_report label name m other
+same_fault : (label : List ℕ) (name : Option (List ℕ)) (m : Matrix) (fault other : LineSet) → (fault.rows ≡ other.rows) × (fault.columns ≡ other.columns)
+    → fault_report label name m fault ≡ fault_report label name m other
 same_fault label name m fault other same = ap₂ (λ rows columns. fault_report label name m (let lines : LineSet = record { rows = rows; columns = columns } in lines)) same.0 same.1
 
-one_cycle : (label : List ℕ) (name : Option (List ℕ)) (m : Matrix) (fault other : LineSet) → IsCycleFault m fault.rows fault.columns → IsCycleFault m other.rows other.columns → fault_report label name m fault ≡ fault_report label name m other
+one_cycle : (label : List ℕ) (name : Option (List ℕ)) (m : Matrix) (fault other : LineSet) → IsCycleFault m fault.rows fault.columns
+    → IsCycleFault m other.rows other.columns → fault_report label name m fault ≡ fault_report label name m other
 one_cycle label name m fault other is is' = same_fault label name m fault other (one_cycle_fault m fault.rows fault.columns other.rows other.columns is is')
 
 one_of_camion : (o : CamionOrder) (m : Matrix) (r s : Report) → CamionDecides o m r → CamionDecides o m s → r ≡ s
@@ -74,5 +76,6 @@ balanced_same o n workers m report (decomposed none tree all e) = decomposed non
 balanced_same o n workers m report (searched needed found has e) = searched needed found has (e ∙ same_search o n workers m found)
 
 -- their number does not affect the reports
-pub balanced_workers : (o : BalancedOrder) (n workers : ℕ) (bytes : List (List ℕ)) (report : Report) → (balanced_tool (with_workers o n)).Reports bytes report → (balanced_tool (with_workers o workers)).Reports bytes report
+pub balanced_workers : (o : BalancedOrder) (n workers : ℕ) (bytes : List (List ℕ)) (report : Report) → (balanced_tool (with_workers o n)).Reports bytes report
+    → (balanced_tool (with_workers o workers)).Reports bytes report
 balanced_workers o n workers = matrix_either (balanced_source o) (BalancedDecides (with_workers o n)) (BalancedDecides (with_workers o workers)) (balanced_same o n workers)

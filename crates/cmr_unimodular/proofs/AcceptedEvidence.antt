@@ -79,7 +79,8 @@ increasing_steps a s end (Free row column ∷ steps) (v, next, rest) = (tt, incr
 increasing_steps a s end (Forced row column cycle ∷ steps) (v, (turn, next), rest) =
     ((next.cycle_is.row_set.increasing, next.cycle_is.column_set.increasing), increasing_steps a (signed_by s (Forced row column cycle) v) end steps rest)
 
-chain_checked : (form : MatrixForm) (file evidence matrix_text : List ℕ) (a signed : Matrix) (steps : List SignStep) (fault : LineSet) → matrix_in form true matrix_text ≡ Ok a → IsSignedTo a steps signed → IsRefuted signed fault
+chain_checked : (form : MatrixForm) (file evidence matrix_text : List ℕ) (a signed : Matrix) (steps : List SignStep) (fault : LineSet)
+    → matrix_in form true matrix_text ≡ Ok a → IsSignedTo a steps signed → IsRefuted signed fault
     → CheckReports (check_of form file evidence) matrix_text (chain_text (chain_with a steps fault)) (irregular_report signed fault)
 chain_checked form file evidence matrix_text a signed steps fault read signing refuted =
     let c = chain_with a steps fault in

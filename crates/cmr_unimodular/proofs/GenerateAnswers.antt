@@ -31,7 +31,8 @@ use Rattle.cmr_front.proofs.Numbers.{lines_in-le, number_from-between, pivots_in
 -- ---- the generated matrix is unique
 
 -- a network reproduces one matrix
-same_entry : (net : Net) (m n : Matrix) → Reproduces net m → Reproduces net n → height m ≡ height n → m.width ≡ n.width → (row column : ℕ) → row < height m → column < m.width → entry m row column ≡ entry n row column
+same_entry : (net : Net) (m n : Matrix) → Reproduces net m → Reproduces net n → height m ≡ height n → m.width ≡ n.width → (row column : ℕ) → row < height m
+    → column < m.width → entry m row column ≡ entry n row column
 same_entry net m n a b high wide row column in_rows in_columns =
     let p = a.paths column in_columns in
     let q = b.paths column (omega arith) in

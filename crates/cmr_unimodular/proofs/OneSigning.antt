@@ -126,7 +126,8 @@ none_next a s m step v e all next =
     let here = next_one a s step v next in
     subst (AllSigned a) (sym e) all (step_row step) (step_column step) here.one here.no_sign
 
-one_lead : (a s m n : Matrix) (steps others : List SignStep) → IsMatrix a → AreSigns a s → LeadTo (IsNextSign a) s steps m → LeadTo (IsNextSign a) s others n → AllSigned a m → AllSigned a n → (steps ≡ others) × (m ≡ n)
+one_lead : (a s m n : Matrix) (steps others : List SignStep) → IsMatrix a → AreSigns a s → LeadTo (IsNextSign a) s steps m → LeadTo (IsNextSign a) s others n
+    → AllSigned a m → AllSigned a n → (steps ≡ others) × (m ≡ n)
 one_lead a s m n [] [] is signs e f all all' = (refl, sym e ∙ f)
 one_lead a s m n [] (other ∷ others) is signs e (w, next', rest') all all' = absurd (none_next a s m other w e all next')
 one_lead a s m n (step ∷ steps) [] is signs (v, next, rest) f all all' = absurd (none_next a s n step v f all' next)

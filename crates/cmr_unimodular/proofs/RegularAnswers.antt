@@ -72,7 +72,8 @@ one_status o a r s x y =
 
 -- ---- its meaning
 
-says_signed : (o : RegularOrder) (a signed : Matrix) (steps : List SignStep) → IsSignedTo a steps signed → (answer : Answer) → UnimodularMeans o.budget o.pivots signed answer → RegularSays o a steps signed answer
+says_signed : (o : RegularOrder) (a signed : Matrix) (steps : List SignStep) → IsSignedTo a steps signed → (answer : Answer)
+    → UnimodularMeans o.budget o.pivots signed answer → RegularSays o a steps signed answer
 says_signed o a signed steps is Yes (tree, decomposition, e, good) =
     (tree, decomposition, e, record { regular = (signed, is_ternary signed is.signed_matrix, is.one_support, good.signings); unimodular = good })
 says_signed o a signed steps is No (tree, decomposition, fault, e, bad) =
@@ -104,7 +105,8 @@ pub fault_lines : (rows columns : ℕ) (v : Verdict) (fault : LineSet) → v ≡
 fault_lines rows columns v fault e lines = subst (HasLinesIn rows columns) e lines
 
 -- the report
-pub reported : (o : RegularOrder) (a signed : Matrix) (steps : List SignStep) (tree : SizedTree) (r : Result Outcome Memory) → IsSignedTo a steps signed → IsDecomposition o.budget o.pivots signed tree → IsRightVerdict o.budget o.pivots signed (verdict_in tree)
+pub reported : (o : RegularOrder) (a signed : Matrix) (steps : List SignStep) (tree : SizedTree) (r : Result Outcome Memory) → IsSignedTo a steps signed
+    → IsDecomposition o.budget o.pivots signed tree → IsRightVerdict o.budget o.pivots signed (verdict_in tree)
     → IfOk r (λ outcome. outcome_report outcome ≡ regular_report o a steps signed tree) → IfOk r (λ outcome. RegularDecides o a (outcome_report outcome))
 reported o a signed steps tree (Ok outcome) signing decomposition right is = record { steps = steps; signed = signed; signing = signing; tree = tree; decomposition = decomposition; right = right; report_is = is }
 reported o a signed steps tree (Err memory) signing decomposition right is = tt

@@ -12,7 +12,8 @@ with_workers o n = record { form = o.form; budget = o.budget; pivots = o.pivots;
 regular_same : (o : RegularOrder) (n workers : ℕ) (m : Matrix) (report : Report) → RegularDecides (with_workers o n) m report → RegularDecides (with_workers o workers) m report
 regular_same o n workers m report d = record { steps = d.steps; signed = d.signed; signing = d.signing; tree = d.tree; decomposition = d.decomposition; right = d.right; report_is = d.report_is }
 
-pub regular_workers : (o : RegularOrder) (n workers : ℕ) (bytes : List (List ℕ)) (report : Report) → (regular_tool (with_workers o n)).Reports bytes report → (regular_tool (with_workers o workers)).Reports bytes report
+pub regular_workers : (o : RegularOrder) (n workers : ℕ) (bytes : List (List ℕ)) (report : Report) → (regular_tool (with_workers o n)).Reports bytes report
+    → (regular_tool (with_workers o workers)).Reports bytes report
 regular_workers o n workers = matrix_either (regular_source o) (RegularDecides (with_workers o n)) (RegularDecides (with_workers o workers)) (regular_same o n workers)
 
 pub generate_workers : (o : GenerateOrder) (n workers : ℕ) (report : Report) → GenerateDecides (record { what = o.what; size = o.size; number = o.number; budget = o.budget; pivots = o.pivots; workers = n; output = o.output }) report

@@ -8,4 +8,5 @@ use Rattle.cmr_front.specs.Report.{File}
 -- Two files of one name are equal, or hold the texts of two trees that differ only in their networks.
 pub data HoldAlikeTrees (f g : File) : Type 0 where
   same : f ≡ g → HoldAlikeTrees f g
-  trees : f.name ≡ g.name → (rows columns : ℕ) (tree other : Tree) → plain_tree tree ≡ plain_tree other → f.bytes ≡ tree_text rows columns tree → g.bytes ≡ tree_text rows columns other → HoldAlikeTrees f g
+  trees : f.name ≡ g.name → (rows columns : ℕ) (tree other : Tree) → plain_tree tree ≡ plain_tree other → f.bytes ≡ tree_text rows columns tree
+      → g.bytes ≡ tree_text rows columns other → HoldAlikeTrees f g

@@ -37,6 +37,7 @@ pub three_arrangement_fits : (m : Matrix) (three : Three) → HasTernaryEntries 
 three_arrangement_fits m three ternary is = fits_by_form m three.side three.form three.first three.second ternary is.separation
 
 -- the lines of a connector are lines of the matrix
-pub connector_there : (m : Matrix) (side : Lines) (one flat : Bool) (f : Connector) → AreOn (first_lines (height m)) (first_lines m.width) side one (connector_lines flat f) → HasConnectorLines flat m f
+pub connector_there : (m : Matrix) (side : Lines) (one flat : Bool) (f : Connector)
+    → AreOn (first_lines (height m)) (first_lines m.width) side one (connector_lines flat f) → HasConnectorLines flat m f
 connector_there m side one true f on = (first_lines_contain (height m) f.row on.0.0, first_lines_contain m.width f.column on.1.0.0, first_lines_contain m.width f.other on.1.1.0.0)
 connector_there m side one false f on = (first_lines_contain (height m) f.row on.0.0, first_lines_contain m.width f.column on.1.0.0, first_lines_contain (height m) f.other on.1.1.0.0)

@@ -40,10 +40,12 @@ module _ (m : Matrix) (side : LineSet) (ternary : HasTernaryEntries m) (f g : Co
   sign : (r c : ℕ) → entry m r c ≢ pos 0 → IsSign (entry m r c)
   sign r c h = sign_of_entry (entry m r c) (ternary r c) h
 
-  blocks_right : (upper lower : ℕ → ℕ → ℤ) → HasBlocks (entry m) rows columns (listed side.rows side.columns) upper lower → (r c : ℕ) → IsIn r s.rows_one → IsIn c s.columns_two → entry m r c ≡ upper r c
+  blocks_right : (upper lower : ℕ → ℕ → ℤ) → HasBlocks (entry m) rows columns (listed side.rows side.columns) upper lower → (r c : ℕ) → IsIn r s.rows_one
+      → IsIn c s.columns_two → entry m r c ≡ upper r c
   blocks_right upper lower blocks r c h k = let a = from_one side.rows rows r h in let b = from_two side.columns columns c k in blocks.upper r c a.0 b.0 a.1 b.1
 
-  blocks_below : (upper lower : ℕ → ℕ → ℤ) → HasBlocks (entry m) rows columns (listed side.rows side.columns) upper lower → (r c : ℕ) → IsIn r s.rows_two → IsIn c s.columns_one → entry m r c ≡ lower r c
+  blocks_below : (upper lower : ℕ → ℕ → ℤ) → HasBlocks (entry m) rows columns (listed side.rows side.columns) upper lower → (r c : ℕ) → IsIn r s.rows_two
+      → IsIn c s.columns_one → entry m r c ≡ lower r c
   blocks_below upper lower blocks r c h k = let a = from_two side.rows rows r h in let b = from_one side.columns columns c k in blocks.lower r c a.0 b.0 a.1 b.1
 
   other_one : (flat1 flat2 : Bool) → AreOn rows columns (listed side.rows side.columns) true (connector_lines flat1 f) → AreCrossing (entry m) flat1 flat2 f g → IsFirstOther (entry m) flat1 s f g
@@ -70,7 +72,8 @@ module _ (m : Matrix) (side : LineSet) (ternary : HasTernaryEntries m) (f g : Co
   column_two true on = to_two side.columns columns g.column on.1.0.0 on.1.0.1
   column_two false on = to_two side.columns columns g.column on.1.0.0 on.1.0.1
 
-  pub cornered : (flat1 flat2 : Bool) → AreOn rows columns (listed side.rows side.columns) true (connector_lines flat1 f) → AreOn rows columns (listed side.rows side.columns) false (connector_lines flat2 g)
+  pub cornered : (flat1 flat2 : Bool) → AreOn rows columns (listed side.rows side.columns) true (connector_lines flat1 f)
+      → AreOn rows columns (listed side.rows side.columns) false (connector_lines flat2 g)
       → entry m f.row f.column ≢ pos 0 → entry m g.row g.column ≢ pos 0 → AreCrossing (entry m) flat1 flat2 f g
       → HasBlocks (entry m) rows columns (listed side.rows side.columns) (product_at (entry m) f.row g.column) (product_at (entry m) g.row f.column)
       → AreCornered (entry m) flat1 flat2 s f g
@@ -108,7 +111,8 @@ module _ (m : Matrix) (side : LineSet) (ternary : HasTernaryEntries m) (f g : Co
     lower = blocks_below zeros (spread_at (entry m) f g) sep.blocks;
   }
 
-  pub by_form : (form : Form) → IsThreeSeparation (entry m) rows columns (listed side.rows side.columns) form f g → HaveCornerSign (entry m) form f g → IsRoundTrip (kind_of_form form) m (arranged m (three_lines (entry m) form s f g))
+  pub by_form : (form : Form) → IsThreeSeparation (entry m) rows columns (listed side.rows side.columns) form f g → HaveCornerSign (entry m) form f g
+      → IsRoundTrip (kind_of_form form) m (arranged m (three_lines (entry m) form s f g))
   by_form Delta sep plus =
       let t = cornered true true sep.one sep.two sep.connectors.first_corner sep.connectors.second_corner sep.connectors.tied sep.blocks in
       record { rows = one_first side.rows (height m); columns = one_first side.columns m.width; connected = corner_connected m true true s f g t plus; sum = corner_whole m true true s f g t plus }

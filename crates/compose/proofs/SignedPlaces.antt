@@ -51,7 +51,8 @@ entry_at m (r ∷ rs) columns zero b = entry_in_row (entry m) r columns b
 entry_at m (r ∷ rs) columns (suc a) b = entry_at m rs columns a b
 
 -- the entry, by the lines at its positions
-pub entry_of : (m : Matrix) (rows columns : List SignedLine) (a b r c : ℕ) (s t : ℤ) → at rows a ≡ signed r s → at columns b ≡ signed c t → entry (signed_submatrix m rows columns) a b ≡ s *ℤ (t *ℤ entry m r c)
+pub entry_of : (m : Matrix) (rows columns : List SignedLine) (a b r c : ℕ) (s t : ℤ) → at rows a ≡ signed r s → at columns b ≡ signed c t
+    → entry (signed_submatrix m rows columns) a b ≡ s *ℤ (t *ℤ entry m r c)
 entry_of m rows columns a b r c s t e f = entry_at m rows columns a b ∙ ap₂ (λ (x y : SignedLine). signed_entry (entry m) x y) e f
 
 pub factors_swapped : (x u y : ℤ) → x *ℤ (u *ℤ y) ≡ x *ℤ (y *ℤ u)

@@ -10,8 +10,10 @@ use Rattle.cmr_base.proofs.TransposedLines.{support-transposed}
 use Rattle.cuts.specs.Classes.{AreClassNumbers, AreNumbers}
 
 -- the lines that are not 0 on the new line get its weight
-pub numbers_more : (nonzero : ℕ → ℕ → Bool) (size : ℕ) (set after numbers values : List ℕ) (line weight : ℕ) → AreNumbers nonzero size set numbers → ((a : ℕ) → has_column set a ≡ true → has_column after a ≡ true) → has_column after line ≡ true
-    → ((x : ℕ) → nonzero line x ≡ true → get_or values x 0 ≡ bit_xor (get_or numbers x 0) weight) → ((x : ℕ) → nonzero line x ≡ false → get_or values x 0 ≡ get_or numbers x 0) → AreNumbers nonzero size after values
+pub numbers_more : (nonzero : ℕ → ℕ → Bool) (size : ℕ) (set after numbers values : List ℕ) (line weight : ℕ) → AreNumbers nonzero size set numbers
+    → ((a : ℕ) → has_column set a ≡ true → has_column after a ≡ true) → has_column after line ≡ true
+    → ((x : ℕ) → nonzero line x ≡ true → get_or values x 0 ≡ bit_xor (get_or numbers x 0) weight)
+    → ((x : ℕ) → nonzero line x ≡ false → get_or values x 0 ≡ get_or numbers x 0) → AreNumbers nonzero size after values
 numbers_more nonzero size set after numbers values line weight so kept here changed same = record {
   met = λ x l n. elim (two_cases (nonzero line x)) [
     | inl t ↦ (line, here, t)

@@ -30,20 +30,24 @@ use Rattle.cmr_base.specs.Components.{IsLineOf}
 
 -- two lines of one side that are not 0 on lines of the other side have equal patterns there
 module _ (m : Matrix) (is : IsMatrix m) (T : Lines) (w : IsCut m T) where
-  lower : (r c : ℕ) → r < height m → c < m.width → T (Row r) ≡ false → T (Column c) ≡ true → entry m r c ≡ entry m r w.corners.one.column *ℤ (entry m w.corners.two.row c *ℤ entry m w.corners.two.row w.corners.one.column)
+  lower : (r c : ℕ) → r < height m → c < m.width → T (Row r) ≡ false → T (Column c) ≡ true
+      → entry m r c ≡ entry m r w.corners.one.column *ℤ (entry m w.corners.two.row c *ℤ entry m w.corners.two.row w.corners.one.column)
   lower r c lr lc er ec = lower_at m w.cut.closed r c lr lc er ec
 
-  upper : (r c : ℕ) → r < height m → c < m.width → T (Row r) ≡ true → T (Column c) ≡ false → entry m r c ≡ entry m r w.corners.two.column *ℤ (entry m w.corners.one.row c *ℤ entry m w.corners.one.row w.corners.two.column)
+  upper : (r c : ℕ) → r < height m → c < m.width → T (Row r) ≡ true → T (Column c) ≡ false
+      → entry m r c ≡ entry m r w.corners.two.column *ℤ (entry m w.corners.one.row c *ℤ entry m w.corners.one.row w.corners.two.column)
   upper r c lr lc er ec = upper_at m w.cut.closed r c lr lc er ec
 
-  row_like : (r met c : ℕ) → r < height m → T (Row r) ≡ false → met < m.width → T (Column met) ≡ true → support m r met ≡ true → c < m.width → T (Column c) ≡ true → support m r c ≡ support m w.corners.two.row c
+  row_like : (r met c : ℕ) → r < height m → T (Row r) ≡ false → met < m.width → T (Column met) ≡ true → support m r met ≡ true → c < m.width
+      → T (Column c) ≡ true → support m r c ≡ support m w.corners.two.row c
   row_like r met c lr er lm em s lc ec =
       let factor : entry m r w.corners.one.column ≢ pos 0 = λ z.
       nonzero_is (entry m r met) s (lower r met lr lm er em ∙ first_zero (entry m r w.corners.one.column) (entry m w.corners.two.row met) (entry m w.corners.two.row w.corners.one.column) z) in
       as_second (entry m r c) (entry m r w.corners.one.column) (entry m w.corners.two.row c) (entry m w.corners.two.row w.corners.one.column) (is.small r w.corners.one.column) (is.small w.corners.two.row c) (is.small w.corners.two.row w.corners.one.column)
       factor w.lower (lower r c lr lc er ec)
 
-  column_like : (c met r : ℕ) → c < m.width → T (Column c) ≡ false → met < height m → T (Row met) ≡ true → support m met c ≡ true → r < height m → T (Row r) ≡ true → support m r c ≡ support m r w.corners.two.column
+  column_like : (c met r : ℕ) → c < m.width → T (Column c) ≡ false → met < height m → T (Row met) ≡ true → support m met c ≡ true → r < height m
+      → T (Row r) ≡ true → support m r c ≡ support m r w.corners.two.column
   column_like c met r lc ec lm em s lr er =
       let factor : entry m w.corners.one.row c ≢ pos 0 = λ z.
       nonzero_is (entry m met c) s (upper met c lm lc em ec ∙ second_zero (entry m met w.corners.two.column) (entry m w.corners.one.row c) (entry m w.corners.one.row w.corners.two.column) z) in
@@ -140,7 +144,8 @@ covers_halves_beside m H K P K1 K2 halved h1 h2 T w = elim (halved (opposite T) 
   | inr all ↦ h2 T (record { cut = w.cut; one = w.one; two = λ z l h. not_is (T z) (all z l h) })
 ]
 
-pub covers_line : (m : Matrix) (H K P H' K' : Lines) (x : Line) → IsLineOf m x → ((z : Line) → IsLineOf m z → H' z ≡ true → (H z ≡ true) ⊎ (z ≡ x)) → ((z : Line) → IsLineOf m z → K' z ≡ true → (K z ≡ true) ⊎ (z ≡ x))
+pub covers_line : (m : Matrix) (H K P H' K' : Lines) (x : Line) → IsLineOf m x → ((z : Line) → IsLineOf m z → H' z ≡ true → (H z ≡ true) ⊎ (z ≡ x))
+    → ((z : Line) → IsLineOf m z → K' z ≡ true → (K z ≡ true) ⊎ (z ≡ x))
     → Covers m H' K P → Covers m H K' P → Covers m H K P
 covers_line m H K P H' K' x lx adds1 adds2 h1 h2 T w = elim (two_cases (T x)) [
   | inl t ↦ h1 T (record { cut = w.cut; one = one t; two = w.two })
@@ -213,7 +218,8 @@ covers_few_beside m H K P is few T w = absurd (no_few m K (opposite T) is (other
 -- ---- the group of a line
 
 -- lines of one name are in side one, or otherwise in side two
-pub covers_group : (m : Matrix) (groups : Groups) (name : ℕ) (H G H' P : Lines) → HoldTogether (IsCut m) m groups → ((x : Line) → IsLineOf m x → G x ≡ true → name_of m groups x ≡ name) → AddsAtMost m H' H G
+pub covers_group : (m : Matrix) (groups : Groups) (name : ℕ) (H G H' P : Lines) → HoldTogether (IsCut m) m groups
+    → ((x : Line) → IsLineOf m x → G x ≡ true → name_of m groups x ≡ name) → AddsAtMost m H' H G
     → (K : Lines) → ((x : Line) → IsLineOf m x → K x ≡ false) → Covers m H' K P → Covers m H G P → (T : Lines) → IsCut m T → AreWithin m H T → (x : Line) → IsLineOf m x → T x ≡ false → P x ≡ true
 covers_group m groups name H G H' P together named adds K empty h1 h2 T w one = elim (within_or_not m G T) [
   | inl all ↦ h1 T (record { cut = w; one = within_sum m H G H' T adds one all; two = λ z l k. absurd (not_both (K z) k (empty z l)) })
@@ -235,7 +241,8 @@ group_of_covers m groups name H G H' K P e le only together named adds empty h1 
     ]
 
 -- the names of the lines of such a group
-pub group_named : (m : Matrix) (before after : Groups) (P : Lines) (e : Line) → IsLineOf m e → HoldTogether (IsCut m) m before → ((T : Lines) → IsCut m T → (x : Line) → IsLineOf m x → P x ≡ false → T x ≡ T e)
+pub group_named : (m : Matrix) (before after : Groups) (P : Lines) (e : Line) → IsLineOf m e → HoldTogether (IsCut m) m before
+    → ((T : Lines) → IsCut m T → (x : Line) → IsLineOf m x → P x ≡ false → T x ≡ T e)
     → GetName m before after P e → HoldTogether (IsCut m) m after
 group_named m before after P e le together same named T w a b la lb is = sym (like a la).2 ∙ together T w (like a la).0 (like b lb).0 (like a la).1 (like b lb).1 (sym (like a la).3 ∙ is ∙ (like b lb).3) ∙ (like b lb).2
   where
@@ -249,7 +256,8 @@ group_named m before after P e le together same named T w a b la lb is = sym (li
 -- ---- classes by numbers
 
 -- rows by their numbers for the columns of a set
-unlike_rows : (m : Matrix) (lines : LineMask) (classes : List ℕ) → IsMatrix m → AreClassNumbers m lines.columns.words classes → (r s : ℕ) → r < height m → s < height m → get_or classes r 0 ≢ 0 → get_or classes s 0 ≢ 0 → get_or classes r 0 ≢ get_or classes s 0
+unlike_rows : (m : Matrix) (lines : LineMask) (classes : List ℕ) → IsMatrix m → AreClassNumbers m lines.columns.words classes → (r s : ℕ) → r < height m
+    → s < height m → get_or classes r 0 ≢ 0 → get_or classes s 0 ≢ 0 → get_or classes r 0 ≢ get_or classes s 0
     → AreUnlike m (as_set lines) (Row r) (Row s)
 unlike_rows m lines classes is so r s lr ls nr ns d = record {
   met_one = let (c, h, t) = so.met r lr nr in (c, column_in m r c is lr t, h, t);
@@ -264,7 +272,8 @@ unlike_rows m lines classes is so r s lr ls nr ns d = record {
     ]
 
 -- columns by their numbers for the rows of a set
-unlike_columns : (m : Matrix) (lines : LineMask) (classes : List ℕ) → IsMatrix m → AreClassNumbers (transposed m) lines.rows.words classes → (c d : ℕ) → c < m.width → d < m.width → get_or classes c 0 ≢ 0 → get_or classes d 0 ≢ 0 → get_or classes c 0 ≢ get_or classes d 0
+unlike_columns : (m : Matrix) (lines : LineMask) (classes : List ℕ) → IsMatrix m → AreClassNumbers (transposed m) lines.rows.words classes → (c d : ℕ)
+    → c < m.width → d < m.width → get_or classes c 0 ≢ 0 → get_or classes d 0 ≢ 0 → get_or classes c 0 ≢ get_or classes d 0
     → AreUnlike m (as_set lines) (Column c) (Column d)
 unlike_columns m lines classes is so c d lc ld nc nd n = record {
   met_one = met c lc nc;
@@ -290,7 +299,8 @@ unlike_columns m lines classes is so c d lc ld nc nd n = record {
 pub row_classes : (m : Matrix) (lines : LineMask) (classes : List ℕ) → IsMatrix m → AreClassNumbers m lines.columns.words classes → AreClasses m (as_set lines) Row (λ r. get_or classes r 0)
 row_classes m lines classes is so r s lr ls er es nr ns d = unlike_rows m lines classes is so r s lr ls nr ns d
 
-pub column_classes : (m : Matrix) (lines : LineMask) (classes : List ℕ) → IsMatrix m → AreClassNumbers (transposed m) lines.rows.words classes → AreClasses m (as_set lines) Column (λ c. get_or classes c 0)
+pub column_classes : (m : Matrix) (lines : LineMask) (classes : List ℕ) → IsMatrix m → AreClassNumbers (transposed m) lines.rows.words classes
+    → AreClasses m (as_set lines) Column (λ c. get_or classes c 0)
 column_classes m lines classes is so c d lc ld ec ed nc nd n = unlike_columns m lines classes is so c d lc ld nc nd n
 
 -- the classes of one heap differ from the classes of the other
@@ -300,7 +310,8 @@ heaps_differ heaps one other e f =
     let b = and_is (not (nat_eq other 0)) (not (is_between heaps.low heaps.high other)) f in
     (ne_of one 0 (not_is (nat_eq one 0) a.0), ne_of other 0 (not_is (nat_eq other 0) b.0), λ same. not_both (is_between heaps.low heaps.high other) (sym (ap (is_between heaps.low heaps.high) same) ∙ a.1) (not_is (is_between heaps.low heaps.high other) b.1))
 
-pub rows_halved : (m : Matrix) (lines : LineMask) (heaps : Heaps) (classes : List ℕ) (H1 H2 : Lines) → IsMatrix m → AreClassNumbers m lines.columns.words classes → AddsAtMost m H1 (as_set lines) (rows_heap heaps classes true)
+pub rows_halved : (m : Matrix) (lines : LineMask) (heaps : Heaps) (classes : List ℕ) (H1 H2 : Lines) → IsMatrix m
+    → AreClassNumbers m lines.columns.words classes → AddsAtMost m H1 (as_set lines) (rows_heap heaps classes true)
     → AddsAtMost m H2 (as_set lines) (rows_heap heaps classes false) → IsHalved m (as_set lines) H1 H2
 rows_halved m lines heaps classes H1 H2 is so adds1 adds2 = halved_by_unlike m (as_set lines) (rows_heap heaps classes true) (rows_heap heaps classes false) H1 H2 is unlike adds1 adds2
   where
@@ -310,7 +321,8 @@ rows_halved m lines heaps classes H1 H2 is so adds1 adds2 = halved_by_unlike m (
     unlike (Column c) (Row r) lc lr hc hr = absurd (not_both false hc refl)
     unlike (Column c) (Column d) lc ld hc hd = absurd (not_both false hc refl)
 
-pub columns_halved : (m : Matrix) (lines : LineMask) (heaps : Heaps) (classes : List ℕ) (H1 H2 : Lines) → IsMatrix m → AreClassNumbers (transposed m) lines.rows.words classes → AddsAtMost m H1 (as_set lines) (columns_heap heaps classes true)
+pub columns_halved : (m : Matrix) (lines : LineMask) (heaps : Heaps) (classes : List ℕ) (H1 H2 : Lines) → IsMatrix m
+    → AreClassNumbers (transposed m) lines.rows.words classes → AddsAtMost m H1 (as_set lines) (columns_heap heaps classes true)
     → AddsAtMost m H2 (as_set lines) (columns_heap heaps classes false) → IsHalved m (as_set lines) H1 H2
 columns_halved m lines heaps classes H1 H2 is so adds1 adds2 = halved_by_unlike m (as_set lines) (columns_heap heaps classes true) (columns_heap heaps classes false) H1 H2 is unlike adds1 adds2
   where
@@ -332,7 +344,8 @@ halved_within m H one other more_one more_other halved adds1 adds2 T cut within 
 ]
 
 -- each cut has one of the two heaps in side one
-pub heaps_halved : (m : Matrix) (patterns : LinePatterns) (one other : Lines) → IsMatrix m → HasNumbers m patterns.side.now → ((x : Line) → one x ≡ true → heap_of patterns true x ≡ true) → ((x : Line) → other x ≡ true → heap_of patterns false x ≡ true)
+pub heaps_halved : (m : Matrix) (patterns : LinePatterns) (one other : Lines) → IsMatrix m → HasNumbers m patterns.side.now
+    → ((x : Line) → one x ≡ true → heap_of patterns true x ≡ true) → ((x : Line) → other x ≡ true → heap_of patterns false x ≡ true)
     → IsHalved m (as_set patterns.side.now.lines) one other
 heaps_halved m patterns one other is has in_one in_other = elim (two_cases by_columns) [
   | inl t ↦ columns_halved m side.lines patterns.columns.heaps side.column_numbers.items one other is has.columns (λ x l e. inr (sym (ap (λ (b : Bool). heap b true x) t) ∙ in_one x e)) (λ x l e. inr (sym (ap (λ (b : Bool). heap b false x) t) ∙ in_other x e))

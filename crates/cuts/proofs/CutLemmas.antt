@@ -14,10 +14,12 @@ use Rattle.cuts.specs.LineCuts.{IsCut}
 -- ---- closed sets
 
 -- an entry between the sides
-pub upper_at : {upper lower : ℕ → ℕ → ℤ} {S : Lines} (m : Matrix) → IsClosed (height m) m.width (entry m) upper lower S → (r c : ℕ) → r < height m → c < m.width → S (Row r) ≡ true → S (Column c) ≡ false → entry m r c ≡ upper r c
+pub upper_at : {upper lower : ℕ → ℕ → ℤ} {S : Lines} (m : Matrix) → IsClosed (height m) m.width (entry m) upper lower S → (r c : ℕ) → r < height m → c < m.width
+    → S (Row r) ≡ true → S (Column c) ≡ false → entry m r c ≡ upper r c
 upper_at m closed r c lr lc er ec = closed.upper r c (contains_first_lines (height m) r lr) (contains_first_lines m.width c lc) er ec
 
-pub lower_at : {upper lower : ℕ → ℕ → ℤ} {S : Lines} (m : Matrix) → IsClosed (height m) m.width (entry m) upper lower S → (r c : ℕ) → r < height m → c < m.width → S (Row r) ≡ false → S (Column c) ≡ true → entry m r c ≡ lower r c
+pub lower_at : {upper lower : ℕ → ℕ → ℤ} {S : Lines} (m : Matrix) → IsClosed (height m) m.width (entry m) upper lower S → (r c : ℕ) → r < height m → c < m.width
+    → S (Row r) ≡ false → S (Column c) ≡ true → entry m r c ≡ lower r c
 lower_at m closed r c lr lc er ec = closed.lower r c (contains_first_lines (height m) r lr) (contains_first_lines m.width c lc) er ec
 
 -- ---- the sides exchanged

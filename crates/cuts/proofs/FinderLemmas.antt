@@ -8,7 +8,8 @@ use Rattle.cuts.specs.declared.groups.Groups.{Groups}
 use Rattle.cuts.specs.LineCuts.{HasNames, HoldTogether, IsCut}
 use Rattle.cuts.specs.Finders.{AreFound}
 
-pub found_with : (m : Matrix) (finder : GroupFinder) (groups : Groups) (taken : LineMask) → finder.groups ≡ groups → finder.taken ≡ taken → HasNames m groups → IsMaskOf m taken → HoldTogether (IsCut m) m groups → AreFound m finder
+pub found_with : (m : Matrix) (finder : GroupFinder) (groups : Groups) (taken : LineMask) → finder.groups ≡ groups → finder.taken ≡ taken → HasNames m groups
+    → IsMaskOf m taken → HoldTogether (IsCut m) m groups → AreFound m finder
 found_with m finder groups taken eg et names size together = record {
   groups = subst (λ (g : Groups). HasNames m g) (sym eg) names;
   taken = subst (λ (mask : LineMask). IsMaskOf m mask) (sym et) size;

@@ -24,7 +24,8 @@ module _ (m : Matrix) (H K T : Lines) (is : IsMatrix m) (cut : IsCut m T) (one :
     | inr f ↦ f
   ]
 
-  forced_line : (line : ℕ → Line) (class : ℕ → ℕ) → AreClasses m H line class → (x k : ℕ) → IsLineOf m (line x) → IsLineOf m (line k) → K (line k) ≡ true → class x ≢ 0 → class k ≢ 0 → class x ≢ class k → T (line x) ≡ true
+  forced_line : (line : ℕ → Line) (class : ℕ → ℕ) → AreClasses m H line class → (x k : ℕ) → IsLineOf m (line x) → IsLineOf m (line k) → K (line k) ≡ true
+      → class x ≢ 0 → class k ≢ 0 → class x ≢ class k → T (line x) ≡ true
   forced_line line class classes x k lx lk hk nx nk d = elim (two_cases (T (line x))) [
     | inl t ↦ t
     | inr f ↦ elim (two_cases (H (line x))) [
@@ -36,9 +37,11 @@ module _ (m : Matrix) (H K T : Lines) (is : IsMatrix m) (cut : IsCut m T) (one :
 unlike_at : (size size' : ℕ) (numbers numbers' far : List ℕ) (x : ℕ) → size ≡ size' → numbers ≡ numbers' → IsUnlikeOne size numbers far x → IsUnlikeOne size' numbers' far x
 unlike_at size size' numbers numbers' far x es en h = subst (λ (n : ℕ). IsUnlikeOne n numbers' far x) es (subst (λ (v : List ℕ). IsUnlikeOne size v far x) en h)
 
-pub side_forced : (m : Matrix) (side more : Side) (lines far : LineMask) (row_size column_size : ℕ) (row_numbers column_numbers : List ℕ) → IsMatrix m → HasNumbers m side → HasNumbers m more → AddsAtMost m (as_set more.lines) (as_set side.lines) (as_set lines)
+pub side_forced : (m : Matrix) (side more : Side) (lines far : LineMask) (row_size column_size : ℕ) (row_numbers column_numbers : List ℕ) → IsMatrix m
+    → HasNumbers m side → HasNumbers m more → AddsAtMost m (as_set more.lines) (as_set side.lines) (as_set lines)
     → row_size ≡ side.lines.rows.size → column_size ≡ side.lines.columns.size → row_numbers ≡ side.row_numbers.items → column_numbers ≡ side.column_numbers.items
-    → ((x : ℕ) → has_column lines.rows.words x ≡ true → IsUnlikeOne row_size row_numbers far.rows.words x) → ((x : ℕ) → has_column lines.columns.words x ≡ true → IsUnlikeOne column_size column_numbers far.columns.words x) → IsForced m side far more
+    → ((x : ℕ) → has_column lines.rows.words x ≡ true → IsUnlikeOne row_size row_numbers far.rows.words x)
+    → ((x : ℕ) → has_column lines.columns.words x ≡ true → IsUnlikeOne column_size column_numbers far.columns.words x) → IsForced m side far more
 side_forced m side more lines far row_size column_size row_numbers column_numbers is has numbers adds eh ew er ec unlike_row unlike_column = record {
   numbers = numbers;
   forced = λ T cut one two x l e. elim (adds x l e) [
@@ -61,7 +64,8 @@ pub covers_forced : (m : Matrix) (side more : Side) (far : LineMask) (P : Lines)
 covers_forced m side more far P so h T w = h T (record { cut = w.cut; one = so.forced T w.cut w.one w.two; two = w.two })
 
 -- the same for the lines of side two
-pub covers_forced_beside : (m : Matrix) (side more : Side) (far : LineMask) (P : Lines) → IsForced m side far more → Covers m (as_set far) (as_set more.lines) P → Covers m (as_set far) (as_set side.lines) P
+pub covers_forced_beside : (m : Matrix) (side more : Side) (far : LineMask) (P : Lines) → IsForced m side far more → Covers m (as_set far) (as_set more.lines) P
+    → Covers m (as_set far) (as_set side.lines) P
 covers_forced_beside m side more far P so h T w = h T (record {
   cut = w.cut;
   one = w.one;

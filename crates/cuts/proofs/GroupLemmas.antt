@@ -70,7 +70,8 @@ module _ (m : Matrix) (before after middle rows columns : List ℕ) (size width 
       sym (ap (λ (z : ℕ). get_or after (z + c) 0) ef) ∙ columns_named c (omega (arith, l, ew))
       ∙ ap (λ (v : ℕ). cond (has_column columns c) v value) (rows_kept (from + c) (omega (arith, ef, es)) ∙ ap (λ (z : ℕ). get_or before (z + c) 0) ef)
 
-pub lines_renamed : (m : Matrix) (before after : Groups) (middle : List ℕ) (kept_lines : LineMask) (from value : ℕ) (line : Line) → IsMaskOf m kept_lines → from ≡ kept_lines.rows.size → value ≡ name_of m before line
+pub lines_renamed : (m : Matrix) (before after : Groups) (middle : List ℕ) (kept_lines : LineMask) (from value : ℕ) (line : Line) → IsMaskOf m kept_lines
+    → from ≡ kept_lines.rows.size → value ≡ name_of m before line
     → ((x : ℕ) → x < kept_lines.rows.size → get_or middle (0 + x) 0 ≡ cond (has_column kept_lines.rows.words x) (get_or before.names.items (0 + x) 0) value)
     → ((k : ℕ) → 0 + kept_lines.rows.size ≤ k → get_or middle k 0 ≡ get_or before.names.items k 0)
     → ((x : ℕ) → x < kept_lines.columns.size → get_or after.names.items (from + x) 0 ≡ cond (has_column kept_lines.columns.words x) (get_or middle (from + x) 0) value)
@@ -97,10 +98,13 @@ lines_renamed m before after middle kept_lines from value line is ef ev a b c d 
 -- ---- the group of a line
 
 -- two searches: with the lines of a name in side one, and with these lines in side two
-pub covered_group : {E : Type 0} (m : Matrix) (groups : Groups) (name : ℕ) (line : Line) (group : Lines) (nothing first second more : Side) (before between after : LineMask) (covered : Bool) (found : Result Bool E) → IsLineOf m line
+pub covered_group : {E : Type 0} (m : Matrix) (groups : Groups) (name : ℕ) (line : Line) (group : Lines) (nothing first second more : Side) (before between after : LineMask) (covered : Bool) (found : Result Bool E)
+    → IsLineOf m line
     → HoldTogether (IsCut m) m groups → ((x : Line) → as_set nothing.lines x ≡ false) → ((x : Line) → IsLineOf m x → as_set first.lines x ≡ true → (as_set nothing.lines x ≡ true) ⊎ (x ≡ line))
-    → ((x : Line) → IsLineOf m x → group x ≡ true → name_of m groups x ≡ name) → AddsAtMost m (as_set more.lines) (as_set first.lines) group → AddsAtMost m (as_set second.lines) (as_set nothing.lines) group
-    → covered ≡ true → HasMarked m more nothing before between covered → IfOk found (HasMarked m first second between after) → IfOk found (λ covered. covered ≡ true → AreOnOneSide m line (as_set after))
+    → ((x : Line) → IsLineOf m x → group x ≡ true → name_of m groups x ≡ name) → AddsAtMost m (as_set more.lines) (as_set first.lines) group
+    → AddsAtMost m (as_set second.lines) (as_set nothing.lines) group
+    → covered ≡ true → HasMarked m more nothing before between covered → IfOk found (HasMarked m first second between after)
+    → IfOk found (λ covered. covered ≡ true → AreOnOneSide m line (as_set after))
 covered_group m groups name line group nothing first second more before between after covered (Ok last) lx together empty only named adds_more adds_second is h1 h2 = λ e.
     group_of_covers m groups name (as_set first.lines) group (as_set more.lines) (as_set nothing.lines) (as_set after) line lx
     (λ x l h. elim (only x l h) [ inl old ↦ absurd (not_both (as_set nothing.lines x) old (empty x)) | inr same ↦ same ])

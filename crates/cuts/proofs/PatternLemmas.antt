@@ -19,7 +19,8 @@ one_more : (n s : ℕ) (t : Bool) → s ≡ n → s + cond t 1 0 ≡ cond t (suc
 one_more n s true e = omega (arith, e)
 one_more n s false e = omega (arith, e)
 
-pub open_more : (own classes listed after : List ℕ) (row : ℕ) → AreOpen own classes row listed → has_column own row ≡ false → after ≡ listed ++ get_or classes row 0 ∷ [] → AreOpen own classes (row + 1) after
+pub open_more : (own classes listed after : List ℕ) (row : ℕ) → AreOpen own classes row listed → has_column own row ≡ false
+    → after ≡ listed ++ get_or classes row 0 ∷ [] → AreOpen own classes (row + 1) after
 open_more own classes listed after row so f is = let next : suc row ≡ row + 1 = omega arith in subst (λ (n : ℕ). AreOpen own classes n after) next (λ test.
     ap (count_by test) is ∙ sum_by_push (λ class. cond (test class) 1 0) listed (get_or classes row 0)
     ∙ one_more (count (λ a. not (has_column own a) && test (get_or classes a 0)) row) (count_by test listed) (test (get_or classes row 0)) (so test)
@@ -45,7 +46,8 @@ most_of_others own classes most others given =
 pub open_sorted : (own classes listed sorted : List ℕ) (size : ℕ) → AreOpen own classes size listed → IsPermutation listed sorted → AreOpen own classes size sorted
 open_sorted own classes listed sorted size so permuted test = sum_by-IsPermutation (λ class. cond (test class) 1 0) listed sorted permuted ∙ so test
 
-pub most_of_sorted : (own : Bits) (classes sorted listed : List ℕ) (most : ℕ) → sorted ≡ listed → AreOpen own.words classes own.size listed → AreAtMostListed sorted most → AreAtMostBeside own classes most
+pub most_of_sorted : (own : Bits) (classes sorted listed : List ℕ) (most : ℕ) → sorted ≡ listed → AreOpen own.words classes own.size listed
+    → AreAtMostListed sorted most → AreAtMostBeside own classes most
 most_of_sorted own classes sorted listed most es so l given =
     let e = so (λ class. nat_eq class 0 || nat_eq class given) in
     let k = subst (λ (v : List ℕ). AreAtMostListed v most) es l given in

@@ -23,7 +23,8 @@ pub covered_at_once : (m : Matrix) (one two : Side) (separated : LineMask) → C
 covered_at_once m one two separated covers = record { more = λ x l e. e; covers = λ e. covers }
 
 -- a search of one state replaces the search of another
-pub searched_as : {E : Type 0} (m : Matrix) (one two other_one other_two : Side) (before after : LineMask) (found : Result Bool E) → Leads m other_one other_two one two → IfOk found (HasMarked m other_one other_two before after)
+pub searched_as : {E : Type 0} (m : Matrix) (one two other_one other_two : Side) (before after : LineMask) (found : Result Bool E)
+    → Leads m other_one other_two one two → IfOk found (HasMarked m other_one other_two before after)
     → IfOk found (HasMarked m one two before after)
 searched_as m one two other_one other_two before after (Ok covered) leads h = record { more = h.more; covers = λ e. leads (as_set after) (h.covers e) }
 searched_as m one two other_one other_two before after (Err e) leads h = h
@@ -39,7 +40,8 @@ searched_both m one two first_one first_two second_one second_two before between
 searched_both m one two first_one first_two second_one second_two before between after covered (Err e) both is h1 h2 = h2
 
 -- no cut has a line in side one and in side two
-pub covers_shared : (m : Matrix) (one two : Side) (P : Lines) → IsMaskOf m one.lines → (x : Line) × IsLine one.lines.rows.size one.lines.columns.size x × (as_set one.lines x ≡ true) × (as_set two.lines x ≡ true)
+pub covers_shared : (m : Matrix) (one two : Side) (P : Lines) → IsMaskOf m one.lines
+    → (x : Line) × IsLine one.lines.rows.size one.lines.columns.size x × (as_set one.lines x ≡ true) × (as_set two.lines x ≡ true)
     → Covers m (as_set one.lines) (as_set two.lines) P
 covers_shared m one two P is (x, lx, ex, tx) T w y l e = absurd (not_both (T x) (w.one x (line_of m one.lines x is lx) ex) (w.two x (line_of m one.lines x is lx) tx))
 
@@ -52,11 +54,13 @@ marked_rest m one two before after is more rest = record {
 }
 
 -- a search gives up if a search that it began gave up
-pub gave_up : (m : Matrix) (one two other_one other_two : Side) (before after : LineMask) (covered : Bool) → HasMarked m other_one other_two before after covered → HasMarked m one two before after false
+pub gave_up : (m : Matrix) (one two other_one other_two : Side) (before after : LineMask) (covered : Bool)
+    → HasMarked m other_one other_two before after covered → HasMarked m one two before after false
 gave_up m one two other_one other_two before after covered h = record { more = h.more; covers = λ e. absurd (not_both false e refl) }
 
 -- the same, if the search holds an equal matrix
-pub marked_at : {E : Type 0} (m m' : Matrix) (one two : Side) (before after : LineMask) (found : Result Bool E) → m' ≡ m → IfOk found (HasMarked m' one two before after) → IfOk found (HasMarked m one two before after)
+pub marked_at : {E : Type 0} (m m' : Matrix) (one two : Side) (before after : LineMask) (found : Result Bool E) → m' ≡ m
+    → IfOk found (HasMarked m' one two before after) → IfOk found (HasMarked m one two before after)
 marked_at m m' one two before after found same h = subst (λ (z : Matrix). IfOk found (HasMarked z one two before after)) same h
 
 pub numbered_at : (m m' : Matrix) (one two : Side) → m' ≡ m → HasNumbers m one → HasNumbers m two → HaveNumbers m' one two

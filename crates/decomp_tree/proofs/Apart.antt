@@ -80,7 +80,8 @@ not_zero b e = omega (arith, e)
 less_one : (a b : ℕ) → suc b ≡ suc a → b ≡ a
 less_one a b e = omega (arith, e)
 
-count_once : (test : LineSet → Bool) (parts : List LineSet) (a : ℕ) → a < length parts → test (part_at parts a) ≡ true → ((b : ℕ) → b < length parts → test (part_at parts b) ≡ true → b ≡ a) → count_by test parts ≡ 1
+count_once : (test : LineSet → Bool) (parts : List LineSet) (a : ℕ) → a < length parts → test (part_at parts a) ≡ true
+    → ((b : ℕ) → b < length parts → test (part_at parts b) ≡ true → b ≡ a) → count_by test parts ≡ 1
 count_once test [] a l e only = absurd (omega (arith, l))
 count_once test (p ∷ parts) zero l e only =
     let none = count_none test parts (λ b k f. not_zero b (only (suc b) (omega (arith, k)) f)) in

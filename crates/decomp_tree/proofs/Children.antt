@@ -31,7 +31,8 @@ module _ (limit : ℕ) (m : Matrix) where
   has_children finding children trees count drawn = subst (HasChildren finding) (sym (as_many children trees drawn)) count
 
   -- a draft with none before it is the only one
-  pub only_drafted : (lines : LineSet) (others : List Draft) (root : Draft) → HasOneMoreDraft limit m lines [] (map sketch_of (others ++ root ∷ [])) → (lines_of_sketch (sketch_of root) ≡ lines) × IsDrafted limit m (sketch_of root)
+  pub only_drafted : (lines : LineSet) (others : List Draft) (root : Draft) → HasOneMoreDraft limit m lines [] (map sketch_of (others ++ root ∷ []))
+      → (lines_of_sketch (sketch_of root) ≡ lines) × IsDrafted limit m (sketch_of root)
   only_drafted lines others root d =
       let same = only_made sketch_of others root d.sketch d.order in
       (ap lines_of_sketch same ∙ d.lines_are, subst (IsDrafted limit m) (sym same) d.drafted)

@@ -31,7 +31,8 @@ module _ (m : Matrix) (some others : Lines) where
         elim (not_both (some (Row r)) (others (Row r)) x) [ inl e ↦ a.lower r c h k e p.0 | inr e ↦ b.lower r c h k e p.1 ];
   }
 
-  shared : IsComponent (height m) m.width (entry m) some → IsComponent (height m) m.width (entry m) others → (line : Line) → IsLine (height m) m.width line → some line ≡ true → others line ≡ true → HasAllOf m some others
+  shared : IsComponent (height m) m.width (entry m) some → IsComponent (height m) m.width (entry m) others → (line : Line) → IsLine (height m) m.width line
+      → some line ≡ true → others line ≡ true → HasAllOf m some others
   shared a b line is x y = λ other is' h.
       let both_have = a.least one (both_apart a.apart b.apart) (line, is, is_and (some line) (others line) x y) (λ l k e. (and_parts (some l) (others l) e).0) other is' h in
       (and_parts (some other) (others other) both_have).1
@@ -81,7 +82,8 @@ module _ (key : LineSet → ℕ) where
       ∙ ap (λ (xs : List LineSet). q ∷ xs)
       (same_lists parts others (ordered_tail p parts is) (ordered_tail q others is') (tail_in p q parts others first is up) (tail_in q p others parts (sym first) is' down))
 
-component_in : (m : Matrix) (parts others : List LineSet) → AreComponents m parts → AreComponents m others → (a : ℕ) → a < length parts → (b : ℕ) × (b < length others) × (part_at parts a ≡ part_at others b)
+component_in : (m : Matrix) (parts others : List LineSet) → AreComponents m parts → AreComponents m others → (a : ℕ) → a < length parts
+    → (b : ℕ) × (b < length others) × (part_at parts a ≡ part_at others b)
 component_in m parts others x y a l =
     let one = x.components a l in
     let some = one.some in

@@ -23,7 +23,8 @@ lines_are draft = ap lines_of_sketch (sketch_is draft)
 
 module _ (limit : ℕ) (m : Matrix) where
   -- one more draft
-  drafted_more : (children : List LineSet) (sketches : List Sketch) (child : LineSet) (sketch : Sketch) → AreDrafted limit m children (sketches_from sketches) → lines_of_sketch sketch ≡ child → IsDrafted limit m sketch
+  drafted_more : (children : List LineSet) (sketches : List Sketch) (child : LineSet) (sketch : Sketch) → AreDrafted limit m children (sketches_from sketches)
+      → lines_of_sketch sketch ≡ child → IsDrafted limit m sketch
       → AreDrafted limit m (children ++ child ∷ []) (sketches_from (sketches ++ sketch ∷ []))
   drafted_more [] [] child sketch d e one = (e, one, tt)
   drafted_more [] (s ∷ sketches) child sketch d e one = absurd d
@@ -31,7 +32,8 @@ module _ (limit : ℕ) (m : Matrix) where
   drafted_more (c ∷ children) (s ∷ sketches) child sketch d e one = (d.0, d.1, drafted_more children sketches child sketch d.2 e one)
 
   -- the next child is drawn after the others
-  pub drafted_next : (children : List LineSet) (i : ℕ) (d : LineSet) (before after : List Sketch) → i < length children → AreDrafted limit m (take i children) (sketches_from before) → HasOneMoreDraft limit m (get_or children i d) before after
+  pub drafted_next : (children : List LineSet) (i : ℕ) (d : LineSet) (before after : List Sketch) → i < length children
+      → AreDrafted limit m (take i children) (sketches_from before) → HasOneMoreDraft limit m (get_or children i d) before after
       → AreDrafted limit m (take (i + 1) children) (sketches_from after)
   drafted_next children i d before after l so_far one =
       subst (λ some. AreDrafted limit m (take (i + 1) children) (sketches_from some)) (sym one.order)
@@ -39,14 +41,16 @@ module _ (limit : ℕ) (m : Matrix) where
       (drafted_more (take i children) before (get_or children i d) one.sketch so_far one.lines_are one.drafted))
 
   -- all children are drawn
-  pub drafted_all : (children : List LineSet) (i : ℕ) (sketches : List Sketch) → i ≡ length children → AreDrafted limit m (take i children) (sketches_from sketches) → AreDrafted limit m children (sketches_from sketches)
+  pub drafted_all : (children : List LineSet) (i : ℕ) (sketches : List Sketch) → i ≡ length children
+      → AreDrafted limit m (take i children) (sketches_from sketches) → AreDrafted limit m children (sketches_from sketches)
   drafted_all children i sketches e d = subst (λ some. AreDrafted limit m some (sketches_from sketches)) (ap (λ k. take k children) e ∙ take-length children) d
 
   -- what is known of a draft
   pub parts_of : (draft : Draft) → IsDrafted limit m (sketch_of draft) → IsDrafted limit m (Sketched (opening_in draft) (is_free_in draft) (sketches_from (map sketch_of (drafts_in draft))))
   parts_of draft d = subst (IsDrafted limit m) (sketch_is draft) d
 
-  free_each : (children : List LineSet) (drafts : List Draft) → AreDrafted limit m children (sketches_from (map sketch_of drafts)) → list_all is_free_in drafts ≡ true → AllByRecursion (HasNoneAmong m) children
+  free_each : (children : List LineSet) (drafts : List Draft) → AreDrafted limit m children (sketches_from (map sketch_of drafts))
+      → list_all is_free_in drafts ≡ true → AllByRecursion (HasNoneAmong m) children
   free_each [] drafts d e = tt
   free_each (child ∷ children) [] d e = absurd d
   free_each (child ∷ children) (draft ∷ drafts) d e =
@@ -60,7 +64,8 @@ module _ (limit : ℕ) (m : Matrix) where
         none_by_children limit few m is lines are (finding_shown opening.finding) opening.children is_opening.said both.0 (free_each opening.children drafts drafted both.1)
 
     -- the node is drawn after others
-    pub one_more_draft : (before after : List Sketch) → after ≡ before ++ Sketched opening (keeps_free (finding_shown opening.finding) && list_all is_free_in drafts) (sketches_from (map sketch_of drafts)) ∷ []
+    pub one_more_draft : (before after : List Sketch)
+        → after ≡ before ++ Sketched opening (keeps_free (finding_shown opening.finding) && list_all is_free_in drafts) (sketches_from (map sketch_of drafts)) ∷ []
         → HasOneMoreDraft limit m lines before after
     one_more_draft before after e = record {
       sketch = Sketched opening (keeps_free (finding_shown opening.finding) && list_all is_free_in drafts) (sketches_from (map sketch_of drafts));

@@ -45,7 +45,8 @@ module _ (limit : ℕ) (m : Matrix) where
       (shape_moved limit m (path ++ k ∷ []) (due_child lines finding k) child tree due.0 d.0)
       (shaped_below path lines finding (suc k) children trees d.1 due.1)
 
-  pub drawn : (lines : LineSet) (finding : Finding) (children : List LineSet) (trees : List Tree) (said : IsSaid limit m lines finding children) → (2 < case_number said.case → HasNoCycleFault (entry (part m lines)))
+  pub drawn : (lines : LineSet) (finding : Finding) (children : List LineSet) (trees : List Tree) (said : IsSaid limit m lines finding children)
+      → (2 < case_number said.case → HasNoCycleFault (entry (part m lines)))
       → AreDrawn limit m children trees → IsShapeOn limit m lines (Branch lines finding (trees_from trees))
   drawn lines finding children trees said no_fault d = (
     record {
@@ -65,7 +66,8 @@ module _ (limit : ℕ) (m : Matrix) where
   )
 
   -- one more tree
-  pub drawn_more : (children : List LineSet) (trees : List Tree) (child : LineSet) (tree : Tree) → AreDrawn limit m children trees → IsShapeOn limit m child tree → AreDrawn limit m (children ++ child ∷ []) (trees ++ tree ∷ [])
+  pub drawn_more : (children : List LineSet) (trees : List Tree) (child : LineSet) (tree : Tree) → AreDrawn limit m children trees
+      → IsShapeOn limit m child tree → AreDrawn limit m (children ++ child ∷ []) (trees ++ tree ∷ [])
   drawn_more [] [] child tree d one = (one, tt)
   drawn_more [] (t ∷ trees) child tree d one = absurd d
   drawn_more (c ∷ children) [] child tree d one = absurd d

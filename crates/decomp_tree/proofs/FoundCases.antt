@@ -30,13 +30,18 @@ module _ (limit pivots state : ℕ) (m : Matrix) (lines : LineSet) where
   found_no_place tree some none e = found_at some tree None none e
 
   module _ (chosen : DrawnPlace) (at : IsChosenPlace m lines state chosen) where
-    found_there : (tree : Tree) → pivots ≢ 0 → IsFoundAt (λ next after found. (shape : Tree) × IsShapeOn limit after lines shape × Refines (IsFound limit (pivots - 1) next after) shape found) m lines (Some chosen) tree → IsFound limit pivots state m lines tree
+    found_there : (tree : Tree) → pivots ≢ 0
+        → IsFoundAt (λ next after found. (shape : Tree) × IsShapeOn limit after lines shape × Refines (IsFound limit (pivots - 1) next after) shape found) m lines (Some chosen) tree
+        → IsFound limit pivots state m lines tree
     found_there tree some found = found_at some tree (Some chosen) at found
 
-    pub found_two : (tree : Tree) (fault : LineSet) → pivots ≢ 0 → ShowsFirstTwoIn m lines chosen.place fault.rows fault.columns → tree ≡ Branch lines (Violator fault) NoTrees → IsFound limit pivots state m lines tree
+    pub found_two : (tree : Tree) (fault : LineSet) → pivots ≢ 0 → ShowsFirstTwoIn m lines chosen.place fault.rows fault.columns
+        → tree ≡ Branch lines (Violator fault) NoTrees → IsFound limit pivots state m lines tree
     found_two tree fault some shows e = found_there tree some (inl (fault, shows, e))
 
-    pub found_after : (tree found : Tree) (after : Matrix) → pivots ≢ 0 → IsMadePart m lines chosen.place after → IsDrawnWith limit (pivots - 1) chosen.state after lines found → IsMappedBack m lines chosen.place found (verdict_of found) tree → IsFound limit pivots state m lines tree
+    pub found_after : (tree found : Tree) (after : Matrix) → pivots ≢ 0 → IsMadePart m lines chosen.place after
+        → IsDrawnWith limit (pivots - 1) chosen.state after lines found → IsMappedBack m lines chosen.place found (verdict_of found) tree
+        → IsFound limit pivots state m lines tree
     found_after tree found after some made d mapped =
         let there = subst (λ n. IsDrawnWith limit (pivots - 1) chosen.state n lines found) made.is d in
         found_there tree some (inr (made.ternary, found, (there.shape, there.drawn, there.refines), mapped))
@@ -46,7 +51,8 @@ pub lines_made : (m : Matrix) (lines : LineSet) (place : Position) (after : Matr
 lines_made m lines place after made are = subst (λ n. AreLines n lines) (sym made.is) (lines_pivoted m lines place lines are)
 
 -- a fault of a decomposition has lines of its root
-pub fault_drawn : (limit pivots state : ℕ) (m : Matrix) (lines : LineSet) (tree : Tree) → IsMatrix m → AreLines m lines → IsDrawnWith limit pivots state m lines tree → HasFaultAmong lines (verdict_of tree)
+pub fault_drawn : (limit pivots state : ℕ) (m : Matrix) (lines : LineSet) (tree : Tree) → IsMatrix m → AreLines m lines
+    → IsDrawnWith limit pivots state m lines tree → HasFaultAmong lines (verdict_of tree)
 fault_drawn limit pivots state m lines tree is are d =
     subst (λ (some : LineSet). HasFaultAmong some (verdict_of tree)) (drawn_with_lines limit pivots state m lines tree d)
     (fault_among lines (suc (size_of lines + pivots)) tree (drawn_with_within limit pivots state m lines tree lines (suc (size_of lines + pivots)) is d are (lines_themselves m lines are) (omega arith)))

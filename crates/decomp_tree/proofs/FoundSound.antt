@@ -32,7 +32,8 @@ module _ (limit : ℕ) (few : limit ≤ 24) where
       → MayBelow made tree → IsSoundBelow m made tree
 
   -- a decomposition with what is found
-  drawn_sound : (pivots : ℕ) → FoundIsSound pivots → (m : Matrix) (made : List MadePivot) (state : ℕ) (lines : LineSet) (tree : Tree) → IsMatrix (matrix_after m made) → IsDrawnWith limit pivots state (matrix_after m made) lines tree
+  drawn_sound : (pivots : ℕ) → FoundIsSound pivots → (m : Matrix) (made : List MadePivot) (state : ℕ) (lines : LineSet) (tree : Tree)
+      → IsMatrix (matrix_after m made) → IsDrawnWith limit pivots state (matrix_after m made) lines tree
       → AreLines (matrix_after m made) lines → MayBelow made tree → IsSoundBelow m made tree
   drawn_sound pivots found m made state lines tree is d are may path due sizes has =
       refined_sound limit few m made is (IsFound limit pivots state (matrix_after m made)) (found_lines limit pivots state (matrix_after m made))
@@ -76,7 +77,8 @@ module _ (limit : ℕ) (few : limit ≤ 24) where
       mapped_sound (Open left) e tree mapped may = subst (IsSoundBelow m made) (sym mapped) (undecided_sound m made lines (subst (MayBelow made) mapped may))
 
     found_at_sound : (chosen : Option DrawnPlace) → ((some : DrawnPlace) → chosen ≡ Some some → IsPlaceIn n lines some.place) → (tree : Tree)
-        → IsFoundAt (λ next after found. (shape : Tree) × IsShapeOn limit after lines shape × Refines (IsFound limit pivots next after) shape found) n lines chosen tree → MayBelow made tree → IsSoundBelow m made tree
+        → IsFoundAt (λ next after found. (shape : Tree) × IsShapeOn limit after lines shape × Refines (IsFound limit pivots next after) shape found) n lines chosen tree
+        → MayBelow made tree → IsSoundBelow m made tree
     found_at_sound None at tree e may = subst (IsSoundBelow m made) (sym e) (undecided_sound m made lines (subst (MayBelow made) e may))
     found_at_sound (Some chosen) at tree (inl (fault, shows, e)) may = subst (IsSoundBelow m made) (sym e) (violator_sound m made lines fault shows.violator (subst (MayBelow made) e may))
     found_at_sound (Some chosen) at tree (inr (ternary, after, (shape, is_drawn, refines), mapped)) may =

@@ -71,11 +71,14 @@ fits_as_many lines (Pivoted place) trees others e fits = fits
 module _ (m : Matrix) (Replaces : LineSet → Tree → Type 0) (more : ℕ)
     (within_replaced : (lines : LineSet) (tree : Tree) (parent : LineSet) (levels : ℕ) → Replaces lines tree → AreLines m parent → AreLinesOf lines parent → size_of lines + more < levels → IsTreeWithin parent levels tree) where
   mutual
-    within_refined : (shape tree : Tree) (parent : LineSet) (some levels : ℕ) → Refines Replaces shape tree → IsFalling shape → AreLines m parent → IsTreeWithin parent some shape → size_of (lines_at_root shape) + more < levels → IsTreeWithin parent levels tree
+    within_refined : (shape tree : Tree) (parent : LineSet) (some levels : ℕ) → Refines Replaces shape tree → IsFalling shape → AreLines m parent
+        → IsTreeWithin parent some shape → size_of (lines_at_root shape) + more < levels → IsTreeWithin parent levels tree
     within_refined (Branch lines finding trees) tree parent some levels r falls are within l =
         go (refined_node Replaces lines finding trees tree r) (λ below all few. within_each lines trees below (some - 1) (levels - 1) all falls (lines_within m lines parent within.1 are) within.4 few)
       where
-        go : RefinedNode Replaces lines finding trees tree → ((below : Trees) → AllRefine Replaces trees below → size_of lines + more ≤ levels - 1 → AreTreesWithin lines (levels - 1) below) → IsTreeWithin parent levels tree
+        go : RefinedNode Replaces lines finding trees tree
+            → ((below : Trees) → AllRefine Replaces trees below → size_of lines + more ≤ levels - 1 → AreTreesWithin lines (levels - 1) below)
+            → IsTreeWithin parent levels tree
         go (replaced e replaces) each = within_replaced lines tree parent levels replaces are within.1 l
         go (kept e below is all) each = subst (IsTreeWithin parent levels) (sym is) (
           omega (arith, l),
@@ -85,7 +88,8 @@ module _ (m : Matrix) (Replaces : LineSet → Tree → Type 0) (more : ℕ)
           each below all (omega (arith, l)),
         )
 
-    within_each : (lines : LineSet) (trees below : Trees) (some levels : ℕ) → AllRefine Replaces trees below → AreFalling lines trees → AreLines m lines → AreTreesWithin lines some trees → size_of lines + more ≤ levels → AreTreesWithin lines levels below
+    within_each : (lines : LineSet) (trees below : Trees) (some levels : ℕ) → AllRefine Replaces trees below → AreFalling lines trees → AreLines m lines
+        → AreTreesWithin lines some trees → size_of lines + more ≤ levels → AreTreesWithin lines levels below
     within_each lines NoTrees below some levels e falls are within l = subst (AreTreesWithin lines levels) (sym e) tt
     within_each lines (MoreTrees tree trees) below some levels (first, rest, e, r, all) falls are within l =
         subst (AreTreesWithin lines levels) (sym e) (
@@ -100,7 +104,8 @@ violator_within : (lines fault parent : LineSet) (levels : ℕ) → AreLinesOf l
 violator_within lines fault parent levels are fits l = (l, are, fits, refl, tt)
 
 -- increasing lines among others are lines of them
-lines_among : (m : Matrix) (lines fault : LineSet) (rows_increase : IsRowSet m fault.rows) (columns_increase : IsColumnSet m fault.columns) → AreAmong lines fault.rows fault.columns → AreLinesOf fault lines
+lines_among : (m : Matrix) (lines fault : LineSet) (rows_increase : IsRowSet m fault.rows) (columns_increase : IsColumnSet m fault.columns)
+    → AreAmong lines fault.rows fault.columns → AreLinesOf fault lines
 lines_among m lines fault rows columns among = record {
   rows_increase = rows.increasing;
   columns_increase = columns.increasing;
@@ -113,7 +118,9 @@ module _ (limit : ℕ) where
   IsWithin pivots = (state : ℕ) (m : Matrix) (lines : LineSet) (tree : Tree) (parent : LineSet) (levels : ℕ) → IsMatrix m → IsFound limit pivots state m lines tree → AreLines m parent → AreLinesOf lines parent → size_of lines + pivots < levels → IsTreeWithin parent levels tree
 
   -- a decomposition with what replaces its undecided nodes
-  drawn_within : (pivots : ℕ) → IsWithin pivots → (state : ℕ) (m : Matrix) (lines : LineSet) (tree : Tree) (parent : LineSet) (levels : ℕ) → IsMatrix m → IsDrawnWith limit pivots state m lines tree → AreLines m parent → AreLinesOf lines parent → size_of lines + pivots < levels → IsTreeWithin parent levels tree
+  drawn_within : (pivots : ℕ) → IsWithin pivots → (state : ℕ) (m : Matrix) (lines : LineSet) (tree : Tree) (parent : LineSet) (levels : ℕ) → IsMatrix m
+      → IsDrawnWith limit pivots state m lines tree → AreLines m parent → AreLinesOf lines parent → size_of lines + pivots < levels
+      → IsTreeWithin parent levels tree
   drawn_within pivots found state m lines tree parent levels is d parent_are are l =
       let root = shape_lines limit m lines d.shape d.drawn in
       let among = subst (λ some. AreLinesOf some parent) (sym root) are in
@@ -123,7 +130,9 @@ module _ (limit : ℕ) where
       (subst (λ some. size_of some + pivots < levels) (sym root) l)
 
   module _ (pivots : ℕ) (below : IsWithin pivots) (m : Matrix) (lines parent : LineSet) (levels : ℕ) (is : IsMatrix m) (parent_are : AreLines m parent) (are : AreLinesOf lines parent) (l : size_of lines + suc pivots < levels) where
-    mapped_within : (next : ℕ) (place : Position) (at : IsPlaceIn m lines place) (ternary : IsTernaryPivot m lines place) (after : Tree) → IsDrawnWith limit pivots next (pivoted_part m lines place) lines after → (tree : Tree) → IsMappedBack m lines place after (verdict_of after) tree → IsTreeWithin parent levels tree
+    mapped_within : (next : ℕ) (place : Position) (at : IsPlaceIn m lines place) (ternary : IsTernaryPivot m lines place) (after : Tree)
+        → IsDrawnWith limit pivots next (pivoted_part m lines place) lines after → (tree : Tree) → IsMappedBack m lines place after (verdict_of after) tree
+        → IsTreeWithin parent levels tree
     mapped_within next place at ternary after d tree mapped = go (verdict_of after) among mapped
       where
         after_within : IsTreeWithin lines (levels - 1) after
@@ -140,7 +149,8 @@ module _ (limit : ℕ) where
         go (Open left) h e = subst (IsTreeWithin parent levels) (sym e) (undecided_within lines parent levels are (omega (arith, l)))
 
     found_at_within : (chosen : Option DrawnPlace) → ((some : DrawnPlace) → chosen ≡ Some some → IsPlaceIn m lines some.place) → (tree : Tree)
-        → IsFoundAt (λ next after found. (shape : Tree) × IsShapeOn limit after lines shape × Refines (IsFound limit pivots next after) shape found) m lines chosen tree → IsTreeWithin parent levels tree
+        → IsFoundAt (λ next after found. (shape : Tree) × IsShapeOn limit after lines shape × Refines (IsFound limit pivots next after) shape found) m lines chosen tree
+        → IsTreeWithin parent levels tree
     found_at_within None at tree e = subst (IsTreeWithin parent levels) (sym e) (undecided_within lines parent levels are (omega (arith, l)))
     found_at_within (Some chosen) at tree (inl (fault, shows, e)) = subst (IsTreeWithin parent levels) (sym e)
         (violator_within lines fault parent levels are (lines_among m lines fault shows.row_set shows.column_set shows.among) (omega (arith, l)))
@@ -153,5 +163,7 @@ module _ (limit : ℕ) where
       found_at_within pivots (found_within pivots) m lines parent levels is parent_are are l chosen (choice_in m lines state chosen choice) tree found
 
   -- the tree has at most as many levels as lines, pivots and one more
-  pub drawn_with_within : (pivots state : ℕ) (m : Matrix) (lines : LineSet) (tree : Tree) (parent : LineSet) (levels : ℕ) → IsMatrix m → IsDrawnWith limit pivots state m lines tree → AreLines m parent → AreLinesOf lines parent → size_of lines + pivots < levels → IsTreeWithin parent levels tree
+  pub drawn_with_within : (pivots state : ℕ) (m : Matrix) (lines : LineSet) (tree : Tree) (parent : LineSet) (levels : ℕ) → IsMatrix m
+      → IsDrawnWith limit pivots state m lines tree → AreLines m parent → AreLinesOf lines parent → size_of lines + pivots < levels
+      → IsTreeWithin parent levels tree
   drawn_with_within pivots = drawn_within pivots (found_within pivots)

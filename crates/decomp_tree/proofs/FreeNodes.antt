@@ -33,8 +33,10 @@ module _ (limit : ℕ) (few : limit ≤ 24) (m : Matrix) (is : IsMatrix m) (line
   submatrix = part m lines
 
   free_by : (case : Case) (found : Finding) (parts children : List LineSet) → Applies limit submatrix case → NodeSays case submatrix found parts
-      → (is_unsearched (finding_in lines found) ≡ false → case_number HasFault < case_number case → HasNoCycleFault (entry submatrix)) → HasParts (finding_in lines found) children (map (set_in lines) parts)
-      → AreDue lines (finding_in lines found) 0 children → HasChildren (finding_in lines found) (length children) → keeps_free (finding_in lines found) ≡ true → AllByRecursion (IsFreeOn m) children → IsFreeOn m lines
+      → (is_unsearched (finding_in lines found) ≡ false → case_number HasFault < case_number case → HasNoCycleFault (entry submatrix))
+      → HasParts (finding_in lines found) children (map (set_in lines) parts)
+      → AreDue lines (finding_in lines found) 0 children → HasChildren (finding_in lines found) (length children) → keeps_free (finding_in lines found) ≡ true
+      → AllByRecursion (IsFreeOn m) children → IsFreeOn m lines
   free_by HasNoLines Empty parts children applies says searched has due count keeps free = free_empty m lines (let a = applies.0 in let b = applies.1 in omega (arith, a, b, height_in m lines))
   free_by HasFault (Cycle fault) parts children applies says searched has due count keeps free = absurd (true≢false (sym keeps))
   free_by IsReducible (Reduced steps) parts [] applies says searched has due count keeps free = absurd (omega (arith, count))
@@ -60,7 +62,8 @@ module _ (limit : ℕ) (few : limit ≤ 24) (m : Matrix) (is : IsMatrix m) (line
   free_by IsLeft Undecided parts children applies says searched has due count keeps free = absurd (true≢false (sym keeps))
   free_by case found parts children applies says searched has due count keeps free = absurd says
 
-  pub none_by_children : (finding : Finding) (children : List LineSet) → IsSaid limit m lines finding children → keeps_free finding ≡ true → AllByRecursion (HasNoneAmong m) children → HasNoneAmong m lines
+  pub none_by_children : (finding : Finding) (children : List LineSet) → IsSaid limit m lines finding children → keeps_free finding ≡ true
+      → AllByRecursion (HasNoneAmong m) children → HasNoneAmong m lines
   none_by_children finding children said keeps none =
       none_from_free m lines
       (free_by said.case said.found said.parts children said.applies said.says

@@ -33,7 +33,8 @@ named_within lines set low x h =
     subst (Contains lines) (sym w.2) (named_contained lines w.0 (below_members set (length lines) low w.0 w.1))
 
 -- a set of lines of the submatrix, by their numbers, is a set of lines of the node
-pub named_lines : (lines set : LineSet) → IsStrictlyIncreasing lines.rows → IsStrictlyIncreasing lines.columns → IsPlacedSet lines set → IsStrictlyIncreasing set.rows → IsStrictlyIncreasing set.columns → AreLinesOf (set_in lines set) lines
+pub named_lines : (lines set : LineSet) → IsStrictlyIncreasing lines.rows → IsStrictlyIncreasing lines.columns → IsPlacedSet lines set
+    → IsStrictlyIncreasing set.rows → IsStrictlyIncreasing set.columns → AreLinesOf (set_in lines set) lines
 named_lines lines set rows columns placed set_rows set_columns = record {
   rows_increase = increasing_named lines.rows set.rows rows set_rows (below_members set.rows (length lines.rows) placed.rows);
   columns_increase = increasing_named lines.columns set.columns columns set_columns (below_members set.columns (length lines.columns) placed.columns);

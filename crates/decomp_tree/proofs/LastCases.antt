@@ -57,6 +57,7 @@ some_drawn limit state m lines case none = zero_decided limit (part m lines) zer
 -- ---- three-separations
 
 -- the submatrix is connected, so it has a nonzero before a cut if it has a three-separation
-pub no_separation_left : (limit : ℕ) (m : Matrix) (lines : LineSet) → IsMatrix m → AreLines m lines → IsFirstCase limit (part m lines) IsLeft → HasNoPlaceBeforeCut (part m lines) → HasNoRankSeparation (part m lines)
+pub no_separation_left : (limit : ℕ) (m : Matrix) (lines : LineSet) → IsMatrix m → AreLines m lines → IsFirstCase limit (part m lines) IsLeft
+    → HasNoPlaceBeforeCut (part m lines) → HasNoRankSeparation (part m lines)
 no_separation_left limit m lines is are case no_cut =
     no_place_means_no_separation (part m lines) (part_is m lines is are) (λ S apart x y x_is y_is x_in y_out. case.first IsApart (omega arith) (two_parts (part m lines) S apart x y x_is y_is x_in y_out)) no_cut

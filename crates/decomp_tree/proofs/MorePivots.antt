@@ -49,7 +49,8 @@ fault_same : (lines lines' : LineSet) (f g : Finding) → plain_finding f ≡ pl
 fault_same lines lines' f g e same fault is =
     fault_plain lines' g ∙ sym (ap (fault_at lines') e) ∙ sym (fault_plain lines' f) ∙ subst (λ l. fault_at l f ≡ Some fault) same is
 
-node_keeps : (lines lines' : LineSet) (f g : Finding) (below below' : Trees) → lines ≡ lines' → plain_finding f ≡ plain_finding g → KeepEach below below' → Keeps (Branch lines f below) (Branch lines' g below')
+node_keeps : (lines lines' : LineSet) (f g : Finding) (below below' : Trees) → lines ≡ lines' → plain_finding f ≡ plain_finding g → KeepEach below below'
+    → Keeps (Branch lines f below) (Branch lines' g below')
 node_keeps lines lines' f g below below' one_lines one_finding each = record {
   yes = λ e u.
       let faults = none_or (fault_at lines f) (first_among fault_at below) e in
@@ -91,7 +92,8 @@ module _ (Replaces More : LineSet → Tree → Type 0) (keeps : (lines : LineSet
         one_finding : plain_finding finding ≡ plain_finding finding'
         one_finding = cc
 
-        go : RefinedNode Replaces lines finding trees tree → RefinedNode More lines' finding' trees' tree' → ((below below' : Trees) → AllRefine Replaces trees below → AllRefine More trees' below' → KeepEach below below') → Keeps tree tree'
+        go : RefinedNode Replaces lines finding trees tree → RefinedNode More lines' finding' trees' tree'
+            → ((below below' : Trees) → AllRefine Replaces trees below → AllRefine More trees' below' → KeepEach below below') → Keeps tree tree'
         go (replaced is replaces) (replaced is' replaces') each = keeps lines tree tree' replaces (subst (λ l. More l tree') (sym one_lines) replaces')
         go (replaced is replaces) (kept is' below' at all') each = true_is_false (sym (ap is_undecided is) ∙ undecided_same finding finding' one_finding ∙ is')
         go (kept is below at all) (replaced is' replaces') each = true_is_false (sym (ap is_undecided is') ∙ sym (undecided_same finding finding' one_finding) ∙ is)
@@ -129,7 +131,8 @@ or_none : {A : Type 0} (a : Option A) → option_or a None ≡ a
 or_none None = refl
 or_none (Some x) = refl
 
-mapped_keeps : (m : Matrix) (lines : LineSet) (place : Position) (after after' : Tree) → Keeps after after' → (fault left fault' left' : Option LineSet) → first_in fault_at after ≡ fault → first_in open_at after ≡ left → first_in fault_at after' ≡ fault' → first_in open_at after' ≡ left'
+mapped_keeps : (m : Matrix) (lines : LineSet) (place : Position) (after after' : Tree) → Keeps after after' → (fault left fault' left' : Option LineSet)
+    → first_in fault_at after ≡ fault → first_in open_at after ≡ left → first_in fault_at after' ≡ fault' → first_in open_at after' ≡ left'
     → (tree tree' : Tree) → IsMappedBack m lines place after (verdict_from fault left) tree → IsMappedBack m lines place after' (verdict_from fault' left') tree' → Keeps tree tree'
 mapped_keeps m lines place after after' k None None fault' left' e u e' u' tree tree' mapped mapped' =
     same_keeps tree tree' (mapped_same m lines place after after' (k.yes e u) Yes tree tree' mapped (subst (λ v. IsMappedBack m lines place after' v tree') yes mapped')) (ap (first_in fault_at) mapped ∙ or_none (first_in fault_at after) ∙ e)
@@ -146,7 +149,8 @@ module _ (limit : ℕ) where
   abbrev Keep : ℕ → ℕ → Type 0
   Keep pivots more = (state : ℕ) (m : Matrix) (lines : LineSet) (tree tree' : Tree) → IsFound limit pivots state m lines tree → IsFound limit more state m lines tree' → Keeps tree tree'
 
-  drawn_keeps : (pivots more : ℕ) → Keep pivots more → (state : ℕ) (m : Matrix) (lines : LineSet) (tree tree' : Tree) → IsDrawnWith limit pivots state m lines tree → IsDrawnWith limit more state m lines tree' → Keeps tree tree'
+  drawn_keeps : (pivots more : ℕ) → Keep pivots more → (state : ℕ) (m : Matrix) (lines : LineSet) (tree tree' : Tree)
+      → IsDrawnWith limit pivots state m lines tree → IsDrawnWith limit more state m lines tree' → Keeps tree tree'
   drawn_keeps pivots more keep state m lines tree tree' d d' =
       refined_keeps (IsFound limit pivots state m) (IsFound limit more state m) (λ some t t' f f'. keep state m some t t' f f') d.shape d'.shape tree tree'
       (shape_same limit m lines d.shape d'.shape d.drawn d'.drawn) d.refines d'.refines

@@ -33,7 +33,8 @@ entry_in m lines i j h k = entry-submatrix m lines.rows lines.columns i j h k
 pub height_in : (m : Matrix) (lines : LineSet) → height (part m lines) ≡ length lines.rows
 height_in m lines = length-map lines.rows (λ row. map (entry m row) lines.columns)
 
-pub violator_in : (m : Matrix) (lines : LineSet) (R C : List ℕ) → AllByRecursion (λ r. r < length lines.rows) R → AllByRecursion (λ c. c < length lines.columns) C → IsViolator (entry (part m lines)) R C
+pub violator_in : (m : Matrix) (lines : LineSet) (R C : List ℕ) → AllByRecursion (λ r. r < length lines.rows) R
+    → AllByRecursion (λ c. c < length lines.columns) C → IsViolator (entry (part m lines)) R C
     → IsViolator (entry m) (map (numbered lines.rows) R) (map (numbered lines.columns) C)
 violator_in m lines R C rows columns v =
     violator-transposed (λ c r. entry m r c) (map (numbered lines.columns) C) (map (numbered lines.rows) R)
@@ -112,7 +113,8 @@ named_all xs = same_number_lists (map (numbered xs) (first_lines (length xs))) x
     (λ k l. get_or-map-range_with_len (numbered xs) 0 (length xs) k k 0 (omega (arith, l, length-map-range_with_len (numbered xs) 0 (length xs))) (omega arith))
 
 -- what is named next is above all that was named
-pub named_below : (lines places : List ℕ) (i : ℕ) → IsStrictlyIncreasing lines → IsStrictlyIncreasing places → AllBelow (length lines) places → i < length places → IsAbove (numbered lines (get_or places i 0)) (map (numbered lines) (take i places))
+pub named_below : (lines places : List ℕ) (i : ℕ) → IsStrictlyIncreasing lines → IsStrictlyIncreasing places → AllBelow (length lines) places
+    → i < length places → IsAbove (numbered lines (get_or places i 0)) (map (numbered lines) (take i places))
 named_below lines places i increases places_increase low l k h =
     let many = length-map (take i places) (numbered lines) in
     let taken = length-take i places in

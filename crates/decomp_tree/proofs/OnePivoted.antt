@@ -57,14 +57,17 @@ module _ (Replaces : LineSet → Tree → Type 0) (same : (lines : LineSet) (tre
         one_finding : plain_finding finding ≡ plain_finding finding'
         one_finding = cc
 
-        go : RefinedNode Replaces lines finding trees tree → RefinedNode Replaces lines' finding' trees' tree' → ((below below' : Trees) → AllRefine Replaces trees below → AllRefine Replaces trees' below' → plain_trees below ≡ plain_trees below') → plain_tree tree ≡ plain_tree tree'
+        go : RefinedNode Replaces lines finding trees tree → RefinedNode Replaces lines' finding' trees' tree'
+            → ((below below' : Trees) → AllRefine Replaces trees below → AllRefine Replaces trees' below' → plain_trees below ≡ plain_trees below')
+            → plain_tree tree ≡ plain_tree tree'
         go (replaced is replaces) (replaced is' replaces') each = same lines tree tree' replaces (subst (λ l. Replaces l tree') (sym one_lines) replaces')
         go (replaced is replaces) (kept is' below' at all') each = true_is_false (sym (ap is_undecided is) ∙ undecided_same finding finding' one_finding ∙ is')
         go (kept is below at all) (replaced is' replaces') each = true_is_false (sym (ap is_undecided is') ∙ sym (undecided_same finding finding' one_finding) ∙ is)
         go (kept is below at all) (kept is' below' at' all') each =
             ap plain_tree at ∙ ap (λ (l : LineSet). Branch l (plain_finding finding) (plain_trees below)) one_lines ∙ ap₂ (λ (f : Finding) (ts : Trees). Branch lines' f ts) one_finding (each below below' all all') ∙ sym (ap plain_tree at')
 
-    each_same : (trees trees' below below' : Trees) → plain_trees trees ≡ plain_trees trees' → AllRefine Replaces trees below → AllRefine Replaces trees' below' → plain_trees below ≡ plain_trees below'
+    each_same : (trees trees' below below' : Trees) → plain_trees trees ≡ plain_trees trees' → AllRefine Replaces trees below → AllRefine Replaces trees' below'
+        → plain_trees below ≡ plain_trees below'
     each_same NoTrees NoTrees below below' e all all' = ap plain_trees (all ∙ sym all')
     each_same NoTrees (MoreTrees tree' trees') below below' e all all' = cc
     each_same (MoreTrees tree trees) NoTrees below below' e all all' = cc
@@ -78,7 +81,8 @@ module _ (Replaces : LineSet → Tree → Type 0) (same : (lines : LineSet) (tre
 line_set_same : (f g : LineSet) → f.rows ≡ g.rows → f.columns ≡ g.columns → f ≡ g
 line_set_same f g e h = ap₂ (λ (rows columns : List ℕ). let set : LineSet = record { rows = rows; columns = columns } in set) e h
 
-one_two : (m : Matrix) (lines : LineSet) (place : Position) (fault other : LineSet) → ShowsFirstTwoIn m lines place fault.rows fault.columns → ShowsFirstTwoIn m lines place other.rows other.columns → fault ≡ other
+one_two : (m : Matrix) (lines : LineSet) (place : Position) (fault other : LineSet) → ShowsFirstTwoIn m lines place fault.rows fault.columns
+    → ShowsFirstTwoIn m lines place other.rows other.columns → fault ≡ other
 one_two m lines place fault other a b =
     line_set_same fault other (a.rows_are ∙ ap (two_lines place.row) one_row ∙ sym b.rows_are) (a.columns_are ∙ ap (two_lines place.column) one_column ∙ sym b.columns_are)
   where
@@ -114,7 +118,8 @@ before_same m place fault before other a b =
       | inr n ↦ (b.lines.other_columns x n).1 ((a.lines.other_columns x n).0 h)
     ]
 
-pub mapped_same : (m : Matrix) (lines : LineSet) (place : Position) (after after' : Tree) → plain_tree after ≡ plain_tree after' → (v : Verdict) (tree tree' : Tree) → IsMappedBack m lines place after v tree → IsMappedBack m lines place after' v tree'
+pub mapped_same : (m : Matrix) (lines : LineSet) (place : Position) (after after' : Tree) → plain_tree after ≡ plain_tree after'
+    → (v : Verdict) (tree tree' : Tree) → IsMappedBack m lines place after v tree → IsMappedBack m lines place after' v tree'
     → plain_tree tree ≡ plain_tree tree'
 mapped_same m lines place after after' same Yes tree tree' e e' = ap plain_tree e ∙ ap (λ (t : Tree). Branch lines (Pivoted place) (MoreTrees t NoTrees)) same ∙ sym (ap plain_tree e')
 mapped_same m lines place after after' same (No fault) tree tree' (before, b, e) (before', b', e') =
@@ -130,13 +135,15 @@ module _ (limit : ℕ) where
   pub shape_same : (m : Matrix) (lines : LineSet) (shape shape' : Tree) → IsShapeOn limit m lines shape → IsShapeOn limit m lines shape' → plain_tree shape ≡ plain_tree shape'
   shape_same m lines shape shape' d d' = one_tree limit m [] [] [] [] (These lines) (These lines) shape shape' (shape_lines limit m lines shape d ∙ sym (shape_lines limit m lines shape' d')) d d'
 
-  drawn_same : (pivots : ℕ) → IsOne pivots → (state : ℕ) (m : Matrix) (lines : LineSet) (tree tree' : Tree) → IsDrawnWith limit pivots state m lines tree → IsDrawnWith limit pivots state m lines tree' → plain_tree tree ≡ plain_tree tree'
+  drawn_same : (pivots : ℕ) → IsOne pivots → (state : ℕ) (m : Matrix) (lines : LineSet) (tree tree' : Tree) → IsDrawnWith limit pivots state m lines tree
+      → IsDrawnWith limit pivots state m lines tree' → plain_tree tree ≡ plain_tree tree'
   drawn_same pivots one state m lines tree tree' d d' =
       refined_same (IsFound limit pivots state m) (λ some t t' f f'. one state m some t t' f f') d.shape d'.shape tree tree' (shape_same m lines d.shape d'.shape d.drawn d'.drawn) d.refines d'.refines
 
   found_at_same : (pivots : ℕ) → IsOne pivots → (m : Matrix) (lines : LineSet) (chosen : Option DrawnPlace) (tree tree' : Tree)
       → IsFoundAt (λ next after found. (shape : Tree) × IsShapeOn limit after lines shape × Refines (IsFound limit pivots next after) shape found) m lines chosen tree
-      → IsFoundAt (λ next after found. (shape : Tree) × IsShapeOn limit after lines shape × Refines (IsFound limit pivots next after) shape found) m lines chosen tree' → plain_tree tree ≡ plain_tree tree'
+      → IsFoundAt (λ next after found. (shape : Tree) × IsShapeOn limit after lines shape × Refines (IsFound limit pivots next after) shape found) m lines chosen tree'
+      → plain_tree tree ≡ plain_tree tree'
   found_at_same pivots one m lines None tree tree' e e' = ap plain_tree (e ∙ sym e')
   found_at_same pivots one m lines (Some chosen) tree tree' (inl (fault, shows, e)) (inl (fault', shows', e')) =
       ap plain_tree e ∙ ap (λ (f : LineSet). Branch lines (Violator f) NoTrees) (one_two m lines chosen.place fault fault' shows shows') ∙ sym (ap plain_tree e')
@@ -155,7 +162,8 @@ module _ (limit : ℕ) where
       (subst (λ (some : Option DrawnPlace). IsFoundAt (λ next after found. (shape : Tree) × IsShapeOn limit after lines shape × Refines (IsFound limit pivots next after) shape found) m lines some tree') one found')
 
   -- two decompositions differ at most in their networks
-  pub drawn_with_same : (pivots state : ℕ) (m : Matrix) (lines : LineSet) (tree tree' : Tree) → IsDrawnWith limit pivots state m lines tree → IsDrawnWith limit pivots state m lines tree' → plain_tree tree ≡ plain_tree tree'
+  pub drawn_with_same : (pivots state : ℕ) (m : Matrix) (lines : LineSet) (tree tree' : Tree) → IsDrawnWith limit pivots state m lines tree
+      → IsDrawnWith limit pivots state m lines tree' → plain_tree tree ≡ plain_tree tree'
   drawn_with_same pivots state m lines tree tree' d d' = drawn_same pivots (found_same pivots) state m lines tree tree' d d'
 
 -- no more pivots are made in one decomposition than in another

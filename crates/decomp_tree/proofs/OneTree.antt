@@ -168,7 +168,8 @@ due_same (AllLines rows columns) a b named x y = set_same a b (x.0 ∙ sym y.0, 
 due_same (These lines) a b named x y = set_same a b (x.0 ∙ sym y.0, x.1 ∙ sym y.1)
 due_same Unnamed a b named x y = absurd (named refl)
 
-named_same : (lines : LineSet) (f : Finding) (k : ℕ) (xs ys : List LineSet) → length xs ≡ length ys → ((k : ℕ) → ¬ (due_child lines f k ≡ Unnamed)) → AreDue lines f k xs → AreDue lines f k ys → xs ≡ ys
+named_same : (lines : LineSet) (f : Finding) (k : ℕ) (xs ys : List LineSet) → length xs ≡ length ys → ((k : ℕ) → ¬ (due_child lines f k ≡ Unnamed))
+    → AreDue lines f k xs → AreDue lines f k ys → xs ≡ ys
 named_same lines f k [] [] e named a b = refl
 named_same lines f k [] (y ∷ ys) e named a b = absurd (omega arith)
 named_same lines f k (x ∷ xs) [] e named a b = absurd (omega arith)
@@ -184,7 +185,8 @@ two_named : (lines : LineSet) (f : Finding) → ¬ (due_child lines f 0 ≡ Unna
 two_named lines f first later zero = first
 two_named lines f first later (suc k) = later k
 
-pub children_same : (lines : LineSet) (f : Finding) (xs ys : List LineSet) → HasChildren f (length xs) → HasChildren f (length ys) → AreDue lines f 0 xs → AreDue lines f 0 ys → (f ≡ OneSum → xs ≡ ys) → xs ≡ ys
+pub children_same : (lines : LineSet) (f : Finding) (xs ys : List LineSet) → HasChildren f (length xs) → HasChildren f (length ys) → AreDue lines f 0 xs
+    → AreDue lines f 0 ys → (f ≡ OneSum → xs ≡ ys) → xs ≡ ys
 children_same lines Empty xs ys x y a b one = none_same xs ys x y
 children_same lines (Cycle f) xs ys x y a b one = none_same xs ys x y
 children_same lines (Reduced steps) xs ys x y a b one = named_same lines (Reduced steps) 0 xs ys (x ∙ sym y) (λ k e. cc) a b
@@ -207,7 +209,8 @@ module _ (limit : ℕ) (m : Matrix) where
   pub due_here : (path : List ℕ) (pivots : List MadePivot) (due : Due) (tree : Tree) → AllByRecursion (IsShapedAt limit m) (places_from path pivots due tree) → HasItsLines due (lines_at_root tree)
   due_here path pivots due (Branch lines finding trees) shaped = shaped.0.lines
 
-  pub due_each : (path : List ℕ) (pivots : List MadePivot) (lines : LineSet) (finding : Finding) (k : ℕ) (trees : Trees) → AllByRecursion (IsShapedAt limit m) (places_below path pivots lines finding k trees) → AreDue lines finding k (lines_of_each trees)
+  pub due_each : (path : List ℕ) (pivots : List MadePivot) (lines : LineSet) (finding : Finding) (k : ℕ) (trees : Trees)
+      → AllByRecursion (IsShapedAt limit m) (places_below path pivots lines finding k trees) → AreDue lines finding k (lines_of_each trees)
   due_each path pivots lines finding k NoTrees shaped = tt
   due_each path pivots lines finding k (MoreTrees tree trees) shaped =
       let first = places_from (path ++ k ∷ []) pivots (due_child lines finding k) tree in
@@ -224,7 +227,8 @@ module _ (limit : ℕ) (m : Matrix) where
   same_node : (path path' : List ℕ) (pivots pivots' : List MadePivot) (due due' : Due) (lines : LineSet) (finding finding' : Finding) (trees trees' : Trees)
       → IsShapedAt limit m (record { path = path; pivots = pivots; due = due; lines = lines; finding = finding; children = lines_of_each trees })
       → IsShapedAt limit m (record { path = path'; pivots = pivots'; due = due'; lines = lines; finding = finding'; children = lines_of_each trees' })
-      → AllByRecursion (IsShapedAt limit m) (places_below path (pivots_below lines finding pivots) lines finding 0 trees) → AllByRecursion (IsShapedAt limit m) (places_below path' (pivots_below lines finding' pivots') lines finding' 0 trees')
+      → AllByRecursion (IsShapedAt limit m) (places_below path (pivots_below lines finding pivots) lines finding 0 trees)
+      → AllByRecursion (IsShapedAt limit m) (places_below path' (pivots_below lines finding' pivots') lines finding' 0 trees')
       → IsSameNode finding finding' trees trees'
   same_node path path' pivots pivots' due due' lines finding finding' trees trees' x y below below' =
       let case : x.case ≡ y.case = one_case limit (part m lines) x.case y.case x.first y.first in
@@ -240,7 +244,8 @@ module _ (limit : ℕ) (m : Matrix) where
             (λ e. one_sum lines finding finding' said e x.found x.parts y.parts (lines_of_each trees) (lines_of_each trees') x.finding same.1 x.children y.children);
       }
     where
-      one_sum : (lines : LineSet) (finding finding' : Finding) → plain_finding finding ≡ plain_finding finding' → plain_finding finding' ≡ OneSum → (found : Finding) (parts parts' children others : List LineSet) → finding ≡ finding_in lines found
+      one_sum : (lines : LineSet) (finding finding' : Finding) → plain_finding finding ≡ plain_finding finding' → plain_finding finding' ≡ OneSum
+          → (found : Finding) (parts parts' children others : List LineSet) → finding ≡ finding_in lines found
           → HasParts found parts parts' → HasParts finding children (map (set_in lines) parts) → HasParts finding' others (map (set_in lines) parts') → children ≡ others
       one_sum lines finding finding' said e found parts parts' children others is same a b =
           parts_same lines finding found children others parts parts' is same a (subst (λ f. HasParts f others (map (set_in lines) parts')) (only_one_sum finding' e) b) (only_one_sum finding (said ∙ e))
@@ -271,8 +276,10 @@ module _ (limit : ℕ) (m : Matrix) where
         ∙ ap₂ (λ (f : Finding) (ts : Trees). Branch lines' f ts) is.said
         (one_trees path path' (pivots_below lines finding pivots) (pivots_below lines' finding' pivots') lines lines' finding finding' 0 0 trees trees' is.children shaped.1 shaped'.1)
 
-    one_trees : (path path' : List ℕ) (pivots pivots' : List MadePivot) (lines lines' : LineSet) (finding finding' : Finding) (k k' : ℕ) (trees trees' : Trees) → lines_of_each trees ≡ lines_of_each trees'
-        → AllByRecursion (IsShapedAt limit m) (places_below path pivots lines finding k trees) → AllByRecursion (IsShapedAt limit m) (places_below path' pivots' lines' finding' k' trees') → plain_trees trees ≡ plain_trees trees'
+    one_trees : (path path' : List ℕ) (pivots pivots' : List MadePivot) (lines lines' : LineSet) (finding finding' : Finding) (k k' : ℕ) (trees trees' : Trees)
+        → lines_of_each trees ≡ lines_of_each trees'
+        → AllByRecursion (IsShapedAt limit m) (places_below path pivots lines finding k trees)
+        → AllByRecursion (IsShapedAt limit m) (places_below path' pivots' lines' finding' k' trees') → plain_trees trees ≡ plain_trees trees'
     one_trees path path' pivots pivots' lines lines' finding finding' k k' NoTrees NoTrees same shaped shaped' = refl
     one_trees path path' pivots pivots' lines lines' finding finding' k k' NoTrees (MoreTrees tree trees) same shaped shaped' = cc
     one_trees path path' pivots pivots' lines lines' finding finding' k k' (MoreTrees tree trees) NoTrees same shaped shaped' = cc

@@ -82,13 +82,15 @@ or_none (Some x) = refl
 undecided_open : (lines found : LineSet) → first_in open_at (undecided lines) ≡ Some found → found ≡ lines
 undecided_open lines found e = sym (some_same lines found e)
 
-mapped_open : (m : Matrix) (lines : LineSet) (place : Position) (after : Tree) (v : Verdict) → verdict_of after ≡ v → (tree : Tree) (found : LineSet) → IsMappedBack m lines place after v tree → first_in open_at tree ≡ Some found → found ≡ lines
+mapped_open : (m : Matrix) (lines : LineSet) (place : Position) (after : Tree) (v : Verdict) → verdict_of after ≡ v → (tree : Tree) (found : LineSet)
+    → IsMappedBack m lines place after v tree → first_in open_at tree ≡ Some found → found ≡ lines
 mapped_open m lines place after Yes is tree found e first =
     none_is_some found (sym (says_yes after is).1 ∙ sym (or_none (first_in open_at after)) ∙ sym (ap (first_in open_at) e) ∙ first)
 mapped_open m lines place after (No fault) is tree found (before, b, e) first = none_is_some found (sym (ap (first_in open_at) e) ∙ first)
 mapped_open m lines place after (Open left) is tree found e first = undecided_open lines found (sym (ap (first_in open_at) e) ∙ first)
 
-found_at_open : (IsTree : ℕ → Matrix → Tree → Type 0) (m : Matrix) (lines : LineSet) (chosen : Option DrawnPlace) (tree : Tree) (found : LineSet) → IsFoundAt IsTree m lines chosen tree → first_in open_at tree ≡ Some found → found ≡ lines
+found_at_open : (IsTree : ℕ → Matrix → Tree → Type 0) (m : Matrix) (lines : LineSet) (chosen : Option DrawnPlace) (tree : Tree) (found : LineSet)
+    → IsFoundAt IsTree m lines chosen tree → first_in open_at tree ≡ Some found → found ≡ lines
 found_at_open IsTree m lines None tree found e first = undecided_open lines found (sym (ap (first_in open_at) e) ∙ first)
 found_at_open IsTree m lines (Some chosen) tree found (inl (fault, shows, e)) first = none_is_some found (sym (ap (first_in open_at) e) ∙ first)
 found_at_open IsTree m lines (Some chosen) tree found (inr (ternary, after, is, mapped)) first = mapped_open m lines chosen.place after (verdict_of after) refl tree found mapped first
@@ -121,7 +123,8 @@ module _ (limit : ℕ) (m : Matrix) (top : LineSet) (Replaces : LineSet → Tree
   IsOpen found = AreLines m found × IsFirstCase limit (part m found) IsLeft × Ends found × AreLinesOf found top
 
   mutual
-    open_refined : (path : List ℕ) (due : Due) (parent : LineSet) (levels : ℕ) (shape tree : Tree) (found : LineSet) → AreLines m parent → AreLinesOf parent top → IsTreeWithin parent levels shape → AllByRecursion (IsShapedAt limit m) (places_from path [] due shape)
+    open_refined : (path : List ℕ) (due : Due) (parent : LineSet) (levels : ℕ) (shape tree : Tree) (found : LineSet) → AreLines m parent → AreLinesOf parent top
+        → IsTreeWithin parent levels shape → AllByRecursion (IsShapedAt limit m) (places_from path [] due shape)
         → Refines Replaces shape tree → first_in open_at tree ≡ Some found → IsOpen found
     open_refined path due parent levels (Branch lines finding trees) tree found are top_has within shaped r first =
         go (refined_node Replaces lines finding trees tree r) (λ below all e. open_each path lines finding (levels - 1) 0 trees below found here here_in within.4 below_shaped all e)
@@ -142,7 +145,8 @@ module _ (limit : ℕ) (m : Matrix) (top : LineSet) (Replaces : LineSet → Tree
         go (replaced e replaces) each = subst IsOpen (sym (open_replaced lines tree found replaces first)) (let left = left_here limit m place e shaped.0 in (here, left, end_replaced lines tree found here left replaces first, here_in))
         go (kept e below is all) each = each below all (ap (λ (o : Option LineSet). option_or o (first_among open_at below)) (sym (open_kept lines finding e)) ∙ sym (ap (first_in open_at) is) ∙ first)
 
-    open_each : (path : List ℕ) (lines : LineSet) (finding : Finding) (levels k : ℕ) (trees below : Trees) (found : LineSet) → AreLines m lines → AreLinesOf lines top → AreTreesWithin lines levels trees → AllByRecursion (IsShapedAt limit m) (places_below path [] lines finding k trees)
+    open_each : (path : List ℕ) (lines : LineSet) (finding : Finding) (levels k : ℕ) (trees below : Trees) (found : LineSet) → AreLines m lines
+        → AreLinesOf lines top → AreTreesWithin lines levels trees → AllByRecursion (IsShapedAt limit m) (places_below path [] lines finding k trees)
         → AllRefine Replaces trees below → first_among open_at below ≡ Some found → IsOpen found
     open_each path lines finding levels k NoTrees below found are top_has within shaped e first = none_is_some found (sym (ap (first_among open_at) e) ∙ first)
     open_each path lines finding levels k (MoreTrees tree trees) below found are top_has within shaped (one, rest, e, r, all) first =
@@ -161,8 +165,10 @@ first_open None (Some found) left e = cc
 first_open (Some fault) undecided left e = cc
 
 -- the open lines of the decomposition of a submatrix
-open_drawn : (limit pivots state : ℕ) (m : Matrix) (lines : LineSet) (shape tree : Tree) (found : LineSet) (Ends : LineSet → Type 0) → IsMatrix m → AreLines m lines → IsShapeOn limit m lines shape → Refines (IsFound limit pivots state m) shape tree
-    → ((some : LineSet) (t : Tree) (f : LineSet) → AreLines m some → IsFirstCase limit (part m some) IsLeft → IsFound limit pivots state m some t → first_in open_at t ≡ Some f → Ends some) → first_in open_at tree ≡ Some found → AreLines m found × IsFirstCase limit (part m found) IsLeft × Ends found × AreLinesOf found lines
+open_drawn : (limit pivots state : ℕ) (m : Matrix) (lines : LineSet) (shape tree : Tree) (found : LineSet) (Ends : LineSet → Type 0) → IsMatrix m
+    → AreLines m lines → IsShapeOn limit m lines shape → Refines (IsFound limit pivots state m) shape tree
+    → ((some : LineSet) (t : Tree) (f : LineSet) → AreLines m some → IsFirstCase limit (part m some) IsLeft → IsFound limit pivots state m some t → first_in open_at t ≡ Some f → Ends some)
+    → first_in open_at tree ≡ Some found → AreLines m found × IsFirstCase limit (part m found) IsLeft × Ends found × AreLinesOf found lines
 open_drawn limit pivots state m lines shape tree found Ends is are shaped refines ends first =
     open_refined limit m lines (IsFound limit pivots state m) Ends (λ some t f stands e. found_open limit pivots state m some t f stands e) ends
     [] (These lines) lines (suc (size_of (lines_at_root shape))) shape tree found are (lines_themselves m lines are)
@@ -172,7 +178,9 @@ open_drawn limit pivots state m lines shape tree found Ends is are shaped refine
 abbrev AllEnd : (limit pivots state : ℕ) → Matrix → Type 0
 AllEnd limit pivots state m = (some : LineSet) (t : Tree) (f : LineSet) → AreLines m some → IsFirstCase limit (part m some) IsLeft → IsFound limit pivots state m some t → first_in open_at t ≡ Some f → EndsOpen limit pivots state m some
 
-ends_open : (limit pivots state : ℕ) (m : Matrix) (lines : LineSet) (tree : Tree) (found : LineSet) → IsMatrix m → AreLines m lines → IsFirstCase limit (part m lines) IsLeft → IsFound limit pivots state m lines tree → first_in open_at tree ≡ Some found → EndsOpen limit pivots state m lines
+ends_open : (limit pivots state : ℕ) (m : Matrix) (lines : LineSet) (tree : Tree) (found : LineSet) → IsMatrix m → AreLines m lines
+    → IsFirstCase limit (part m lines) IsLeft → IsFound limit pivots state m lines tree → first_in open_at tree ≡ Some found
+    → EndsOpen limit pivots state m lines
 ends_open limit zero state m lines tree found is are case e first = tt
 ends_open limit (suc pivots) state m lines tree found is are case (None, choice, e) first = absurd (some_drawn limit state m lines case choice.2)
 ends_open limit (suc pivots) state m lines tree found is are case (Some chosen, choice, inl (fault, shows, e)) first = none_is_some found (sym (ap (first_in open_at) e) ∙ first)
@@ -180,7 +188,8 @@ ends_open limit (suc pivots) state m lines tree found is are case (Some chosen, 
     late (λ some t f here left stands e. ends_open limit pivots chosen.state (pivoted_part m lines chosen.place) some t f (part_pivots_stay_matrices m lines chosen.place is ternary) here left stands e)
     (same_or_not state LATE_STATE) choice
   where
-    go : AllEnd limit pivots chosen.state (pivoted_part m lines chosen.place) → (v : Verdict) → verdict_of after ≡ v → IsMappedBack m lines chosen.place after v tree → LeavesOpen limit state (EndsOpen limit pivots) m lines
+    go : AllEnd limit pivots chosen.state (pivoted_part m lines chosen.place) → (v : Verdict) → verdict_of after ≡ v
+        → IsMappedBack m lines chosen.place after v tree → LeavesOpen limit state (EndsOpen limit pivots) m lines
     go below Yes says t = none_is_some found (sym (says_yes after says).1 ∙ sym (or_none (first_in open_at after)) ∙ sym (ap (first_in open_at) t) ∙ first)
     go below (No fault) says (before, b, e) = none_is_some found (sym (ap (first_in open_at) e) ∙ first)
     go below (Open left) says t =
@@ -190,7 +199,8 @@ ends_open limit (suc pivots) state m lines tree found is are case (Some chosen, 
         (first_open (first_in fault_at after) (first_in open_at after) left says) in
         record { chosen = chosen; at = choice; ternary = ternary; left = left; are = opened.0; within = opened.3; case = opened.1; ends = opened.2 }
 
-    late : AllEnd limit pivots chosen.state (pivoted_part m lines chosen.place) → (state ≡ LATE_STATE) ⊎ (state ≢ LATE_STATE) → IsChosenPlace m lines state chosen → IsLateEnd limit state m lines ⊎ LeavesOpen limit state (EndsOpen limit pivots) m lines
+    late : AllEnd limit pivots chosen.state (pivoted_part m lines chosen.place) → (state ≡ LATE_STATE) ⊎ (state ≢ LATE_STATE)
+        → IsChosenPlace m lines state chosen → IsLateEnd limit state m lines ⊎ LeavesOpen limit state (EndsOpen limit pivots) m lines
     late below (inl e) (inr (none, inr (early, drawn))) = inl (record { late = e; no_place = none; no_cut = early e; case = case; no_separation = no_separation_left limit m lines is are case (early e) })
     late below (inl e) (inl at) = inr (go below (verdict_of after) refl told)
     late below (inl e) (inr (none, inl at)) = inr (go below (verdict_of after) refl told)

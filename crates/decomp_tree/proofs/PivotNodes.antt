@@ -62,7 +62,8 @@ module _ (m : Matrix) (pivots : List MadePivot) (lines : LineSet) where
   violator_demanded fault v rule.NotPivot = tt
   violator_demanded fault v rule.BelowPivot = tt
 
-  pivot_demanded : (place : Position) (children : List LineSet) → entry n place.row place.column ≢ pos 0 → IsTernaryPivot n lines place → (broken : Rule) → Demands broken n lines (Pivoted place) children
+  pivot_demanded : (place : Position) (children : List LineSet) → entry n place.row place.column ≢ pos 0 → IsTernaryPivot n lines place → (broken : Rule)
+      → Demands broken n lines (Pivoted place) children
   pivot_demanded place children nonzero ternary rule.Size = tt
   pivot_demanded place children nonzero ternary rule.Lines = tt
   pivot_demanded place children nonzero ternary rule.NotEmpty = tt
@@ -87,7 +88,8 @@ module _ (m : Matrix) (pivots : List MadePivot) (lines : LineSet) where
     tt,
   )
 
-  pub violator_sound : (fault : LineSet) → IsViolator (entry n) fault.rows fault.columns → MayBelow pivots (Branch lines (Violator fault) NoTrees) → IsSoundBelow m pivots (Branch lines (Violator fault) NoTrees)
+  pub violator_sound : (fault : LineSet) → IsViolator (entry n) fault.rows fault.columns → MayBelow pivots (Branch lines (Violator fault) NoTrees)
+      → IsSoundBelow m pivots (Branch lines (Violator fault) NoTrees)
   violator_sound fault v may path due sizes has = (
     keeps_all m (record { path = path; pivots = pivots; due = due; lines = lines; finding = Violator fault; children = [] }) sizes has (violator_demanded fault v) (may_stand pivots lines (Violator fault) NoTrees may),
     tt,

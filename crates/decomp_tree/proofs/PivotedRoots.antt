@@ -29,13 +29,15 @@ pub all_are_lines : (m : Matrix) → IsMatrix m → AreLines m (all_lines m)
 all_are_lines m is = root_lines m is (all_lines m) refl refl
 
 -- the root has all lines
-pub root_is_whole : (limit pivots : ℕ) (m : Matrix) (tree : Tree) → IsShapeWith limit pivots m tree → ((lines_at_root tree).rows ≡ first_lines (height m)) × ((lines_at_root tree).columns ≡ first_lines m.width)
+pub root_is_whole : (limit pivots : ℕ) (m : Matrix) (tree : Tree) → IsShapeWith limit pivots m tree
+    → ((lines_at_root tree).rows ≡ first_lines (height m)) × ((lines_at_root tree).columns ≡ first_lines m.width)
 root_is_whole limit pivots m tree d =
     let same = drawn_with_lines limit d.made 1 m (all_lines m) tree d.drawn in
     (ap (λ (lines : LineSet). lines.rows) same, ap (λ (lines : LineSet). lines.columns) same)
 
 -- the tree has lines of the matrix, on enough levels
-drawn_with_all : (limit made levels : ℕ) (m : Matrix) (tree : Tree) → IsMatrix m → IsDrawnWith limit made 1 m (all_lines m) tree → size_of (all_lines m) + made < levels → IsTreeWithin (all_lines m) levels tree
+drawn_with_all : (limit made levels : ℕ) (m : Matrix) (tree : Tree) → IsMatrix m → IsDrawnWith limit made 1 m (all_lines m) tree
+    → size_of (all_lines m) + made < levels → IsTreeWithin (all_lines m) levels tree
 drawn_with_all limit made levels m tree is d few =
     let are = all_are_lines m is in
     drawn_with_within limit made 1 m (all_lines m) tree (all_lines m) levels is d are (lines_themselves m (all_lines m) are) few
@@ -89,7 +91,8 @@ module _ (limit : ℕ) (m : Matrix) (tree : Tree) where
   shape_with_all pivots d shallow = record { made = pivots; few = omega arith; drawn = d; shallow = shallow; most = λ more other low high drawn. absurd (omega (arith, low, high)) }
 
   -- if some node is too deep with one pivot more
-  pub shape_with_fewer : (pivots fewer : ℕ) → pivots ≡ suc fewer → (deep : Tree) → IsDrawnWith limit pivots 1 m (all_lines m) deep → is_shallow deep ≡ false → IsShapeWith limit fewer m tree → IsShapeWith limit pivots m tree
+  pub shape_with_fewer : (pivots fewer : ℕ) → pivots ≡ suc fewer → (deep : Tree) → IsDrawnWith limit pivots 1 m (all_lines m) deep → is_shallow deep ≡ false
+      → IsShapeWith limit fewer m tree → IsShapeWith limit pivots m tree
   shape_with_fewer pivots fewer e deep is too_deep d = record {
     made = d.made;
     few = let few = d.few in omega (arith, few, e);

@@ -23,7 +23,8 @@ module _ (limit : ℕ) (few : limit ≤ 24) (m : Matrix) (pivots : List MadePivo
   after = matrix_after m pivots
 
   mutual
-    pub refined_sound : (path : List ℕ) (due : Due) (parent : LineSet) (levels : ℕ) (shape tree : Tree) → Refines Replaces shape tree → AreLines after parent → IsTreeWithin parent levels shape → HasItsSizes m due
+    pub refined_sound : (path : List ℕ) (due : Due) (parent : LineSet) (levels : ℕ) (shape tree : Tree) → Refines Replaces shape tree → AreLines after parent
+        → IsTreeWithin parent levels shape → HasItsSizes m due
         → AllByRecursion (IsShapedAt limit after) (places_from path [] due shape) → MayBelow pivots tree → AllByRecursion (KeepsAll m) (places_from path pivots due tree)
     refined_sound path due parent levels (Branch lines finding trees) tree r are within sizes shaped may =
         go (refined_node Replaces lines finding trees tree r) (λ below all h. each_sound path lines finding (levels - 1) 0 trees below all here within.4 h)

@@ -26,7 +26,8 @@ module _ (Replaces : LineSet → Tree → Type 0) where
   refined_node lines (Violator fault) trees tree r = kept refl r.0 r.1 r.2
   refined_node lines (Pivoted place) trees tree r = kept refl r.0 r.1 r.2
 
-  pub refined_kept : (lines : LineSet) (finding : Finding) (trees below : Trees) → is_undecided finding ≡ false → AllRefine Replaces trees below → Refines Replaces (Branch lines finding trees) (Branch lines finding below)
+  pub refined_kept : (lines : LineSet) (finding : Finding) (trees below : Trees) → is_undecided finding ≡ false → AllRefine Replaces trees below
+      → Refines Replaces (Branch lines finding trees) (Branch lines finding below)
   refined_kept lines Undecided trees below e all = cc
   refined_kept lines Empty trees below e all = (below, refl, all)
   refined_kept lines (Cycle fault) trees below e all = (below, refl, all)
@@ -42,7 +43,8 @@ module _ (Replaces : LineSet → Tree → Type 0) where
   refined_kept lines (Pivoted place) trees below e all = (below, refl, all)
 
   -- one more tree
-  pub refined_more : (shapes trees : List Tree) (shape tree : Tree) → AllRefine Replaces (trees_from shapes) (trees_from trees) → Refines Replaces shape tree → AllRefine Replaces (trees_from (shapes ++ shape ∷ [])) (trees_from (trees ++ tree ∷ []))
+  pub refined_more : (shapes trees : List Tree) (shape tree : Tree) → AllRefine Replaces (trees_from shapes) (trees_from trees) → Refines Replaces shape tree
+      → AllRefine Replaces (trees_from (shapes ++ shape ∷ [])) (trees_from (trees ++ tree ∷ []))
   refined_more [] [] shape tree all one = (tree, NoTrees, refl, one, refl)
   refined_more [] (t ∷ trees) shape tree all one = cc
   refined_more (s ∷ shapes) [] shape tree (first, rest, e, r, all) one = cc

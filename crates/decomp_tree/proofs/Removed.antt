@@ -102,11 +102,13 @@ module _ (m : Matrix) (lines : LineSet) (are : AreLines m lines) where
   has_line_named R C (Row r) h = contains_from_in (map (numbered lines.rows) R) (numbered lines.rows r) (in_map (numbered lines.rows) R r (in_from_contains R r h))
   has_line_named R C (Column c) h = contains_from_in (map (numbered lines.columns) C) (numbered lines.columns c) (in_map (numbered lines.columns) C c (in_from_contains C c h))
 
-  pub rows_named : (R C : List ℕ) (line : Line) → AreLeft R C → HasLine R C line → rows_without (map (numbered lines.rows) R) (numbered_line lines line) ≡ map (numbered lines.rows) (rows_without R line)
+  pub rows_named : (R C : List ℕ) (line : Line) → AreLeft R C → HasLine R C line
+      → rows_without (map (numbered lines.rows) R) (numbered_line lines line) ≡ map (numbered lines.rows) (rows_without R line)
   rows_named R C (Row r) left h = without_named (numbered lines.rows) R r (λ s x e. once lines.rows are.rows.increasing (λ _. true) s r (left.rows_low s x) (left.rows_low r (in_from_contains R r h)) e)
   rows_named R C (Column c) left h = refl
 
-  pub columns_named : (R C : List ℕ) (line : Line) → AreLeft R C → HasLine R C line → columns_without (map (numbered lines.columns) C) (numbered_line lines line) ≡ map (numbered lines.columns) (columns_without C line)
+  pub columns_named : (R C : List ℕ) (line : Line) → AreLeft R C → HasLine R C line
+      → columns_without (map (numbered lines.columns) C) (numbered_line lines line) ≡ map (numbered lines.columns) (columns_without C line)
   columns_named R C (Row r) left h = refl
   columns_named R C (Column c) left h = without_named (numbered lines.columns) C c (λ s x e. once lines.columns are.columns.increasing (λ _. true) s c (left.columns_low s x) (left.columns_low c (in_from_contains C c h)) e)
 

@@ -100,7 +100,8 @@ none_after_fault limit n before earlier l other = go (cases_lt (case_number earl
         absurd (subst IsOther (sym (numbered_back earlier) ∙ ap case_numbered same ∙ numbered_back HasFault) other)
 
 -- without a cycle fault it is the first case that applies
-pub first_case : (limit : ℕ) (n : Matrix) (case : Case) → Applies limit n case → HasNoneBefore limit n (case_number case) → (2 < case_number case → HasNoCycleFault (entry n)) → IsFirstCase limit n case
+pub first_case : (limit : ℕ) (n : Matrix) (case : Case) → Applies limit n case → HasNoneBefore limit n (case_number case)
+    → (2 < case_number case → HasNoCycleFault (entry n)) → IsFirstCase limit n case
 first_case limit n case applies others no_fault = record { applies = applies; first = before }
   where
     before : (earlier : Case) → case_number earlier < case_number case → ¬ (Applies limit n earlier)
@@ -122,7 +123,8 @@ empty_from_length (step ∷ steps) l = absurd (omega (arith, l))
 
 -- ---- what a call made
 
-pub seen_as : {E : Type 0} (limit : ℕ) (m : Matrix) (lines : LineSet) (seen : Seen) (made : Result Seen E) → IfOk made (λ found. found ≡ seen) → IsSeen limit m lines seen → IfOk made (IsSeen limit m lines)
+pub seen_as : {E : Type 0} (limit : ℕ) (m : Matrix) (lines : LineSet) (seen : Seen) (made : Result Seen E) → IfOk made (λ found. found ≡ seen)
+    → IsSeen limit m lines seen → IfOk made (IsSeen limit m lines)
 seen_as limit m lines seen (Ok found) e said = subst (IsSeen limit m lines) (sym e) said
 seen_as limit m lines seen (Err e) h said = tt
 
@@ -261,7 +263,8 @@ module _ (limit : ℕ) (m : Matrix) (is : IsMatrix m) (lines : LineSet) (are : A
   pub placed_violator : (fault : LineSet) → IsLeastViolator (part m lines) fault.rows fault.columns → IsPlacedSet lines fault
   placed_violator fault says = let w = least_violator 0 (omega arith) m is lines are fault.rows fault.columns says in placed fault.rows fault.columns w.0 w.1
 
-  pub seen_enumerated : HasNoneBefore limit (part m lines) 10 → HasNoCycleFault (entry (part m lines)) → min (height (part m lines)) (length lines.columns) ≤ limit → HasNoViolator (part m lines) → IsSaid limit m lines Enumerated []
+  pub seen_enumerated : HasNoneBefore limit (part m lines) 10 → HasNoCycleFault (entry (part m lines))
+      → min (height (part m lines)) (length lines.columns) ≤ limit → HasNoViolator (part m lines) → IsSaid limit m lines Enumerated []
   seen_enumerated none no_fault short says = record {
     case = IsShort;
     applies = short;
@@ -313,7 +316,8 @@ module _ (limit : ℕ) (m : Matrix) (is : IsMatrix m) (lines : LineSet) (are : A
   line_among (line.Row k) h = named_contained lines.rows k h
   line_among (line.Column k) h = named_contained lines.columns k h
 
-  lines_among : (steps : List Step) → AllByRecursion (λ step. IsPlace lines step.line) steps → AllByRecursion (HasLine lines.rows lines.columns) (map (numbered_line lines) (map (λ step. step.line) steps))
+  lines_among : (steps : List Step) → AllByRecursion (λ step. IsPlace lines step.line) steps
+      → AllByRecursion (HasLine lines.rows lines.columns) (map (numbered_line lines) (map (λ step. step.line) steps))
   lines_among [] h = tt
   lines_among (step ∷ steps) h = (line_among step.line h.0, lines_among steps h.1)
 

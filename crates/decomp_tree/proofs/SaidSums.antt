@@ -59,7 +59,8 @@ module _ (limit : ℕ) (m : Matrix) (is : IsMatrix m) (lines : LineSet) (are : A
           fits = λ trees e. (side_among two.side found.row_set found.column_set, named_contained lines.rows two.row two_row_placed, named_contained lines.columns two.column two_column_placed);
         }
 
-  placed_connector : (b flat : Bool) (S : Lines) (c : Connector) → AreOn (first_lines (height (part m lines))) (first_lines (length lines.columns)) S b (connector_lines flat c) → IsPlacedConnector flat lines c
+  placed_connector : (b flat : Bool) (S : Lines) (c : Connector)
+      → AreOn (first_lines (height (part m lines))) (first_lines (length lines.columns)) S b (connector_lines flat c) → IsPlacedConnector flat lines c
   placed_connector b true S c h = (
     row_low c.row (first_lines_contain (height (part m lines)) c.row h.0.0),
     first_lines_contain (length lines.columns) c.column h.1.0.0,
@@ -85,7 +86,8 @@ module _ (limit : ℕ) (m : Matrix) (is : IsMatrix m) (lines : LineSet) (are : A
     pub second_placed : IsPlacedConnector (second_is_flat t.form) lines t.second
     second_placed = placed_connector false (second_is_flat t.form) (listed t.side.rows t.side.columns) t.second found.separates.two
 
-    pub said_three : HasNoneBefore limit (part m lines) 9 → HasNoCycleFault (entry (part m lines)) → IsSaid limit m lines (ThreeSum (three_in lines t)) (three_one lines (three_in lines t) ∷ three_two lines (three_in lines t) ∷ [])
+    pub said_three : HasNoneBefore limit (part m lines) 9 → HasNoCycleFault (entry (part m lines))
+        → IsSaid limit m lines (ThreeSum (three_in lines t)) (three_one lines (three_in lines t) ∷ three_two lines (three_in lines t) ∷ [])
     said_three none no_fault =
         let keeps = keeps_three 0 (omega arith) m is lines are t no_fault found in
         let children = children_three lines are.rows.increasing are.columns.increasing (three_in lines t) keeps.short in

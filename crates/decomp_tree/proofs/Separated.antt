@@ -80,7 +80,8 @@ module _ (m : Matrix) (lines : LineSet) (are : AreLines m lines) (S : Lines) whe
   made i j r c hi hj hr hc = rw (entry_in m lines r j hr hj, entry_in m lines i c hi hc, entry_in m lines i j hi hj) refl
 
 -- the side of a separation that was found, by its numbers in the whole matrix
-pub named_side : (m : Matrix) (lines : LineSet) (are : AreLines m lines) (one : LineSet) → IsRowSet (part m lines) one.rows → IsColumnSet (part m lines) one.columns → set_in lines one ≡ side m lines are (listed one.rows one.columns)
+pub named_side : (m : Matrix) (lines : LineSet) (are : AreLines m lines) (one : LineSet) → IsRowSet (part m lines) one.rows
+    → IsColumnSet (part m lines) one.columns → set_in lines one ≡ side m lines are (listed one.rows one.columns)
 named_side m lines are one rows columns = ap (set_in lines) (ap₂ (λ (a b : List ℕ). both a b)
     (listed_lines one.rows (length lines.rows) rows.increasing (subst (λ n. (k : ℕ) → k < length one.rows → numbered one.rows k < n) (height_in m lines) rows.in_range))
     (listed_lines one.columns (length lines.columns) columns.increasing columns.in_range))
@@ -125,7 +126,8 @@ module _ (m : Matrix) (lines : LineSet) (are : AreLines m lines) (S : Lines) whe
   abbrev columns : List ℕ
   columns = first_lines (length lines.columns)
 
-  connector_one : (flat : Bool) (c : Connector) → AreOn rows columns S true (connector_lines flat c) → HasConnector flat (inside (side m lines are S).rows lines.rows) (inside (side m lines are S).columns lines.columns) (connector_in flat lines c)
+  connector_one : (flat : Bool) (c : Connector) → AreOn rows columns S true (connector_lines flat c)
+      → HasConnector flat (inside (side m lines are S).rows lines.rows) (inside (side m lines are S).columns lines.columns) (connector_in flat lines c)
   connector_one true c h = (
     to_inside lines.rows are.rows.increasing (λ r. S (Row r)) c.row (first_lines_contain (length lines.rows) c.row h.0.0) h.0.1,
     to_inside lines.columns are.columns.increasing (λ x. S (Column x)) c.column (first_lines_contain (length lines.columns) c.column h.1.0.0) h.1.0.1,
@@ -137,7 +139,8 @@ module _ (m : Matrix) (lines : LineSet) (are : AreLines m lines) (S : Lines) whe
     to_inside lines.rows are.rows.increasing (λ r. S (Row r)) c.other (first_lines_contain (length lines.rows) c.other h.1.1.0.0) h.1.1.0.1,
   )
 
-  connector_two : (flat : Bool) (c : Connector) → AreOn rows columns S false (connector_lines flat c) → HasConnector flat (outside (side m lines are S).rows lines.rows) (outside (side m lines are S).columns lines.columns) (connector_in flat lines c)
+  connector_two : (flat : Bool) (c : Connector) → AreOn rows columns S false (connector_lines flat c)
+      → HasConnector flat (outside (side m lines are S).rows lines.rows) (outside (side m lines are S).columns lines.columns) (connector_in flat lines c)
   connector_two true c h = (
     to_outside lines.rows are.rows.increasing (λ r. S (Row r)) c.row (first_lines_contain (length lines.rows) c.row h.0.0) h.0.1,
     to_outside lines.columns are.columns.increasing (λ x. S (Column x)) c.column (first_lines_contain (length lines.columns) c.column h.1.0.0) h.1.0.1,
@@ -163,7 +166,8 @@ module _ (m : Matrix) (lines : LineSet) (are : AreLines m lines) (S : Lines) whe
   zero_in : (r c : ℕ) → r < length lines.rows → c < length lines.columns → entry (part m lines) r c ≡ pos 0 → entry m (numbered lines.rows r) (numbered lines.columns c) ≡ pos 0
   zero_in r c h k z = sym (entry_in m lines r c h k) ∙ z
 
-  tied_in : (b flat : Bool) (c : Connector) (row column : ℕ) → row < length lines.rows → column < length lines.columns → AreOn rows columns S b (connector_lines flat c) → IsTied (entry (part m lines)) flat c row column
+  tied_in : (b flat : Bool) (c : Connector) (row column : ℕ) → row < length lines.rows → column < length lines.columns
+      → AreOn rows columns S b (connector_lines flat c) → IsTied (entry (part m lines)) flat c row column
       → IsTied (entry m) flat (connector_in flat lines c) (numbered lines.rows row) (numbered lines.columns column)
   tied_in b true c row column l k h tied =
       let other = first_lines_contain (length lines.columns) c.other h.1.1.0.0 in
@@ -192,7 +196,8 @@ module _ (m : Matrix) (lines : LineSet) (are : AreLines m lines) (S : Lines) whe
     corner_b : entry (part m lines) second.row second.column ≢ pos 0 → entry m (numbered lines.rows second.row) (numbered lines.columns second.column) ≢ pos 0
     corner_b = nonzero_in second.row second.column row_b column_b
 
-    crossing_in : AreCrossing (entry (part m lines)) first_flat second_flat first second → AreCrossing (entry m) first_flat second_flat (connector_in first_flat lines first) (connector_in second_flat lines second)
+    crossing_in : AreCrossing (entry (part m lines)) first_flat second_flat first second
+        → AreCrossing (entry m) first_flat second_flat (connector_in first_flat lines first) (connector_in second_flat lines second)
     crossing_in crossing = record {
       upper = nonzero_in first.row second.column row_a column_b crossing.upper;
       lower = nonzero_in second.row first.column row_b column_a crossing.lower;
@@ -277,7 +282,8 @@ module _ (m : Matrix) (lines : LineSet) (are : AreLines m lines) (S : Lines) whe
   abbrev named_second : Form → Connector → Connector
   named_second form second = connector_in (second_is_flat form) lines second
 
-  connectors_in : (form : Form) (first second : Connector) → AreOn rows columns S true (connector_lines (first_is_flat form) first) → AreOn rows columns S false (connector_lines (second_is_flat form) second)
+  connectors_in : (form : Form) (first second : Connector) → AreOn rows columns S true (connector_lines (first_is_flat form) first)
+      → AreOn rows columns S false (connector_lines (second_is_flat form) second)
       → separations.AreConnectors (entry (part m lines)) form first second → separations.AreConnectors (entry m) form (named_first form first) (named_second form second)
   connectors_in form first second one two c = record {
     first_corner = corner_a (first_is_flat form) (second_is_flat form) first second one two c.first_corner;
@@ -292,14 +298,17 @@ module _ (m : Matrix) (lines : LineSet) (are : AreLines m lines) (S : Lines) whe
       tied_by Mixed h k tied = crossing_in true false first second h k tied
       tied_by Concentrated h k tied = concentrated_in first second h k tied
 
-  corner_in : (form : Form) (first second : Connector) → AreOn rows columns S true (connector_lines (first_is_flat form) first) → AreOn rows columns S false (connector_lines (second_is_flat form) second)
-      → separations.AreConnectors (entry (part m lines)) form first second → HasNoCycleFault (entry (part m lines)) → IsMatrix (part m lines) → HaveCornerSign (entry m) form (named_first form first) (named_second form second)
+  corner_in : (form : Form) (first second : Connector) → AreOn rows columns S true (connector_lines (first_is_flat form) first)
+      → AreOn rows columns S false (connector_lines (second_is_flat form) second)
+      → separations.AreConnectors (entry (part m lines)) form first second → HasNoCycleFault (entry (part m lines)) → IsMatrix (part m lines)
+      → HaveCornerSign (entry m) form (named_first form first) (named_second form second)
   corner_in Delta first second one two c no_fault is = corner_sign true true first second one two c.tied c.first_corner c.second_corner no_fault is
   corner_in YForm first second one two c no_fault is = corner_sign false false first second one two c.tied c.first_corner c.second_corner no_fault is
   corner_in Mixed first second one two c no_fault is = corner_sign true false first second one two c.tied c.first_corner c.second_corner no_fault is
   corner_in Concentrated first second one two c no_fault is = tt
 
-  upper_in : (form : Form) (first second : Connector) → AreOn rows columns S true (connector_lines (first_is_flat form) first) → AreOn rows columns S false (connector_lines (second_is_flat form) second)
+  upper_in : (form : Form) (first second : Connector) → AreOn rows columns S true (connector_lines (first_is_flat form) first)
+      → AreOn rows columns S false (connector_lines (second_is_flat form) second)
       → (r c : ℕ) → r < length lines.rows → c < length lines.columns
       → upper_block (entry (part m lines)) form first second r c ≡ upper_block (entry m) form (named_first form first) (named_second form second) (numbered lines.rows r) (numbered lines.columns c)
   upper_in Delta first second one two = upper_made true true first second one two
@@ -307,7 +316,8 @@ module _ (m : Matrix) (lines : LineSet) (are : AreLines m lines) (S : Lines) whe
   upper_in Mixed first second one two = upper_made true false first second one two
   upper_in Concentrated first second one two = λ r c h k. refl
 
-  lower_in : (form : Form) (first second : Connector) → AreOn rows columns S true (connector_lines (first_is_flat form) first) → AreOn rows columns S false (connector_lines (second_is_flat form) second)
+  lower_in : (form : Form) (first second : Connector) → AreOn rows columns S true (connector_lines (first_is_flat form) first)
+      → AreOn rows columns S false (connector_lines (second_is_flat form) second)
       → (r c : ℕ) → r < length lines.rows → c < length lines.columns
       → lower_block (entry (part m lines)) form first second r c ≡ lower_block (entry m) form (named_first form first) (named_second form second) (numbered lines.rows r) (numbered lines.columns c)
   lower_in Delta first second one two = lower_made true true first second one two

@@ -45,7 +45,8 @@ only_undecided_is (Pivoted place) e = cc
 
 module _ (limit : ℕ) (m : Matrix) where
   -- one of the children
-  each_drafted : (P : LineSet → Type 0) (children : List LineSet) (before : List Draft) (draft : Draft) (after : List Draft) → AreDrafted limit m children (sketches_from (map sketch_of (before ++ draft ∷ after))) → AllByRecursion P children
+  each_drafted : (P : LineSet → Type 0) (children : List LineSet) (before : List Draft) (draft : Draft) (after : List Draft)
+      → AreDrafted limit m children (sketches_from (map sketch_of (before ++ draft ∷ after))) → AllByRecursion P children
       → IsDrafted limit m (sketch_of draft) × P (lines_of_sketch (sketch_of draft))
   each_drafted P [] [] draft after d all = absurd d
   each_drafted P [] (b ∷ before) draft after d all = absurd d
@@ -59,13 +60,16 @@ module _ (limit : ℕ) (m : Matrix) where
   lines_each (child ∷ children) [] d = absurd d
   lines_each (child ∷ children) (draft ∷ drafts) d = ap₂ (λ x xs. x ∷ xs) d.0 (lines_each children drafts d.2)
 
-  one_more : (drafts : List Draft) (draft : Draft) → map (λ draft. lines_of_sketch (sketch_of draft)) (drafts ++ draft ∷ []) ≡ map (λ draft. lines_of_sketch (sketch_of draft)) drafts ++ lines_of_sketch (sketch_of draft) ∷ []
+  one_more : (drafts : List Draft) (draft : Draft)
+      → map (λ draft. lines_of_sketch (sketch_of draft)) (drafts ++ draft ∷ []) ≡ map (λ draft. lines_of_sketch (sketch_of draft)) drafts ++ lines_of_sketch (sketch_of draft) ∷ []
   one_more [] draft = refl
   one_more (other ∷ drafts) draft = ap (λ xs. lines_of_sketch (sketch_of other) ∷ xs) (one_more drafts draft)
 
   -- the next child is settled after the others
-  pub settled_next : (pivots state : ℕ) (drafts : List Draft) (draft : Draft) (before after : List Tree) → AreSettled limit pivots state m (map (λ draft. lines_of_sketch (sketch_of draft)) drafts) before
-      → HasOneMoreTree (IsDrawnWith limit pivots state m (lines_of_sketch (sketch_of draft))) before after → AreSettled limit pivots state m (map (λ draft. lines_of_sketch (sketch_of draft)) (drafts ++ draft ∷ [])) after
+  pub settled_next : (pivots state : ℕ) (drafts : List Draft) (draft : Draft) (before after : List Tree)
+      → AreSettled limit pivots state m (map (λ draft. lines_of_sketch (sketch_of draft)) drafts) before
+      → HasOneMoreTree (IsDrawnWith limit pivots state m (lines_of_sketch (sketch_of draft))) before after
+      → AreSettled limit pivots state m (map (λ draft. lines_of_sketch (sketch_of draft)) (drafts ++ draft ∷ [])) after
   settled_next pivots state drafts draft before after (shapes, drawn, refined) one =
       subst (AreSettled limit pivots state m (map (λ draft. lines_of_sketch (sketch_of draft)) (drafts ++ draft ∷ []))) (sym one.order)
       (subst (λ some. AreSettled limit pivots state m some (before ++ one.tree ∷ [])) (sym (one_more drafts draft)) (
@@ -75,12 +79,14 @@ module _ (limit : ℕ) (m : Matrix) where
       ))
 
   -- all children are settled
-  settled_all : (children : List LineSet) (drafts : List Draft) (trees : List Tree) → AreDrafted limit m children (sketches_from (map sketch_of drafts)) → AreDrawn limit m (map (λ draft. lines_of_sketch (sketch_of draft)) drafts) trees
+  settled_all : (children : List LineSet) (drafts : List Draft) (trees : List Tree) → AreDrafted limit m children (sketches_from (map sketch_of drafts))
+      → AreDrawn limit m (map (λ draft. lines_of_sketch (sketch_of draft)) drafts) trees
       → AreDrawn limit m children trees
   settled_all children drafts trees d all = subst (λ some. AreDrawn limit m some trees) (lines_each children drafts d) all
 
   -- a node without late cycle fault
-  node_drawn : (opening : Opening) → IsOpeningOf limit m opening.lines opening → HasNoLateFault m opening.lines (finding_shown opening.finding) → (trees : List Tree) → AreDrawn limit m opening.children trees
+  node_drawn : (opening : Opening) → IsOpeningOf limit m opening.lines opening → HasNoLateFault m opening.lines (finding_shown opening.finding)
+      → (trees : List Tree) → AreDrawn limit m opening.children trees
       → IsShapeOn limit m opening.lines (Branch opening.lines (finding_shown opening.finding) (trees_from trees))
   node_drawn opening is late trees children = drawn_node limit m opening.lines (finding_shown opening.finding) opening.children trees is.said (λ l. go (is_unsearched (finding_shown opening.finding)) refl l) children
     where
@@ -128,7 +134,8 @@ module _ (limit : ℕ) (m : Matrix) where
         pub count_settled : HasChildren (finding_shown (opening_in draft).finding) (length nodes)
         count_settled = subst (HasChildren (finding_shown (opening_in draft).finding)) (sym as_many_nodes) (has_children limit m (finding_shown (opening_in draft).finding) (opening_in draft).children settled.0 (parts_of limit m draft drafted).0.said.count all_settled)
 
-        pub whole_settled : is_undecided (finding_shown (opening_in draft).finding) ≡ false → HasNoLateFault m (opening_in draft).lines (finding_shown (opening_in draft).finding) → (before after : List Tree)
+        pub whole_settled : is_undecided (finding_shown (opening_in draft).finding) ≡ false
+            → HasNoLateFault m (opening_in draft).lines (finding_shown (opening_in draft).finding) → (before after : List Tree)
             → after ≡ before ++ Branch (opening_in draft).lines (finding_shown (opening_in draft).finding) (trees_from (map tree_of nodes)) ∷ [] → HasOneMoreTree Settles before after
         whole_settled decided late before after e =
             let opening = opening_in draft in
@@ -143,7 +150,8 @@ module _ (limit : ℕ) (m : Matrix) where
               });
             }
 
-      pub fault_settled : IsMatrix m → AreLines m (opening_in draft).lines → (fault : LineSet) → IsNamedFault m (opening_in draft).lines fault → (before after : List Tree) → after ≡ before ++ Branch (opening_in draft).lines (Cycle fault) NoTrees ∷ []
+      pub fault_settled : IsMatrix m → AreLines m (opening_in draft).lines → (fault : LineSet) → IsNamedFault m (opening_in draft).lines fault
+          → (before after : List Tree) → after ≡ before ++ Branch (opening_in draft).lines (Cycle fault) NoTrees ∷ []
           → HasOneMoreTree Settles before after
       fault_settled is are fault found before after e =
           let lines = (opening_in draft).lines in
@@ -159,7 +167,9 @@ module _ (limit : ℕ) (m : Matrix) where
           }
 
       -- an undecided node, of which something is found
-      pub found_settled : is_undecided (finding_shown (opening_in draft).finding) ≡ true → (found : Tree) → IsFound limit pivots state m (opening_in draft).lines found → (before after : List Tree) → after ≡ before ++ found ∷ [] → HasOneMoreTree Settles before after
+      pub found_settled : is_undecided (finding_shown (opening_in draft).finding) ≡ true → (found : Tree)
+          → IsFound limit pivots state m (opening_in draft).lines found → (before after : List Tree) → after ≡ before ++ found ∷ []
+          → HasOneMoreTree Settles before after
       found_settled open_node found is before after e =
           let opening = opening_in draft in
           let known = (parts_of limit m draft drafted).0 in

@@ -27,7 +27,8 @@ among_free m lines free = none_among_from_free m lines (free_from_submatrix m li
 part_free : (m : Matrix) (lines : LineSet) → AreLines m lines → HasNoViolatorAmong m lines → HasNoViolator (part m lines)
 part_free m lines are none = submatrix_from_free m lines.rows lines.columns (free_from_none_among m lines are.rows.in_range are.columns.in_range none)
 
-refute : SeymourDecomposes → (limit pivots state : ℕ) (m : Matrix) (lines : LineSet) → IsMatrix m → AreLines m lines → EndsOpen limit pivots state m lines → AreAllMade limit pivots state m lines ⊎ (¬ (HasNoViolator (part m lines)))
+refute : SeymourDecomposes → (limit pivots state : ℕ) (m : Matrix) (lines : LineSet) → IsMatrix m → AreLines m lines → EndsOpen limit pivots state m lines
+    → AreAllMade limit pivots state m lines ⊎ (¬ (HasNoViolator (part m lines)))
 refute seymour limit zero state m lines is are e = inl tt
 refute seymour limit (suc pivots) state m lines is are (inl late) = inr (λ free. seymour limit (part m lines) (part_is m lines is are) late.case late.no_separation free)
 refute seymour limit (suc pivots) state m lines is are (inr l) =

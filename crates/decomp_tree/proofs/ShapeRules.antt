@@ -115,14 +115,17 @@ module _ (limit : ℕ) (few : limit ≤ 24) (m : Matrix) (is : IsMatrix m) (line
   pub least_violator : (R C : List ℕ) → IsLeastViolator (part m lines) R C → IsRowSet (part m lines) R × IsColumnSet (part m lines) C × IsViolator (entry (part m lines)) R C
   least_violator R C least = go (cases_lt (length lines.columns) (height (part m lines)))
     where
-      go : (length lines.columns < height (part m lines)) ⊎ (height (part m lines) ≤ length lines.columns) → IsRowSet (part m lines) R × IsColumnSet (part m lines) C × IsViolator (entry (part m lines)) R C
+      go : (length lines.columns < height (part m lines)) ⊎ (height (part m lines) ≤ length lines.columns)
+          → IsRowSet (part m lines) R × IsColumnSet (part m lines) C × IsViolator (entry (part m lines)) R C
       go (inl l) = let w = least.few_columns l in (w.rows_least.row_set, w.column_set, w.rows_least.violator)
       go (inr l) = let w = least.few_rows l in (w.row_set, w.columns_least.column_set, w.columns_least.violator)
 
-  violator_named : (R C : List ℕ) → IsRowSet (part m lines) R → IsColumnSet (part m lines) C → IsViolator (entry (part m lines)) R C → IsViolator (entry m) (map (numbered lines.rows) R) (map (numbered lines.columns) C)
+  violator_named : (R C : List ℕ) → IsRowSet (part m lines) R → IsColumnSet (part m lines) C → IsViolator (entry (part m lines)) R C
+      → IsViolator (entry m) (map (numbered lines.rows) R) (map (numbered lines.columns) C)
   violator_named R C rows columns v = violator_in m lines R C (low_rows R rows) (low_columns C columns) v
 
-  pub keeps : (case : Case) (found : Finding) (parts children : List LineSet) → IsFirstCase limit (part m lines) case → NodeSays case (part m lines) found parts → HasParts (finding_in lines found) children (map (set_in lines) parts)
+  pub keeps : (case : Case) (found : Finding) (parts children : List LineSet) → IsFirstCase limit (part m lines) case → NodeSays case (part m lines) found parts
+      → HasParts (finding_in lines found) children (map (set_in lines) parts)
       → (broken : Rule) → Demands broken m lines (finding_in lines found) children
   keeps HasNoLines Empty parts children first says has rule.NotEmpty = let a = first.applies.0 in let b = first.applies.1 in omega (arith, a, b, height_in m lines)
   keeps HasNoLines Empty parts children first says has _ = tt

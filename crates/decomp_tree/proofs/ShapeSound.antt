@@ -58,7 +58,8 @@ module _ (limit : ℕ) (few : limit ≤ 24) (m : Matrix) (is : IsMatrix m) where
       (subst (λ f. HasParts f place.children (map (set_in place.lines) shaped.parts)) shaped.finding shaped.children) broken)
 
 -- no node of a decomposition makes a pivot
-pub no_pivot : (pivots : List MadePivot) (limit : ℕ) (n : Matrix) (case : Case) (found : Finding) (parts : List LineSet) (lines : LineSet) (finding : Finding) → NodeSays case n found parts → finding ≡ finding_in lines found → pivots_below lines finding pivots ≡ pivots
+pub no_pivot : (pivots : List MadePivot) (limit : ℕ) (n : Matrix) (case : Case) (found : Finding) (parts : List LineSet) (lines : LineSet) (finding : Finding)
+    → NodeSays case n found parts → finding ≡ finding_in lines found → pivots_below lines finding pivots ≡ pivots
 no_pivot pivots limit n case found parts lines finding says e = subst (λ f. pivots_below lines f pivots ≡ pivots) (sym e) (go case found says)
   where
     go : (case : Case) (found : Finding) → NodeSays case n found parts → pivots_below lines (finding_in lines found) pivots ≡ pivots

@@ -26,7 +26,8 @@ module _ (limit : ℕ) (m : Matrix) where
   shape_lines lines tree shaped = set_same (lines_at_root tree) lines (due_here limit m [] [] (These lines) tree shaped)
 
   mutual
-    moved : (path path' : List ℕ) (pivots : List MadePivot) (due due' : Due) (tree : Tree) → HasItsLines due' (lines_at_root tree) → AllByRecursion (IsShapedAt limit m) (places_from path pivots due tree)
+    moved : (path path' : List ℕ) (pivots : List MadePivot) (due due' : Due) (tree : Tree) → HasItsLines due' (lines_at_root tree)
+        → AllByRecursion (IsShapedAt limit m) (places_from path pivots due tree)
         → AllByRecursion (IsShapedAt limit m) (places_from path' pivots due' tree)
     moved path path' pivots due due' (Branch lines finding trees) has shaped = (
       record {
@@ -44,7 +45,8 @@ module _ (limit : ℕ) (m : Matrix) where
       moved_below path path' (pivots_below lines finding pivots) lines finding 0 trees shaped.1,
     )
 
-    moved_below : (path path' : List ℕ) (pivots : List MadePivot) (lines : LineSet) (finding : Finding) (k : ℕ) (trees : Trees) → AllByRecursion (IsShapedAt limit m) (places_below path pivots lines finding k trees)
+    moved_below : (path path' : List ℕ) (pivots : List MadePivot) (lines : LineSet) (finding : Finding) (k : ℕ) (trees : Trees)
+        → AllByRecursion (IsShapedAt limit m) (places_below path pivots lines finding k trees)
         → AllByRecursion (IsShapedAt limit m) (places_below path' pivots lines finding k trees)
     moved_below path path' pivots lines finding k NoTrees shaped = tt
     moved_below path path' pivots lines finding k (MoreTrees tree trees) shaped =
@@ -57,11 +59,13 @@ module _ (limit : ℕ) (m : Matrix) where
         (moved_below path path' pivots lines finding (suc k) trees (all_back (IsShapedAt limit m) here later shaped))
 
   -- the same tree as a child that is to have these lines, or as the tree of a matrix that has them
-  pub shape_moved : (path : List ℕ) (due : Due) (lines : LineSet) (tree : Tree) → HasItsLines due lines → IsShapeOn limit m lines tree → AllByRecursion (IsShapedAt limit m) (places_from path [] due tree)
+  pub shape_moved : (path : List ℕ) (due : Due) (lines : LineSet) (tree : Tree) → HasItsLines due lines → IsShapeOn limit m lines tree
+      → AllByRecursion (IsShapedAt limit m) (places_from path [] due tree)
   shape_moved path due lines tree has shaped = moved [] path [] (These lines) due tree (subst (HasItsLines due) (sym (shape_lines lines tree shaped)) has) shaped
 
   -- a tree of a matrix is one of all its lines
-  pub shape_from : (due : Due) (lines : LineSet) (tree : Tree) → HasItsLines (These lines) (lines_at_root tree) → AllByRecursion (IsShapedAt limit m) (places_from [] [] due tree) → IsShapeOn limit m lines tree
+  pub shape_from : (due : Due) (lines : LineSet) (tree : Tree) → HasItsLines (These lines) (lines_at_root tree)
+      → AllByRecursion (IsShapedAt limit m) (places_from [] [] due tree) → IsShapeOn limit m lines tree
   shape_from due lines tree has shaped = moved [] [] [] due (These lines) tree has shaped
 
   mutual
@@ -69,7 +73,8 @@ module _ (limit : ℕ) (m : Matrix) where
     counts path pivots due (Branch lines finding trees) shaped =
         (subst (HasChildren finding) (count_is trees) shaped.0.count, counts_below path (pivots_below lines finding pivots) lines finding 0 trees shaped.1)
 
-    counts_below : (path : List ℕ) (pivots : List MadePivot) (lines : LineSet) (finding : Finding) (k : ℕ) (trees : Trees) → AllByRecursion (IsShapedAt limit m) (places_below path pivots lines finding k trees) → HaveCounts trees
+    counts_below : (path : List ℕ) (pivots : List MadePivot) (lines : LineSet) (finding : Finding) (k : ℕ) (trees : Trees)
+        → AllByRecursion (IsShapedAt limit m) (places_below path pivots lines finding k trees) → HaveCounts trees
     counts_below path pivots lines finding k NoTrees shaped = tt
     counts_below path pivots lines finding k (MoreTrees tree trees) shaped =
         let here = places_from (path ++ k ∷ []) pivots (due_child lines finding k) tree in

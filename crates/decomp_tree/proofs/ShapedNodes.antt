@@ -56,7 +56,8 @@ module _ (limit : ℕ) (m : Matrix) (is : IsMatrix m) where
       | inr short ↦ absurd (first.first IsShort (omega arith) short)
     ]
 
-    said_by : (case : Case) (found : Finding) (parts children : List LineSet) → IsFirstCase limit (part m lines) case → NodeSays case (part m lines) found parts → HasParts (finding_in lines found) children (map (set_in lines) parts)
+    said_by : (case : Case) (found : Finding) (parts children : List LineSet) → IsFirstCase limit (part m lines) case → NodeSays case (part m lines) found parts
+        → HasParts (finding_in lines found) children (map (set_in lines) parts)
         → IsSaidWith lines (finding_in lines found) children
     said_by HasNoLines Empty parts children first says has = record { known = []; said = seen_empty limit m is lines are first.applies.0 first.applies.1; parts = λ e. cc }
     said_by HasNoLines found parts children first says has = absurd says
@@ -111,7 +112,8 @@ module _ (limit : ℕ) (m : Matrix) (is : IsMatrix m) where
   -- ---- levels
 
   mutual
-    shape_fits : (path : List ℕ) (pivots : List MadePivot) (due : Due) (parent : LineSet) (levels : ℕ) (tree : Tree) → AllByRecursion (IsShapedAt limit m) (places_from path pivots due tree) → AreLines m parent → AreLinesOf (lines_at_root tree) parent
+    shape_fits : (path : List ℕ) (pivots : List MadePivot) (due : Due) (parent : LineSet) (levels : ℕ) (tree : Tree)
+        → AllByRecursion (IsShapedAt limit m) (places_from path pivots due tree) → AreLines m parent → AreLinesOf (lines_at_root tree) parent
         → size_of (lines_at_root tree) < levels → IsTreeWithin parent levels tree × IsFalling tree
     shape_fits path pivots due parent levels (Branch lines finding trees) shaped are among l =
         let here = lines_within m lines parent among are in
@@ -122,7 +124,8 @@ module _ (limit : ℕ) (m : Matrix) (is : IsMatrix m) where
           below.1,
         )
 
-    each_fits : (path : List ℕ) (pivots : List MadePivot) (lines : LineSet) (finding : Finding) (levels k : ℕ) (trees : Trees) → AllByRecursion (IsShapedAt limit m) (places_below path pivots lines finding k trees) → AreLines m lines
+    each_fits : (path : List ℕ) (pivots : List MadePivot) (lines : LineSet) (finding : Finding) (levels k : ℕ) (trees : Trees)
+        → AllByRecursion (IsShapedAt limit m) (places_below path pivots lines finding k trees) → AreLines m lines
         → AllByRecursion (AreFewer lines) (lines_of_each trees) → size_of lines ≤ levels → AreTreesWithin lines levels trees × AreFalling lines trees
     each_fits path pivots lines finding levels k NoTrees shaped are fewer l = (tt, tt)
     each_fits path pivots lines finding levels k (MoreTrees tree trees) shaped are fewer l =
@@ -133,9 +136,11 @@ module _ (limit : ℕ) (m : Matrix) (is : IsMatrix m) where
         ((one.0, rest.0), (fewer.0, one.1, rest.1))
 
   -- its nodes are within as many levels as lines and one more
-  pub shape_within : (path : List ℕ) (due : Due) (parent : LineSet) (levels : ℕ) (tree : Tree) → AllByRecursion (IsShapedAt limit m) (places_from path [] due tree) → AreLines m parent → AreLinesOf (lines_at_root tree) parent
+  pub shape_within : (path : List ℕ) (due : Due) (parent : LineSet) (levels : ℕ) (tree : Tree)
+      → AllByRecursion (IsShapedAt limit m) (places_from path [] due tree) → AreLines m parent → AreLinesOf (lines_at_root tree) parent
       → size_of (lines_at_root tree) < levels → IsTreeWithin parent levels tree
   shape_within path due parent levels tree shaped are among l = (shape_fits path [] due parent levels tree shaped are among l).0
 
-  pub shape_falls : (path : List ℕ) (due : Due) (parent : LineSet) (tree : Tree) → AllByRecursion (IsShapedAt limit m) (places_from path [] due tree) → AreLines m parent → AreLinesOf (lines_at_root tree) parent → IsFalling tree
+  pub shape_falls : (path : List ℕ) (due : Due) (parent : LineSet) (tree : Tree) → AllByRecursion (IsShapedAt limit m) (places_from path [] due tree)
+      → AreLines m parent → AreLinesOf (lines_at_root tree) parent → IsFalling tree
   shape_falls path due parent tree shaped are among = (shape_fits path [] due parent (suc (size_of (lines_at_root tree))) tree shaped are among (omega arith)).1

@@ -39,7 +39,8 @@ first_list P (suc n) (x ∷ xs) e has none =
     first_list (λ rest. P (number.0 ∷ rest)) n number.1.has.rest number.1.has.size number.1.has.has (λ found.
     none (number.0 ∷ found.0, record { size = ap suc found.1.size; has = found.1.has; first = earliest number.0 number.1.least found.0 found.1.first })))
   where
-    earliest : (k : ℕ) → ((j : ℕ) → j < k → ¬ (BeginsSome P n j)) → (rest : List ℕ) → ((ys : List ℕ) → length ys ≡ n → P (k ∷ ys) → ¬ (IsBefore ys rest)) → (ys : List ℕ) → length ys ≡ suc n → P ys → ¬ (IsBefore ys (k ∷ rest))
+    earliest : (k : ℕ) → ((j : ℕ) → j < k → ¬ (BeginsSome P n j)) → (rest : List ℕ) → ((ys : List ℕ) → length ys ≡ n → P (k ∷ ys) → ¬ (IsBefore ys rest))
+        → (ys : List ℕ) → length ys ≡ suc n → P ys → ¬ (IsBefore ys (k ∷ rest))
     earliest k least rest first [] l h b = b
     earliest k least rest first (y ∷ ys) l h (inl less) = least y less (record { rest = ys; size = omega (arith, l); has = h })
     earliest k least rest first (y ∷ ys) l h (inr later) = first ys (omega (arith, l)) (subst (λ j. P (j ∷ ys)) later.0 h) later.1

@@ -73,14 +73,16 @@ leaf : (lines : LineSet) (k : Kind) (finding : Finding) → said k ≡ (finding,
 leaf lines k finding e [] count = node_of_kind lines k finding NoTrees e
 leaf lines k finding e (node ∷ nodes) count = absurd (omega (arith, count))
 
-one_below : (lines : LineSet) (f : Box Node Global → Kind) (finding : Finding) → ((child : Box Node Global) → said (f child) ≡ (finding, one_tree (tree_of child.value))) → (nodes : List Node) → length nodes ≡ 1
+one_below : (lines : LineSet) (f : Box Node Global → Kind) (finding : Finding)
+    → ((child : Box Node Global) → said (f child) ≡ (finding, one_tree (tree_of child.value))) → (nodes : List Node) → length nodes ≡ 1
     → IsNodeOf (Branch lines finding (trees_from (map tree_of nodes)))
 unfolding boxed
 one_below lines f finding e [] count = absurd (omega (arith, count))
 one_below lines f finding e (node ∷ []) count = node_of_kind lines (f (boxed node)) finding (one_tree (tree_of node)) (e (boxed node))
 one_below lines f finding e (node ∷ other ∷ nodes) count = absurd (omega (arith, count))
 
-two_below : (lines : LineSet) (f : Box Node Global → Box Node Global → Kind) (finding : Finding) → ((one two : Box Node Global) → said (f one two) ≡ (finding, two_trees (tree_of one.value) (tree_of two.value))) → (nodes : List Node) → length nodes ≡ 2
+two_below : (lines : LineSet) (f : Box Node Global → Box Node Global → Kind) (finding : Finding)
+    → ((one two : Box Node Global) → said (f one two) ≡ (finding, two_trees (tree_of one.value) (tree_of two.value))) → (nodes : List Node) → length nodes ≡ 2
     → IsNodeOf (Branch lines finding (trees_from (map tree_of nodes)))
 unfolding boxed
 two_below lines f finding e [] count = absurd (omega (arith, count))
@@ -88,7 +90,8 @@ two_below lines f finding e (node ∷ []) count = absurd (omega (arith, count))
 two_below lines f finding e (node ∷ other ∷ []) count = node_of_kind lines (f (boxed node) (boxed other)) finding (two_trees (tree_of node) (tree_of other)) (e (boxed node) (boxed other))
 two_below lines f finding e (node ∷ other ∷ third ∷ nodes) count = absurd (omega (arith, count))
 
-node_with : (lines : LineSet) (finding : Finding) (nodes : List Node) → length nodes < 9223372036854775808 → HasChildren finding (length nodes) → IsNodeOf (Branch lines finding (trees_from (map tree_of nodes)))
+node_with : (lines : LineSet) (finding : Finding) (nodes : List Node) → length nodes < 9223372036854775808 → HasChildren finding (length nodes)
+    → IsNodeOf (Branch lines finding (trees_from (map tree_of nodes)))
 node_with lines Empty nodes few count = leaf lines kind.Empty Empty said_empty nodes count
 node_with lines (Cycle fault) nodes few count = leaf lines (kind.Cycle fault) (Cycle fault) (said_cycle fault) nodes count
 node_with lines (Reduced steps) nodes few count = one_below lines (kind.Reduced steps) (Reduced steps) (said_reduced steps) nodes count

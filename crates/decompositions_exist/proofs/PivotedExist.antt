@@ -35,7 +35,8 @@ use Rattle.decompositions_exist.proofs.ShapesExist.{shape_exists}
 -- ---- what replaces undecided nodes
 
 module _ (m : Matrix) (Holds : LineSet → Tree → Type 0) (some : (lines : LineSet) → AreLines m lines → NotExcluded ((tree : Tree) × Holds lines tree)) where
-  by_finding : (lines : LineSet) (finding : Finding) (trees : Trees) (b : Bool) → is_undecided finding ≡ b → AreLines m lines → NotExcluded ((below : Trees) × AllRefine Holds trees below) → NotExcluded ((tree : Tree) × Refines Holds (Branch lines finding trees) tree)
+  by_finding : (lines : LineSet) (finding : Finding) (trees : Trees) (b : Bool) → is_undecided finding ≡ b → AreLines m lines
+      → NotExcluded ((below : Trees) × AllRefine Holds trees below) → NotExcluded ((tree : Tree) × Refines Holds (Branch lines finding trees) tree)
   by_finding lines finding trees true e are below none = some lines are (λ found. none (found.0, subst (λ f. Refines Holds (Branch lines f trees) found.0) (sym (only_undecided_is finding e)) found.1))
   by_finding lines finding trees false e are below none = below (λ rest. none (Branch lines finding rest.0, refined_kept Holds lines finding trees rest.0 e rest.1))
 
@@ -76,7 +77,8 @@ module _ (limit : ℕ) where
       λ x h. contained_below m.width lines.columns x are.columns.in_range (all_contained (Contains lines.columns) fault.columns x among.columns (contains_from_in fault.columns x h)),
     )
 
-    decided : (place : Position) → IsPlaceIn m lines place → (after : Tree) (verdict : Verdict) → HasFaultAmong lines verdict → NotExcluded ((tree : Tree) × IsMappedBack m lines place after verdict tree)
+    decided : (place : Position) → IsPlaceIn m lines place → (after : Tree) (verdict : Verdict) → HasFaultAmong lines verdict
+        → NotExcluded ((tree : Tree) × IsMappedBack m lines place after verdict tree)
     decided place at after Yes among none = none (Branch lines (Pivoted place) (one_tree after), refl)
     decided place at after (No fault) among none =
         let low = fault_low fault among in

@@ -33,7 +33,8 @@ abbrev place_key : Position → List ℕ
 place_key place = place.row ∷ place.column ∷ []
 
 -- after ten drawn positions there is a first nonzero before a cut if there is one
-late_exists : (m : Matrix) (lines : LineSet) (state : ℕ) (inside : Position) → state ≡ LATE_STATE → IsPlaceBeforeCut (submatrix m lines.rows lines.columns) inside → NotExcluded ((place : Position) × IsLatePlace m lines state place)
+late_exists : (m : Matrix) (lines : LineSet) (state : ℕ) (inside : Position) → state ≡ LATE_STATE
+    → IsPlaceBeforeCut (submatrix m lines.rows lines.columns) inside → NotExcluded ((place : Position) × IsLatePlace m lines state place)
 late_exists m lines state inside late is none =
     first_key place_key 2 (λ place. refl) (IsPlaceBeforeCut (submatrix m lines.rows lines.columns)) inside is (λ found.
     let place : Position = record { row = get_or lines.rows found.0.row 0; column = get_or lines.columns found.0.column 0 } in
@@ -89,7 +90,8 @@ module _ (m : Matrix) (lines : LineSet) (place : Position) (is : IsMatrix m) (ar
     column_in : Contains lines.columns s.column
     two : ¬ (IsEntry (pivot_entry (entry m) place.row place.column s.row s.column))
 
-  small : (s : Spot) → IsFirstBy spot_key HasTwo s → (i j : ℕ) → Contains lines.rows i → Contains lines.columns j → (i < s.row) ⊎ ((i ≡ s.row) × ((j < s.column) ⊎ ((j ≡ s.column) × ⊥))) → IsEntry (pivot_entry (entry m) place.row place.column i j)
+  small : (s : Spot) → IsFirstBy spot_key HasTwo s → (i j : ℕ) → Contains lines.rows i → Contains lines.columns j
+      → (i < s.row) ⊎ ((i ≡ s.row) × ((j < s.column) ⊎ ((j ≡ s.column) × ⊥))) → IsEntry (pivot_entry (entry m) place.row place.column i j)
   unfolding spot_key
   small s f i j i_in j_in before = entry_unless (pivot_entry (entry m) place.row place.column i j) (λ two. f.first (record { row = i; column = j }) (record { row_in = i_in; column_in = j_in; two = two }) before)
 
@@ -153,7 +155,8 @@ module _ (m : Matrix) (lines : LineSet) (place : Position) (is : IsMatrix m) (ar
       (λ h. (built.members x).1 (low x h, inr (apart, h))),
     )
 
-  pub before_exists : (fault : LineSet) → ((x : ℕ) → IsIn x fault.rows → x < height m) → ((x : ℕ) → IsIn x fault.columns → x < m.width) → NotExcluded ((before : LineSet) × AreBefore m place fault before)
+  pub before_exists : (fault : LineSet) → ((x : ℕ) → IsIn x fault.rows → x < height m) → ((x : ℕ) → IsIn x fault.columns → x < m.width)
+      → NotExcluded ((before : LineSet) × AreBefore m place fault before)
   before_exists fault rows_low columns_low none =
       let odd_rows = IsOdd (sum_over fault.rows (λ i. entry m i place.column)) in
       let odd_columns = IsOdd (sum_over fault.columns (entry m place.row)) in

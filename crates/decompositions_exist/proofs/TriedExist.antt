@@ -37,7 +37,8 @@ module _ (limit : ℕ) (m : Matrix) (is : IsMatrix m) where
   abbrev EndsFrom : List Line → LineSet → Type 0
   EndsFrom turns kept = NotExcluded ((found : Option LineSet) × RemovesInTurn limit m turns kept found)
 
-  goes_on : (turns : List Line) (kept rest : LineSet) → EndsFrom turns kept → EndsFrom turns rest → (verdict : Verdict) → NotExcluded ((found : Option LineSet) × GoesOnAfter (RemovesInTurn limit m turns) kept rest verdict found)
+  goes_on : (turns : List Line) (kept rest : LineSet) → EndsFrom turns kept → EndsFrom turns rest → (verdict : Verdict)
+      → NotExcluded ((found : Option LineSet) × GoesOnAfter (RemovesInTurn limit m turns) kept rest verdict found)
   goes_on turns kept rest with_line without_line Yes none = with_line none
   goes_on turns kept rest with_line without_line (No fault) none = none (Some (set_in rest fault), refl)
   goes_on turns kept rest with_line without_line (Open left) none = without_line none

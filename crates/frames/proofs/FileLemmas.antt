@@ -86,7 +86,8 @@ pub last_more : (files : List NamedBytes) (bytes : List ℕ) → 0 < length file
 last_more files bytes some =
     ap (λ (n : ℕ). file_at (more_in_last files bytes) (n - 1)) (length_more_in_last files bytes) ∙ last_at files (length files - 1) bytes (omega arith)
 
-more_at_other : (held : Names) (files : List NamedBytes) (at : ℕ) (bytes name : List ℕ) → suc at ≡ length files → name ≢ (file_at files at).name → all_laid held (more_in_last files bytes) name ≡ all_laid held files name
+more_at_other : (held : Names) (files : List NamedBytes) (at : ℕ) (bytes name : List ℕ) → suc at ≡ length files → name ≢ (file_at files at).name
+    → all_laid held (more_in_last files bytes) name ≡ all_laid held files name
 more_at_other held [] at bytes name e other = absurd (omega arith)
 more_at_other held (f ∷ []) zero bytes name e other =
     laid_elsewhere held (record { name = f.name; bytes = f.bytes ++ bytes }) name other ∙ sym (laid_elsewhere held f name other)
@@ -95,11 +96,13 @@ more_at_other held (f ∷ g ∷ files) zero bytes name e other = absurd (omega a
 more_at_other held (f ∷ g ∷ files) (suc at) bytes name e other = more_at_other (laid held f) (g ∷ files) at bytes name (omega arith) other
 
 -- other names hold what they held
-pub more_other : (held : Names) (files : List NamedBytes) (bytes name : List ℕ) → 0 < length files → name ≢ (last_file files).name → all_laid held (more_in_last files bytes) name ≡ all_laid held files name
+pub more_other : (held : Names) (files : List NamedBytes) (bytes name : List ℕ) → 0 < length files → name ≢ (last_file files).name
+    → all_laid held (more_in_last files bytes) name ≡ all_laid held files name
 more_other held files bytes name some other = more_at_other held files (length files - 1) bytes name (omega arith) other
 
 -- the name of the last file holds its bytes
-pub more_here : (held : Names) (files : List NamedBytes) (bytes : List ℕ) → 0 < length files → all_laid held (more_in_last files bytes) (last_file files).name ≡ Some (last_file (more_in_last files bytes)).bytes
+pub more_here : (held : Names) (files : List NamedBytes) (bytes : List ℕ) → 0 < length files
+    → all_laid held (more_in_last files bytes) (last_file files).name ≡ Some (last_file (more_in_last files bytes)).bytes
 more_here held files bytes some =
     let many : length (more_in_last files bytes) ≡ length files = length_more_in_last files bytes in
     let same : (last_file files).name ≡ (last_file (more_in_last files bytes)).name = sym (ap (λ (f : NamedBytes). f.name) (last_more files bytes some)) in
@@ -149,7 +152,8 @@ step_down : (n : ℕ) → 0 < n → n ≡ (n - 1) + 1
 step_down n some = omega arith
 
 -- the file before an index has the name
-pub found_on : (held : Names) (files : List NamedBytes) (n : ℕ) (name : List ℕ) → 0 < n → n ≤ length files → (file_at files (n - 1)).name ≡ name → all_laid held (take n files) name ≡ Some (file_at files (n - 1)).bytes
+pub found_on : (held : Names) (files : List NamedBytes) (n : ℕ) (name : List ℕ) → 0 < n → n ≤ length files → (file_at files (n - 1)).name ≡ name
+    → all_laid held (take n files) name ≡ Some (file_at files (n - 1)).bytes
 found_on held files n name some within is =
     ap (λ (k : ℕ). all_laid held (take k files) name) (step_down n some)
     ∙ ap (λ (fs : List NamedBytes). all_laid held fs name) (take_more files (n - 1) no_file (omega arith))
@@ -157,18 +161,21 @@ found_on held files n name some within is =
     ∙ laid_here (all_laid held (take (n - 1) files)) (file_at files (n - 1)) name (sym is)
 
 -- it has another name
-pub passed_on : (held : Names) (files : List NamedBytes) (n : ℕ) (name : List ℕ) → 0 < n → n ≤ length files → (file_at files (n - 1)).name ≢ name → all_laid held (take n files) name ≡ all_laid held (take (n - 1) files) name
+pub passed_on : (held : Names) (files : List NamedBytes) (n : ℕ) (name : List ℕ) → 0 < n → n ≤ length files → (file_at files (n - 1)).name ≢ name
+    → all_laid held (take n files) name ≡ all_laid held (take (n - 1) files) name
 passed_on held files n name some within other =
     ap (λ (k : ℕ). all_laid held (take k files) name) (step_down n some)
     ∙ ap (λ (fs : List NamedBytes). all_laid held fs name) (take_more files (n - 1) no_file (omega arith))
     ∙ all_laid_push_other held (take (n - 1) files) (file_at files (n - 1)) name (λ same. other (sym same))
 
 -- the same for the file that is read there
-pub found_by : (held : Names) (files : List NamedBytes) (n : ℕ) (file : NamedBytes) (name : List ℕ) → 0 < n → n ≤ length files → file ≡ get_or files (n - 1) file → file.name ≡ name → all_laid held (take n files) name ≡ Some (file_at files (n - 1)).bytes
+pub found_by : (held : Names) (files : List NamedBytes) (n : ℕ) (file : NamedBytes) (name : List ℕ) → 0 < n → n ≤ length files
+    → file ≡ get_or files (n - 1) file → file.name ≡ name → all_laid held (take n files) name ≡ Some (file_at files (n - 1)).bytes
 found_by held files n file name some within is same =
     found_on held files n name some within (ap (λ (f : NamedBytes). f.name) (file_read files (n - 1) file (omega arith) is) ∙ same)
 
-pub passed_by : (held : Names) (files : List NamedBytes) (n : ℕ) (file : NamedBytes) (name : List ℕ) → 0 < n → n ≤ length files → file ≡ get_or files (n - 1) file → file.name ≢ name → all_laid held (take n files) name ≡ all_laid held (take (n - 1) files) name
+pub passed_by : (held : Names) (files : List NamedBytes) (n : ℕ) (file : NamedBytes) (name : List ℕ) → 0 < n → n ≤ length files
+    → file ≡ get_or files (n - 1) file → file.name ≢ name → all_laid held (take n files) name ≡ all_laid held (take (n - 1) files) name
 passed_by held files n file name some within is other =
     passed_on held files n name some within (λ same. other (sym (ap (λ (f : NamedBytes). f.name) (file_read files (n - 1) file (omega arith) is)) ∙ same))
 
@@ -185,7 +192,8 @@ length_given (f ∷ files) = ap suc (length_given files)
 pub given_taken : (files : List GivenFile) (n : ℕ) (name : List ℕ) → n ≡ length files → given_names files name ≡ all_laid nothing_held (take n (map given_file files)) name
 given_taken files n name is = let many = length_given files in all_taken nothing_held (map given_file files) n name (omega arith)
 
-given_found : (files : List GivenFile) (n : ℕ) (file : GivenFile) (name : List ℕ) → 0 < n → n ≤ length files → file ≡ get_or files (n - 1) file → file.name.now ≡ name → all_laid nothing_held (take n (map given_file files)) name ≡ Some file.bytes.now
+given_found : (files : List GivenFile) (n : ℕ) (file : GivenFile) (name : List ℕ) → 0 < n → n ≤ length files → file ≡ get_or files (n - 1) file
+    → file.name.now ≡ name → all_laid nothing_held (take n (map given_file files)) name ≡ Some file.bytes.now
 given_found files n file name some within is same =
     let many = length_given files in
     let read = given_read files (n - 1) file (omega arith) is in
@@ -204,14 +212,16 @@ given_default (f ∷ files) zero one other within = refl
 given_default (f ∷ files) (suc i) one other within = given_default files i one other (omega arith)
 
 -- the file before an index is the last one with the name
-pub given_here : (files : List GivenFile) (n : ℕ) (none : GivenFile) (name : List ℕ) → 0 < n → n ≤ length files → (get_or files (n - 1) none).name.now ≡ name → given_names files name ≡ all_laid nothing_held (take n (map given_file files)) name
+pub given_here : (files : List GivenFile) (n : ℕ) (none : GivenFile) (name : List ℕ) → 0 < n → n ≤ length files → (get_or files (n - 1) none).name.now ≡ name
+    → given_names files name ≡ all_laid nothing_held (take n (map given_file files)) name
     → Some (get_or files (n - 1) none).bytes.now ≡ given_names files name
 given_here files n none name some within named same =
     let file : GivenFile = get_or files (n - 1) none in
     sym (same ∙ given_found files n file name some within (given_default files (n - 1) none file (omega arith)) named)
 
 -- it is not, and the search goes on
-pub given_on : (files : List GivenFile) (n : ℕ) (none : GivenFile) (name : List ℕ) → 0 < n → n ≤ length files → (get_or files (n - 1) none).name.now ≢ name → given_names files name ≡ all_laid nothing_held (take n (map given_file files)) name
+pub given_on : (files : List GivenFile) (n : ℕ) (none : GivenFile) (name : List ℕ) → 0 < n → n ≤ length files → (get_or files (n - 1) none).name.now ≢ name
+    → given_names files name ≡ all_laid nothing_held (take n (map given_file files)) name
     → given_names files name ≡ all_laid nothing_held (take (n - 1) (map given_file files)) name
 given_on files n none name some within other same =
     let file : GivenFile = get_or files (n - 1) none in
@@ -245,13 +255,15 @@ lacks_push held (one ∷ []) name = refl
 lacks_push held (one ∷ other ∷ names) name = lacks_push held (other ∷ names) name
 
 -- the read of a name that does not exist was begun
-pub missing_now : (held : Names) (written : List NamedBytes) (names new : List (List ℕ)) (name : List ℕ) → new ≡ names ++ (name ∷ []) → all_laid held written name ≡ held name → held name ≡ None → IsTrue (lacks_last (all_laid held written) new)
+pub missing_now : (held : Names) (written : List NamedBytes) (names new : List (List ℕ)) (name : List ℕ) → new ≡ names ++ (name ∷ [])
+    → all_laid held written name ≡ held name → held name ≡ None → IsTrue (lacks_last (all_laid held written) new)
 missing_now held written names new name is same none = ap (lacks_last (all_laid held written)) is ∙ lacks_push (all_laid held written) names name ∙ ap is_none (same ∙ none)
 
 -- ---- a piece of a written file
 
 -- a piece of what is left from a position on
-pub piece_given : (text left into : List ℕ) (at count : ℕ) → left ≡ drop at text → count ≡ min (length left) (length into) → take count into ≡ take count left → GivesPrefix (drop at text) (drop (at + count) text) into count
+pub piece_given : (text left into : List ℕ) (at count : ℕ) → left ≡ drop at text → count ≡ min (length left) (length into) → take count into ≡ take count left
+    → GivesPrefix (drop at text) (drop (at + count) text) into count
 piece_given text left into at count is many copied = record {
   given = sym is ∙ sym (take-append-drop count left) ∙ ap (λ (xs : List ℕ). xs ++ drop count left) (sym copied)
       ∙ ap (λ (xs : List ℕ). take count into ++ xs) (ap (λ (xs : List ℕ). drop count xs) is ∙ drop-drop count at text);

@@ -138,7 +138,8 @@ pub record WordsRead (text : List ℕ) (words : List (List ℕ)) (left : List �
 pub no_words_read : (text : List ℕ) → WordsRead text [] text
 no_words_read text = record { text_is = refl; all = tt; row = λ row. row }
 
-pub word_read : (text left word rest : List ℕ) (words new : List (List ℕ)) → WordsRead text words left → 0 < length left → StartsWith left word rest → IsUtf8 word → new ≡ words ++ (word ∷ []) → WordsRead text new rest
+pub word_read : (text left word rest : List ℕ) (words new : List (List ℕ)) → WordsRead text words left → 0 < length left → StartsWith left word rest
+    → IsUtf8 word → new ≡ words ++ (word ∷ []) → WordsRead text new rest
 word_read text left word rest words new read some starts utf8 is =
     subst (λ (all : List (List ℕ)). WordsRead text all rest) (sym is)
     (record {
@@ -166,7 +167,8 @@ pub record FilesRead (text : List ℕ) (files : List NamedBytes) (left : List �
 pub no_files_read : (text : List ℕ) → FilesRead text [] text
 no_files_read text = record { text_is = refl; all = tt; row = λ row. row }
 
-pub file_read : (text left name rest bytes others : List ℕ) (files new : List NamedBytes) → FilesRead text files left → 0 < length left → StartsWith left name rest → IsUtf8 name → StartsWith rest bytes others
+pub file_read : (text left name rest bytes others : List ℕ) (files new : List NamedBytes) → FilesRead text files left → 0 < length left
+    → StartsWith left name rest → IsUtf8 name → StartsWith rest bytes others
     → new ≡ files ++ (record { name = name; bytes = bytes } ∷ []) → FilesRead text new others
 file_read text left name rest bytes others files new read some starts utf8 next is =
     subst (λ (all : List NamedBytes). FilesRead text all others) (sym is)
@@ -266,8 +268,7 @@ one_file_row (file ∷ files) (other ∷ others) all also e =
 pub one_request : (bytes : List ℕ) (words others : List (List ℕ)) (files more : List NamedBytes) → IsTextOf bytes words files → IsTextOf bytes others more → (words ≡ others) × (files ≡ more)
 one_request bytes words others files more one other =
     let same = one_netstring bytes (netstrings words) (files_text files) (netstrings others) (files_text more)
-    (record { whole = one.text; short = one.short }) (record { whole = other.text; short = other.short }) in
-    (
+    (record { whole = one.text; short = one.short }) (record { whole = other.text; short = other.short }) in (
       one_row words others (words_short words one.all_words) (words_short others other.all_words) same.0,
       one_file_row files more (files_short files one.all_files) (files_short more other.all_files) same.1,
     )

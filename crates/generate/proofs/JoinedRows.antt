@@ -156,7 +156,8 @@ all_cells width rows height cells e count all =
       cut = ap₂ (λ (n : ℕ) (xs : List ℤ). rows_of n width xs) (sym count) e ∙ made.cut;
     }
 
-pub negated_cells : (m : Matrix) (signs : List ℕ) (i : ℕ) (cells : List ℤ) → IsMatrix m → height m ≤ i → cells ++ joined (negated_rows (drop i m.rows) (drop i signs)) ≡ joined (negated_rows m.rows signs)
+pub negated_cells : (m : Matrix) (signs : List ℕ) (i : ℕ) (cells : List ℤ) → IsMatrix m → height m ≤ i
+    → cells ++ joined (negated_rows (drop i m.rows) (drop i signs)) ≡ joined (negated_rows m.rows signs)
     → AreRows (height m) m.width cells (negated_rows m.rows signs)
 negated_cells m signs i cells is h before =
     all_cells m.width (negated_rows m.rows signs) (height m) cells (negated_all m.rows signs i _ cells h before) (length-negated_rows m.rows signs) (all_negated_rows m.width m.rows signs (matrix_rows m is))

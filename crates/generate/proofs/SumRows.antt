@@ -136,7 +136,8 @@ after_zeros n w row is = record {
 
 -- ---- sums of circulants
 
-row_more : (k r : ℕ) → 1 ≤ k → length (row_of (circulant_sum k) r) ≡ 4 * k + 1 → r < 4 * k + 1 → row_of (circulant_sum (k + 1)) r ≡ row_of (circulant_sum k) r ++ growth (entry (circulant_sum k) r (4 * k))
+row_more : (k r : ℕ) → 1 ≤ k → length (row_of (circulant_sum k) r) ≡ 4 * k + 1 → r < 4 * k + 1
+    → row_of (circulant_sum (k + 1)) r ≡ row_of (circulant_sum k) r ++ growth (entry (circulant_sum k) r (4 * k))
 row_more zero r some long h = absurd (omega (arith, some))
 row_more (suc n) r some long h =
     let e : suc n + 1 ≡ suc (suc n) = omega arith in
@@ -246,7 +247,8 @@ pub more_rows : (m : Matrix) (r : ℕ) (cells new : List ℤ) → r < height m �
 more_rows m r cells new inside before pushed =
     pushed ∙ ap₂ (λ (xs ys : List ℤ). xs ++ ys) before (sym (append-nil (row_of m r))) ∙ sym (joined-append (take r m.rows) (row_of m r ∷ [])) ∙ sym (ap joined (take_more m.rows r [] inside))
 
-pub sum_cells : (size lines : ℕ) (cells : List ℤ) (row : ℕ) → 1 ≤ size → lines ≡ 4 * size + 1 → lines ≤ row → cells ≡ joined (take row (circulant_sum size).rows) → AreRows lines lines cells (circulant_sum size).rows
+pub sum_cells : (size lines : ℕ) (cells : List ℤ) (row : ℕ) → 1 ≤ size → lines ≡ 4 * size + 1 → lines ≤ row
+    → cells ≡ joined (take row (circulant_sum size).rows) → AreRows lines lines cells (circulant_sum size).rows
 sum_cells size lines cells row some e ended before =
     let m = circulant_sum size in
     let tall = sum_height size some in

@@ -62,7 +62,8 @@ module _ (flat1 flat2 : Bool) (e : ℤ) (m n u v : ℕ) (first second : ℕ → 
   edge1 : (s t w : Bool) → Edge first (λ r. r < m + connecting_rows flat1) (λ c. c < n + connecting_columns flat1) (λ r. r < m) (λ c. c < n) (λ r. first r n) (λ c. first m c) (when w e) s t
   edge1 s t w = go flat1 w one
     where
-      go : (f w : Bool) → EndsIn f e m n first → Edge first (λ r. r < m + connecting_rows f) (λ c. c < n + connecting_columns f) (λ r. r < m) (λ c. c < n) (λ r. first r n) (λ c. first m c) (when w e) s t
+      go : (f w : Bool) → EndsIn f e m n first
+          → Edge first (λ r. r < m + connecting_rows f) (λ c. c < n + connecting_columns f) (λ r. r < m) (λ c. c < n) (λ r. first r n) (λ c. first m c) (when w e) s t
       go true true h = record {
         row = m;
         column = n + 1;
@@ -116,10 +117,12 @@ module _ (flat1 flat2 : Bool) (e : ℤ) (m n u v : ℕ) (first second : ℕ → 
         corner = λ _ _. h.0 ∙ times_zero (pos 1) (pos 1);
       }
 
-  edge2 : (s t w : Bool) → Edge second (λ r. r < connecting_rows flat2 + u) (λ c. c < connecting_columns flat2 + v) (λ r. (connecting_rows flat2 ≤ r) × (r < connecting_rows flat2 + u)) (λ c. (connecting_columns flat2 ≤ c) × (c < connecting_columns flat2 + v)) (λ r. second r 0) (λ c. second 0 c) (when w e) s t
+  edge2 : (s t w : Bool)
+      → Edge second (λ r. r < connecting_rows flat2 + u) (λ c. c < connecting_columns flat2 + v) (λ r. (connecting_rows flat2 ≤ r) × (r < connecting_rows flat2 + u)) (λ c. (connecting_columns flat2 ≤ c) × (c < connecting_columns flat2 + v)) (λ r. second r 0) (λ c. second 0 c) (when w e) s t
   edge2 s t w = go flat2 w two
     where
-      go : (f w : Bool) → BeginsWithConnector f e u v second → Edge second (λ r. r < connecting_rows f + u) (λ c. c < connecting_columns f + v) (λ r. (connecting_rows f ≤ r) × (r < connecting_rows f + u)) (λ c. (connecting_columns f ≤ c) × (c < connecting_columns f + v)) (λ r. second r 0) (λ c. second 0 c) (when w e) s t
+      go : (f w : Bool) → BeginsWithConnector f e u v second
+          → Edge second (λ r. r < connecting_rows f + u) (λ c. c < connecting_columns f + v) (λ r. (connecting_rows f ≤ r) × (r < connecting_rows f + u)) (λ c. (connecting_columns f ≤ c) × (c < connecting_columns f + v)) (λ r. second r 0) (λ c. second 0 c) (when w e) s t
       go true true h = record {
         row = 0;
         column = 0;
@@ -173,7 +176,8 @@ module _ (flat1 flat2 : Bool) (e : ℤ) (m n u v : ℕ) (first second : ℕ → 
         corner = λ _ _. h.1 ∙ times_zero (pos 1) (pos 1);
       }
 
-  pub three_sum_free : Free (m + connecting_rows flat1) (n + connecting_columns flat1) first → Free (connecting_rows flat2 + u) (connecting_columns flat2 + v) second → Free (m + u) (n + v) (sum_along flat2 m n first second)
+  pub three_sum_free : Free (m + connecting_rows flat1) (n + connecting_columns flat1) first
+      → Free (connecting_rows flat2 + u) (connecting_columns flat2 + v) second → Free (m + u) (n + v) (sum_along flat2 m n first second)
   three_sum_free free1 free2 w = elim (joined (sum_along flat2 m n first second) first second (λ r. r < m + u) (λ c. c < n + v) (λ r. nat_lt r m) (λ c. nat_lt c n) (λ x. x) (λ x. x) (λ r. connecting_rows flat2 + (r - m)) (λ c. connecting_columns flat2 + (c - n))
       (λ r. first r n) (λ c. second 0 c) (λ c. first m c) (λ r. second r 0) e
       (λ r. r < m) (λ c. c < n) (λ r. (connecting_rows flat2 ≤ r) × (r < connecting_rows flat2 + u)) (λ c. (connecting_columns flat2 ≤ c) × (c < connecting_columns flat2 + v))

@@ -76,21 +76,24 @@ two_both n a g w u v (inl e) (inr f) (h, i) (k, j) (m, o) = (m -ℤ k, same u v 
     same : (u v n a g w : ℤ) → u ≡ pos 1 → v ≡ negsuc 0 → (u *ℤ (v *ℤ w) +ℤ u *ℤ g) +ℤ (v *ℤ a +ℤ n) ≡ (neg_ℤ w +ℤ g) +ℤ (neg_ℤ a +ℤ n)
     same u v n a g w e f = rw (e, f) (simp products)
 
-    plain : (n a g w k m : ℤ) → a +ℤ w ≡ k +ℤ k → (n +ℤ a) +ℤ (g +ℤ w) ≡ pos 2 +ℤ ((m +ℤ m) +ℤ (m +ℤ m)) → (neg_ℤ w +ℤ g) +ℤ (neg_ℤ a +ℤ n) ≡ pos 2 +ℤ (((m -ℤ k) +ℤ (m -ℤ k)) +ℤ ((m -ℤ k) +ℤ (m -ℤ k)))
+    plain : (n a g w k m : ℤ) → a +ℤ w ≡ k +ℤ k → (n +ℤ a) +ℤ (g +ℤ w) ≡ pos 2 +ℤ ((m +ℤ m) +ℤ (m +ℤ m))
+        → (neg_ℤ w +ℤ g) +ℤ (neg_ℤ a +ℤ n) ≡ pos 2 +ℤ (((m -ℤ k) +ℤ (m -ℤ k)) +ℤ ((m -ℤ k) +ℤ (m -ℤ k)))
     plain n a g w k m j o = omega (arith, sums)
 two_both n a g w u v (inr e) (inl f) (h, i) (k, j) (m, o) = (m -ℤ h, same u v n a g w e f ∙ plain n a g w h m i o)
   where
     same : (u v n a g w : ℤ) → u ≡ negsuc 0 → v ≡ pos 1 → (u *ℤ (v *ℤ w) +ℤ u *ℤ g) +ℤ (v *ℤ a +ℤ n) ≡ (neg_ℤ w +ℤ neg_ℤ g) +ℤ (a +ℤ n)
     same u v n a g w e f = rw (e, f) (simp products)
 
-    plain : (n a g w h m : ℤ) → g +ℤ w ≡ h +ℤ h → (n +ℤ a) +ℤ (g +ℤ w) ≡ pos 2 +ℤ ((m +ℤ m) +ℤ (m +ℤ m)) → (neg_ℤ w +ℤ neg_ℤ g) +ℤ (a +ℤ n) ≡ pos 2 +ℤ (((m -ℤ h) +ℤ (m -ℤ h)) +ℤ ((m -ℤ h) +ℤ (m -ℤ h)))
+    plain : (n a g w h m : ℤ) → g +ℤ w ≡ h +ℤ h → (n +ℤ a) +ℤ (g +ℤ w) ≡ pos 2 +ℤ ((m +ℤ m) +ℤ (m +ℤ m))
+        → (neg_ℤ w +ℤ neg_ℤ g) +ℤ (a +ℤ n) ≡ pos 2 +ℤ (((m -ℤ h) +ℤ (m -ℤ h)) +ℤ ((m -ℤ h) +ℤ (m -ℤ h)))
     plain n a g w h m i o = omega (arith, sums)
 two_both n a g w u v (inr e) (inr f) (h, i) (k, j) (m, o) = (((m -ℤ h) -ℤ k) +ℤ w, same u v n a g w e f ∙ plain n a g w h k (((m -ℤ h) -ℤ k) +ℤ w) m i j o refl)
   where
     same : (u v n a g w : ℤ) → u ≡ negsuc 0 → v ≡ negsuc 0 → (u *ℤ (v *ℤ w) +ℤ u *ℤ g) +ℤ (v *ℤ a +ℤ n) ≡ (w +ℤ neg_ℤ g) +ℤ (neg_ℤ a +ℤ n)
     same u v n a g w e f = rw (e, f) (simp products (omega (arith, sums)))
 
-    plain : (n a g w h k q m : ℤ) → g +ℤ w ≡ h +ℤ h → a +ℤ w ≡ k +ℤ k → (n +ℤ a) +ℤ (g +ℤ w) ≡ pos 2 +ℤ ((m +ℤ m) +ℤ (m +ℤ m)) → q ≡ ((m -ℤ h) -ℤ k) +ℤ w → (w +ℤ neg_ℤ g) +ℤ (neg_ℤ a +ℤ n) ≡ pos 2 +ℤ ((q +ℤ q) +ℤ (q +ℤ q))
+    plain : (n a g w h k q m : ℤ) → g +ℤ w ≡ h +ℤ h → a +ℤ w ≡ k +ℤ k → (n +ℤ a) +ℤ (g +ℤ w) ≡ pos 2 +ℤ ((m +ℤ m) +ℤ (m +ℤ m)) → q ≡ ((m -ℤ h) -ℤ k) +ℤ w
+        → (w +ℤ neg_ℤ g) +ℤ (neg_ℤ a +ℤ n) ≡ pos 2 +ℤ ((q +ℤ q) +ℤ (q +ℤ q))
     plain n a g w h k q m i j o p = omega (arith, sums)
 
 pub same_over : (xs : List ℕ) (P : ℕ → Type 0) (f g : ℕ → ℤ) → ((x : ℕ) → P x → f x ≡ g x) → AllByRecursion P xs → sum_over xs f ≡ sum_over xs g

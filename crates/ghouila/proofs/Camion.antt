@@ -80,7 +80,8 @@ module _ (height width : ℕ) (M : ℕ → ℕ → ℤ) (r c : ℕ) (u : IsSign 
     ])
   ]
 
-  pub rows_after : (R : List ℕ) → AllByRecursion (λ i. i < height) R → AllByRecursion (λ i. IsTernaryRow width (M i)) R → AllByRecursion (λ i. IsTernaryRow width (pivoted M r c i)) R ⊎ HasViolatorIn height width M
+  pub rows_after : (R : List ℕ) → AllByRecursion (λ i. i < height) R → AllByRecursion (λ i. IsTernaryRow width (M i)) R
+      → AllByRecursion (λ i. IsTernaryRow width (pivoted M r c i)) R ⊎ HasViolatorIn height width M
   rows_after [] inside h = inl tt
   rows_after (i ∷ R) inside h = elim (row_after i inside.0 h.0) [
     | inr v ↦ inr v
@@ -165,7 +166,8 @@ module _ (height width : ℕ) (M : ℕ → ℕ → ℤ) (r c : ℕ) (u : IsSign 
       }
 
 -- a row is put aside if none of its columns has an odd sum in the other rows
-put_aside : (width : ℕ) (M : ℕ → ℕ → ℤ) (r : ℕ) (R : List ℕ) → IsTernaryRow width (M r) → ((j : ℕ) → j < width → (M r j ≡ pos 0) ⊎ IsEven (sum_over R (λ i. M i j))) → SignsPairs width M R → SignsPairs width M (r ∷ R)
+put_aside : (width : ℕ) (M : ℕ → ℕ → ℤ) (r : ℕ) (R : List ℕ) → IsTernaryRow width (M r)
+    → ((j : ℕ) → j < width → (M r j ≡ pos 0) ⊎ IsEven (sum_over R (λ i. M i j))) → SignsPairs width M R → SignsPairs width M (r ∷ R)
 put_aside width M r R top quiet s = record {
   pairs = (r, pos 1) ∷ s.pairs;
   rows = ap (λ (xs : List ℕ). r ∷ xs) s.rows;
@@ -185,7 +187,8 @@ record HasPivot (width : ℕ) (M : ℕ → ℕ → ℤ) (r : ℕ) (R : List ℕ)
   sign : IsSign (M r column)
   odd : IsOdd (sum_over R (λ i. M i column))
 
-pivot_or_quiet : (width : ℕ) (M : ℕ → ℕ → ℤ) (r : ℕ) (R : List ℕ) → IsTernaryRow width (M r) → (n : ℕ) → n ≤ width → HasPivot width M r R ⊎ ((j : ℕ) → j < n → (M r j ≡ pos 0) ⊎ IsEven (sum_over R (λ i. M i j)))
+pivot_or_quiet : (width : ℕ) (M : ℕ → ℕ → ℤ) (r : ℕ) (R : List ℕ) → IsTernaryRow width (M r) → (n : ℕ) → n ≤ width
+    → HasPivot width M r R ⊎ ((j : ℕ) → j < n → (M r j ≡ pos 0) ⊎ IsEven (sum_over R (λ i. M i j)))
 pivot_or_quiet width M r R top zero n_in = inr (λ j l. absurd (omega arith))
 pivot_or_quiet width M r R top (suc n) n_in = elim (pivot_or_quiet width M r R top n (omega arith)) [
   | inl p ↦ inl p
@@ -198,13 +201,15 @@ pivot_or_quiet width M r R top (suc n) n_in = elim (pivot_or_quiet width M r R t
   ]
 ]
   where
-    more : ((j : ℕ) → j < n → (M r j ≡ pos 0) ⊎ IsEven (sum_over R (λ i. M i j))) → (M r n ≡ pos 0) ⊎ IsEven (sum_over R (λ i. M i n)) → (j : ℕ) → j < suc n → (M r j ≡ pos 0) ⊎ IsEven (sum_over R (λ i. M i j))
+    more : ((j : ℕ) → j < n → (M r j ≡ pos 0) ⊎ IsEven (sum_over R (λ i. M i j))) → (M r n ≡ pos 0) ⊎ IsEven (sum_over R (λ i. M i n)) → (j : ℕ) → j < suc n
+        → (M r j ≡ pos 0) ⊎ IsEven (sum_over R (λ i. M i j))
     more below here j l = elim (cases_lt j n) [
       | inl lt ↦ below j lt
       | inr ge ↦ let e : n ≡ j = omega arith in subst (λ (x : ℕ). (M r x ≡ pos 0) ⊎ IsEven (sum_over R (λ i. M i x))) e here
     ]
 
-pub signed_or_violated : (height width : ℕ) (R : List ℕ) (M : ℕ → ℕ → ℤ) → AllByRecursion (λ i. i < height) R → AllByRecursion (λ i. IsTernaryRow width (M i)) R → SignsPairs width M R ⊎ HasViolatorIn height width M
+pub signed_or_violated : (height width : ℕ) (R : List ℕ) (M : ℕ → ℕ → ℤ) → AllByRecursion (λ i. i < height) R → AllByRecursion (λ i. IsTernaryRow width (M i)) R
+    → SignsPairs width M R ⊎ HasViolatorIn height width M
 signed_or_violated height width [] M inside h = inl (record { pairs = []; rows = refl; signs = tt; entries = λ j l. entry_zero })
 signed_or_violated height width (r ∷ R) M inside h = elim (pivot_or_quiet width M r R h.0 width (omega arith)) [
   | inl p ↦ elim (rows_after height width M r p.column p.sign inside.0 p.inside h.0 R inside.1 h.1) [

@@ -61,7 +61,8 @@ signing_of_pairs m rows s = (
 
 -- ---- the rows of a violator have no signing
 
-columns_vanish : (m : Matrix) (rows : List ℕ) (signs : List ℤ) (columns : List ℕ) → IsSigning m rows signs → AllByRecursion (λ column. column < m.width) columns → AllByRecursion (λ column. IsEven (sum_over rows (λ row. entry m row column))) columns
+columns_vanish : (m : Matrix) (rows : List ℕ) (signs : List ℤ) (columns : List ℕ) → IsSigning m rows signs → AllByRecursion (λ column. column < m.width) columns
+    → AllByRecursion (λ column. IsEven (sum_over rows (λ row. entry m row column))) columns
     → sum_over columns (λ column. signed (λ p. p.1) (pairs_of rows signs) (λ p. entry m p.0 column)) ≡ pos 0
 columns_vanish m rows signs columns is inside even =
     sum_over_same columns (λ column. signed (λ p. p.1) (pairs_of rows signs) (λ p. entry m p.0 column)) (λ column. pos 0)
@@ -91,7 +92,8 @@ unsigned m rows columns is v signs s =
     whole : sum_over (pairs_of rows signs) (λ p. sum_over columns (entry m p.0)) ≡ sum_over rows (λ row. sum_over columns (entry m row))
     whole = sym (sum_over-map (λ p. p.0) (pairs_of rows signs) (λ row. sum_over columns (entry m row))) ∙ ap (λ xs. sum_over xs (λ row. sum_over columns (entry m row))) (rows-pairs_of rows signs s.one_each)
 
-    even_pairs : (rows : List ℕ) (signs : List ℤ) → AllByRecursion (λ row. IsEven (sum_over columns (entry m row))) rows → AllByRecursion (λ p. IsEven (sum_over columns (entry m p.0))) (pairs_of rows signs)
+    even_pairs : (rows : List ℕ) (signs : List ℤ) → AllByRecursion (λ row. IsEven (sum_over columns (entry m row))) rows
+        → AllByRecursion (λ p. IsEven (sum_over columns (entry m p.0))) (pairs_of rows signs)
     even_pairs [] signs h = tt
     even_pairs (row ∷ rows) [] h = tt
     even_pairs (row ∷ rows) (sign ∷ signs) h = (h.0, even_pairs rows signs h.1)

@@ -138,7 +138,8 @@ no_more s e = elim (or_is s false e) [
   | inr h ↦ absurd (false≢true h)
 ]
 
-pub two_separations_decide : (m : Matrix) (rows columns : List ℕ) (side : Lines) (i j : ℕ) → HasTernaryEntries m → IsTwoSeparation (entry m) rows columns side i j → ChildrenDecide m rows columns side (Column j ∷ []) (Row i ∷ [])
+pub two_separations_decide : (m : Matrix) (rows columns : List ℕ) (side : Lines) (i j : ℕ) → HasTernaryEntries m
+    → IsTwoSeparation (entry m) rows columns side i j → ChildrenDecide m rows columns side (Column j ∷ []) (Row i ∷ [])
 two_separations_decide m rows columns side i j ternary s = children_decide m rows columns side (Column j ∷ []) (Row i ∷ [])
     (With (Contains rows) (row_test side) true (λ r. r ≡ i)) (On (Contains columns) (column_test side) true) (On (Contains rows) (row_test side) false) (With (Contains columns) (column_test side) false (λ c. c ≡ j))
     p1 p1' (λ c h. (h.0, or_left (side (Column c)) false h.1)) (λ c h e. (h, no_more (side (Column c)) e))
@@ -322,7 +323,8 @@ module _ (m : Matrix) (rows columns : List ℕ) (side : Lines) (ternary : HasTer
   three_separations_decide Mixed first second s plus = crossing_decide true false first second s.one s.two s.connectors.first_corner s.connectors.second_corner s.connectors.tied s.blocks plus
   three_separations_decide Concentrated first second s _ = concentrated_decide first second s
 
-pub corners_decide : (m : Matrix) (first second : Connector) → HasTernaryEntries m → entry m first.row first.column ≢ pos 0 → entry m first.row second.column ≢ pos 0 → entry m second.row first.column ≢ pos 0 → entry m second.row second.column ≢ pos 0
+pub corners_decide : (m : Matrix) (first second : Connector) → HasTernaryEntries m → entry m first.row first.column ≢ pos 0
+    → entry m first.row second.column ≢ pos 0 → entry m second.row first.column ≢ pos 0 → entry m second.row second.column ≢ pos 0
     → (corner_product (entry m) first second ≡ pos 1)
     ⊎ ((corner_product (entry m) first second ≡ negsuc 0) × IsViolator (entry m) (first.row ∷ second.row ∷ []) (first.column ∷ second.column ∷ []))
 corners_decide m first second ternary a b c d = corners_violate (entry m) first.row first.column second.row second.column

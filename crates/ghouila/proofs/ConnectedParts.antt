@@ -19,7 +19,8 @@ use Rattle.ghouila.proofs.Sides.{On}
 use Rattle.ghouila.proofs.JoinedSides.{joined}
 
 -- the blocks between the two sides are zero
-pub one_children : (M : ℕ → ℕ → ℤ) (P Q : ℕ → Type 0) (sr sc : ℕ → Bool) → ((r c : ℕ) → On P sr true r → On Q sc false c → M r c ≡ pos 0) → ((r c : ℕ) → On P sr false r → On Q sc true c → M r c ≡ pos 0)
+pub one_children : (M : ℕ → ℕ → ℤ) (P Q : ℕ → Type 0) (sr sc : ℕ → Bool) → ((r c : ℕ) → On P sr true r → On Q sc false c → M r c ≡ pos 0)
+    → ((r c : ℕ) → On P sr false r → On Q sc true c → M r c ≡ pos 0)
     → ViolatedIn M P Q → ViolatedIn M (On P sr true) (On Q sc true) ⊎ ViolatedIn M (On P sr false) (On Q sc false)
 one_children M P Q sr sc right below = joined M M M P Q sr sc (λ x. x) (λ x. x) (λ x. x) (λ x. x) (λ r. pos 0) (λ c. pos 0) (λ c. pos 0) (λ r. pos 0) (pos 1)
     (On P sr true) (On Q sc true) (On P sr false) (On Q sc false) (On P sr true) (On Q sc true) (On P sr false) (On Q sc false)
@@ -109,11 +110,13 @@ module _ (M : ℕ → ℕ → ℤ) where
             (suc more.0, (let l = more.1 in omega arith), more.2)
       ]
     where
-      row_later : (r : ℕ) → row_of_part part r ≡ false → (a : ℕ) × (a < length (part ∷ parts)) × Contains (part_at (part ∷ parts) a).rows r → (a : ℕ) × (a < length parts) × Contains (part_at parts a).rows r
+      row_later : (r : ℕ) → row_of_part part r ≡ false → (a : ℕ) × (a < length (part ∷ parts)) × Contains (part_at (part ∷ parts) a).rows r
+          → (a : ℕ) × (a < length parts) × Contains (part_at parts a).rows r
       row_later r e (zero, l, h) = absurd (false≢true (sym e ∙ listed_from_has_line part.rows part.columns (Row r) h))
       row_later r e (suc a, l, h) = (a, omega arith, h)
 
-      column_later : (c : ℕ) → column_of_part part c ≡ false → (a : ℕ) × (a < length (part ∷ parts)) × Contains (part_at (part ∷ parts) a).columns c → (a : ℕ) × (a < length parts) × Contains (part_at parts a).columns c
+      column_later : (c : ℕ) → column_of_part part c ≡ false → (a : ℕ) × (a < length (part ∷ parts)) × Contains (part_at (part ∷ parts) a).columns c
+          → (a : ℕ) × (a < length parts) × Contains (part_at parts a).columns c
       column_later c e (zero, l, h) = absurd (false≢true (sym e ∙ listed_from_has_line part.rows part.columns (Column c) h))
       column_later c e (suc a, l, h) = (a, omega arith, h)
 

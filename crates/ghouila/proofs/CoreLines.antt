@@ -36,7 +36,8 @@ pub less_even : (n m : ℤ) → IsEven n → IsEven (n +ℤ m) → IsEven m
 less_even n m (k, e) (l, f) = (l -ℤ k, omega (arith, sums))
 
 -- the added lines together have an even sum
-pub incoming_even : (M : ℕ → ℕ → ℤ) (R C : List ℕ) (k o : ℕ) (a b : Bool) → AllByRecursion (λ r. IsEven (sum_over C (λ c. M r c))) R → AllByRecursion (λ c. IsEven (sum_over R (λ r. M r c) +ℤ (when a (M k c) +ℤ when b (M o c)))) C
+pub incoming_even : (M : ℕ → ℕ → ℤ) (R C : List ℕ) (k o : ℕ) (a b : Bool) → AllByRecursion (λ r. IsEven (sum_over C (λ c. M r c))) R
+    → AllByRecursion (λ c. IsEven (sum_over R (λ r. M r c) +ℤ (when a (M k c) +ℤ when b (M o c)))) C
     → IsEven (when a (sum_over C (λ c. M k c)) +ℤ when b (sum_over C (λ c. M o c)))
 incoming_even M R C k o a b rows columns = less_even (sum_over R (λ r. sum_over C (λ c. M r c))) (when a (sum_over C (λ c. M k c)) +ℤ when b (sum_over C (λ c. M o c))) (even-sum_over R (λ r. sum_over C (λ c. M r c)) rows)
     (subst IsEven (sum_over-add C (λ c. sum_over R (λ r. M r c)) (λ c. when a (M k c) +ℤ when b (M o c))

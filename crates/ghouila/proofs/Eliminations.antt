@@ -58,7 +58,8 @@ multiple_sum d f y (j ∷ C) h = let m = multiple_sum d f y C h.1 in (f j *ℤ h
     plain p t s d k l e f = rw (e, f) (simp products)
 
 -- the solutions for multiples of d are multiples of d
-pub multiples : (C R : List ℕ) (M : ℕ → ℕ → ℤ) (b y : ℕ → ℤ) (d : ℤ) → IsEliminated C M R → AllByRecursion (λ i. sum_over C (λ j. M i j *ℤ y j) ≡ d *ℤ b i) R → AllByRecursion (λ j. IsMultiple d (y j)) C
+pub multiples : (C R : List ℕ) (M : ℕ → ℕ → ℤ) (b y : ℕ → ℤ) (d : ℤ) → IsEliminated C M R → AllByRecursion (λ i. sum_over C (λ j. M i j *ℤ y j) ≡ d *ℤ b i) R
+    → AllByRecursion (λ j. IsMultiple d (y j)) C
 multiples [] R M b y d done h = tt
 multiples (c ∷ C) R M b y d (s, rest) h = all (multiples C s.others (reduced M s.row c) (λ i. b i -ℤ M s.row c *ℤ (M i c *ℤ b s.row)) y d rest others)
   where

@@ -20,7 +20,8 @@ use Rattle.ghouila.proofs.Vertices.{HasBound, has_bound, size, size_bounds, prod
 use Rattle.ghouila.proofs.Fractions.{no_product, HasFraction, entry_or_fraction}
 
 -- the sum over all lines is the sum over a list if the lines outside the list give 0
-sum_over_range : (from count : ℕ) (C : List ℕ) (f : ℕ → ℤ) → IncreasesIn from (from + count) C → ((j : ℕ) → from ≤ j → j < from + count → (IsIn j C → ⊥) → f j ≡ pos 0) → sum_over (range_with_len from count) f ≡ sum_over C f
+sum_over_range : (from count : ℕ) (C : List ℕ) (f : ℕ → ℤ) → IncreasesIn from (from + count) C
+    → ((j : ℕ) → from ≤ j → j < from + count → (IsIn j C → ⊥) → f j ≡ pos 0) → sum_over (range_with_len from count) f ≡ sum_over C f
 sum_over_range from zero [] f increases zeros = refl
 sum_over_range from zero (c ∷ C) f increases zeros = absurd (let l = increases.0 in let k = increases.1 in omega arith)
 sum_over_range from (suc count) [] f increases zeros = less (f from) (sum_over (range_with_len (from + 1) count) f) (zeros from (omega arith) (omega arith) (λ g. g))
@@ -200,7 +201,8 @@ module _ (m : Matrix) (R C : List ℕ) (rows_increase : IncreasesIn 0 (height m)
             back : a *ℤ (pos 2 *ℤ (e *ℤ y)) +ℤ pos 2 *ℤ (e *ℤ w) ≡ pos 2 *ℤ (e *ℤ (a *ℤ y +ℤ w))
             back = simp products (omega (arith, sums))
 
-        go : (W : List ℕ) → AllByRecursion (λ j. j < m.width) W → f.d *ℤ (sum_over W (λ j. entry m i j *ℤ u j) +ℤ sum_over W (λ j. entry m i j *ℤ v j)) ≡ pos 2 *ℤ (e *ℤ sum_over W (λ j. entry m i j *ℤ y j))
+        go : (W : List ℕ) → AllByRecursion (λ j. j < m.width) W
+            → f.d *ℤ (sum_over W (λ j. entry m i j *ℤ u j) +ℤ sum_over W (λ j. entry m i j *ℤ v j)) ≡ pos 2 *ℤ (e *ℤ sum_over W (λ j. entry m i j *ℤ y j))
         go [] h = simp products
         go (j ∷ W) h = plain f.d e (entry m i j) (u j) (v j) (y j) (sum_over W (λ j'. entry m i j' *ℤ u j')) (sum_over W (λ j'. entry m i j' *ℤ v j')) (sum_over W (λ j'. entry m i j' *ℤ y j')) (middle j h.0) (go W h.1)
 
@@ -265,7 +267,8 @@ module _ (m : Matrix) (R C : List ℕ) (rows_increase : IncreasesIn 0 (height m)
           back d k n = simp products
 
 -- induction on the number of lines: smaller square submatrices have the determinant -1, 0 or 1
-entries_by_vertices : (m : Matrix) → HasIntegralVertices m → (n : ℕ) (C R : List ℕ) → IncreasesIn 0 (height m) R → IncreasesIn 0 m.width C → length R ≡ length C → length C < n → IsEntry (minor (entry m) C R)
+entries_by_vertices : (m : Matrix) → HasIntegralVertices m → (n : ℕ) (C R : List ℕ) → IncreasesIn 0 (height m) R → IncreasesIn 0 m.width C → length R ≡ length C
+    → length C < n → IsEntry (minor (entry m) C R)
 entries_by_vertices m integral zero C R rows columns e l = absurd (omega arith)
 entries_by_vertices m integral (suc n) C R rows columns e l = elim (entry_or_fraction C R 0 m.width (entry m) columns e
     (λ P Q h k e k'. entries_by_vertices m integral n Q P (sublist_increases 0 (height m) R P rows h) (sublist_increases 0 m.width C Q columns k) e (omega arith))) [

@@ -86,7 +86,8 @@ module _ (M M1 M2 : ℕ → ℕ → ℤ) (P Q : ℕ → Type 0) (sr sc : ℕ →
       (all_kept P S1 sr f sides.one_row v.R v.rows) (all_kept Q T1 sc g sides.one_column v.C v.columns) (all_other P S2 sr h sides.two_row v.R v.rows) (all_other Q T2 sc k sides.two_column v.C v.columns)
       (cut M P Q sr sc f g h k M1 (λ r x. a r *ℤ b x) (λ r x. d r *ℤ c x) M2 blocks v.R v.C v.rows v.columns v.violator)
     where
-      go : (R1 C1 R2 C2 : List ℕ) → AllByRecursion S1 R1 → AllByRecursion T1 C1 → AllByRecursion S2 R2 → AllByRecursion T2 C2 → Cut M1 (λ r x. a r *ℤ b x) (λ r x. d r *ℤ c x) M2 R1 C1 R2 C2 → ViolatedIn M1 P1 Q1 ⊎ ViolatedIn M2 P2 Q2
+      go : (R1 C1 R2 C2 : List ℕ) → AllByRecursion S1 R1 → AllByRecursion T1 C1 → AllByRecursion S2 R2 → AllByRecursion T2 C2
+          → Cut M1 (λ r x. a r *ℤ b x) (λ r x. d r *ℤ c x) M2 R1 C1 R2 C2 → ViolatedIn M1 P1 Q1 ⊎ ViolatedIn M2 P2 Q2
       go R1 C1 R2 C2 s1 t1 s2 t2 cuts =
           let ba = bit_of (sum_over R1 a) in
           let bb = bit_of (sum_over C2 b) in

@@ -41,7 +41,8 @@ pub outside-remove : (m : Matrix) (rows : List ℕ) (k : ℕ) → k < length row
 outside-remove m rows k h is = apart-remove 0 (height m) rows k h (row_set_increases m rows is)
 
 -- the other rows have an odd sum in a pivot's column
-pub pivot_odd : (m : Matrix) (rows left : List ℕ) (row column : ℕ) → HasOneMore row left rows → IsSign (entry m row column) → IsEven (sum_over rows (λ r. entry m r column)) → IsOdd (sum_over left (λ r. entry m r column))
+pub pivot_odd : (m : Matrix) (rows left : List ℕ) (row column : ℕ) → HasOneMore row left rows → IsSign (entry m row column)
+    → IsEven (sum_over rows (λ r. entry m r column)) → IsOdd (sum_over left (λ r. entry m r column))
 pivot_odd m rows left row column more u even = go (entry m row column) (sum_over left (λ r. entry m r column)) u (subst IsEven (sum_over-one_more row left rows (λ r. entry m r column) more) even)
   where
     go : (a z : ℤ) → IsSign a → IsEven (a +ℤ z) → IsOdd z
@@ -49,7 +50,8 @@ pivot_odd m rows left row column more u even = go (entry m row column) (sum_over
     go a z (inr e) (k, f) = (k +ℤ pos 1, omega (arith, sums))
 
 -- if no pivot exists, each column with a nonzero of the row has an even sum in the other rows
-pub aside_quiet : (m : Matrix) (rows left : List ℕ) (row column : ℕ) → HasOneMore row left rows → IsEntry (entry m row column) → HasNoPivot m rows column → (entry m row column ≡ pos 0) ⊎ IsEven (sum_over left (λ r. entry m r column))
+pub aside_quiet : (m : Matrix) (rows left : List ℕ) (row column : ℕ) → HasOneMore row left rows → IsEntry (entry m row column) → HasNoPivot m rows column
+    → (entry m row column ≡ pos 0) ⊎ IsEven (sum_over left (λ r. entry m r column))
 aside_quiet m rows left row column more small (inl zeros) = inl (item_of_one_more (λ r. entry m r column ≡ pos 0) row left rows more zeros)
 aside_quiet m rows left row column more small (inr odd) = go (entry m row column) (sum_over left (λ r. entry m r column)) (zero_or_sign (entry m row column) small) (subst IsOdd (sum_over-one_more row left rows (λ r. entry m r column) more) odd)
   where

@@ -12,7 +12,8 @@ use Rattle.cmr_base.proofs.IncreasingLists.{IncreasesIn, increases_from_lower, i
 use Rattle.ghouila.specs.Found.{HasParity, marked_from, marked}
 use Rattle.ghouila.proofs.PivotSearch.{parity-add_sign, parity-add_zero}
 
-marked_from-append : (first : ℕ) (marks : List Bool) (mark : Bool) (last : ℕ) → last ≡ first + length marks → marked_from first (marks ++ mark ∷ []) ≡ marked_from first marks ++ cond mark (last ∷ []) []
+marked_from-append : (first : ℕ) (marks : List Bool) (mark : Bool) (last : ℕ) → last ≡ first + length marks
+    → marked_from first (marks ++ mark ∷ []) ≡ marked_from first marks ++ cond mark (last ∷ []) []
 marked_from-append first [] true last e = let same : first ≡ last = omega arith in ap (λ n. n ∷ []) same
 marked_from-append first [] false last e = refl
 marked_from-append first (true ∷ marks) mark last e = ap (λ xs. first ∷ xs) (marked_from-append (first + 1) marks mark last (omega arith))
@@ -37,7 +38,8 @@ marked_increases first high (true ∷ marks) e = (omega arith, omega arith, mark
 marked_increases first high (false ∷ marks) e = increases_from_lower first (first + 1) high (marked_from (first + 1) marks) (omega arith) (marked_increases (first + 1) high marks (omega arith))
 
 -- a position is marked again
-pub joined_from : (mark : Bool) (first : ℕ) (marks : List Bool) (k n : ℕ) → n ≡ first + k → k < length marks → IsJoined mark n (marked_from first (set marks k false)) (marked_from first (set marks k mark))
+pub joined_from : (mark : Bool) (first : ℕ) (marks : List Bool) (k n : ℕ) → n ≡ first + k → k < length marks
+    → IsJoined mark n (marked_from first (set marks k false)) (marked_from first (set marks k mark))
 joined_from mark first [] k n e h = absurd (omega arith)
 joined_from true first (x ∷ marks) zero n e h = let same : first ≡ n = omega arith in subst (λ m. HasOneMore m (marked_from (first + 1) marks) (first ∷ marked_from (first + 1) marks)) same (one_more_first first (marked_from (first + 1) marks))
 joined_from false first (x ∷ marks) zero n e h = refl

@@ -28,7 +28,8 @@ use Rattle.ghouila.proofs.Marks.{joined, all_marked, marked_increases, unmarked_
 use Rattle.cmr_base.specs.Cuts.{bit}
 
 -- the violator of more rows
-pub marks_among_more : (m : Matrix) (rows more : List ℕ) (row_marks column_marks odd : List Bool) → ((row : ℕ) → Contains rows row → Contains more row) → MarksViolator m rows row_marks column_marks odd → MarksViolator m more row_marks column_marks odd
+pub marks_among_more : (m : Matrix) (rows more : List ℕ) (row_marks column_marks odd : List Bool) → ((row : ℕ) → Contains rows row → Contains more row)
+    → MarksViolator m rows row_marks column_marks odd → MarksViolator m more row_marks column_marks odd
 marks_among_more m rows more row_marks column_marks odd wider v = record {
   row_each = v.row_each;
   column_each = v.column_each;
@@ -153,7 +154,8 @@ module _ (before after : Matrix) (row column : ℕ) (left : List ℕ) (row_in : 
       g_parity again.parity row_joined
       (subst (λ marks. IsJoined again.mark column (marked (set columns column false)) (marked marks)) (sym again.new_is) (joined again.mark columns column (let w = v.column_each in omega arith))) after_pivot
 
-  pivot_column_even : (b : Bool) → HasParity b (sum_over (marked rows) (λ r. entry before r column)) → IsJoined b row (marked rows) (marked (set rows row g_odd)) → IsEven (sum_over (marked (set rows row g_odd)) (λ r. entry before r column))
+  pivot_column_even : (b : Bool) → HasParity b (sum_over (marked rows) (λ r. entry before r column))
+      → IsJoined b row (marked rows) (marked (set rows row g_odd)) → IsEven (sum_over (marked (set rows row g_odd)) (λ r. entry before r column))
   pivot_column_even true p join = subst IsEven (sym (sum_over-one_more row (marked rows) (marked (set rows row g_odd)) (λ r. entry before r column) join)) (sign_and_odd (entry before row column) (sum_over (marked rows) (λ r. entry before r column)) u p)
   pivot_column_even false p join = subst IsEven (sym (ap (λ xs. sum_over xs (λ r. entry before r column)) join)) p
 

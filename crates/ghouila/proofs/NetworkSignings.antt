@@ -96,7 +96,8 @@ module _ (arcs : List Pair) (m : ℕ) (T : IsTree arcs m) where
   no_direction [] r n = refl
   no_direction (s ∷ steps) r n = rw (is_ne r s.arc (λ e. n (inl e))) (no_direction steps r (λ h. n (inr h)))
 
-  step_sign : (rows : List ℕ) (a : ℕ) (e : Bool) → sign rows a *ℤ cond e (pos 1) (negsuc 0) ≡ bit (colour rows (cond e (head arcs a) (tail arcs a))) -ℤ bit (colour rows (cond e (tail arcs a) (head arcs a)))
+  step_sign : (rows : List ℕ) (a : ℕ) (e : Bool)
+      → sign rows a *ℤ cond e (pos 1) (negsuc 0) ≡ bit (colour rows (cond e (head arcs a) (tail arcs a))) -ℤ bit (colour rows (cond e (tail arcs a) (head arcs a)))
   step_sign rows a true = plain (bit (colour rows (head arcs a))) (bit (colour rows (tail arcs a)))
     where
       plain : (x y : ℤ) → (x -ℤ y) *ℤ pos 1 ≡ x -ℤ y
@@ -106,7 +107,8 @@ module _ (arcs : List Pair) (m : ℕ) (T : IsTree arcs m) where
       plain : (x y : ℤ) → (x -ℤ y) *ℤ negsuc 0 ≡ y -ℤ x
       plain x y = simp products (omega (arith, sums))
 
-  flat_step : (rows : List ℕ) (a : ℕ) (e : Bool) → colour rows (tail arcs a) ≡ colour rows (head arcs a) → pos 0 ≡ bit (colour rows (cond e (head arcs a) (tail arcs a))) -ℤ bit (colour rows (cond e (tail arcs a) (head arcs a)))
+  flat_step : (rows : List ℕ) (a : ℕ) (e : Bool) → colour rows (tail arcs a) ≡ colour rows (head arcs a)
+      → pos 0 ≡ bit (colour rows (cond e (head arcs a) (tail arcs a))) -ℤ bit (colour rows (cond e (tail arcs a) (head arcs a)))
   flat_step rows a true q = same_bit (colour rows (head arcs a)) ∙ ap (λ (z : Bool). bit (colour rows (head arcs a)) -ℤ bit z) (sym q)
   flat_step rows a false q = same_bit (colour rows (tail arcs a)) ∙ ap (λ (z : Bool). bit (colour rows (tail arcs a)) -ℤ bit z) q
 
@@ -146,7 +148,8 @@ module _ (arcs : List Pair) (m : ℕ) (T : IsTree arcs m) where
           there : (x y : ℤ) → x *ℤ y ≡ x *ℤ pos 0 +ℤ x *ℤ y
           there x y = simp products (omega (arith, sums))
 
-          go : (r ≡ s.arc) ⊎ (r ≢ s.arc) → sign rows r *ℤ direction (s ∷ steps) r ≡ sign rows r *ℤ cond (nat_eq r s.arc) (cond s.forwards (pos 1) (negsuc 0)) (pos 0) +ℤ sign rows r *ℤ direction steps r
+          go : (r ≡ s.arc) ⊎ (r ≢ s.arc)
+              → sign rows r *ℤ direction (s ∷ steps) r ≡ sign rows r *ℤ cond (nat_eq r s.arc) (cond s.forwards (pos 1) (negsuc 0)) (pos 0) +ℤ sign rows r *ℤ direction steps r
           go (inl f) = rw (is_eq r s.arc f, no_direction steps r (λ h. o.0 (subst (λ (z : ℕ). IsIn z (arcs_of steps)) f h))) (here (sign rows r) (cond s.forwards (pos 1) (negsuc 0)))
           go (inr n) = rw (is_ne r s.arc n) (there (sign rows r) (direction steps r))
 
@@ -198,7 +201,8 @@ network_signing m net rows is = (
         all_below [] h = tt
         all_below (x ∷ xs) h = (h 0 (omega arith), all_below xs (λ k l. h (suc k) (omega arith)))
 
-    along : (column : ℕ) → column < m.width → sum_over rows (λ r. s r *ℤ entry m r column) ≡ bit (colour net.0.arcs (height m) net.1.network.tree rows (head net.0.walks column)) -ℤ bit (colour net.0.arcs (height m) net.1.network.tree rows (tail net.0.walks column))
+    along : (column : ℕ) → column < m.width
+        → sum_over rows (λ r. s r *ℤ entry m r column) ≡ bit (colour net.0.arcs (height m) net.1.network.tree rows (head net.0.walks column)) -ℤ bit (colour net.0.arcs (height m) net.1.network.tree rows (tail net.0.walks column))
     along column inside =
         let path = net.1.paths column inside in
         same_at_members rows (λ r. s r *ℤ entry m r column) (λ r. s r *ℤ direction path.steps r) (λ r h. ap (λ (z : ℤ). s r *ℤ z) (path.exact r (low r h)))

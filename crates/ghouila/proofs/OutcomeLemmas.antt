@@ -14,7 +14,8 @@ outcome_reordered : (m : Matrix) (row : ℕ) (left rows : List ℕ) → HasOneMo
 outcome_reordered m row left rows more (Signed s) is = signs_reordered m row left rows s.signs.items s.sums.items more is
 outcome_reordered m row left rows more (Violated v) is = marks_among_more m (row ∷ left) rows v.rows.items v.columns.items v.odd.items (contains_one_more row left rows more) is
 
-pub found_reordered : {E : Type 0} (m : Matrix) (row : ℕ) (left rows : List ℕ) → HasOneMore row left rows → (found : Result MarkedSigning E) → IfOk found (IsOutcome m (row ∷ left)) → IfOk found (IsOutcome m rows)
+pub found_reordered : {E : Type 0} (m : Matrix) (row : ℕ) (left rows : List ℕ) → HasOneMore row left rows → (found : Result MarkedSigning E)
+    → IfOk found (IsOutcome m (row ∷ left)) → IfOk found (IsOutcome m rows)
 found_reordered m row left rows more (Ok outcome) is = outcome_reordered m row left rows more outcome is
 found_reordered m row left rows more (Err e) is = is
 

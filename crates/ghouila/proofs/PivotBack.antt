@@ -80,7 +80,8 @@ module _ (M : ℕ → ℕ → ℤ) (r c : ℕ) (u : IsSign (M r c)) (R C : List 
   rows_same : IsEven h → (Q : List ℕ) → AllByRecursion (λ i. IsEven (sum_over C (M i) -ℤ M r c *ℤ (M i c *ℤ h))) Q → AllByRecursion (λ i. IsEven (sum_over C (M i))) Q
   rows_same e Q after = all_weaker (λ i. IsEven (sum_over C (M i) -ℤ M r c *ℤ (M i c *ℤ h))) (λ i. IsEven (sum_over C (M i))) (λ i. line_even (M r c) (M i c) h (sum_over C (M i)) e) Q after
 
-  rows_with : (C' : List ℕ) → HasOneMore c C C' → IsEven (M r c *ℤ h +ℤ pos 1) → (Q : List ℕ) → AllByRecursion (λ i. IsEven (sum_over C (M i) -ℤ M r c *ℤ (M i c *ℤ h))) Q → AllByRecursion (λ i. IsEven (sum_over C' (M i))) Q
+  rows_with : (C' : List ℕ) → HasOneMore c C C' → IsEven (M r c *ℤ h +ℤ pos 1) → (Q : List ℕ)
+      → AllByRecursion (λ i. IsEven (sum_over C (M i) -ℤ M r c *ℤ (M i c *ℤ h))) Q → AllByRecursion (λ i. IsEven (sum_over C' (M i))) Q
   rows_with C' more e Q after = all_weaker (λ i. IsEven (sum_over C (M i) -ℤ M r c *ℤ (M i c *ℤ h))) (λ i. IsEven (sum_over C' (M i)))
       (λ i even. subst IsEven (sym (sum_over-one_more c C C' (M i) more)) (line_odd (M r c) (M i c) h (sum_over C (M i)) e even)) Q after
 
@@ -91,7 +92,8 @@ module _ (M : ℕ → ℕ → ℤ) (r c : ℕ) (u : IsSign (M r c)) (R C : List 
   columns_same e after = all_weaker (λ j. IsEven (sum_over R (λ i. M i j) -ℤ M r c *ℤ (g *ℤ M r j))) (λ j. IsEven (sum_over R (λ i. M i j)))
       (λ j even. line_even (M r c) (M r j) g (sum_over R (λ i. M i j)) e (subst IsEven (turned (M r c) g (M r j) (sum_over R (λ i. M i j))) even)) C after
 
-  columns_with : (R' : List ℕ) → HasOneMore r R R' → IsEven (M r c *ℤ g +ℤ pos 1) → AllByRecursion (λ j. IsEven (sum_over R (λ i. M i j) -ℤ M r c *ℤ (g *ℤ M r j))) C → AllByRecursion (λ j. IsEven (sum_over R' (λ i. M i j))) C
+  columns_with : (R' : List ℕ) → HasOneMore r R R' → IsEven (M r c *ℤ g +ℤ pos 1)
+      → AllByRecursion (λ j. IsEven (sum_over R (λ i. M i j) -ℤ M r c *ℤ (g *ℤ M r j))) C → AllByRecursion (λ j. IsEven (sum_over R' (λ i. M i j))) C
   columns_with R' more e after = all_weaker (λ j. IsEven (sum_over R (λ i. M i j) -ℤ M r c *ℤ (g *ℤ M r j))) (λ j. IsEven (sum_over R' (λ i. M i j)))
       (λ j even. subst IsEven (sym (sum_over-one_more r R R' (λ i. M i j) more))
       (line_odd (M r c) (M r j) g (sum_over R (λ i. M i j)) e (subst IsEven (turned (M r c) g (M r j) (sum_over R (λ i. M i j))) even))) C after
@@ -153,7 +155,8 @@ module _ (M : ℕ → ℕ → ℤ) (r c : ℕ) (u : IsSign (M r c)) (R C : List 
       }
 
   -- the row is added if g is odd, and the column if h is odd
-  pub violator_before : (row_in column_in : Bool) (R' C' : List ℕ) → HasParity row_in g → HasParity column_in h → IsJoined row_in r R R' → IsJoined column_in c C C' → IsViolatorAfter M r c R C g h → IsViolator M R' C'
+  pub violator_before : (row_in column_in : Bool) (R' C' : List ℕ) → HasParity row_in g → HasParity column_in h → IsJoined row_in r R R'
+      → IsJoined column_in c C C' → IsViolatorAfter M r c R C g h → IsViolator M R' C'
   violator_before false false R' C' e f join join' v = subst (λ Q. IsViolator M Q C') (sym join) (subst (λ D. IsViolator M R D) (sym join') (even_even e f v))
   violator_before false true R' C' e f join join' v = subst (λ Q. IsViolator M Q C') (sym join) (even_odd C' join' e f v)
   violator_before true false R' C' e f join join' v = subst (λ D. IsViolator M R' D) (sym join') (odd_even R' join e f v)
@@ -170,7 +173,8 @@ module _ (M : ℕ → ℕ → ℤ) (r c : ℕ) where
       kept : (g k : ℤ) → neg_ℤ (negsuc 0 *ℤ g) ≡ k +ℤ k → g ≡ k +ℤ k
       kept g k f = let one : negsuc 0 *ℤ g ≡ neg_ℤ g = simp products in omega (arith, sums)
 
-  pub row_after : (t : Bool) (i : ℕ) (C D : List ℕ) → IsJoined t c C D → AllByRecursion (λ j. j ≢ c) C → sum_over D (pivoted M r c i) ≡ sum_over C (M i) -ℤ M r c *ℤ (M i c *ℤ (sum_over C (M r) +ℤ bit t))
+  pub row_after : (t : Bool) (i : ℕ) (C D : List ℕ) → IsJoined t c C D → AllByRecursion (λ j. j ≢ c) C
+      → sum_over D (pivoted M r c i) ≡ sum_over C (M i) -ℤ M r c *ℤ (M i c *ℤ (sum_over C (M r) +ℤ bit t))
   row_after false i C D e others = ap (λ xs. sum_over xs (pivoted M r c i)) e ∙ sum_over_row M r c i C others ∙ plain (sum_over C (M i)) (M r c) (M i c) (sum_over C (M r))
     where
       plain : (x a p h : ℤ) → x -ℤ a *ℤ (p *ℤ h) ≡ x -ℤ a *ℤ (p *ℤ (h +ℤ pos 0))

@@ -97,7 +97,8 @@ module _ (height width : ℕ) (M : ℕ → ℕ → ℤ) (r c : ℕ) (u : IsSign 
   violator_of_pivot : (P D : List ℕ) → IncreasesIn 0 height P → IncreasesIn 0 width D → IsViolator (pivot_entry M r c) P D → HasViolatorIn height width M
   violator_of_pivot P D increases increases' v = go (split_at 0 height r P increases) (split_at 0 width c D increases')
     where
-      below : (n x : ℕ) (b there : Bool) (xs fewer : List ℕ) → x < n → IsJoined there x fewer xs → AllByRecursion (λ y. y < n) xs → (more : List ℕ) × IsJoined b x fewer more × AllByRecursion (λ y. y < n) more
+      below : (n x : ℕ) (b there : Bool) (xs fewer : List ℕ) → x < n → IsJoined there x fewer xs → AllByRecursion (λ y. y < n) xs
+          → (more : List ℕ) × IsJoined b x fewer more × AllByRecursion (λ y. y < n) more
       below n x true there xs fewer h join all = (x ∷ fewer, one_more_first x fewer, (h, all_fewer (λ y. y < n) there x fewer xs join all))
       below n x false there xs fewer h join all = (fewer, refl, all_fewer (λ y. y < n) there x fewer xs join all)
 
@@ -119,7 +120,8 @@ module _ (height width : ℕ) (M : ℕ → ℕ → ℤ) (r c : ℕ) (u : IsSign 
           }
 
 -- the same violator of entries that are equal within the sizes
-violator_within : (n w : ℕ) (M N : ℕ → ℕ → ℤ) (P D : List ℕ) → AllByRecursion (λ i. i < n) P → AllByRecursion (λ j. j < w) D → ((i j : ℕ) → i < n → j < w → M i j ≡ N i j) → IsViolator M P D → IsViolator N P D
+violator_within : (n w : ℕ) (M N : ℕ → ℕ → ℤ) (P D : List ℕ) → AllByRecursion (λ i. i < n) P → AllByRecursion (λ j. j < w) D
+    → ((i j : ℕ) → i < n → j < w → M i j ≡ N i j) → IsViolator M P D → IsViolator N P D
 violator_within n w M N P D rows columns same v =
     violator_same M N P D (all_weaker (λ i. i < n) (λ i. AllByRecursion (λ j. M i j ≡ N i j) D) (λ i hi. all_weaker (λ j. j < w) (λ j. M i j ≡ N i j) (λ j hj. same i j hi hj) D columns) P rows) v
 

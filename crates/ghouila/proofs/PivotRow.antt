@@ -39,7 +39,8 @@ reduced_beside M row column i j e = ap (λ (q : ℤ). M i j -ℤ M row column *�
     less_nothing x a p = simp products (omega (arith, sums))
 
 -- the pivot gives no 2 and no -2 in a column with 0 in the pivot's row
-pub small_over : (m : Matrix) (row column other k next : ℕ) → IsMatrix m → IsTernaryRow k (reduced (entry m) row column other) → ((j : ℕ) → k ≤ j → j < next → support m row j ≡ false) → IsTernaryRow next (reduced (entry m) row column other)
+pub small_over : (m : Matrix) (row column other k next : ℕ) → IsMatrix m → IsTernaryRow k (reduced (entry m) row column other)
+    → ((j : ℕ) → k ≤ j → j < next → support m row j ≡ false) → IsTernaryRow next (reduced (entry m) row column other)
 small_over m row column other k next is small zeros = λ j h. elim (cases_lt j k) [
   | inl earlier ↦ small j earlier
   | inr later ↦ subst IsEntry (sym (reduced_beside (entry m) row column other j (zero_is (entry m row j) (zeros j later h)))) (is.small other j)
@@ -74,7 +75,8 @@ module _ (before now : Matrix) (row column other k : ℕ) (other_in : other < he
     ahead = λ j h. entry-with_entry_other_column now other k value inside j (omega arith) ∙ r.ahead j (omega arith);
   }
 
-  pub reduced_all : (value : ℤ) → column < before.width → before.width ≤ k → value ≡ neg_ℤ (entry before row column *ℤ entry before other column) → PivotsRows before (with_entry now other column value) row column (other ∷ [])
+  pub reduced_all : (value : ℤ) → column < before.width → before.width ≤ k → value ≡ neg_ℤ (entry before row column *ℤ entry before other column)
+      → PivotsRows before (with_entry now other column value) row column (other ∷ [])
   reduced_all value column_in all e = (
     λ j h. elim (cases_eq j column) [
       | inl same ↦ subst (λ x. entry (with_entry now other column value) other x ≡ pivoted (entry before) row column other x) (sym same)
@@ -86,10 +88,12 @@ module _ (before now : Matrix) (row column other k : ℕ) (other_in : other < he
 
 -- ---- row by row
 
-pub pivoted_same : (M N : ℕ → ℕ → ℤ) (row column i j : ℕ) → M row column ≡ N row column → M i column ≡ N i column → M row j ≡ N row j → M i j ≡ N i j → pivoted M row column i j ≡ pivoted N row column i j
+pub pivoted_same : (M N : ℕ → ℕ → ℤ) (row column i j : ℕ) → M row column ≡ N row column → M i column ≡ N i column → M row j ≡ N row j → M i j ≡ N i j
+    → pivoted M row column i j ≡ pivoted N row column i j
 pivoted_same M N row column i j a p q x = cc
 
-pub reduced_same : (M N : ℕ → ℕ → ℤ) (row column i j : ℕ) → M row column ≡ N row column → M i column ≡ N i column → M row j ≡ N row j → M i j ≡ N i j → reduced M row column i j ≡ reduced N row column i j
+pub reduced_same : (M N : ℕ → ℕ → ℤ) (row column i j : ℕ) → M row column ≡ N row column → M i column ≡ N i column → M row j ≡ N row j → M i j ≡ N i j
+    → reduced M row column i j ≡ reduced N row column i j
 reduced_same M N row column i j a p q x = cc
 
 module _ (before now after : Matrix) (row column other : ℕ) (rows : List ℕ) (row_out : IsOutside row rows) (other_out : IsOutside other rows) (apart : IsOutside row (other ∷ [])) where
@@ -100,7 +104,8 @@ module _ (before now after : Matrix) (row column other : ℕ) (rows : List ℕ) 
     others = λ i j out. step.others i j (all_back (λ x. x ≢ i) rows (other ∷ []) out) ∙ keeps.others i j (all_prefix (λ x. x ≢ i) rows (other ∷ []) out);
   }
 
-  pub pivots_more : column < before.width → PivotsRows before now row column rows → KeepsRowsElsewhere before now rows → PivotsRows now after row column (other ∷ []) → KeepsRowsElsewhere now after (other ∷ []) → PivotsRows before after row column (rows ++ other ∷ [])
+  pub pivots_more : column < before.width → PivotsRows before now row column rows → KeepsRowsElsewhere before now rows
+      → PivotsRows now after row column (other ∷ []) → KeepsRowsElsewhere now after (other ∷ []) → PivotsRows before after row column (rows ++ other ∷ [])
   pivots_more column_in pivots keeps step kept = all-append (λ i. (j : ℕ) → j < before.width → entry after i j ≡ pivoted (entry before) row column i j) rows (other ∷ [])
       (all_both (λ i. i ≢ other) (λ i. (j : ℕ) → j < before.width → entry now i j ≡ pivoted (entry before) row column i j) (λ i. (j : ℕ) → j < before.width → entry after i j ≡ pivoted (entry before) row column i j)
       (λ i ne is j h. kept.others i j ((λ e. ne (sym e)), tt) ∙ is j h) rows other_out pivots) (

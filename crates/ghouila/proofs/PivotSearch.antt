@@ -42,7 +42,8 @@ pub record IsScanned (m : Matrix) (rows : List ℕ) (column k : ℕ) (first : Op
   pub earlier : IfSome first (λ place. (i : ℕ) → i < place → entry m (get_or rows i 0) column ≡ pos 0)
 
 module _ (m : Matrix) (rows : List ℕ) (column k : ℕ) (inside : k < length rows) where
-  pub scanned_zero : (first now : Option ℕ) (odd now_odd : Bool) → now ≡ first → now_odd ≡ odd → entry m (get_or rows k 0) column ≡ pos 0 → IsScanned m rows column k first odd → IsScanned m rows column (k + 1) now now_odd
+  pub scanned_zero : (first now : Option ℕ) (odd now_odd : Bool) → now ≡ first → now_odd ≡ odd → entry m (get_or rows k 0) column ≡ pos 0
+      → IsScanned m rows column k first odd → IsScanned m rows column (k + 1) now now_odd
   scanned_zero first now odd now_odd f g e s = rw (f, g) (record {
     parity = subst (HasParity odd) (sym (sum_over_more rows k (λ row. entry m row column) inside)) (parity-add_zero odd (sum_over (take k rows) (λ row. entry m row column)) (entry m (get_or rows k 0) column) e s.parity);
     found = s.found;
@@ -54,10 +55,12 @@ module _ (m : Matrix) (rows : List ℕ) (column k : ℕ) (inside : k < length ro
       go None all = all_more (λ row. entry m row column ≡ pos 0) rows k inside all e
       go (Some place) all = tt
 
-  parity_after : (odd : Bool) → IsSign (entry m (get_or rows k 0) column) → HasParity odd (sum_over (take k rows) (λ row. entry m row column)) → HasParity (not odd) (sum_over (take (k + 1) rows) (λ row. entry m row column))
+  parity_after : (odd : Bool) → IsSign (entry m (get_or rows k 0) column) → HasParity odd (sum_over (take k rows) (λ row. entry m row column))
+      → HasParity (not odd) (sum_over (take (k + 1) rows) (λ row. entry m row column))
   parity_after odd u p = subst (HasParity (not odd)) (sym (sum_over_more rows k (λ row. entry m row column) inside)) (parity-add_sign odd (sum_over (take k rows) (λ row. entry m row column)) (entry m (get_or rows k 0) column) u p)
 
-  pub scanned_first : (first now : Option ℕ) (odd now_odd : Bool) → is_some first ≡ false → now ≡ Some k → now_odd ≡ not odd → IsSign (entry m (get_or rows k 0) column) → IsScanned m rows column k first odd → IsScanned m rows column (k + 1) now now_odd
+  pub scanned_first : (first now : Option ℕ) (odd now_odd : Bool) → is_some first ≡ false → now ≡ Some k → now_odd ≡ not odd
+      → IsSign (entry m (get_or rows k 0) column) → IsScanned m rows column k first odd → IsScanned m rows column (k + 1) now now_odd
   scanned_first None now odd now_odd none e f u s = rw (e, f) (record {
     parity = parity_after odd u s.parity;
     found = (inside, u);
@@ -66,7 +69,8 @@ module _ (m : Matrix) (rows : List ℕ) (column k : ℕ) (inside : k < length ro
   })
   scanned_first (Some place) now odd now_odd none e f u s = absurd (false≢true (sym none))
 
-  pub scanned_more : (first now : Option ℕ) (odd now_odd : Bool) → is_some first ≡ true → now ≡ first → now_odd ≡ not odd → IsSign (entry m (get_or rows k 0) column) → IsScanned m rows column k first odd → IsScanned m rows column (k + 1) now now_odd
+  pub scanned_more : (first now : Option ℕ) (odd now_odd : Bool) → is_some first ≡ true → now ≡ first → now_odd ≡ not odd
+      → IsSign (entry m (get_or rows k 0) column) → IsScanned m rows column k first odd → IsScanned m rows column (k + 1) now now_odd
   scanned_more None now odd now_odd some e f u s = absurd (false≢true some)
   scanned_more (Some place) now odd now_odd some e f u s = rw (e, f) (record { parity = parity_after odd u s.parity; found = s.found; none = tt; earlier = s.earlier })
 

@@ -72,7 +72,8 @@ cycle_ratio M N s t k row col signs c d ratios bad_m bad_n = decide (four_or_two
     less : (x y : ℤ) → IsFour x → IsFour (x -ℤ y) → IsFour y
     less x y (k, e) (l, f) = (k -ℤ l, omega (arith, sums))
 
-    decide : IsFour (cycle_sum M t k row col) ⊎ IsTwoModFour (cycle_sum M t k row col) → IsFour (cycle_sum N t k row col) ⊎ IsTwoModFour (cycle_sum N t k row col) → ratio M N s t (col k) ≡ ratio M N s t (col 0)
+    decide : IsFour (cycle_sum M t k row col) ⊎ IsTwoModFour (cycle_sum M t k row col)
+        → IsFour (cycle_sum N t k row col) ⊎ IsTwoModFour (cycle_sum N t k row col) → ratio M N s t (col k) ≡ ratio M N s t (col 0)
     decide (inr z) w = absurd (bad_m z)
     decide (inl z) (inr w) = absurd (bad_n w)
     decide (inl z) (inl w) = last_ratio (λ i j. s j *ℤ M i j) N t k row col (signed_cycle M s t k row col signs c) d ratios

@@ -50,7 +50,8 @@ module _ (M M' : ℕ → ℕ → ℤ) (P Q P' : ℕ → Type 0) (f : ℕ → ℕ
   row_is : (r : ℕ) → P r → (C : List ℕ) → AllByRecursion Q C → sum_over C (λ c. M' (f r) c) ≡ s r *ℤ sum_over C (λ c. M r c)
   row_is r p C qs = same_over C Q (λ c. M' (f r) c) (λ c. s r *ℤ M r c) (λ c q. is r c p q) qs ∙ sum_over-scale C (s r) (λ c. M r c)
 
-  rows_moved : (C : List ℕ) → AllByRecursion Q C → (R : List ℕ) → AllByRecursion P R → AllByRecursion (λ r. IsEven (sum_over C (λ c. M r c))) R → AllByRecursion (λ r. IsEven (sum_over C (λ c. M' r c))) (map f R)
+  rows_moved : (C : List ℕ) → AllByRecursion Q C → (R : List ℕ) → AllByRecursion P R → AllByRecursion (λ r. IsEven (sum_over C (λ c. M r c))) R
+      → AllByRecursion (λ r. IsEven (sum_over C (λ c. M' r c))) (map f R)
   rows_moved C qs [] ps h = tt
   rows_moved C qs (r ∷ R) ps h = (even_from (sum_over C (λ c. M' (f r) c)) (sum_over C (λ c. M r c)) (same_parity (s r) (sum_over C (λ c. M' (f r) c)) (sum_over C (λ c. M r c)) (unit r) (row_is r ps.0 C qs)) h.0, rows_moved C qs R ps.1 h.1)
 
@@ -64,7 +65,8 @@ module _ (M M' : ℕ → ℕ → ℤ) (P Q P' : ℕ → Type 0) (f : ℕ → ℕ
   column_moved c q [] ps = (pos 0, refl)
   column_moved c q (r ∷ R) ps = sum_even (M' (f r) c) (M r c) (sum_over (map f R) (λ r. M' r c)) (sum_over R (λ r. M r c)) (same_parity (s r) (M' (f r) c) (M r c) (unit r) (is r c ps.0 q)) (column_moved c q R ps.1)
 
-  total_moved : (C : List ℕ) → AllByRecursion Q C → (R : List ℕ) → AllByRecursion P R → AllByRecursion (λ r. IsEven (sum_over C (λ c. M r c))) R → IsFour (sum_over (map f R) (λ r. sum_over C (λ c. M' r c)) -ℤ sum_over R (λ r. sum_over C (λ c. M r c)))
+  total_moved : (C : List ℕ) → AllByRecursion Q C → (R : List ℕ) → AllByRecursion P R → AllByRecursion (λ r. IsEven (sum_over C (λ c. M r c))) R
+      → IsFour (sum_over (map f R) (λ r. sum_over C (λ c. M' r c)) -ℤ sum_over R (λ r. sum_over C (λ c. M r c)))
   total_moved C qs [] ps h = (pos 0, refl)
   total_moved C qs (r ∷ R) ps h = sum_four (sum_over C (λ c. M' (f r) c)) (sum_over C (λ c. M r c)) (sum_over (map f R) (λ r. sum_over C (λ c. M' r c))) (sum_over R (λ r. sum_over C (λ c. M r c)))
       (same_four (s r) (sum_over C (λ c. M' (f r) c)) (sum_over C (λ c. M r c)) (unit r) (row_is r ps.0 C qs) h.0) (total_moved C qs R ps.1 h.1)

@@ -137,7 +137,8 @@ module _ (M : ℕ → ℕ → ℤ) (small : (i j : ℕ) → IsEntry (M i j)) (t 
       turn' : (a b e x v : ℤ) → e ≡ b → x ≡ v → (a +ℤ b) +ℤ x ≡ (e +ℤ a) +ℤ v
       turn' a b e x v f g = omega (arith, sums)
 
-      columns_apart : ((i i' : ℕ) → i < i' → i' < suc (suc q.k) → before c q.way.col i ≢ before c q.way.col i') → IsDistinct (j ∷ d ∷ path_columns rest) → AllByRecursion (λ x. c ≢ x) (j ∷ d ∷ path_columns rest) → IsDistinct (c ∷ d ∷ j ∷ path_columns rest)
+      columns_apart : ((i i' : ℕ) → i < i' → i' < suc (suc q.k) → before c q.way.col i ≢ before c q.way.col i') → IsDistinct (j ∷ d ∷ path_columns rest)
+          → AllByRecursion (λ x. c ≢ x) (j ∷ d ∷ path_columns rest) → IsDistinct (c ∷ d ∷ j ∷ path_columns rest)
       columns_apart h (a, (b, e)) (x, (y, z)) = (first, (second, ((λ g. a (inr g)), e)))
         where
           first : (c ≡ d) ⊎ ((c ≡ j) ⊎ IsIn c (path_columns rest)) → ⊥
@@ -330,6 +331,7 @@ module _ (M : ℕ → ℕ → ℤ) (small : (i j : ℕ) → IsEntry (M i j)) (t 
       plain : (a b c d p s : ℤ) → b ≡ c → a ≡ d → p ≡ s → (a +ℤ b) +ℤ p ≡ (c +ℤ d) +ℤ s
       plain a b c d p s e f g = omega (arith, sums)
 
-      inner : IsCycle M t q.k q.way.row q.way.col → sum_over (below q.k) (λ i. sum_over (below (suc q.k)) (λ j. M (q.way.row i) (q.way.col j))) ≡ sum_over (below q.k) (λ i. M (q.way.row i) (q.way.col (suc i)) +ℤ M (q.way.row i) (q.way.col i))
+      inner : IsCycle M t q.k q.way.row q.way.col
+          → sum_over (below q.k) (λ i. sum_over (below (suc q.k)) (λ j. M (q.way.row i) (q.way.col j))) ≡ sum_over (below q.k) (λ i. M (q.way.row i) (q.way.col (suc i)) +ℤ M (q.way.row i) (q.way.col i))
       inner y = same_below q.k (λ i. sum_over (below (suc q.k)) (λ j. M (q.way.row i) (q.way.col j))) (λ i. M (q.way.row i) (q.way.col (suc i)) +ℤ M (q.way.row i) (q.way.col i))
           (λ i l. two_terms (λ j. M (q.way.row i) (q.way.col j)) (suc q.k) i (omega arith) (λ j m a b. y.none i j l (omega arith) a b))

@@ -60,7 +60,8 @@ signs_aside m rows left row steps s s' aside same one run = (left, (aside, one, 
 set_elsewhere : (signs : List ℤ) (row : ℕ) (sign : ℤ) (left : List ℕ) → IsOutside row left → AllByRecursion (λ r. get_or (set signs row sign) r (pos 0) ≡ get_or signs r (pos 0)) left
 set_elsewhere signs row sign left out = all_weaker (λ r. r ≢ row) (λ r. get_or (set signs row sign) r (pos 0) ≡ get_or signs r (pos 0)) (λ r apart. get_or-set_other signs row r sign (pos 0) apart) left out
 
-pivot_row_sign : (before after : Matrix) (row column : ℕ) (left : List ℕ) (signs sums : List ℤ) → column < before.width → after.width ≡ before.width → PivotsRows before after row column left → SignsRows after left signs sums
+pivot_row_sign : (before after : Matrix) (row column : ℕ) (left : List ℕ) (signs sums : List ℤ) → column < before.width → after.width ≡ before.width
+    → PivotsRows before after row column left → SignsRows after left signs sums
     → get_or sums column (pos 0) ≡ pivot_sign before row column left (λ r. get_or signs r (pos 0))
 pivot_row_sign before after row column left signs sums inside same_width pivots found =
     found.sums_are column (omega arith)
@@ -69,15 +70,18 @@ pivot_row_sign before after row column left signs sums inside same_width pivots 
     (λ r is. ap (λ z. get_or signs r (pos 0) *ℤ z) (is column inside ∙ pivoted_at (entry before) row column r)) left pivots)
     ∙ signed_turned (λ r. get_or signs r (pos 0)) (entry before row column) (λ r. entry before r column) left
 
-pub signs_set_pivot : (before after : Matrix) (rows left : List ℕ) (row column : ℕ) (steps : List Pivot) (signs sums signs' : List ℤ) → IsPivotNext before rows row column left → IsPivotMade before after row column left
-    → IsOutside row left → row < length signs → column < before.width → SignsRows after left signs sums → signs' ≡ set signs row (get_or sums column (pos 0)) → SignsBySteps after left steps (λ r. get_or signs r (pos 0))
+pub signs_set_pivot : (before after : Matrix) (rows left : List ℕ) (row column : ℕ) (steps : List Pivot) (signs sums signs' : List ℤ)
+    → IsPivotNext before rows row column left → IsPivotMade before after row column left
+    → IsOutside row left → row < length signs → column < before.width → SignsRows after left signs sums → signs' ≡ set signs row (get_or sums column (pos 0))
+    → SignsBySteps after left steps (λ r. get_or signs r (pos 0))
     → SignsBySteps before rows (record { row = row; column = Some column } ∷ steps) (λ r. get_or signs' r (pos 0))
 signs_set_pivot before after rows left row column steps signs sums signs' next made out inside column_in found e run =
     subst (λ xs. SignsBySteps before rows (record { row = row; column = Some column } ∷ steps) (λ r. get_or xs r (pos 0))) (sym e)
     (signs_pivot before after rows left row column steps (λ r. get_or signs r (pos 0)) (λ r. get_or (set signs row (get_or sums column (pos 0))) r (pos 0)) next made (set_elsewhere signs row (get_or sums column (pos 0)) left out)
     (get_or-set_same signs row (get_or sums column (pos 0)) (pos 0) inside ∙ pivot_row_sign before after row column left signs sums column_in made.same_width made.made found) run)
 
-pub signs_set_aside : (m : Matrix) (rows left : List ℕ) (row : ℕ) (steps : List Pivot) (signs signs' : List ℤ) → IsPutAside m rows row left → IsOutside row left → row < length signs → signs' ≡ set signs row (pos 1)
+pub signs_set_aside : (m : Matrix) (rows left : List ℕ) (row : ℕ) (steps : List Pivot) (signs signs' : List ℤ) → IsPutAside m rows row left → IsOutside row left
+    → row < length signs → signs' ≡ set signs row (pos 1)
     → SignsBySteps m left steps (λ r. get_or signs r (pos 0)) → SignsBySteps m rows (record { row = row; column = None } ∷ steps) (λ r. get_or signs' r (pos 0))
 signs_set_aside m rows left row steps signs signs' aside out inside e run =
     subst (λ xs. SignsBySteps m rows (record { row = row; column = None } ∷ steps) (λ r. get_or xs r (pos 0))) (sym e)

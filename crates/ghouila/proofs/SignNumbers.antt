@@ -53,7 +53,9 @@ signs_numbered_step prefix n k number h =
     rw (append_assoc, e) refl
 
 -- if the signings have no smaller number than this one, and this one gives no signing, all their numbers are larger
-pub no_lesser : (m : Matrix) (rows : List ℕ) (number : ℕ) → (IsSigning m rows (signs_numbered (length rows) number) → ⊥) → ((others : List ℤ) → IsSigning m rows others → number ≤ sign_number others) → (others : List ℤ) → IsSigning m rows others → number + 1 ≤ sign_number others
+pub no_lesser : (m : Matrix) (rows : List ℕ) (number : ℕ) → (IsSigning m rows (signs_numbered (length rows) number) → ⊥)
+    → ((others : List ℤ) → IsSigning m rows others → number ≤ sign_number others) → (others : List ℤ) → IsSigning m rows others
+    → number + 1 ≤ sign_number others
 no_lesser m rows number not before others signs =
     elim (cases_lt number (sign_number others)) [
       | inl below ↦ omega arith

@@ -38,7 +38,8 @@ even_change-signed sign (x ∷ xs) f u = add (f x) (sign x) (sum_over xs f) (sig
     add x s y w (inr e) (k, h) = (x +ℤ k, rw e (simp products (omega (arith, sums))))
 
 -- signs change a sum of even numbers by a multiple of four
-pub four_change-signed : {A : Type 0} (sign : A → ℤ) (xs : List A) (f : A → ℤ) → AllByRecursion (λ x. IsSign (sign x)) xs → AllByRecursion (λ x. IsEven (f x)) xs → IsFour (sum_over xs f -ℤ signed sign xs f)
+pub four_change-signed : {A : Type 0} (sign : A → ℤ) (xs : List A) (f : A → ℤ) → AllByRecursion (λ x. IsSign (sign x)) xs
+    → AllByRecursion (λ x. IsEven (f x)) xs → IsFour (sum_over xs f -ℤ signed sign xs f)
 four_change-signed sign [] f u even = (pos 0, refl)
 four_change-signed sign (x ∷ xs) f u even = add (f x) (sign x) (sum_over xs f) (signed sign xs f) u.0 even.0 (four_change-signed sign xs f u.1 even.1)
   where
@@ -62,7 +63,8 @@ signed_pivoted sign row M r c j (x ∷ xs) other = rw (pivoted_apart M r c (row 
     add : (s x a p q w v : ℤ) → s *ℤ (x -ℤ a *ℤ (p *ℤ q)) +ℤ (w -ℤ a *ℤ (v *ℤ q)) ≡ (s *ℤ x +ℤ w) -ℤ a *ℤ ((s *ℤ p +ℤ v) *ℤ q)
     add s x a p q w v = simp products (omega (arith, sums))
 
-pub signed_pivot_column : {A : Type 0} (sign : A → ℤ) (row : A → ℕ) (M : ℕ → ℕ → ℤ) (r c : ℕ) (xs : List A) → signed sign xs (λ x. pivoted M r c (row x) c) ≡ neg_ℤ (M r c *ℤ signed sign xs (λ x. M (row x) c))
+pub signed_pivot_column : {A : Type 0} (sign : A → ℤ) (row : A → ℕ) (M : ℕ → ℕ → ℤ) (r c : ℕ) (xs : List A)
+    → signed sign xs (λ x. pivoted M r c (row x) c) ≡ neg_ℤ (M r c *ℤ signed sign xs (λ x. M (row x) c))
 signed_pivot_column sign row M r c [] = simp products
 signed_pivot_column sign row M r c (x ∷ xs) = rw (pivoted_at M r c (row x), signed_pivot_column sign row M r c xs) (add (sign x) (M r c) (M (row x) c) (signed sign xs (λ y. M (row y) c)))
   where
@@ -71,7 +73,8 @@ signed_pivot_column sign row M r c (x ∷ xs) = rw (pivoted_at M r c (row x), si
 
 -- the removed row gets the signed sum of the pivot's column; then that column's sum is 0 and the other columns keep their sums
 module _ {A : Type 0} (sign : A → ℤ) (row : A → ℕ) (M : ℕ → ℕ → ℤ) (r c : ℕ) (xs : List A) (u : IsSign (M r c)) where
-  pub pivot_sign : AllByRecursion (λ x. IsSign (sign x)) xs → IsOdd (sum_over xs (λ x. M (row x) c)) → IsEntry (signed sign xs (λ x. pivoted M r c (row x) c)) → IsSign (signed sign xs (λ x. pivoted M r c (row x) c))
+  pub pivot_sign : AllByRecursion (λ x. IsSign (sign x)) xs → IsOdd (sum_over xs (λ x. M (row x) c)) → IsEntry (signed sign xs (λ x. pivoted M r c (row x) c))
+      → IsSign (signed sign xs (λ x. pivoted M r c (row x) c))
   pivot_sign signs odd entry = odd_entry _ entry (subst IsOdd (sym (signed_pivot_column sign row M r c xs))
       (odd_times_sign (M r c) (signed sign xs (λ x. M (row x) c)) u
       (odd_by_difference (sum_over xs (λ x. M (row x) c)) (signed sign xs (λ x. M (row x) c)) (even_change-signed sign xs (λ x. M (row x) c) signs) odd)))

@@ -48,7 +48,8 @@ module _ (m : Matrix) (row : ℕ) (left : List ℕ) (out : IsOutside row left) (
       (all_weaker (λ r. get_or signs' r (pos 0) ≡ get_or signs r (pos 0)) (λ r. get_or signs' r (pos 0) *ℤ f r ≡ get_or signs r (pos 0) *ℤ f r) (λ r e. ap (λ z. z *ℤ f r) e) left others))
 
 -- the signs before a pivot
-pub signs_before_pivot : (before after : Matrix) (row column : ℕ) (left : List ℕ) (signs sums : List ℤ) → height after ≡ height before → after.width ≡ before.width → row < height before → column < before.width → IsOutside row left
+pub signs_before_pivot : (before after : Matrix) (row column : ℕ) (left : List ℕ) (signs sums : List ℤ) → height after ≡ height before
+    → after.width ≡ before.width → row < height before → column < before.width → IsOutside row left
     → IsSign (entry before row column) → IsOdd (sum_over left (λ r. entry before r column)) → PivotsRows before after row column left → SignsRows after left signs sums
     → SignsRows before (row ∷ left) (set signs row (get_or sums column (pos 0))) (set sums column (pos 0))
 signs_before_pivot before after row column left signs sums same_height same_width row_in column_in out u odd pivots s = record {
@@ -94,7 +95,8 @@ signs_before_pivot before after row column left signs sums same_height same_widt
 -- the signs with a row that was put aside
 pub signs_with_aside : (m : Matrix) (row : ℕ) (left : List ℕ) (signs sums sums' : List ℤ) → row < height m → IsOutside row left → IsTernaryRow m.width (entry m row)
     → ((column : ℕ) → column < m.width → (entry m row column ≡ pos 0) ⊎ IsEven (sum_over left (λ r. entry m r column))) → SignsRows m left signs sums
-    → length sums' ≡ length sums → ((column : ℕ) → column < m.width → get_or sums' column (pos 0) ≡ get_or sums column (pos 0) +ℤ entry m row column) → SignsRows m (row ∷ left) (set signs row (pos 1)) sums'
+    → length sums' ≡ length sums → ((column : ℕ) → column < m.width → get_or sums' column (pos 0) ≡ get_or sums column (pos 0) +ℤ entry m row column)
+    → SignsRows m (row ∷ left) (set signs row (pos 1)) sums'
 signs_with_aside m row left signs sums sums' row_in out small quiet s same_length added = record {
   one_each = length-set signs row (pos 1) ∙ s.one_each;
   sum_each = same_length ∙ s.sum_each;

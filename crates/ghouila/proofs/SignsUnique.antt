@@ -110,15 +110,18 @@ no_violator_no_fault m rectangular small free t c d path f = go (route (entry m)
 
 -- ---- the laws
 
-fault_free_agree : (m n : Matrix) → IsRectangular m → HasTernaryEntries m → HasTernaryEntries n → HaveOneSupport m n → HasNoCycleFault (entry m) → HasNoCycleFault (entry n) → AgreeUpToSigns (entry m) (entry n)
+fault_free_agree : (m n : Matrix) → IsRectangular m → HasTernaryEntries m → HasTernaryEntries n → HaveOneSupport m n → HasNoCycleFault (entry m)
+    → HasNoCycleFault (entry n) → AgreeUpToSigns (entry m) (entry n)
 fault_free_agree m n rectangular small_m small_n support clean_m clean_n =
     signs_agree (entry m) (entry n) small_m small_n support.zeros_same clean_m clean_n (height m) m.width (λ i j h. (row_in m i j h, column_in m i j rectangular h))
 
-pub signs_are_unique : (m n : Matrix) → IsRectangular m → IsRectangular n → HasTernaryEntries m → HasTernaryEntries n → HaveOneSupport m n → HasNoViolator m → HasNoViolator n → AgreeUpToSigns (entry m) (entry n)
+pub signs_are_unique : (m n : Matrix) → IsRectangular m → IsRectangular n → HasTernaryEntries m → HasTernaryEntries n → HaveOneSupport m n → HasNoViolator m
+    → HasNoViolator n → AgreeUpToSigns (entry m) (entry n)
 signs_are_unique m n rectangular_m rectangular_n small_m small_n support free_m free_n =
     fault_free_agree m n rectangular_m small_m small_n support (no_violator_no_fault m rectangular_m small_m free_m) (no_violator_no_fault n rectangular_n small_n free_n)
 
-pub fault_free_has_no_violator : (m n : Matrix) → IsRectangular m → IsRectangular n → HasTernaryEntries m → HasTernaryEntries n → HaveOneSupport m n → HasNoCycleFault (entry m) → HasNoViolator n → HasNoViolator m
+pub fault_free_has_no_violator : (m n : Matrix) → IsRectangular m → IsRectangular n → HasTernaryEntries m → HasTernaryEntries n → HaveOneSupport m n
+    → HasNoCycleFault (entry m) → HasNoViolator n → HasNoViolator m
 fault_free_has_no_violator m n rectangular_m rectangular_n small_m small_n support clean free rows columns row_set column_set v =
     free rows columns
     (record { increasing = row_set.increasing; in_range = λ k h. let l = row_set.in_range k h in let e = support.height_same in omega arith })

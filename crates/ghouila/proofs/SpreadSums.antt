@@ -22,7 +22,8 @@ module _ (d x y z w : ℤ) where
   abbrev pub second_row_count : ℤ → ℤ → ℤ
   second_row_count u1 u2 = d *ℤ (x *ℤ u2 -ℤ y *ℤ u1)
 
-  pub column_sum : (R : List ℕ) (rp rq : ℕ → ℤ) (kc oc : ℤ) → sum_over R (λ r. spread d x y z w (rp r) (rq r) kc oc) ≡ first_row_count (sum_over R rp) (sum_over R rq) *ℤ kc +ℤ second_row_count (sum_over R rp) (sum_over R rq) *ℤ oc
+  pub column_sum : (R : List ℕ) (rp rq : ℕ → ℤ) (kc oc : ℤ)
+      → sum_over R (λ r. spread d x y z w (rp r) (rq r) kc oc) ≡ first_row_count (sum_over R rp) (sum_over R rq) *ℤ kc +ℤ second_row_count (sum_over R rp) (sum_over R rq) *ℤ oc
   column_sum [] rp rq kc oc = plain d x y z w kc oc
     where
       plain : (d x y z w kc oc : ℤ) → pos 0 ≡ (d *ℤ (w *ℤ pos 0 -ℤ z *ℤ pos 0)) *ℤ kc +ℤ (d *ℤ (x *ℤ pos 0 -ℤ y *ℤ pos 0)) *ℤ oc
@@ -33,7 +34,8 @@ module _ (d x y z w : ℤ) where
           ≡ (d *ℤ (w *ℤ (p +ℤ u1) -ℤ z *ℤ (q +ℤ u2))) *ℤ kc +ℤ (d *ℤ (x *ℤ (q +ℤ u2) -ℤ y *ℤ (p +ℤ u1))) *ℤ oc
       plain d x y z w kc oc p q u1 u2 = simp products (omega (arith, sums))
 
-  pub row_sum : (C : List ℕ) (rp rq : ℤ) (kc oc : ℕ → ℤ) → sum_over C (λ c. spread d x y z w rp rq (kc c) (oc c)) ≡ rp *ℤ first_column_count (sum_over C kc) (sum_over C oc) +ℤ rq *ℤ second_column_count (sum_over C kc) (sum_over C oc)
+  pub row_sum : (C : List ℕ) (rp rq : ℤ) (kc oc : ℕ → ℤ)
+      → sum_over C (λ c. spread d x y z w rp rq (kc c) (oc c)) ≡ rp *ℤ first_column_count (sum_over C kc) (sum_over C oc) +ℤ rq *ℤ second_column_count (sum_over C kc) (sum_over C oc)
   row_sum [] rp rq kc oc = plain d x y z w rp rq
     where
       plain : (d x y z w p q : ℤ) → pos 0 ≡ p *ℤ (d *ℤ (w *ℤ pos 0 -ℤ y *ℤ pos 0)) +ℤ q *ℤ (d *ℤ (x *ℤ pos 0 -ℤ z *ℤ pos 0))

@@ -49,7 +49,8 @@ two_sums_have_none first second have free1 free2 =
     (resized (entry first) (height first) first.width (height first) ((first.width - 1) + 1) (omega arith) (back_after first.width 1 have.column) (free_from_none first free1))
     (resized (entry second) (height second) second.width (1 + (height second - 1)) second.width (back_before (height second) 1 have.row) (omega arith) (free_from_none second free2)))
 
-corner_sums_have_none : (flat1 flat2 : Bool) (first second : Matrix) → HaveCornerSum flat1 flat2 first second → HasNoViolator first → HasNoViolator second → HasNoViolator (corner_sum flat1 flat2 first second)
+corner_sums_have_none : (flat1 flat2 : Bool) (first second : Matrix) → HaveCornerSum flat1 flat2 first second → HasNoViolator first → HasNoViolator second
+    → HasNoViolator (corner_sum flat1 flat2 first second)
 corner_sums_have_none flat1 flat2 first second have free1 free2 =
     filled_none ((height first - connecting_rows flat2) + (height second - connecting_rows flat1)) ((first.width - connecting_columns flat2) + (second.width - connecting_columns flat1))
     (sum_along flat1 (height first - connecting_rows flat2) (first.width - connecting_columns flat2) (entry first) (entry second))

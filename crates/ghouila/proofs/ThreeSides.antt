@@ -91,7 +91,8 @@ module _ (M : ℕ → ℕ → ℤ) (P Q : ℕ → Type 0) (sr sc : ℕ → Bool)
   e : ℤ
   e = M k p *ℤ M k j
 
-  edge1 : (s t u : Bool) → Edge M (With P sr true (ConnectorRow flat2 k o)) (With Q sc true (ConnectorColumn flat2 j o)) (On P sr true) (On Q sc true) (λ r. M r j) (λ x. M k x *ℤ M k p) (when u (M k p *ℤ M k j)) s t
+  edge1 : (s t u : Bool)
+      → Edge M (With P sr true (ConnectorRow flat2 k o)) (With Q sc true (ConnectorColumn flat2 j o)) (On P sr true) (On Q sc true) (λ r. M r j) (λ x. M k x *ℤ M k p) (when u (M k p *ℤ M k j)) s t
   edge1 s t' u = go flat2 u t.other2
     where
       row_k : (f : Bool) → ConnectorRow f k o k
@@ -102,7 +103,8 @@ module _ (M : ℕ → ℕ → ℤ) (P Q : ℕ → Type 0) (sr sc : ℕ → Bool)
       column_j true = inl refl
       column_j false = refl
 
-      go : (f u : Bool) → IsSecondOther M P Q sr sc f i p k j o → Edge M (With P sr true (ConnectorRow f k o)) (With Q sc true (ConnectorColumn f j o)) (On P sr true) (On Q sc true) (λ r. M r j) (λ x. M k x *ℤ M k p) (when u (M k p *ℤ M k j)) s t'
+      go : (f u : Bool) → IsSecondOther M P Q sr sc f i p k j o
+          → Edge M (With P sr true (ConnectorRow f k o)) (With Q sc true (ConnectorColumn f j o)) (On P sr true) (On Q sc true) (λ r. M r j) (λ x. M k x *ℤ M k p) (when u (M k p *ℤ M k j)) s t'
       go f true other = record {
         row = k;
         column = j;
@@ -143,7 +145,8 @@ module _ (M : ℕ → ℕ → ℤ) (P Q : ℕ → Type 0) (sr sc : ℕ → Bool)
         corner = λ _ _. other.1 ∙ times_zero (M o p) (pos 1);
       }
 
-  edge2 : (s t u : Bool) → Edge M (With P sr false (ConnectorRow flat1 i q)) (With Q sc false (ConnectorColumn flat1 p q)) (On P sr false) (On Q sc false) (λ r. M r p) (λ x. M i x *ℤ M i j) (when u (M k p *ℤ M k j)) s t
+  edge2 : (s t u : Bool)
+      → Edge M (With P sr false (ConnectorRow flat1 i q)) (With Q sc false (ConnectorColumn flat1 p q)) (On P sr false) (On Q sc false) (λ r. M r p) (λ x. M i x *ℤ M i j) (when u (M k p *ℤ M k j)) s t
   edge2 s t' u = go flat1 u t.other1
     where
       row_i : (f : Bool) → ConnectorRow f i q i
@@ -154,7 +157,8 @@ module _ (M : ℕ → ℕ → ℤ) (P Q : ℕ → Type 0) (sr sc : ℕ → Bool)
       column_p true = inl refl
       column_p false = refl
 
-      go : (f u : Bool) → IsFirstOther M P Q sr sc f i p k j q → Edge M (With P sr false (ConnectorRow f i q)) (With Q sc false (ConnectorColumn f p q)) (On P sr false) (On Q sc false) (λ r. M r p) (λ x. M i x *ℤ M i j) (when u (M k p *ℤ M k j)) s t'
+      go : (f u : Bool) → IsFirstOther M P Q sr sc f i p k j q
+          → Edge M (With P sr false (ConnectorRow f i q)) (With Q sc false (ConnectorColumn f p q)) (On P sr false) (On Q sc false) (λ r. M r p) (λ x. M i x *ℤ M i j) (when u (M k p *ℤ M k j)) s t'
       go f true other = record {
         row = i;
         column = p;
@@ -215,7 +219,8 @@ module _ (M : ℕ → ℕ → ℤ) (P Q : ℕ → Type 0) (sr sc : ℕ → Bool)
   first_column_in true other r (inr h) = subst Q (sym h) other.0.0
   first_column_in false other r h = subst Q (sym h) t.column1.0
 
-  pub three_children : ViolatedIn M P Q → ViolatedIn M (With P sr true (ConnectorRow flat2 k o)) (With Q sc true (ConnectorColumn flat2 j o)) ⊎ ViolatedIn M (With P sr false (ConnectorRow flat1 i q)) (With Q sc false (ConnectorColumn flat1 p q))
+  pub three_children : ViolatedIn M P Q
+      → ViolatedIn M (With P sr true (ConnectorRow flat2 k o)) (With Q sc true (ConnectorColumn flat2 j o)) ⊎ ViolatedIn M (With P sr false (ConnectorRow flat1 i q)) (With Q sc false (ConnectorColumn flat1 p q))
   three_children = joined M M M P Q sr sc (λ x. x) (λ x. x) (λ x. x) (λ x. x) (λ r. M r j) (λ x. M i x *ℤ M i j) (λ x. M k x *ℤ M k p) (λ r. M r p) (M k p *ℤ M k j)
       (On P sr true) (On Q sc true) (On P sr false) (On Q sc false)
       (With P sr true (ConnectorRow flat2 k o)) (With Q sc true (ConnectorColumn flat2 j o)) (With P sr false (ConnectorRow flat1 i q)) (With Q sc false (ConnectorColumn flat1 p q))

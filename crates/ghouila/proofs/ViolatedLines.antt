@@ -73,7 +73,8 @@ places rows [] h = ([], refl, tt)
 places rows (r ∷ R) h = let more = places rows R h.1 in
     (h.0.0 ∷ more.0, ap₂ (λ (x : ℕ) (xs : List ℕ). x ∷ xs) (get_or_default rows h.0.0 0 r h.0.1 ∙ h.0.2) more.1, (h.0.1, more.2))
 
-pairwise : (M N : ℕ → ℕ → ℤ) (P Q : ℕ → Type 0) (I J : List ℕ) → ((i j : ℕ) → P i → Q j → M i j ≡ N i j) → AllByRecursion P I → AllByRecursion Q J → AllByRecursion (λ i. AllByRecursion (λ j. M i j ≡ N i j) J) I
+pairwise : (M N : ℕ → ℕ → ℤ) (P Q : ℕ → Type 0) (I J : List ℕ) → ((i j : ℕ) → P i → Q j → M i j ≡ N i j) → AllByRecursion P I → AllByRecursion Q J
+    → AllByRecursion (λ i. AllByRecursion (λ j. M i j ≡ N i j) J) I
 pairwise M N P Q I J same in_rows in_columns = all_weaker P (λ i. AllByRecursion (λ j. M i j ≡ N i j) J) (λ i p. all_weaker Q (λ j. M i j ≡ N i j) (λ j q. same i j p q) J in_columns) I in_rows
 
 -- a submatrix has no violator if and only if its lines contain none

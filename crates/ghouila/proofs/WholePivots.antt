@@ -110,7 +110,8 @@ module _ (M : ℕ → ℕ → ℤ) (r c : ℕ) where
       more : (x a g h : ℤ) → a *ℤ h +ℤ (x -ℤ a *ℤ (g *ℤ h)) ≡ x -ℤ a *ℤ ((g -ℤ pos 1) *ℤ h)
       more x a g h = simp products (omega (arith, sums))
 
-      go : (s : Bool) → IsJoined s r R P → sum_over P (λ i. sum_over D (pivot_entry M r c i)) ≡ sum_over R (λ i. sum_over C (M i)) -ℤ M r c *ℤ ((sum_over R (λ i. M i c) -ℤ bit s) *ℤ (sum_over C (M r) +ℤ bit t))
+      go : (s : Bool) → IsJoined s r R P
+          → sum_over P (λ i. sum_over D (pivot_entry M r c i)) ≡ sum_over R (λ i. sum_over C (M i)) -ℤ M r c *ℤ ((sum_over R (λ i. M i c) -ℤ bit s) *ℤ (sum_over C (M r) +ℤ bit t))
       go false e = ap (λ xs. sum_over xs (λ i. sum_over D (pivot_entry M r c i))) e ∙ shorter ∙ plain (sum_over R (λ i. sum_over C (M i))) (M r c) (sum_over R (λ i. M i c)) (sum_over C (M r) +ℤ bit t)
       go true join =
           sum_over-one_more r R P (λ i. sum_over D (pivot_entry M r c i)) join ∙ ap₂ (λ (x y : ℤ). x +ℤ y) (row_sum t C D join' others) shorter
@@ -137,12 +138,14 @@ module _ (M : ℕ → ℕ → ℤ) (r c : ℕ) where
       taken : (z : ℤ) → z ≡ z -ℤ pos 0
       taken z = omega (arith, sums)
 
-      at_row : (t : Bool) → IsJoined t c C D → AllByRecursion (λ j. IsEven (sum_over P (λ i. pivot_entry M r c i j))) D → (sum_over C (M r) ≡ sum_over C (M r) +ℤ bit t) ⊎ IsEven (sum_over R (λ i. M i c) -ℤ bit s)
+      at_row : (t : Bool) → IsJoined t c C D → AllByRecursion (λ j. IsEven (sum_over P (λ i. pivot_entry M r c i j))) D
+          → (sum_over C (M r) ≡ sum_over C (M r) +ℤ bit t) ⊎ IsEven (sum_over R (λ i. M i c) -ℤ bit s)
       at_row false e all = inl (added (sum_over C (M r)))
       at_row true more all = inr (even_back M r c (M r c) (sum_over R (λ i. M i c) -ℤ bit s) u
           (subst IsEven (pivot_column_sum s R P join apart) (item_of_one_more (λ j. IsEven (sum_over P (λ i. pivot_entry M r c i j))) c C D more all)))
 
-      at_column : (s : Bool) → IsJoined s r R P → AllByRecursion (λ i. IsEven (sum_over D (pivot_entry M r c i))) P → (sum_over R (λ i. M i c) ≡ sum_over R (λ i. M i c) -ℤ bit s) ⊎ IsEven (sum_over C (M r) +ℤ bit t)
+      at_column : (s : Bool) → IsJoined s r R P → AllByRecursion (λ i. IsEven (sum_over D (pivot_entry M r c i))) P
+          → (sum_over R (λ i. M i c) ≡ sum_over R (λ i. M i c) -ℤ bit s) ⊎ IsEven (sum_over C (M r) +ℤ bit t)
       at_column false e all = inl (taken (sum_over R (λ i. M i c)))
       at_column true more all = inr (even_product (M r c) (sum_over C (M r) +ℤ bit t) u
           (subst IsEven (row_sum t C D join' others) (item_of_one_more (λ i. IsEven (sum_over D (pivot_entry M r c i))) r R P more all)))
@@ -185,7 +188,8 @@ module _ (M : ℕ → ℕ → ℤ) (r c : ℕ) where
 
   -- the row is added if the rows have an odd sum in the column, and the column if the columns have an odd sum in the row
   pub whole_before : (s t row_in column_in : Bool) (R P C D R' C' : List ℕ) → IsSign (M r c) → IsJoined s r R P → AllByRecursion (λ i. i ≢ r) R → IsJoined t c C D → AllByRecursion (λ j. j ≢ c) C
-      → HasParity row_in (sum_over P (λ i. M i c)) → HasParity column_in (sum_over D (M r)) → IsJoined row_in r R R' → IsJoined column_in c C C' → IsViolator (pivot_entry M r c) P D → IsViolator M R' C'
+      → HasParity row_in (sum_over P (λ i. M i c)) → HasParity column_in (sum_over D (M r)) → IsJoined row_in r R R' → IsJoined column_in c C C'
+      → IsViolator (pivot_entry M r c) P D → IsViolator M R' C'
   whole_before s t row_in column_in R P C D R' C' u join apart join' others odd odd' before before' v =
       violator_before M r c u R C (sum_over R (λ i. M i c) -ℤ bit s) (sum_over C (M r) +ℤ bit t) row_in column_in R' C' (column_parity s row_in R P u join odd) (row_parity t column_in C D u join' odd') before before'
       (whole_after s t R P C D u join apart join' others v)

@@ -35,7 +35,8 @@ module _ (M : ℕ → ℕ → Bool) (i : ℕ) (P : List ℕ) where
   uncut columns true exact d = ((λ e. cc), (λ u. absurd (d (by_uncut M i P P columns exact u))))
   uncut columns false exact d = ((λ e. uncut_by M i P P columns exact d), (λ u. refl))
 
-  pub weight_by_count : (n : ℕ) (columns : ℕ → Bool) (cut : Bool) (weight : ℕ) → AreCommonColumns M i P columns → Denies cut (AreUncutIn M columns P) → weight ≡ 2 * count columns n + cond (not cut) 1 0 → IsWeight M n i P weight
+  pub weight_by_count : (n : ℕ) (columns : ℕ → Bool) (cut : Bool) (weight : ℕ) → AreCommonColumns M i P columns → Denies cut (AreUncutIn M columns P)
+      → weight ≡ 2 * count columns n + cond (not cut) 1 0 → IsWeight M n i P weight
   weight_by_count n columns cut weight exact d w = record {
     common = columns;
     exact = λ column l. exact column;
@@ -44,7 +45,8 @@ module _ (M : ℕ → ℕ → Bool) (i : ℕ) (P : List ℕ) where
     value = let e : count columns n ≡ count_by columns (first_lines n) = sym (count-filter columns n) ∙ length-filter columns (first_lines n) in omega (arith, w, e);
   }
 
-  pub common_by_next : (set : Bits) (found : Option ℕ) → AreCommonColumns M i P (has_column set.words) → MatchOption found ((column : ℕ) → 0 ≤ column → has_column set.words column ≡ false) (IsNextOf set 0)
+  pub common_by_next : (set : Bits) (found : Option ℕ) → AreCommonColumns M i P (has_column set.words)
+      → MatchOption found ((column : ℕ) → 0 ≤ column → has_column set.words column ≡ false) (IsNextOf set 0)
       → MatchOption found ((column : ℕ) → ¬ (IsCommon M i P column)) (IsCommon M i P)
   common_by_next set None exact h = λ column u. not_both (has_column set.words column) ((exact column).1 u) (h column (omega arith))
   common_by_next set (Some column) exact h = (exact column).0 h.member

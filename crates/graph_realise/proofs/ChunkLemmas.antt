@@ -21,13 +21,17 @@ chunks_none values table row chunks = record {
 }
 
 -- the chunk at this position was not filled before
-pub not_filled : (values : ℕ → Bool) (old now : Grid) (row : ℕ) (chunks : List ℕ) (place k : ℕ) → IsStrictlyIncreasing chunks → place < length chunks → AreChunksFilled values old now row chunks place → k < 64
+pub not_filled : (values : ℕ → Bool) (old now : Grid) (row : ℕ) (chunks : List ℕ) (place k : ℕ) → IsStrictlyIncreasing chunks → place < length chunks
+    → AreChunksFilled values old now row chunks place → k < 64
     → cell now row (64 * get_or chunks place 0 + k) ≡ cell old row (64 * get_or chunks place 0 + k)
 not_filled values old now row chunks place k increasing l so small =
     so.left (64 * get_or chunks place 0 + k) (λ p m e. not_before chunks place increasing l p m (sym e ∙ chunk_of (get_or chunks place 0) k small))
 
-pub chunks_more : (values : ℕ → Bool) (old now new : Grid) (row : ℕ) (chunks : List ℕ) (place word : ℕ) → IsStrictlyIncreasing chunks → place < length chunks → AreChunksFilled values old now row chunks place
-    → IsWordSet now new row (get_or chunks place 0) word → ((k : ℕ) → k < 64 → 64 * get_or chunks place 0 + k < old.width → has_bit word k ≡ values (64 * get_or chunks place 0 + k)) → AreChunksFilled values old new row chunks (place + 1)
+pub chunks_more : (values : ℕ → Bool) (old now new : Grid) (row : ℕ) (chunks : List ℕ) (place word : ℕ) → IsStrictlyIncreasing chunks → place < length chunks
+    → AreChunksFilled values old now row chunks place
+    → IsWordSet now new row (get_or chunks place 0) word
+    → ((k : ℕ) → k < 64 → 64 * get_or chunks place 0 + k < old.width → has_bit word k ≡ values (64 * get_or chunks place 0 + k))
+    → AreChunksFilled values old new row chunks (place + 1)
 chunks_more values old now new row chunks place word increasing here so s bits = record {
   rows = keeps_rows_trans old now new row so.rows s.rows;
   done = λ k column l e w. pick k column e w (cases_lt k place) l;
@@ -45,7 +49,8 @@ chunks_more values old now new row chunks place word increasing here so s bits =
 
 -- a chunk that has the values already
 pub chunks_same : (values : ℕ → Bool) (old now : Grid) (row : ℕ) (chunks : List ℕ) (place : ℕ) → AreChunksFilled values old now row chunks place
-    → ((k : ℕ) → k < 64 → 64 * get_or chunks place 0 + k < old.width → cell now row (64 * get_or chunks place 0 + k) ≡ values (64 * get_or chunks place 0 + k)) → AreChunksFilled values old now row chunks (place + 1)
+    → ((k : ℕ) → k < 64 → 64 * get_or chunks place 0 + k < old.width → cell now row (64 * get_or chunks place 0 + k) ≡ values (64 * get_or chunks place 0 + k))
+    → AreChunksFilled values old now row chunks (place + 1)
 chunks_same values old now row chunks place so bits = record {
   rows = so.rows;
   done = λ k column l e w. pick k column e w (cases_lt k place) l;

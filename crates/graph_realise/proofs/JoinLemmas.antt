@@ -37,7 +37,8 @@ lies_at M joint lies lies' end r column e =
 -- the sides of the row's arc: the parts at its first end and the first ends of its columns are on side true
 pub row_joined : (M : ℕ → ℕ → Bool) (m : Matrix) (joint : Joint) (old cleared with_parts new : ArcSides) → FitsJoint (height m) m.width joint → AreOff M joint → AreTablesOf m old
     → IsArcChanged (λ other. false) (λ end column. false) old cleared joint.row → AreChosen joint (is_at_first joint) joint.row (length joint.branches.items) cleared with_parts
-    → IsArcChanged (λ other. side_in with_parts joint.row other) (λ end column. end_in with_parts end joint.row column || (end && M joint.row column)) with_parts new joint.row → IsArcJoined M joint old new joint.row
+    → IsArcChanged (λ other. side_in with_parts joint.row other) (λ end column. end_in with_parts end joint.row column || (end && M joint.row column)) with_parts new joint.row
+    → IsArcJoined M joint old new joint.row
 row_joined M m joint old cleared with_parts new fits off tables a b d = record { arcs = arcs; ends = ends }
   where
     one : AreTablesOf m cleared
@@ -56,13 +57,15 @@ row_joined M m joint old cleared with_parts new fits off tables a b d = record {
         ∙ ap₂ (λ x y. x || y) (a.to_arcs s w) (chosen (number_at joint.part_of.items s) (λ p e. fits.row_parts s p e))
         ∙ sym (ap (λ (t : Bool). if t then branch_end joint (number_at joint.part_of.items s) else by_part M joint joint.row (reversed_side joint.row (side_in old) joint.row s) (number_at joint.part_of.items s)) (is_eq joint.row joint.row refl))
 
-    value : (end : Bool) (column : ℕ) (t : Bool) → M joint.row column ≡ t → (branch_end joint (number_at joint.part_with.items column) || (end && t)) ≡ (if t then end else column_half M joint.row (hanging_of joint) ((hanging_of joint).touched column))
+    value : (end : Bool) (column : ℕ) (t : Bool) → M joint.row column ≡ t
+        → (branch_end joint (number_at joint.part_with.items column) || (end && t)) ≡ (if t then end else column_half M joint.row (hanging_of joint) ((hanging_of joint).touched column))
     value true column true e = ap (λ (o : Option ℕ). branch_end joint o || true) (off column e)
     value false column true e = ap (λ (o : Option ℕ). branch_end joint o || false) (off column e)
     value true column false e = or_false (branch_end joint (number_at joint.part_with.items column)) ∙ sym (half_is M joint (number_at joint.part_with.items column))
     value false column false e = or_false (branch_end joint (number_at joint.part_with.items column)) ∙ sym (half_is M joint (number_at joint.part_with.items column))
 
-    ends : (end : Bool) (column : ℕ) → column < old.first.width → end_in new end joint.row column ≡ merged_lies M joint.row (hanging_of joint) (reversed_lies joint.row (side_in old) (end_in old)) end joint.row column
+    ends : (end : Bool) (column : ℕ) → column < old.first.width
+        → end_in new end joint.row column ≡ merged_lies M joint.row (hanging_of joint) (reversed_lies joint.row (side_in old) (end_in old)) end joint.row column
     ends end column w =
         d.to_ends end column (omega (arith, w, tables.first_width, two.first_width))
         ∙ ap (λ (z : Bool). z || (end && M joint.row column))
@@ -76,7 +79,8 @@ row_joined M m joint old cleared with_parts new fits off tables a b d = record {
 -- ---- an arc of another row
 
 -- the tables of the marks have the sizes of the tables of the sides
-pub line_for : (m : Matrix) (joint : Joint) (sides : ArcSides) (arc part : ℕ) → FitsJoint (height m) m.width joint → AreTablesOf m sides → arc < height m → part < length joint.branches.items → IsLineFor joint sides arc part
+pub line_for : (m : Matrix) (joint : Joint) (sides : ArcSides) (arc part : ℕ) → FitsJoint (height m) m.width joint → AreTablesOf m sides → arc < height m
+    → part < length joint.branches.items → IsLineFor joint sides arc part
 line_for m joint sides arc part fits tables l k = record {
   arcs = omega (arith, l, tables.arcs_height);
   first = omega (arith, l, tables.first_height);
@@ -90,7 +94,8 @@ line_for m joint sides arc part fits tables l k = record {
 }
 
 -- three rows that are filled change one arc
-pub changed_by : (old : ArcSides) (arcs first last : Grid) (row : ℕ) (to_arcs : ℕ → Bool) (to_ends : Bool → ℕ → Bool) → IsRowFilled to_arcs old.arcs arcs row old.arcs.width → IsRowFilled (to_ends true) old.first first row old.first.width
+pub changed_by : (old : ArcSides) (arcs first last : Grid) (row : ℕ) (to_arcs : ℕ → Bool) (to_ends : Bool → ℕ → Bool)
+    → IsRowFilled to_arcs old.arcs arcs row old.arcs.width → IsRowFilled (to_ends true) old.first first row old.first.width
     → IsRowFilled (to_ends false) old.last last row old.last.width → old.last.width ≡ old.first.width → IsArcChanged to_arcs to_ends old (record { arcs = arcs; first = first; last = last }) row
 changed_by old arcs first last row to_arcs to_ends a f l wide = record {
   sizes = λ m t. record {
@@ -121,7 +126,8 @@ filled_same values table row same = record {
   left = λ column l. refl;
 }
 
-pub filled_as : (values values' : ℕ → Bool) (old new : Grid) (row : ℕ) → ((column : ℕ) → values column ≡ values' column) → IsRowFilled values old new row old.width → IsRowFilled values' old new row old.width
+pub filled_as : (values values' : ℕ → Bool) (old new : Grid) (row : ℕ) → ((column : ℕ) → values column ≡ values' column)
+    → IsRowFilled values old new row old.width → IsRowFilled values' old new row old.width
 filled_as values values' old new row same f = record { rows = f.rows; done = λ column l w. f.done column l w ∙ same column; left = f.left }
 
 -- the parts that satisfy a test are added one after another
@@ -166,7 +172,8 @@ module _ (joint : Joint) (X : ℕ → Bool) (r : ℕ) where
   or_none true b d e x f g = refl
   or_none false b d e x f g = sym (f ∙ ap (λ (z : Bool). b || (z && d)) g ∙ or_false b)
 
-  pub part_chosen : (m : Matrix) (count : ℕ) (old now new : ArcSides) → FitsJoint (height m) m.width joint → AreTablesOf m old → AreTablesOf m now → count < length joint.branches.items → X count ≡ true → AreChosen joint X r count old now
+  pub part_chosen : (m : Matrix) (count : ℕ) (old now new : ArcSides) → FitsJoint (height m) m.width joint → AreTablesOf m old → AreTablesOf m now
+      → count < length joint.branches.items → X count ≡ true → AreChosen joint X r count old now
       → IsArcChanged (λ other. side_in now r other || cell joint.row_marks count other) (λ end column. end_in now end r column || cell joint.column_marks count column) now new r
       → AreChosen joint X r (count + 1) old new
   part_chosen m count old now new fits tables tables' l holds so step = record {
@@ -206,7 +213,8 @@ module _ (M : ℕ → ℕ → Bool) (joint : Joint) (r own : ℕ) where
   kept_or_hung false true within spot e = refl
   kept_or_hung same false within spot e = cc
 
-  all_sides : (count : ℕ) (within : Bool) (o : Option ℕ) → number_at joint.part_of.items r ≡ Some own → ((a : ℕ) → o ≡ Some a → a < count) → ((is_part own o && within) || hung M joint r own count o) ≡ by_part M joint r within o
+  all_sides : (count : ℕ) (within : Bool) (o : Option ℕ) → number_at joint.part_of.items r ≡ Some own → ((a : ℕ) → o ≡ Some a → a < count)
+      → ((is_part own o && within) || hung M joint r own count o) ≡ by_part M joint r within o
   all_sides count within None part range = refl
   all_sides count within (Some q) part range =
       kept_or_hung (q == own) (nat_lt q count) within (spot M joint.row (hanging_of joint) r q) (is_lt q count (range q refl))
@@ -234,10 +242,12 @@ module _ (M : ℕ → ℕ → Bool) (joint : Joint) (r own : ℕ) where
   unused_by false false true = refl
   unused_by false false false = refl
 
-  pub arc_joined : (m : Matrix) (reversed : Bool) (old kept with_hung new : ArcSides) → r ≢ joint.row → number_at joint.part_of.items r ≡ Some own → reversed ≡ side_in old r joint.row → FitsJoint (height m) m.width joint → AreOff M joint
+  pub arc_joined : (m : Matrix) (reversed : Bool) (old kept with_hung new : ArcSides) → r ≢ joint.row → number_at joint.part_of.items r ≡ Some own
+      → reversed ≡ side_in old r joint.row → FitsJoint (height m) m.width joint → AreOff M joint
       → AreTablesOf m old → own < length joint.branches.items
       → IsArcChanged (λ other. cell joint.row_marks own other && differ reversed (side_in old r other)) (λ end column. cell joint.column_marks own column && differ reversed (end_in old end r column)) old kept r
-      → AreHung M joint r own (length joint.branches.items) kept with_hung → IsArcChanged (λ other. side_in with_hung r other) (is_used M joint r own with_hung) with_hung new r → IsArcJoined M joint old new r
+      → AreHung M joint r own (length joint.branches.items) kept with_hung
+      → IsArcChanged (λ other. side_in with_hung r other) (is_used M joint r own with_hung) with_hung new r → IsArcJoined M joint old new r
   arc_joined m reversed old kept with_hung new apart part t fits off tables l k h u = record { arcs = arcs; ends = ends }
     where
       one : AreTablesOf m kept
@@ -256,7 +266,8 @@ module _ (M : ℕ → ℕ → Bool) (joint : Joint) (r own : ℕ) where
           ∙ ap (λ (b : Bool). by_part M joint r (differ b (side_in old r s)) o) t
           ∙ sym (ap (λ (b : Bool). if b then branch_end joint o else by_part M joint r (reversed_side joint.row (side_in old) r s) o) (is_ne r joint.row apart))
 
-      within : (end : Bool) (column : ℕ) → column < old.first.width → end_in with_hung end r column ≡ by_part M joint r (differ reversed (end_in old end r column)) (number_at joint.part_with.items column)
+      within : (end : Bool) (column : ℕ) → column < old.first.width
+          → end_in with_hung end r column ≡ by_part M joint r (differ reversed (end_in old end r column)) (number_at joint.part_with.items column)
       within end column w =
           let o = number_at joint.part_with.items column in
           h.to_ends end column (omega (arith, w, tables.first_width, one.first_width))
@@ -264,11 +275,13 @@ module _ (M : ℕ → ℕ → Bool) (joint : Joint) (r own : ℕ) where
           (k.to_ends end column w ∙ ap (λ (z : Bool). z && differ reversed (end_in old end r column)) (fits.column_marks.exact own column l (omega (arith, w, tables.first_width, fits.columns))))
           ∙ all_sides (length joint.branches.items) (differ reversed (end_in old end r column)) o part (λ a e. fits.column_parts column a e)
 
-      by_off : (value : Bool) (end : Bool) (column : ℕ) (o : Option ℕ) → by_part M joint r (differ (side_in old r joint.row) (end_in old end r column)) o ≡ end_off M joint.row (hanging_of joint) (reversed_lies joint.row (side_in old) (end_in old)) end r column o
+      by_off : (value : Bool) (end : Bool) (column : ℕ) (o : Option ℕ)
+          → by_part M joint r (differ (side_in old r joint.row) (end_in old end r column)) o ≡ end_off M joint.row (hanging_of joint) (reversed_lies joint.row (side_in old) (end_in old)) end r column o
       by_off value end column None = refl
       by_off value end column (Some q) = refl
 
-      ends : (end : Bool) (column : ℕ) → column < old.first.width → end_in new end r column ≡ merged_lies M joint.row (hanging_of joint) (reversed_lies joint.row (side_in old) (end_in old)) end r column
+      ends : (end : Bool) (column : ℕ) → column < old.first.width
+          → end_in new end r column ≡ merged_lies M joint.row (hanging_of joint) (reversed_lies joint.row (side_in old) (end_in old)) end r column
       ends end column w = u.to_ends end column (omega (arith, w, tables.first_width, two.first_width)) ∙ ap (λ (z : Bool). z || (not (differ end (branch_at joint.branches.items own).end) && (M r column && M joint.row column))) (within end column w)
           ∙ by_row (two_cases (M joint.row column))
         where
@@ -303,8 +316,10 @@ module _ (M : ℕ → ℕ → Bool) (joint : Joint) (r own : ℕ) where
       turns : (x : Bool) → not x ≡ differ reversed x
       turns x = sym (ap (λ t. differ t x) e)
 
-  pub part_stays : (m : Matrix) (old : ArcSides) (first last : Grid) (reversed : Bool) → reversed ≡ false → reversed ≡ side_in old r joint.row → number_at joint.part_of.items r ≡ Some own → FitsJoint (height m) m.width joint → AreOff M joint → AreTablesOf m old
-      → IsClearBeside M joint old r → IsRowFilled (λ column. cell old.first r column && not (M joint.row column)) old.first first r old.first.width → IsRowFilled (λ column. cell old.last r column && not (M joint.row column)) old.last last r old.last.width
+  pub part_stays : (m : Matrix) (old : ArcSides) (first last : Grid) (reversed : Bool) → reversed ≡ false → reversed ≡ side_in old r joint.row
+      → number_at joint.part_of.items r ≡ Some own → FitsJoint (height m) m.width joint → AreOff M joint → AreTablesOf m old
+      → IsClearBeside M joint old r → IsRowFilled (λ column. cell old.first r column && not (M joint.row column)) old.first first r old.first.width
+      → IsRowFilled (λ column. cell old.last r column && not (M joint.row column)) old.last last r old.last.width
       → own < length joint.branches.items
       → IsArcChanged (λ other. cell joint.row_marks own other && differ reversed (side_in old r other)) (λ end column. cell joint.column_marks own column && differ reversed (end_in old end r column)) old (record { arcs = old.arcs; first = first; last = last }) r
   part_stays m old first last reversed e is_side part fits off tables clear f l inside =
@@ -326,7 +341,8 @@ module _ (M : ℕ → ℕ → Bool) (joint : Joint) (r own : ℕ) where
           mark : cell joint.row_marks own other ≡ is_part own (number_at joint.part_of.items other)
           mark = fits.row_marks.exact own other inside (omega (arith, w, tables.arcs_width, fits.rows))
 
-          go : (is_part own (number_at joint.part_of.items other) ≡ true) ⊎ (is_part own (number_at joint.part_of.items other) ≡ false) → cell old.arcs r other ≡ (cell joint.row_marks own other && differ reversed (side_in old r other))
+          go : (is_part own (number_at joint.part_of.items other) ≡ true) ⊎ (is_part own (number_at joint.part_of.items other) ≡ false)
+              → cell old.arcs r other ≡ (cell joint.row_marks own other && differ reversed (side_in old r other))
           go (inl q) = sym (ap (λ t. t && differ reversed (side_in old r other)) (mark ∙ q) ∙ same (side_in old r other))
           go (inr q) = at (same_or_not other joint.row) ∙ sym (ap (λ t. t && differ reversed (side_in old r other)) (mark ∙ q))
             where
@@ -369,7 +385,8 @@ joined_stays M joint old r a b k h = record {
 }
 
 -- joined from a later state in which the arc is unchanged
-pub joined_from : (M : ℕ → ℕ → Bool) (joint : Joint) (m : Matrix) (old now new : ArcSides) (r : ℕ) → AreTablesOf m old → AreTablesOf m now → KeepsRow old now r → IsArcJoined M joint now new r → IsArcJoined M joint old new r
+pub joined_from : (M : ℕ → ℕ → Bool) (joint : Joint) (m : Matrix) (old now new : ArcSides) (r : ℕ) → AreTablesOf m old → AreTablesOf m now → KeepsRow old now r
+    → IsArcJoined M joint now new r → IsArcJoined M joint old new r
 joined_from M joint m old now new r a b k h = record {
   arcs = λ s l. h.arcs s (let e = a.arcs_width in let f = b.arcs_width in omega arith)
       ∙ ap (λ (z : Bool). if r == joint.row then branch_end joint (number_at joint.part_of.items s) else by_part M joint r z (number_at joint.part_of.items s))

@@ -24,7 +24,8 @@ module _ (M : ℕ → ℕ → Bool) (rows : List ℕ) where
     from = λ p c l. absurd (omega arith);
   }
 
-  pub columns_of_more : (place : ℕ) (columns columns' : ℕ → Bool) → AreColumnsOf M rows place columns → ((c : ℕ) → columns' c ≡ (columns c || M (get_or rows place 0) c)) → AreColumnsOf M rows (place + 1) columns'
+  pub columns_of_more : (place : ℕ) (columns columns' : ℕ → Bool) → AreColumnsOf M rows place columns
+      → ((c : ℕ) → columns' c ≡ (columns c || M (get_or rows place 0) c)) → AreColumnsOf M rows (place + 1) columns'
   columns_of_more place columns columns' so more = record {
     into = λ c e. elim (or_is (columns c) (M (get_or rows place 0) c) (sym (more c) ∙ e)) [
       | inl f ↦ let q = so.into c f in let l = q.1 in (q.0, omega arith, q.2)
@@ -40,7 +41,8 @@ module _ (M : ℕ → ℕ → Bool) (rows : List ℕ) where
           ap (λ t. columns c || t) (ap (λ (z : ℕ). M (get_or rows z 0) c) (sym e) ∙ on) ∙ or_true (columns c)
 
 -- one more part
-pub sets_more : (M : ℕ → ℕ → Bool) (n : ℕ) (parts : List (List ℕ)) (count : ℕ) (sets : List Bits) (set : Bits) → AreColumnsOfParts M n parts count sets → IsSetOfPart M n (slice_index_or parts count []) set
+pub sets_more : (M : ℕ → ℕ → Bool) (n : ℕ) (parts : List (List ℕ)) (count : ℕ) (sets : List Bits) (set : Bits) → AreColumnsOfParts M n parts count sets
+    → IsSetOfPart M n (slice_index_or parts count []) set
     → AreColumnsOfParts M n parts (count + 1) (sets ++ set ∷ [])
 sets_more M n parts count sets set so here = record {
   many = length-append sets (set ∷ []) ∙ ap (λ (z : ℕ). z + 1) so.many;
@@ -163,10 +165,12 @@ pub record IsMarkedTo (numbers : List (Option ℕ)) (count upto : ℕ) (marks : 
   pub done : (part line : ℕ) → part < count → line < upto → cell marks part line ≡ is_part part (number_at numbers line)
   pub left : (part line : ℕ) → upto ≤ line → cell marks part line ≡ false
 
-pub none_marked : (numbers : List (Option ℕ)) (count : ℕ) (marks : Grid) → marks.height ≡ count → marks.width ≡ length numbers → ((part line : ℕ) → cell marks part line ≡ false) → IsMarkedTo numbers count 0 marks
+pub none_marked : (numbers : List (Option ℕ)) (count : ℕ) (marks : Grid) → marks.height ≡ count → marks.width ≡ length numbers
+    → ((part line : ℕ) → cell marks part line ≡ false) → IsMarkedTo numbers count 0 marks
 none_marked numbers count marks tall wide none = record { tall = tall; wide = wide; done = λ part line l m. absurd (omega arith); left = λ part line l. none part line }
 
-pub marked_more : (numbers : List (Option ℕ)) (count line number : ℕ) (old new : Grid) → number_at numbers line ≡ Some number → IsMarkedTo numbers count line old → IsCellSet old new number line true → IsMarkedTo numbers count (line + 1) new
+pub marked_more : (numbers : List (Option ℕ)) (count line number : ℕ) (old new : Grid) → number_at numbers line ≡ Some number
+    → IsMarkedTo numbers count line old → IsCellSet old new number line true → IsMarkedTo numbers count (line + 1) new
 marked_more numbers count line number old new e so s = record {
   tall = s.rows.height ∙ so.tall;
   wide = s.rows.width ∙ so.wide;

@@ -262,7 +262,8 @@ module _ (M : ℕ → ℕ → Bool) (i : ℕ) (R : ℕ → Type 0) (hanging : Ha
   meet_arc : (e : Bool) (s c : ℕ) → s ≢ i → (cond (M i c) e (end_half c) ≡ half (part s)) ⊎ (merged_lies e s c ≡ false)
   meet_arc e s c n = go (two_cases (M i c)) (two_cases (touches c)) (bool_same e (half (part s))) (same_or_not (part s) (at c)) (bool_same (half (part s)) (half (at c)))
     where
-      go : (M i c ≡ true) ⊎ (M i c ≡ false) → (touches c ≡ true) ⊎ (touches c ≡ false) → (e ≡ half (part s)) ⊎ (e ≡ not (half (part s))) → (part s ≡ at c) ⊎ (part s ≢ at c) → (half (part s) ≡ half (at c)) ⊎ (half (part s) ≡ not (half (at c)))
+      go : (M i c ≡ true) ⊎ (M i c ≡ false) → (touches c ≡ true) ⊎ (touches c ≡ false) → (e ≡ half (part s)) ⊎ (e ≡ not (half (part s)))
+          → (part s ≡ at c) ⊎ (part s ≢ at c) → (half (part s) ≡ half (at c)) ⊎ (half (part s) ≡ not (half (at c)))
           → (cond (M i c) e (end_half c) ≡ half (part s)) ⊎ (merged_lies e s c ≡ false)
       go (inl w) t (inl k) q d = inl (ap (λ (z : Bool). cond z e (end_half c)) w ∙ k)
       go (inl w) t (inr k) q d = inr (lies_far e s c n w k)
@@ -290,7 +291,8 @@ module _ (M : ℕ → ℕ → Bool) (i : ℕ) (R : ℕ → Type 0) (hanging : Ha
   meet_two : (e : Bool) (r s c : ℕ) → R r → r ≢ i → R s → s ≢ i → part r ≢ part s → (merged_lies e r c ≡ spot r (part s)) ⊎ (merged_lies e s c ≡ spot s (part r))
   meet_two e r s c hr nr hs ns k = go (two_cases (M i c)) (two_cases (touches c)) (bool_same e (half (part s))) (bool_same (half (part r)) (half (part s))) (same_or_not (part s) (at c)) (same_or_not (part r) (at c))
     where
-      go : (M i c ≡ true) ⊎ (M i c ≡ false) → (touches c ≡ true) ⊎ (touches c ≡ false) → (e ≡ half (part s)) ⊎ (e ≡ not (half (part s))) → (half (part r) ≡ half (part s)) ⊎ (half (part r) ≡ not (half (part s)))
+      go : (M i c ≡ true) ⊎ (M i c ≡ false) → (touches c ≡ true) ⊎ (touches c ≡ false) → (e ≡ half (part s)) ⊎ (e ≡ not (half (part s)))
+          → (half (part r) ≡ half (part s)) ⊎ (half (part r) ≡ not (half (part s)))
           → (part s ≡ at c) ⊎ (part s ≢ at c) → (part r ≡ at c) ⊎ (part r ≢ at c) → (merged_lies e r c ≡ spot r (part s)) ⊎ (merged_lies e s c ≡ spot s (part r))
       go (inl w) t (inl d) (inl f) q p = either (merged_lies e r c) (M r c) (spot r (part s)) (spot r (part s)) (merged_lies e s c) (M s c) (spot s (part r)) (spot s (part r))
           (lies_near e r c nr w (d ∙ sym f)) refl (lies_near e s c ns w d) refl (two_w r s c hr nr hs ns k f w)
@@ -329,7 +331,8 @@ module _ (M : ℕ → ℕ → Bool) (i : ℕ) (R : ℕ → Type 0) (hanging : Ha
       right true = refl
       right false = refl
 
-      go : (r ≡ i) ⊎ (r ≢ i) → (M i c ≡ true) ⊎ (M i c ≡ false) → (touches c ≡ true) ⊎ (touches c ≡ false) → (part r ≡ at c) ⊎ (part r ≢ at c) → (M r c ≡ true) ⊎ (M r c ≡ false) → (half (part r) ≡ true) ⊎ (half (part r) ≡ false)
+      go : (r ≡ i) ⊎ (r ≢ i) → (M i c ≡ true) ⊎ (M i c ≡ false) → (touches c ≡ true) ⊎ (touches c ≡ false) → (part r ≡ at c) ⊎ (part r ≢ at c)
+          → (M r c ≡ true) ⊎ (M r c ≡ false) → (half (part r) ≡ true) ⊎ (half (part r) ≡ false)
           → M r c ≡ differ (merged_lies true r c) (merged_lies false r c)
       go (inl a) w t q u d = join (cond (M i c) true (end_half c)) (cond (M i c) false (end_half c)) (lies_arc true r c a) (lies_arc false r c a)
           (ap (λ (z : ℕ). M z c) a ∙ plain (M i c) (end_half c))
@@ -364,7 +367,8 @@ module _ (M : ℕ → ℕ → Bool) (i : ℕ) (R : ℕ → Type 0) (hanging : Ha
   three_other : (r s t : ℕ) → R r → r ≢ i → R s → s ≢ i → R t → t ≢ i → r ≢ s → r ≢ t → s ≢ t → (merged_side r t ≡ merged_side r s) ⊎ (merged_side s t ≡ merged_side s r)
   three_other r s t hr nr hs ns ht nt rs rt st = go (same_or_not (part r) (part s)) (same_or_not (part t) (part s)) (same_or_not (part t) (part r))
     where
-      go : (part r ≡ part s) ⊎ (part r ≢ part s) → (part t ≡ part s) ⊎ (part t ≢ part s) → (part t ≡ part r) ⊎ (part t ≢ part r) → (merged_side r t ≡ merged_side r s) ⊎ (merged_side s t ≡ merged_side s r)
+      go : (part r ≡ part s) ⊎ (part r ≢ part s) → (part t ≡ part s) ⊎ (part t ≢ part s) → (part t ≡ part r) ⊎ (part t ≢ part r)
+          → (merged_side r t ≡ merged_side r s) ⊎ (merged_side s t ≡ merged_side s r)
       go (inl k) (inl q) p = either (merged_side r t) (side r t) (merged_side r s) (side r s) (merged_side s t) (side s t) (merged_side s r) (side s r)
           (side_same r t nr nt (k ∙ sym q)) (side_same r s nr ns k) (side_same s t ns nt (sym q)) (side_same s r ns nr (sym k)) ((H (part s)).cuts.three r s t (hr, nr, k) (hs, ns, refl) (ht, nt, q) rs rt st)
       go (inl k) (inr q) p = either (merged_side r t) (spot r (part t)) (merged_side r s) (side r s) (merged_side s t) (spot s (part t)) (merged_side s r) (side s r)

@@ -53,7 +53,9 @@ module _ (M : ℕ → ℕ → Bool) (S : List ℕ) (K : HasCuts M (λ r. IsIn r 
       whole : (a : ℕ) → a < length cycle → IsWholePart M S i (slice_index_or cycle a [])
       whole a l = is_whole M S i (slice_index_or cycle a []) (O.parts a l)
 
-      turn : (a b : ℕ) → a < length cycle → b < length cycle → (slice_index_or cycle a [] ≢ slice_index_or cycle b []) × (¬ (Agree M i (slice_index_or cycle a []) (slice_index_or cycle b []))) → side_at a ≡ not (side_at b)
+      turn : (a b : ℕ) → a < length cycle → b < length cycle
+          → (slice_index_or cycle a [] ≢ slice_index_or cycle b []) × (¬ (Agree M i (slice_index_or cycle a []) (slice_index_or cycle b [])))
+          → side_at a ≡ not (side_at b)
       turn a b la lb d = other_side (slice_index_or cycle a []) (slice_index_or cycle b []) (whole a la) (whole b lb) d.0 d.1
           (slice_index_or (slice_index_or cycle a []) 0 0) (slice_index_or (slice_index_or cycle b []) 0 0) (whole a la).first (whole b lb).first
 

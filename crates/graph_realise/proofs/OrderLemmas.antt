@@ -22,7 +22,8 @@ module _ (M : ℕ → ℕ → Bool) (m : ℕ) (side : ℕ → ℕ → Bool) (lie
   clear : (h x y : ℕ) → h < m → x < m → y < m → h ≢ x → x ≢ y → h ≢ y → beyond side lies x y ≡ true → beyond side lies h y ≡ false → beyond side lies h x ≡ false
   clear h x y lh lx ly hx xy hy e f = through (three_beyond M m side lies K h x y lh lx ly hx hy xy) (root_beyond M m side lies K h x lh lx hx)
     where
-      through : (beyond side lies h y ≡ beyond side lies h x) ⊎ (beyond side lies x y ≡ beyond side lies x h) → (beyond side lies h x ≡ false) ⊎ (beyond side lies x h ≡ false) → beyond side lies h x ≡ false
+      through : (beyond side lies h y ≡ beyond side lies h x) ⊎ (beyond side lies x y ≡ beyond side lies x h)
+          → (beyond side lies h x ≡ false) ⊎ (beyond side lies x h ≡ false) → beyond side lies h x ≡ false
       through (inl a) q = sym a ∙ f
       through (inr a) (inl b) = b
       through (inr a) (inr b) = absurd (not_both (beyond side lies x y) e (a ∙ b))

@@ -112,7 +112,8 @@ module _ (M : ℕ → ℕ → Bool) (m n : ℕ) (short : (r c : ℕ) → M r c �
     few = omega (arith, J.few, J.branches.many);
   }
     where
-      touched_in : (column a : ℕ) → number_at joint.part_with.items column ≡ Some a → IsPartWith M S joint.part_of.items column (number_at joint.part_with.items column) → a < length joint.branches.items
+      touched_in : (column a : ℕ) → number_at joint.part_with.items column ≡ Some a
+          → IsPartWith M S joint.part_of.items column (number_at joint.part_with.items column) → a < length joint.branches.items
       touched_in column a e (inl h) = absurd (no_number (number_at joint.part_with.items column) a h.1 e)
       touched_in column a e (inr h) = let l = (J.numbered.only a h.0 (sym h.3 ∙ e)).0 in let k = J.branches.many in omega arith
 
@@ -145,7 +146,8 @@ module _ (M : ℕ → ℕ → Bool) (m n : ℕ) (short : (r c : ℕ) → M r c �
     columns = λ r c hr nr off on. elim (touched_at c) [ inl used ↦ absurd (not_both (M i c) used.0 off) | inr with_part ↦ column r c hr nr off on with_part.1 ];
   }
     where
-      share : (a : ℕ) → (a < length parts) ⊎ (length parts ≤ a) → MatchOption (branch_at joint.branches.items a).common ((c : ℕ) → ¬ (IsCommon M i (slice_index_or parts a []) c)) (IsCommon M i (slice_index_or parts a []))
+      share : (a : ℕ) → (a < length parts) ⊎ (length parts ≤ a)
+          → MatchOption (branch_at joint.branches.items a).common ((c : ℕ) → ¬ (IsCommon M i (slice_index_or parts a []) c)) (IsCommon M i (slice_index_or parts a []))
       share a (inl l) = (J.branches.each a l).common
       share a (inr l) =
           rw (get_or_past joint.branches.items a (record { end = false; weight = 0; common = None }) (let k = J.branches.many in omega arith), get_or_past parts a [] l)
@@ -260,7 +262,8 @@ module _ (M : ℕ → ℕ → Bool) (m n : ℕ) (short : (r c : ℕ) → M r c �
             not_with s n o (inl q) = n q
             not_with s n o (inr q) = o (q ∙ sym (of_part r here_too))
 
-            zero : (c : ℕ) → M joint.row c ≡ false → number_at joint.part_with.items c ≢ number_at joint.part_of.items r → (x : ℕ) (t : Bool) → M x c ≡ t → (x ≡ i) ⊎ IsIn x (slice_index_or parts a []) → M x c ≡ false
+            zero : (c : ℕ) → M joint.row c ≡ false → number_at joint.part_with.items c ≢ number_at joint.part_of.items r → (x : ℕ) (t : Bool) → M x c ≡ t
+                → (x ≡ i) ⊎ IsIn x (slice_index_or parts a []) → M x c ≡ false
             zero c off o x t f (inl q) = ap (λ (z : ℕ). M z c) (q ∙ sym J.row) ∙ off
             zero c off o x false f (inr h) = f
             zero c off o x true f (inr h) =
@@ -361,7 +364,8 @@ module _ (M : ℕ → ℕ → Bool) (m n : ℕ) (short : (r c : ℕ) → M r c �
         unnamed c none (inr (off, inl h)) = h.1
         unnamed c none (inr (off, inr (x, hx, on, e))) = absurd (not_both (M x c) on (none x hx))
 
-        away : (end : Bool) (r c : ℕ) → M i c ≡ false → number_at joint.part_with.items c ≡ None → (r ≡ i) ⊎ (r ≢ i) → merged_lies M i (hanging_of joint) (reversed_lies i (side_in old) (end_in old)) end r c ≡ false
+        away : (end : Bool) (r c : ℕ) → M i c ≡ false → number_at joint.part_with.items c ≡ None → (r ≡ i) ⊎ (r ≢ i)
+            → merged_lies M i (hanging_of joint) (reversed_lies i (side_in old) (end_in old)) end r c ≡ false
         away end r c off none (inl a) = rw (is_eq r i a, off, none) refl
         away end r c off none (inr a) = rw (is_ne r i a, off, none) refl
 

@@ -31,7 +31,8 @@ first_is M (r ∷ rows) row column h e = go (M r column) refl h (λ q. first_is 
 end_is : (M : ℕ → ℕ → Bool) (rows : List ℕ) (row : ℕ) (end : Bool) (column : ℕ) → IsIn row rows → star_end M rows row end column ≡ star_lies M rows end row column
 end_is M rows row end column h = go (M row column) refl end
   where
-    go : (t : Bool) → M row column ≡ t → (end : Bool) → (t && (if end then is_first M rows row column else not (is_first M rows row column))) ≡ cond t (not (differ end (nat_eq row (lead M rows column)))) false
+    go : (t : Bool) → M row column ≡ t → (end : Bool)
+        → (t && (if end then is_first M rows row column else not (is_first M rows row column))) ≡ cond t (not (differ end (nat_eq row (lead M rows column)))) false
     go true e true = first_is M rows row column h e ∙ sym (not_not (nat_eq row (lead M rows column)))
     go true e false = ap not (first_is M rows row column h e)
     go false e end = refl
@@ -81,7 +82,8 @@ module _ (M : ℕ → ℕ → Bool) where
       go false f more = more
 
   -- the ray drawn by `seen` is the ray of the star
-  pub ray_after : (S : List ℕ) (p : ℕ) (seen : ℕ → Bool) (sides : ArcSides) → IsStrictlyIncreasing S → p < length S → AreSeen M S p seen → IsRayAfter M seen (get_or S p 0) sides → IsRay M S (get_or S p 0) sides
+  pub ray_after : (S : List ℕ) (p : ℕ) (seen : ℕ → Bool) (sides : ArcSides) → IsStrictlyIncreasing S → p < length S → AreSeen M S p seen
+      → IsRayAfter M seen (get_or S p 0) sides → IsRay M S (get_or S p 0) sides
   ray_after S p seen sides increases l were ray = record {
     arcs = ray.arcs;
     ends = λ end c. ray.ends end c ∙ pick end c (M (get_or S p 0) c) refl;
@@ -102,7 +104,8 @@ module _ (M : ℕ → ℕ → Bool) where
       twice true = refl
       twice false = refl
 
-      pick : (end : Bool) (c : ℕ) (t : Bool) → M (get_or S p 0) c ≡ t → (t && (if end then not (seen c) else seen c)) ≡ (t && (if end then is_first M S (get_or S p 0) c else not (is_first M S (get_or S p 0) c)))
+      pick : (end : Bool) (c : ℕ) (t : Bool) → M (get_or S p 0) c ≡ t
+          → (t && (if end then not (seen c) else seen c)) ≡ (t && (if end then is_first M S (get_or S p 0) c else not (is_first M S (get_or S p 0) c)))
       pick true c true e = sym (first c e)
       pick false c true e = twice (seen c) ∙ ap not (sym (first c e))
       pick end c false e = refl

@@ -181,4 +181,5 @@ module _ (M : ℕ → ℕ → Bool) (joint : Joint) where
   -- the sides of arc r in the tree of all rows
   pub record IsArcJoined (old new : ArcSides) (r : ℕ) : Type 0 where
     pub arcs : (s : ℕ) → s < old.arcs.width → side_in new r s ≡ joined_side old r s
-    pub ends : (end : Bool) (column : ℕ) → column < old.first.width → end_in new end r column ≡ merged_lies M joint.row (hanging_of joint) (reversed_lies joint.row (side_in old) (end_in old)) end r column
+    pub ends : (end : Bool) (column : ℕ) → column < old.first.width
+        → end_in new end r column ≡ merged_lies M joint.row (hanging_of joint) (reversed_lies joint.row (side_in old) (end_in old)) end r column

@@ -30,7 +30,8 @@ last_word : (size : ℕ) (edges : Edges) (tail : NodeWord) (head : Result NodeWo
 last_word size edges tail (Ok x) = refl
 last_word size edges tail (Err e) = refl
 
-whole_edge : (size : ℕ) (edges : Edges) (tail : NodeWord) (name : ℕ × List ℕ) (words : List (ℕ × List ℕ)) (head : Result NodeWord (Fault GraphKind)) (element : Result Element (Fault GraphKind)) → placed name.0 (element_in edges name.1) ≡ element
+whole_edge : (size : ℕ) (edges : Edges) (tail : NodeWord) (name : ℕ × List ℕ) (words : List (ℕ × List ℕ)) (head : Result NodeWord (Fault GraphKind)) (element : Result Element (Fault GraphKind))
+    → placed name.0 (element_in edges name.1) ≡ element
     → (head >>= λ (last : NodeWord). placed name.0 (element_in edges name.1) >>= λ (e : Element). edges_from size (with_edge edges e (record { tail = tail; head = last })) words)
     ≡ (((head >>= λ (node : NodeWord). Ok (node, record { size = size; words = name ∷ words })) >>= λ (h : NodeWord × Text). field Short (element_in edges) h.1 >>= λ (element : Element × Text). Ok ((element.0, record { tail = tail; head = h.0 }), element.1)) >>= and_more size edges)
 whole_edge size edges tail name words (Ok x) (Ok e) is = rw is refl
@@ -77,7 +78,8 @@ module _ (size : ℕ) (edges : Edges) (word : ℕ × List ℕ) (text : Text) (ta
   edge_fails (errors.Fault kind place) fails = sym after ∙ ap (λ (r : Result Rest (Fault GraphKind)). r >>= and_more size edges) fails
 
 -- the number of edges is within the limits
-pub edges_few : (edges : Edges) (element : Element) (edge : Edge) → length edges.rows ≤ 1000 → length edges.columns ≤ 1000 → (element ≡ Row → length edges.rows < 1000) → (element ≡ Column → length edges.columns < 1000)
+pub edges_few : (edges : Edges) (element : Element) (edge : Edge) → length edges.rows ≤ 1000 → length edges.columns ≤ 1000
+    → (element ≡ Row → length edges.rows < 1000) → (element ≡ Column → length edges.columns < 1000)
     → (length (with_edge edges element edge).rows ≤ 1000) × (length (with_edge edges element edge).columns ≤ 1000)
 edges_few edges Row edge rows columns row column = (let h = row refl in omega (arith, h, length_push edges.rows edge), columns)
 edges_few edges Column edge rows columns row column = (rows, let h = column refl in omega (arith, h, length_push edges.columns edge))

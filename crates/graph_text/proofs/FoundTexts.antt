@@ -109,11 +109,13 @@ one_found edges total a b c words edge Column tail_is head_is next later =
       late = λ l. (refl, refl);
     }
 
-still_few : (edges : Edges) (name : List ℕ) (element : Element) (edge : Edge) → length edges.rows ≤ 1000 → length edges.columns ≤ 1000 → IsNext edges name element → (length (with_edge edges element edge).rows ≤ 1000) × (length (with_edge edges element edge).columns ≤ 1000)
+still_few : (edges : Edges) (name : List ℕ) (element : Element) (edge : Edge) → length edges.rows ≤ 1000 → length edges.columns ≤ 1000
+    → IsNext edges name element → (length (with_edge edges element edge).rows ≤ 1000) × (length (with_edge edges element edge).columns ≤ 1000)
 still_few edges name Row edge rows columns next = (let l = next.2 in omega (arith, l, length_push edges.rows edge), columns)
 still_few edges name Column edge rows columns next = (rows, let l = next.1 in omega (arith, l, length_push edges.columns edge))
 
-found_edges : (size : ℕ) (edges : Edges) (words : List (ℕ × List ℕ)) (total : Edges) → length edges.rows ≤ 1000 → length edges.columns ≤ 1000 → edges_from size edges words ≡ Ok total → AreFound edges total words
+found_edges : (size : ℕ) (edges : Edges) (words : List (ℕ × List ℕ)) (total : Edges) → length edges.rows ≤ 1000 → length edges.columns ≤ 1000
+    → edges_from size edges words ≡ Ok total → AreFound edges total words
 found_edges size edges [] total rows columns h =
     let e = ok_same edges total h in
     record {
@@ -158,7 +160,9 @@ nodes_in last (edge ∷ edges) x h k l =
     let b = bind_ok (node_within last edge.head) (λ (_ : Unit {0}). all_within last edges) x a.2 in
     go k l (node_in last edge.tail a.0 a.1, node_in last edge.head b.0 b.1) (nodes_in last edges x b.2)
   where
-    go : (k : ℕ) → k < length (edge ∷ edges) → ((edge.tail).number ≤ last) × ((edge.head).number ≤ last) → ((i : ℕ) → i < length edges → (tail (map ends edges) i ≤ last) × (head (map ends edges) i ≤ last)) → (tail (map ends (edge ∷ edges)) k ≤ last) × (head (map ends (edge ∷ edges)) k ≤ last)
+    go : (k : ℕ) → k < length (edge ∷ edges) → ((edge.tail).number ≤ last) × ((edge.head).number ≤ last)
+        → ((i : ℕ) → i < length edges → (tail (map ends edges) i ≤ last) × (head (map ends edges) i ≤ last))
+        → (tail (map ends (edge ∷ edges)) k ≤ last) × (head (map ends (edge ∷ edges)) k ≤ last)
     go zero l here others = here
     go (suc k) l here others = others k (omega (arith, l))
 

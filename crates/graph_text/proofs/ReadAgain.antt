@@ -112,7 +112,8 @@ within last (edge ∷ edges) each =
     let two : leb (edge.head).number last ≡ true = le-leb (edge.head).number last here.1 in
     rw (one, two) (within last edges (λ k l. each (suc k) (omega (arith, l))))
 
-same_net : (net : SizedNetwork) (edges : Edges) → map ends edges.rows ≡ net.net.arcs → map ends edges.columns ≡ net.net.walks → length edges.rows ≡ net.rows → length edges.columns ≡ net.columns → sized edges ≡ net
+same_net : (net : SizedNetwork) (edges : Edges) → map ends edges.rows ≡ net.net.arcs → map ends edges.columns ≡ net.net.walks → length edges.rows ≡ net.rows
+    → length edges.columns ≡ net.columns → sized edges ≡ net
 same_net net edges arcs walks rows columns = rw (arcs, walks, rows, columns) refl
 
 -- the words of a graph text are read as its network

@@ -43,6 +43,7 @@ least_found m number columns small before least = record {
   ];
 }
 
-pub row_set_of : {E : Type 0} (m : Matrix) (number : ℕ) (set : List ℕ) (result : Result (List ℕ) E) → set ≡ set_numbered (height m) 0 number → IfOk result (λ rows. rows ≡ set) → IfOk result (IsRowSet m)
+pub row_set_of : {E : Type 0} (m : Matrix) (number : ℕ) (set : List ℕ) (result : Result (List ℕ) E) → set ≡ set_numbered (height m) 0 number
+    → IfOk result (λ rows. rows ≡ set) → IfOk result (IsRowSet m)
 row_set_of m number set (Ok rows) is same = subst (IsRowSet m) (sym (same ∙ is)) (row_set-numbered m number)
 row_set_of m number set (Err e) is same = tt

@@ -35,7 +35,8 @@ pushed_length xs ys x e = ap (λ (z : List ℕ). length z) e ∙ length-append x
 -- ---- the number of lines outside
 
 -- one line fewer
-left_less : (before after : ℕ → Bool) (line count : ℕ) → line < count → before line ≡ false → after line ≡ true → ((x : ℕ) → before x ≡ true → after x ≡ true) → ((x : ℕ) → after x ≡ true → (x ≡ line) ⊎ (before x ≡ true))
+left_less : (before after : ℕ → Bool) (line count : ℕ) → line < count → before line ≡ false → after line ≡ true → ((x : ℕ) → before x ≡ true → after x ≡ true)
+    → ((x : ℕ) → after x ≡ true → (x ≡ line) ⊎ (before x ≡ true))
     → number_of_lines (λ x. not (before x)) count ≡ suc (number_of_lines (λ x. not (after x)) count)
 left_less before after line count l out here kept only =
     count_more line (λ x. not (before x)) count l (ap not out)
@@ -187,7 +188,8 @@ module _ (lines : Growth) (chunk word : ℕ) (is : (k : ℕ) → k < 64 → has_
   other_out k l e = not_is (is_inside lines (64 * chunk + k)) (sym (is k l) ∙ (sym (bit_in word k l) ∙ e))
 
   -- the lines before the next bit are inside
-  pub others_in : (first next : ℕ) → next ≤ 64 → ((k : ℕ) → first ≤ k → k < next → has_column (word ∷ []) k ≡ false) → (x : ℕ) → 64 * chunk + first ≤ x → x < 64 * chunk + next → is_inside lines x ≡ true
+  pub others_in : (first next : ℕ) → next ≤ 64 → ((k : ℕ) → first ≤ k → k < next → has_column (word ∷ []) k ≡ false) → (x : ℕ) → 64 * chunk + first ≤ x
+      → x < 64 * chunk + next → is_inside lines x ≡ true
   others_in first next most none x low high = at (x - 64 * chunk) (omega arith)
     where
       at : (k : ℕ) → 64 * chunk + k ≡ x → is_inside lines x ≡ true
@@ -195,7 +197,8 @@ module _ (lines : Growth) (chunk word : ℕ) (is : (k : ℕ) → k < 64 → has_
           (not_false (is_inside lines (64 * chunk + k)) (sym (is k (omega arith)) ∙ (sym (bit_in word k (omega arith)) ∙ none k (omega arith) (omega arith))))
 
 -- the bits up to the next bit are inside
-pub found_until : (bits : List ℕ) (lines after : Growth) (first from next : ℕ) → ((line : ℕ) → is_inside lines line ≡ true → is_inside after line ≡ true) → ((k : ℕ) → k < from → has_column bits k ≡ true → is_inside lines (first + k) ≡ true)
+pub found_until : (bits : List ℕ) (lines after : Growth) (first from next : ℕ) → ((line : ℕ) → is_inside lines line ≡ true → is_inside after line ≡ true)
+    → ((k : ℕ) → k < from → has_column bits k ≡ true → is_inside lines (first + k) ≡ true)
     → ((k : ℕ) → from ≤ k → k < next → has_column bits k ≡ false) → is_inside after (first + next) ≡ true → (k : ℕ) → k < next + 1 → has_column bits k ≡ true → is_inside after (first + k) ≡ true
 found_until bits lines after first from next kept before none here k l e = elim (cases_lt k from) [
   | inl h ↦ kept (first + k) (before k h e)
@@ -206,7 +209,8 @@ found_until bits lines after first from next kept before none here k l e = elim 
 ]
 
 -- at the end all bits are inside
-pub found_all : (bits : List ℕ) (lines : Growth) (first from : ℕ) → ((k : ℕ) → k < from → has_column bits k ≡ true → is_inside lines (first + k) ≡ true) → ((k : ℕ) → from ≤ k → has_column bits k ≡ false) → (k : ℕ) → has_column bits k ≡ true
+pub found_all : (bits : List ℕ) (lines : Growth) (first from : ℕ) → ((k : ℕ) → k < from → has_column bits k ≡ true → is_inside lines (first + k) ≡ true)
+    → ((k : ℕ) → from ≤ k → has_column bits k ≡ false) → (k : ℕ) → has_column bits k ≡ true
     → is_inside lines (first + k) ≡ true
 found_all bits lines first from before none k e = elim (cases_lt k from) [
   | inl h ↦ before k h e
@@ -222,7 +226,8 @@ module _ (m : Matrix) (row : ℕ) (factor : ℤ) (model : ℕ) where
 
   -- the lines of a chunk and of the chunks before it
   pub pulled_until : (chunk word : ℕ) (lines after : Growth) → ((k : ℕ) → k < 64 → has_bit word k ≡ (differs_at m row factor model (64 * chunk + k) && not (is_inside lines (64 * chunk + k))))
-      → ((x : ℕ) → x < 64 * chunk → is_inside lines x ≡ false → IsMultipleAt x) → ((x : ℕ) → is_inside lines x ≡ true → is_inside after x ≡ true) → ((k : ℕ) → k < 64 → has_bit word k ≡ true → is_inside after (64 * chunk + k) ≡ true)
+      → ((x : ℕ) → x < 64 * chunk → is_inside lines x ≡ false → IsMultipleAt x) → ((x : ℕ) → is_inside lines x ≡ true → is_inside after x ≡ true)
+      → ((k : ℕ) → k < 64 → has_bit word k ≡ true → is_inside after (64 * chunk + k) ≡ true)
       → (x : ℕ) → x < 64 * (chunk + 1) → is_inside after x ≡ false → IsMultipleAt x
   pulled_until chunk word lines after is done kept taken x l e = elim (cases_lt x (64 * chunk)) [
     | inl h ↦ done x h (false_is (is_inside lines x) (λ t. not_both (is_inside after x) (kept x t) e))
@@ -239,7 +244,8 @@ module _ (m : Matrix) (row : ℕ) (factor : ℤ) (model : ℕ) where
       ]
 
   -- a line of a chunk that is inside and differs
-  pub chunk_unlike : IsMatrix m → row < height m → model < height m → (chunk : ℕ) (lines : Growth) → m.width ≡ lines.inside.size → (k : ℕ) × (k < 64) × (differs_at m row factor model (64 * chunk + k) ≡ true) × (is_inside lines (64 * chunk + k) ≡ true)
+  pub chunk_unlike : IsMatrix m → row < height m → model < height m → (chunk : ℕ) (lines : Growth) → m.width ≡ lines.inside.size
+      → (k : ℕ) × (k < 64) × (differs_at m row factor model (64 * chunk + k) ≡ true) × (is_inside lines (64 * chunk + k) ≡ true)
       → DecidesUnlike true IsMultipleAt lines
   chunk_unlike shape row_in model_in chunk lines width (k, s, d, e) =
       let low = difference_in m row factor model (64 * chunk + k) shape row_in model_in d in

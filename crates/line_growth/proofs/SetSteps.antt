@@ -40,7 +40,8 @@ pub outside_of : (m : Matrix) (set : GrowingSet) → IsSizedFor m set → count_
 outside_of m set sized = ap₂ (λ (rows columns : ℕ). count_outside rows columns (set_of set)) sized.rows sized.columns
 
 -- the lists of the lines of a set
-pub listed_rows : (m : Matrix) (set : GrowingSet) → IsSizedFor m set → (rows : List ℕ) → rows ≡ filter (λ row. set_of set (Row row)) (first_lines set.rows.inside.size) → rows ≡ filter (λ row. set_of set (Row row)) (first_lines (height m))
+pub listed_rows : (m : Matrix) (set : GrowingSet) → IsSizedFor m set → (rows : List ℕ)
+    → rows ≡ filter (λ row. set_of set (Row row)) (first_lines set.rows.inside.size) → rows ≡ filter (λ row. set_of set (Row row)) (first_lines (height m))
 listed_rows m set sized rows is = is ∙ ap (λ (n : ℕ). filter (λ row. set_of set (Row row)) (first_lines n)) sized.rows
 
 pub listed_columns : (m : Matrix) (set : GrowingSet) → IsSizedFor m set → (columns : List ℕ) → columns ≡ filter (λ column. set_of set (Column column)) (first_lines set.columns.inside.size)
@@ -157,7 +158,8 @@ module _ (m : Matrix) (upper lower : ℕ → ℕ → ℤ) (before after : Growin
       (λ k h. h ∙ sym (is k)) (λ k h. h ∙ is k) start g
 
   pub column_step : IsMatrix m → (column : ℕ) (n : Matrix) (sum : Sum) → n ≡ transposed m → HasTaken column before.columns after.columns
-      → HasPulled (λ x. entry n column x ≡ sum_at n sum x) before.rows after.rows → ((r : ℕ) → sum_at (transposed m) sum r ≡ lower r column) → (start : List Line) → IsGrowing m upper lower start before → IsGrowing m upper lower start after
+      → HasPulled (λ x. entry n column x ≡ sum_at n sum x) before.rows after.rows → ((r : ℕ) → sum_at (transposed m) sum r ≡ lower r column)
+      → (start : List Line) → IsGrowing m upper lower start before → IsGrowing m upper lower start after
   column_step shape column n sum same t w is start g =
       column_followed m upper lower before after after.columns column (λ x. entry (transposed m) column x ≡ sum_at (transposed m) sum x) sized t refl
       (subst (λ (z : Matrix). HasPulled (λ x. entry z column x ≡ sum_at z sum x) before.rows after.rows) same w)
@@ -239,7 +241,8 @@ none_in [] x e h = h
 none_in (y ∷ ys) x e h = absurd (omega arith)
 
 module _ (m : Matrix) (rule : GrowthRule) (start out : List Line) (least : ℕ) (set : GrowingSet) (g : IsGrowing m (upper_of m rule) (lower_of m rule) start set) where
-  pub closed_leaving : length set.rows.fresh ≡ 0 → length set.columns.fresh ≡ 0 → HasNone (set_of set) out → least ≤ count_outside (height m) m.width (set_of set) → IsLeaving m rule start out least (set_of set)
+  pub closed_leaving : length set.rows.fresh ≡ 0 → length set.columns.fresh ≡ 0 → HasNone (set_of set) out
+      → least ≤ count_outside (height m) m.width (set_of set) → IsLeaving m rule start out least (set_of set)
   closed_leaving nr nc none enough = record {
     grown = record {
       closed = record {
@@ -267,7 +270,8 @@ pub few_shown : (m : Matrix) (out : List Line) (least : ℕ) (set : GrowingSet) 
 few_shown m out least set leaves few = let b = outside_is (height m) m.width (set_of set) in let c = leaves.enough in omega arith
 
 -- a set that needs no lines outside is closed in the end, since the set of all lines is
-pub always_closed : (m : Matrix) (rule : GrowthRule) (start : List Line) (answer : Bool) (S : Lines) → DecidesLeaving m rule start [] 0 answer S → IsGrown (height m) m.width (entry m) (upper_of m rule) (lower_of m rule) start S
+pub always_closed : (m : Matrix) (rule : GrowthRule) (start : List Line) (answer : Bool) (S : Lines) → DecidesLeaving m rule start [] 0 answer S
+    → IsGrown (height m) m.width (entry m) (upper_of m rule) (lower_of m rule) start S
 always_closed m rule start true S decided = decided.grown
 always_closed m rule start false S decided = absurd (decided (λ x. true) (record { upper = λ r k hr hk er ek. absurd (not_both true refl ek); lower = λ r k hr hk er ek. absurd (not_both true refl er) }) (all_of (λ x. true ≡ true) (λ x. refl) start) (record { none = tt; enough = omega arith }))
 
@@ -291,7 +295,8 @@ all_at P (x ∷ xs) d h = (h 0 (omega arith), all_at P xs d (λ p l. h (suc p) (
 pub none_taken : (m : Matrix) (upper lower : ℕ → ℕ → ℤ) (lines : List Line) (set : GrowingSet) → IsGrowing m upper lower [] set → IsGrowing m upper lower (drop (length lines) lines) set
 none_taken m upper lower lines set g = subst (λ (xs : List Line). IsGrowing m upper lower xs set) (sym (drop_all (length lines) lines (omega arith))) g
 
-pub one_taken : (m : Matrix) (upper lower : ℕ → ℕ → ℤ) (lines : List Line) (from : ℕ) (line : Line) (set : GrowingSet) → 0 < from → from ≤ length lines → line ≡ get_or lines (from - 1) (Row 0) → IsGrowing m upper lower (line ∷ drop from lines) set
+pub one_taken : (m : Matrix) (upper lower : ℕ → ℕ → ℤ) (lines : List Line) (from : ℕ) (line : Line) (set : GrowingSet) → 0 < from → from ≤ length lines
+    → line ≡ get_or lines (from - 1) (Row 0) → IsGrowing m upper lower (line ∷ drop from lines) set
     → IsGrowing m upper lower (drop (from - 1) lines) set
 one_taken m upper lower lines from line set some low is g =
     let next : (from - 1) + 1 ≡ from = omega arith in

@@ -21,7 +21,8 @@ along_column a b e = simp products
 pub zero_times : (f x : ℤ) → f ≡ pos 0 → f *ℤ x ≡ pos 0
 zero_times f x e = rw e (simp products)
 
-pub product_row : (m : Matrix) (place : Position) (row column : ℕ) (factor : ℤ) → factor ≡ entry m row place.column *ℤ entry m place.row place.column → factor *ℤ entry m place.row column ≡ block_entry (entry m) (Product place) row column
+pub product_row : (m : Matrix) (place : Position) (row column : ℕ) (factor : ℤ) → factor ≡ entry m row place.column *ℤ entry m place.row place.column
+    → factor *ℤ entry m place.row column ≡ block_entry (entry m) (Product place) row column
 product_row m place row column factor f = ap (λ (x : ℤ). x *ℤ entry m place.row column) f ∙ along_row (entry m row place.column) (entry m place.row column) (entry m place.row place.column)
 
 pub product_column : (m : Matrix) → IsMatrix m → (place : Position) (column row : ℕ) (factor : ℤ) → factor ≡ entry m place.row column *ℤ entry m place.row place.column
@@ -36,7 +37,8 @@ factor_is factor x a b small sx e f = entry_as_byte factor small ∙ e ∙ ap (�
 -- ---- the block that two rows and two columns make
 
 -- the rows and the columns exchanged
-pub spread_transposed : (d x y z w row_first row_other column_first column_other : ℤ) → spread d x y z w row_first row_other column_first column_other ≡ spread d x z y w column_first column_other row_first row_other
+pub spread_transposed : (d x y z w row_first row_other column_first column_other : ℤ)
+    → spread d x y z w row_first row_other column_first column_other ≡ spread d x z y w column_first column_other row_first row_other
 spread_transposed d x y z w row_first row_other column_first column_other = simp products (omega (arith, sums))
 
 module _ (m : Matrix) (lines : SpreadLines) (is : IsSpreadOf m lines) where
@@ -46,19 +48,23 @@ module _ (m : Matrix) (lines : SpreadLines) (is : IsSpreadOf m lines) where
   determinant_at : lines.determinant ≡ M lines.upper lines.left *ℤ M lines.lower lines.right -ℤ M lines.upper lines.right *ℤ M lines.lower lines.left
   determinant_at = is.determinant ∙ ap₂ (λ (p q : ℤ). p -ℤ q) (ap₂ (λ (p q : ℤ). p *ℤ q) is.core.x is.core.w) (ap₂ (λ (p q : ℤ). p *ℤ q) is.core.y is.core.z)
 
-  made : (row column : ℕ) → spread lines.determinant lines.core.x lines.core.y lines.core.z lines.core.w (M row lines.left) (M row lines.right) (M lines.upper column) (M lines.lower column) ≡ block_entry M (Spread lines) row column
+  made : (row column : ℕ)
+      → spread lines.determinant lines.core.x lines.core.y lines.core.z lines.core.w (M row lines.left) (M row lines.right) (M lines.upper column) (M lines.lower column) ≡ block_entry M (Spread lines) row column
   made row column = rw (determinant_at, is.core.x, is.core.y, is.core.z, is.core.w) refl
 
   module _ (d x y z w first other : ℤ) (ed : d ≡ lines.determinant) where
     pub spread_row : x ≡ lines.core.x → y ≡ lines.core.y → z ≡ lines.core.z → w ≡ lines.core.w → (row column : ℕ) (f g : ℤ) → first ≡ M row lines.left → other ≡ M row lines.right
-        → ((column_first column_other : ℤ) → spread d x y z w first other column_first column_other ≡ f *ℤ column_first +ℤ g *ℤ column_other) → f *ℤ M lines.upper column +ℤ g *ℤ M lines.lower column ≡ block_entry M (Spread lines) row column
+        → ((column_first column_other : ℤ) → spread d x y z w first other column_first column_other ≡ f *ℤ column_first +ℤ g *ℤ column_other)
+        → f *ℤ M lines.upper column +ℤ g *ℤ M lines.lower column ≡ block_entry M (Spread lines) row column
     spread_row ex ey ez ew row column f g e1 e2 is_sum = sym (is_sum (M lines.upper column) (M lines.lower column)) ∙ same ∙ made row column
       where
         same : spread d x y z w first other (M lines.upper column) (M lines.lower column) ≡ spread lines.determinant lines.core.x lines.core.y lines.core.z lines.core.w (M row lines.left) (M row lines.right) (M lines.upper column) (M lines.lower column)
         same = rw (ed, ex, ey, ez, ew, e1, e2) refl
 
-    pub spread_column : IsMatrix m → x ≡ lines.core.x → y ≡ lines.core.z → z ≡ lines.core.y → w ≡ lines.core.w → (column row : ℕ) (f g : ℤ) → first ≡ M lines.upper column → other ≡ M lines.lower column
-        → ((row_first row_other : ℤ) → spread d x y z w first other row_first row_other ≡ f *ℤ row_first +ℤ g *ℤ row_other) → f *ℤ entry (transposed m) lines.left row +ℤ g *ℤ entry (transposed m) lines.right row ≡ block_entry M (Spread lines) row column
+    pub spread_column : IsMatrix m → x ≡ lines.core.x → y ≡ lines.core.z → z ≡ lines.core.y → w ≡ lines.core.w → (column row : ℕ) (f g : ℤ)
+        → first ≡ M lines.upper column → other ≡ M lines.lower column
+        → ((row_first row_other : ℤ) → spread d x y z w first other row_first row_other ≡ f *ℤ row_first +ℤ g *ℤ row_other)
+        → f *ℤ entry (transposed m) lines.left row +ℤ g *ℤ entry (transposed m) lines.right row ≡ block_entry M (Spread lines) row column
     spread_column shape ex ey ez ew column row f g e1 e2 is_sum =
         ap₂ (λ (a b : ℤ). f *ℤ a +ℤ g *ℤ b) (entry-transposed m row lines.left shape) (entry-transposed m row lines.right shape)
         ∙ sym (is_sum (M row lines.left) (M row lines.right)) ∙ same

@@ -80,5 +80,6 @@ pub found : (binary : Bool) (text : Text) (r : Result Matrix (FieldError TextKin
 found binary text (Ok m) gives = dense_found binary text m gives
 found binary text (Err e) gives = tt
 
-pub only : (binary : Bool) (text : Text) (r : Result Matrix (FieldError TextKind)) → Gives (λ m. m) r (dense binary text) → (m : Matrix) → IsDense binary (texts_of text.words) m → Gives (λ m. m) r (Ok m)
+pub only : (binary : Bool) (text : Text) (r : Result Matrix (FieldError TextKind)) → Gives (λ m. m) r (dense binary text) → (m : Matrix)
+    → IsDense binary (texts_of text.words) m → Gives (λ m. m) r (Ok m)
 only binary text r gives m is = subst (Gives (λ m. m) r) (dense_only binary text.size text.words m is) gives

@@ -21,7 +21,9 @@ row_range height text row h =
     (ok.1, ok.2)
 
 -- only the positions of the matrix matter
-pub free_place-same : (height width : ℕ) (f g : ℕ → ℕ → Bool) → ((row column : ℕ) → 0 < row → row ≤ height → 0 < column → column ≤ width → f row column ≡ g row column) → (text : Text) → free_place height width f text ≡ free_place height width g text
+pub free_place-same : (height width : ℕ) (f g : ℕ → ℕ → Bool)
+    → ((row column : ℕ) → 0 < row → row ≤ height → 0 < column → column ≤ width → f row column ≡ g row column) → (text : Text)
+    → free_place height width f text ≡ free_place height width g text
 free_place-same height width f g same text = bind-same (field Short (line_in height RowOutOfRange) text) (λ (row : ℕ × Text). field Short (free_column_in width (f row.0)) row.1 >>= λ column. Ok ((row.0, column.0), column.1)) (λ (row : ℕ × Text). field Short (free_column_in width (g row.0)) row.1 >>= λ column. Ok ((row.0, column.0), column.1)) (λ row is. let range = row_range height text row is in ap (λ (r : Result (ℕ × Text) (Fault TextKind)). r >>= λ column. Ok ((row.0, column.0), column.1)) (field-same Short (free_column_in width (f row.0)) (free_column_in width (g row.0)) row.1 (free_column_in-same width (f row.0) (g row.0) (λ n. same row.0 n range.0 range.1))))
 
 free_column_in_ok : (most : ℕ) (f : ℕ → Bool) (word : List ℕ) (n : ℕ) → free_column_in most f word ≡ Ok n → (count_in word ≡ Ok n) × (0 < n) × (n ≤ most) × (f n ≡ false)
@@ -47,14 +49,16 @@ pub record IsFreePlace (height width : ℕ) (f : ℕ → ℕ → Bool) (text : T
   pub column_in : column ≤ width
   pub free : f row column ≡ false
 
-pub free_place_ok : (height width : ℕ) (f : ℕ → ℕ → Bool) (text : Text) (place : (ℕ × ℕ) × Text) → free_place height width f text ≡ Ok place → IsFreePlace height width f text (place.0).0 (place.0).1 place.1
+pub free_place_ok : (height width : ℕ) (f : ℕ → ℕ → Bool) (text : Text) (place : (ℕ × ℕ) × Text) → free_place height width f text ≡ Ok place
+    → IsFreePlace height width f text (place.0).0 (place.0).1 place.1
 free_place_ok height width f text place h =
     let b = bind_ok (field Short (line_in height RowOutOfRange) text) (λ (row : ℕ × Text). field Short (free_column_in width (f row.0)) row.1 >>= λ column. Ok ((row.0, column.0), column.1)) place h in
     let d = bind_ok (field Short (free_column_in width (f b.0.0)) b.0.1) (λ (column : ℕ × Text). Ok ((b.0.0, column.0), column.1)) place b.2 in
     let e = ok_same ((b.0.0, d.0.0), d.0.1) place d.2 in
     subst (λ (q : (ℕ × ℕ) × Text). IsFreePlace height width f text (q.0).0 (q.0).1 q.1) e (go b.0 d.0 b.1 d.1)
   where
-    go : (row column : ℕ × Text) → field Short (line_in height RowOutOfRange) text ≡ Ok row → field Short (free_column_in width (f row.0)) row.1 ≡ Ok column → IsFreePlace height width f text row.0 column.0 column.1
+    go : (row column : ℕ × Text) → field Short (line_in height RowOutOfRange) text ≡ Ok row → field Short (free_column_in width (f row.0)) row.1 ≡ Ok column
+        → IsFreePlace height width f text row.0 column.0 column.1
     go row column hr hc =
         let r = field_ok Short (line_in height RowOutOfRange) text row.0 row.1 hr in
         let c = field_ok Short (free_column_in width (f row.0)) row.1 column.0 column.1 hc in
@@ -74,7 +78,8 @@ free_place_ok height width f text place h =
         }
 
 -- words that represent a position that is not taken are read as this position
-pub free_place_again : (height width : ℕ) (f : ℕ → ℕ → Bool) (size : ℕ) (row_word column_word : ℕ × List ℕ) (words : List (ℕ × List ℕ)) (row column : ℕ) → count_in row_word.1 ≡ Ok row → count_in column_word.1 ≡ Ok column → 0 < row → row ≤ height → 0 < column → column ≤ width → f row column ≡ false
+pub free_place_again : (height width : ℕ) (f : ℕ → ℕ → Bool) (size : ℕ) (row_word column_word : ℕ × List ℕ) (words : List (ℕ × List ℕ)) (row column : ℕ)
+    → count_in row_word.1 ≡ Ok row → count_in column_word.1 ≡ Ok column → 0 < row → row ≤ height → 0 < column → column ≤ width → f row column ≡ false
     → free_place height width f (record { size = size; words = row_word ∷ column_word ∷ words }) ≡ Ok ((row, column), record { size = size; words = words })
 free_place_again height width f size row_word column_word words row column row_is column_is row_above row_in column_above column_in free =
     rw (line_in_again (limit_kind RowOutOfRange) height row_word.1 row row_is row_above row_in, free_column_in_again width (f row) column_word.1 column column_is column_above column_in free) refl

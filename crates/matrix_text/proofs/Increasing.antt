@@ -33,7 +33,8 @@ another_line_ok most outside before text next h =
     let e = ok_same (before ++ (b.0.0 - 1) ∷ [], b.0.1) next b.2 in
     (b.0.0, b.1 ∙ ap (λ (p : List ℕ × Text). Ok (b.0.0, p.1)) e, sym (ap (λ (p : List ℕ × Text). p.0) e))
 
-pub lines_ok : (most : ℕ) (outside : TextKind) (n : ℕ) (before : List ℕ) (text : Text) (lines : List ℕ) (rest : Text) → times (another_line most outside) n before text ≡ Ok (lines, rest) → AreLines most n text before lines rest
+pub lines_ok : (most : ℕ) (outside : TextKind) (n : ℕ) (before : List ℕ) (text : Text) (lines : List ℕ) (rest : Text)
+    → times (another_line most outside) n before text ≡ Ok (lines, rest) → AreLines most n text before lines rest
 lines_ok most outside zero before text lines rest h =
     let e = ok_same (before, text) (lines, rest) h in
     record {
@@ -64,7 +65,8 @@ lines_ok most outside (suc n) before text lines rest h =
     }
 
 -- words that spell increasing lines are read as these lines
-pub lines_again : (most : ℕ) (outside : TextKind) (size : ℕ) (words later : List (ℕ × List ℕ)) (before lines : List ℕ) → Spell count_in (texts_of words) (numbers_of lines) → IncreasesIn (last_number before) most lines
+pub lines_again : (most : ℕ) (outside : TextKind) (size : ℕ) (words later : List (ℕ × List ℕ)) (before lines : List ℕ)
+    → Spell count_in (texts_of words) (numbers_of lines) → IncreasesIn (last_number before) most lines
     → times (another_line most outside) (length lines) before (record { size = size; words = words ++ later }) ≡ Ok (before ++ lines, record { size = size; words = later })
 lines_again most outside size [] later before [] spell increases = ap (λ lines. Ok (lines, record { size = size; words = later })) (sym (append-nil before))
 lines_again most outside size [] later before (line ∷ lines) spell increases = absurd spell

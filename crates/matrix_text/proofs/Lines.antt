@@ -14,7 +14,8 @@ use Rattle.matrix_text.specs.TextKinds.{limit_kind}
 use Rattle.matrix_text.specs.Values.{limited, line_in, free_column_in}
 
 -- a count of at most `most` was read
-pub size_found : (most : ℕ) (beyond : TextKind) (text : Text) (n : ℕ × Text) → field Short (limited most beyond) text ≡ Ok n → (word : ℕ × List ℕ) × (text.words ≡ word ∷ (n.1).words) × (count_in word.1 ≡ Ok n.0) × (n.0 ≤ most)
+pub size_found : (most : ℕ) (beyond : TextKind) (text : Text) (n : ℕ × Text) → field Short (limited most beyond) text ≡ Ok n
+    → (word : ℕ × List ℕ) × (text.words ≡ word ∷ (n.1).words) × (count_in word.1 ≡ Ok n.0) × (n.0 ≤ most)
 size_found most beyond text n h =
     let f = field_ok Short (limited most beyond) text n.0 n.1 h in
     let l = limited_ok (limit_kind beyond) most f.word.1 n.0 f.parsed in

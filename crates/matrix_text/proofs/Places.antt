@@ -97,7 +97,8 @@ module _ (height width : ℕ) (taken : List Bool) (cells : List ℤ) (triples : 
           let column_is : t.column - 1 ≡ column = grind (arith, nat_tests) in
           absurd (ne (sym (ap (λ (k : ℕ). k * width + (t.column - 1)) row_is ∙ ap (λ (k : ℕ). row * width + k) column_is)))
 
-  new_mark : (row column : ℕ) → row < height → column < width → get_or (set taken ((t.row - 1) * width + (t.column - 1)) true) (row * width + column) false ≡ is_place_named (triples ++ t ∷ []) (row + 1) (column + 1)
+  new_mark : (row column : ℕ) → row < height → column < width
+      → get_or (set taken ((t.row - 1) * width + (t.column - 1)) true) (row * width + column) false ≡ is_place_named (triples ++ t ∷ []) (row + 1) (column + 1)
   new_mark row column hr hc = elim (cases_eq (row * width + column) ((t.row - 1) * width + (t.column - 1))) [
     | inl e ↦
         ap (λ (k : ℕ). get_or (set taken ((t.row - 1) * width + (t.column - 1)) true) k false) e
@@ -109,7 +110,8 @@ module _ (height width : ℕ) (taken : List Bool) (cells : List ℤ) (triples : 
         ∙ sym (list_any-append (names (row + 1) (column + 1)) triples (t ∷ []) ∙ ap (λ (b : Bool). is_place_named triples (row + 1) (column + 1) || (b || false)) (elsewhere row column ne) ∙ or_false (is_place_named triples (row + 1) (column + 1)))
   ]
 
-  new_value : is_place_named triples t.row t.column ≡ false → (row column : ℕ) → row < height → column < width → get_or (set cells ((t.row - 1) * width + (t.column - 1)) t.value) (row * width + column) (pos 0) ≡ value_at (triples ++ t ∷ []) (row + 1) (column + 1)
+  new_value : is_place_named triples t.row t.column ≡ false → (row column : ℕ) → row < height → column < width
+      → get_or (set cells ((t.row - 1) * width + (t.column - 1)) t.value) (row * width + column) (pos 0) ≡ value_at (triples ++ t ∷ []) (row + 1) (column + 1)
   new_value new row column hr hc = elim (cases_eq (row * width + column) ((t.row - 1) * width + (t.column - 1))) [
     | inl e ↦
         let same = same_place width row column (t.row - 1) (t.column - 1) hc (omega arith) e in
@@ -124,7 +126,8 @@ module _ (height width : ℕ) (taken : List Bool) (cells : List ℤ) (triples : 
         ∙ sym (value_other triples t (row + 1) (column + 1) (elsewhere row column ne))
   ]
 
-  pub one_more : IsEntry t.value → is_place_named triples t.row t.column ≡ false → AreHeld height width (set taken ((t.row - 1) * width + (t.column - 1)) true) (set cells ((t.row - 1) * width + (t.column - 1)) t.value) (triples ++ t ∷ [])
+  pub one_more : IsEntry t.value → is_place_named triples t.row t.column ≡ false
+      → AreHeld height width (set taken ((t.row - 1) * width + (t.column - 1)) true) (set cells ((t.row - 1) * width + (t.column - 1)) t.value) (triples ++ t ∷ [])
   one_more small new = record {
     taken_whole = length-set taken ((t.row - 1) * width + (t.column - 1)) true ∙ held.taken_whole;
     cells_whole = length-set cells ((t.row - 1) * width + (t.column - 1)) t.value ∙ held.cells_whole;

@@ -31,12 +31,14 @@ all_append : (P : Triple → Type 0) (prefix back : List Triple) → AllByRecurs
 all_append P [] back here later = later
 all_append P (t ∷ prefix) back here later = (here.0, all_append P prefix back here.1 later)
 
-row_placed : (height width row column : ℕ) (entries : List ℤ) → 0 < row → row ≤ height → 0 < column → column + length entries ≤ width + 1 → AllByRecursion (IsPlaced height width) (row_triples row column entries)
+row_placed : (height width row column : ℕ) (entries : List ℤ) → 0 < row → row ≤ height → 0 < column → column + length entries ≤ width + 1
+    → AllByRecursion (IsPlaced height width) (row_triples row column entries)
 row_placed height width row column [] row_above row_in column_above fits = tt
 row_placed height width row column (z ∷ entries) row_above row_in column_above fits =
     kept_all (is_nonzero z) (IsPlaced height width) (record { row = row; column = column; value = z }) (row_triples row (column + 1) entries) (record { row_above = row_above; row_in = row_in; column_above = column_above; column_in = omega arith }) (row_placed height width row (column + 1) entries row_above row_in (omega arith) (omega arith))
 
-all_placed : (height width row : ℕ) (rows : List (List ℤ)) → 0 < row → row + length rows ≤ height + 1 → AllByRecursion (λ entries. length entries ≡ width) rows → AllByRecursion (IsPlaced height width) (triples_from row rows)
+all_placed : (height width row : ℕ) (rows : List (List ℤ)) → 0 < row → row + length rows ≤ height + 1 → AllByRecursion (λ entries. length entries ≡ width) rows
+    → AllByRecursion (IsPlaced height width) (triples_from row rows)
 all_placed height width row [] row_above fits wide = tt
 all_placed height width row (entries ∷ rows) row_above fits wide =
     all_append (IsPlaced height width) (row_triples row 1 entries) (triples_from (row + 1) rows) (row_placed height width row 1 entries row_above (omega arith) (omega arith) (omega (arith, wide.0))) (all_placed height width (row + 1) rows (omega arith) (omega arith) wide.1)
@@ -91,7 +93,8 @@ once_append : (prefix back : List Triple) → NameOnce prefix → AllByRecursion
 once_append [] back here apart later = later
 once_append (t ∷ prefix) back here apart later = (unnamed_append prefix back t.row t.column here.0 apart.0, once_append prefix back here.1 apart.1 later)
 
-row_apart : (row column : ℕ) (entries : List ℤ) (back : List Triple) → ((c : ℕ) → is_place_named back row c ≡ false) → AllByRecursion (λ t. is_place_named back t.row t.column ≡ false) (row_triples row column entries)
+row_apart : (row column : ℕ) (entries : List ℤ) (back : List Triple) → ((c : ℕ) → is_place_named back row c ≡ false)
+    → AllByRecursion (λ t. is_place_named back t.row t.column ≡ false) (row_triples row column entries)
 row_apart row column [] back apart = tt
 row_apart row column (z ∷ entries) back apart = kept_all (is_nonzero z) (λ t. is_place_named back t.row t.column ≡ false) (record { row = row; column = column; value = z }) (row_triples row (column + 1) entries) (apart column) (row_apart row (column + 1) entries back apart)
 
@@ -166,7 +169,9 @@ record IsSpelled (binary : Bool) (z : ℤ) : Type 0 where
   word : IsWord (signed_decimal z)
   value : entry_in binary (signed_decimal z) ≡ Ok z
 
-triples_words : (binary : Bool) (height width : ℕ) (triples : List Triple) → height ≤ MAX_ROWS → width ≤ MAX_COLUMNS → AllByRecursion (IsPlaced height width) triples → AllByRecursion (λ t. IsSpelled binary t.value) triples → AllByRecursion (AllByRecursion IsWord) (map triple_line triples)
+triples_words : (binary : Bool) (height width : ℕ) (triples : List Triple) → height ≤ MAX_ROWS → width ≤ MAX_COLUMNS
+    → AllByRecursion (IsPlaced height width) triples → AllByRecursion (λ t. IsSpelled binary t.value) triples
+    → AllByRecursion (AllByRecursion IsWord) (map triple_line triples)
 triples_words binary height width [] few_rows few_columns placed spelled = tt
 triples_words binary height width (t ∷ triples) few_rows few_columns placed spelled =
     let p = placed.0 in
@@ -174,7 +179,9 @@ triples_words binary height width (t ∷ triples) few_rows few_columns placed sp
     let column : t.column < 2 ^ 64 = let h = p.column_in in omega arith in
     ((decimal_word t.row row, (decimal_word t.column column, (spelled.0.word, tt))), triples_words binary height width triples few_rows few_columns placed.1 spelled.1)
 
-triples_spelled : (binary : Bool) (height width : ℕ) (triples : List Triple) → height ≤ MAX_ROWS → width ≤ MAX_COLUMNS → AllByRecursion (IsPlaced height width) triples → AllByRecursion (λ t. IsSpelled binary t.value) triples → SpellTriples binary (flat_map (λ line. line) (map triple_line triples)) triples
+triples_spelled : (binary : Bool) (height width : ℕ) (triples : List Triple) → height ≤ MAX_ROWS → width ≤ MAX_COLUMNS
+    → AllByRecursion (IsPlaced height width) triples → AllByRecursion (λ t. IsSpelled binary t.value) triples
+    → SpellTriples binary (flat_map (λ line. line) (map triple_line triples)) triples
 triples_spelled binary height width [] few_rows few_columns placed spelled = tt
 triples_spelled binary height width (t ∷ triples) few_rows few_columns placed spelled =
     let p = placed.0 in

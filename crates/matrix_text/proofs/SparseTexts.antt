@@ -58,7 +58,8 @@ record IsTriple (binary : Bool) (height width : ℕ) (before : List Triple) (tex
   placed : IsPlaced height width triple
   new : is_place_named before triple.row triple.column ≡ false
 
-another_triple_ok : (binary : Bool) (height width : ℕ) (before : List Triple) (text : Text) (next : List Triple × Text) → another_triple binary height width before text ≡ Ok next → IsTriple binary height width before text next
+another_triple_ok : (binary : Bool) (height width : ℕ) (before : List Triple) (text : Text) (next : List Triple × Text)
+    → another_triple binary height width before text ≡ Ok next → IsTriple binary height width before text next
 another_triple_ok binary height width before text next h =
     let b = bind_ok (free_place height width (is_place_named before) text) (λ (place : (ℕ × ℕ) × Text). field Short (entry_in binary) place.1 >>= λ value. Ok (before ++ (record { row = (place.0).0; column = (place.0).1; value = value.0 }) ∷ [], value.1)) next h in
     let d = bind_ok (field Short (entry_in binary) b.0.1) (λ (value : ℤ × Text). Ok (before ++ (record { row = (b.0.0).0; column = (b.0.0).1; value = value.0 }) ∷ [], value.1)) next b.2 in
@@ -95,7 +96,8 @@ record AreTriples (binary : Bool) (height width n : ℕ) (text : Text) (before t
   placed : AllByRecursion (IsPlaced height width) read
   once : NameOnce before → NameOnce triples
 
-triples_ok : (binary : Bool) (height width n : ℕ) (before : List Triple) (text : Text) (triples : List Triple) (rest : Text) → times (another_triple binary height width) n before text ≡ Ok (triples, rest) → AreTriples binary height width n text before triples rest
+triples_ok : (binary : Bool) (height width n : ℕ) (before : List Triple) (text : Text) (triples : List Triple) (rest : Text)
+    → times (another_triple binary height width) n before text ≡ Ok (triples, rest) → AreTriples binary height width n text before triples rest
 triples_ok binary height width zero before text triples rest h =
     let e = ok_same (before, text) (triples, rest) h in
     let same : before ≡ triples = ap (λ (p : List Triple × Text). p.0) e in
@@ -124,7 +126,8 @@ triples_ok binary height width (suc n) before text triples rest h =
       once = λ once. later.once (subst NameOnce (sym one.triples_are) (once_more before one.triple once one.new));
     }
 
-triples_again : (binary : Bool) (height width size : ℕ) (words later : List (ℕ × List ℕ)) (before triples : List Triple) → SpellTriples binary (texts_of words) triples → AllByRecursion (IsPlaced height width) triples → NameOnce (before ++ triples)
+triples_again : (binary : Bool) (height width size : ℕ) (words later : List (ℕ × List ℕ)) (before triples : List Triple)
+    → SpellTriples binary (texts_of words) triples → AllByRecursion (IsPlaced height width) triples → NameOnce (before ++ triples)
     → times (another_triple binary height width) (length triples) before (record { size = size; words = words ++ later }) ≡ Ok (before ++ triples, record { size = size; words = later })
 triples_again binary height width size [] later before [] spell placed once = ap (λ triples. Ok (triples, record { size = size; words = later })) (sym (append-nil before))
 triples_again binary height width size [] later before (t ∷ triples) spell placed once = absurd spell
@@ -153,7 +156,8 @@ record IsList (binary : Bool) (height width n : ℕ) (words : List (List ℕ)) (
   once : NameOnce triples
   matrix : m ≡ matrix_of_triples height width triples
 
-list_found : (binary : Bool) (height width n : ℕ) (text : Text) (m : Matrix) → (matrix_by_triples binary height width n text >>= λ matrix. ended Extra matrix.0 matrix.1) ≡ Ok m → IsList binary height width n (texts_of text.words) m
+list_found : (binary : Bool) (height width n : ℕ) (text : Text) (m : Matrix)
+    → (matrix_by_triples binary height width n text >>= λ matrix. ended Extra matrix.0 matrix.1) ≡ Ok m → IsList binary height width n (texts_of text.words) m
 list_found binary height width n text m h =
     let a = bind_ok (matrix_by_triples binary height width n text) (λ (matrix : Matrix × Text). ended Extra matrix.0 matrix.1) m h in
     let b = bind_ok (times (another_triple binary height width) n [] text) (λ (triples : List Triple × Text). Ok (matrix_of_triples height width triples.0, triples.1)) a.0 a.1 in
@@ -185,7 +189,9 @@ sparse_found binary text m h =
     let d = bind_ok (field Short count b.0.1) (λ (n : ℕ × Text). matrix_by_triples binary a.0.0 b.0.0 n.0 n.1 >>= λ matrix. ended Extra matrix.0 matrix.1) m b.2 in
     go a.0 b.0 d.0 a.1 b.1 d.1 d.2
   where
-    go : (a b d : ℕ × Text) → field Short (limited MAX_ROWS TooManyRows) text ≡ Ok a → field Short (limited MAX_COLUMNS TooManyColumns) a.1 ≡ Ok b → field Short count b.1 ≡ Ok d → (matrix_by_triples binary a.0 b.0 d.0 d.1 >>= λ matrix. ended Extra matrix.0 matrix.1) ≡ Ok m → IsSparse binary (texts_of text.words) m
+    go : (a b d : ℕ × Text) → field Short (limited MAX_ROWS TooManyRows) text ≡ Ok a → field Short (limited MAX_COLUMNS TooManyColumns) a.1 ≡ Ok b
+        → field Short count b.1 ≡ Ok d → (matrix_by_triples binary a.0 b.0 d.0 d.1 >>= λ matrix. ended Extra matrix.0 matrix.1) ≡ Ok m
+        → IsSparse binary (texts_of text.words) m
     go a b d ha hb hd h =
         let height = size_found MAX_ROWS TooManyRows text a ha in
         let width = size_found MAX_COLUMNS TooManyColumns a.1 b hb in
@@ -235,5 +241,6 @@ pub found : (binary : Bool) (text : Text) (r : Result Matrix (FieldError TextKin
 found binary text (Ok m) gives = sparse_found binary text m gives
 found binary text (Err e) gives = tt
 
-pub only : (binary : Bool) (text : Text) (r : Result Matrix (FieldError TextKind)) → Gives (λ m. m) r (sparse binary text) → (m : Matrix) → IsSparse binary (texts_of text.words) m → Gives (λ m. m) r (Ok m)
+pub only : (binary : Bool) (text : Text) (r : Result Matrix (FieldError TextKind)) → Gives (λ m. m) r (sparse binary text) → (m : Matrix)
+    → IsSparse binary (texts_of text.words) m → Gives (λ m. m) r (Ok m)
 only binary text r gives m is = subst (Gives (λ m. m) r) (sparse_only binary text.size text.words m is) gives

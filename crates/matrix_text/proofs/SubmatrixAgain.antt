@@ -26,7 +26,8 @@ lines_spelled : (bound : ℕ) (lines : List ℕ) → bound ≤ MAX_ROWS → AllB
 lines_spelled bound [] few below = tt
 lines_spelled bound (line ∷ lines) few below = (count_of_decimal (line + 1) (let h = below 0 (omega arith) in omega (arith, h)), lines_spelled bound lines few (λ k h. below (suc k) (omega arith)))
 
-pub submatrix_again : (height width : ℕ) (lines : LineSet) → height ≤ MAX_ROWS → width ≤ MAX_COLUMNS → IsStrictlyIncreasing lines.rows → IsStrictlyIncreasing lines.columns → AllBelow height lines.rows → AllBelow width lines.columns
+pub submatrix_again : (height width : ℕ) (lines : LineSet) → height ≤ MAX_ROWS → width ≤ MAX_COLUMNS → IsStrictlyIncreasing lines.rows
+    → IsStrictlyIncreasing lines.columns → AllBelow height lines.rows → AllBelow width lines.columns
     → named_lines height width (text_of (submatrix_text height width lines)) ≡ Ok lines
 submatrix_again height width lines few_rows few_columns rows_increase columns_increase rows_in columns_in =
     let row_count = increasing_count height lines.rows rows_increase rows_in in

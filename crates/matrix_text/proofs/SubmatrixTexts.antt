@@ -89,7 +89,9 @@ submatrix_found height width text lines h =
     let e = bind_ok (field Short (limited width ColumnOutOfRange) d.0.1) (λ (q : ℕ × Text). lines_after height width d.0.0 q.0 q.1) lines d.2 in
     go a.0 b.0 d.0 e.0 a.1 b.1 d.1 e.1 e.2
   where
-    go : (a b d e : ℕ × Text) → field Short (own_size height) text ≡ Ok a → field Short (own_size width) a.1 ≡ Ok b → field Short (limited height RowOutOfRange) b.1 ≡ Ok d → field Short (limited width ColumnOutOfRange) d.1 ≡ Ok e → lines_after height width d.0 e.0 e.1 ≡ Ok lines → IsSubmatrix height width (texts_of text.words) lines
+    go : (a b d e : ℕ × Text) → field Short (own_size height) text ≡ Ok a → field Short (own_size width) a.1 ≡ Ok b
+        → field Short (limited height RowOutOfRange) b.1 ≡ Ok d → field Short (limited width ColumnOutOfRange) d.1 ≡ Ok e
+        → lines_after height width d.0 e.0 e.1 ≡ Ok lines → IsSubmatrix height width (texts_of text.words) lines
     go a b d e ha hb hd he h =
         let same_height = own_size_found height text a.0 a.1 ha in
         let same_width = own_size_found width a.1 b.0 b.1 hb in
@@ -161,9 +163,11 @@ submatrix_only height width size (h ∷ w ∷ p ∷ q ∷ words) lines is =
     }))
 
 -- the same for the result of a function
-pub found : (height width : ℕ) (text : Text) (r : Result LineSet (FieldError TextKind)) → Gives (λ lines. lines) r (named_lines height width text) → IfOk r (IsSubmatrix height width (texts_of text.words))
+pub found : (height width : ℕ) (text : Text) (r : Result LineSet (FieldError TextKind)) → Gives (λ lines. lines) r (named_lines height width text)
+    → IfOk r (IsSubmatrix height width (texts_of text.words))
 found height width text (Ok lines) gives = submatrix_found height width text lines gives
 found height width text (Err e) gives = tt
 
-pub only : (height width : ℕ) (text : Text) (r : Result LineSet (FieldError TextKind)) → Gives (λ lines. lines) r (named_lines height width text) → (lines : LineSet) → IsSubmatrix height width (texts_of text.words) lines → Gives (λ lines. lines) r (Ok lines)
+pub only : (height width : ℕ) (text : Text) (r : Result LineSet (FieldError TextKind)) → Gives (λ lines. lines) r (named_lines height width text)
+    → (lines : LineSet) → IsSubmatrix height width (texts_of text.words) lines → Gives (λ lines. lines) r (Ok lines)
 only height width text r gives lines is = subst (Gives (λ lines. lines) r) (submatrix_only height width text.size text.words lines is) gives

@@ -29,7 +29,8 @@ joined_short (z ∷ w ∷ zs) h =
     let l = length-append (signed_decimal z) (32 ∷ join_with_byte 32 (map signed_decimal (w ∷ zs))) in
     omega arith
 
-rows_short : (rows : List (List ℤ)) → AllByRecursion (AllByRecursion IsShort) rows → AllByRecursion (λ row. length row ≤ 1000) rows → length (text_of_lines (map (map signed_decimal) rows)) ≤ 3001 * length rows
+rows_short : (rows : List (List ℤ)) → AllByRecursion (AllByRecursion IsShort) rows → AllByRecursion (λ row. length row ≤ 1000) rows
+    → length (text_of_lines (map (map signed_decimal) rows)) ≤ 3001 * length rows
 rows_short [] h narrow = omega arith
 rows_short (row ∷ rows) h narrow =
     let a = joined_short row h.0 in

@@ -15,7 +15,8 @@ filter-filter : (p q : ℕ → Bool) (xs : List ℕ) → filter p (filter q xs) 
 filter-filter p q [] = refl
 filter-filter p q (x ∷ xs) = go (q x) (filter-filter p q xs)
   where
-    go : (b : Bool) → filter p (filter q xs) ≡ filter (λ x. q x && p x) xs → filter p (cond b (x ∷ filter q xs) (filter q xs)) ≡ cond (b && p x) (x ∷ filter (λ x. q x && p x) xs) (filter (λ x. q x && p x) xs)
+    go : (b : Bool) → filter p (filter q xs) ≡ filter (λ x. q x && p x) xs
+        → filter p (cond b (x ∷ filter q xs) (filter q xs)) ≡ cond (b && p x) (x ∷ filter (λ x. q x && p x) xs) (filter (λ x. q x && p x) xs)
     go true e = ap (λ (ys : List ℕ). cond (p x) (x ∷ ys) ys) e
     go false e = e
 
@@ -70,7 +71,8 @@ row_outside height from (suc count) row l = go (cases_lt from height) (row_outsi
     past : height ≤ from → is_outside 0 (from + 1) count row ≡ is_outside 0 from (suc count) row
     past h = grind (arith, nat_tests)
 
-    go : (from < height) ⊎ (height ≤ from) → row_stays (lines_between height (from + 1) count) row ≡ is_outside 0 (from + 1) count row → row_stays (lines_between height from (suc count)) row ≡ is_outside 0 from (suc count) row
+    go : (from < height) ⊎ (height ≤ from) → row_stays (lines_between height (from + 1) count) row ≡ is_outside 0 (from + 1) count row
+        → row_stays (lines_between height from (suc count)) row ≡ is_outside 0 from (suc count) row
     go (inl k) e = one (Row from) (is_row height from k) ∙ ap (λ b. not (eqb row from) && b) e ∙ gone
     go (inr k) e = one (Column (from - height)) (is_column height from k) ∙ e ∙ past k
 
@@ -87,7 +89,8 @@ column_outside height from (suc count) column = go (cases_lt from height) (colum
     gone : height ≤ from → (not (eqb column (from - height)) && is_outside height (from + 1) count column) ≡ is_outside height from (suc count) column
     gone h = grind (arith, nat_tests)
 
-    go : (from < height) ⊎ (height ≤ from) → column_stays (lines_between height (from + 1) count) column ≡ is_outside height (from + 1) count column → column_stays (lines_between height from (suc count)) column ≡ is_outside height from (suc count) column
+    go : (from < height) ⊎ (height ≤ from) → column_stays (lines_between height (from + 1) count) column ≡ is_outside height (from + 1) count column
+        → column_stays (lines_between height from (suc count)) column ≡ is_outside height from (suc count) column
     go (inl k) e = one (Row from) (is_row height from k) ∙ e ∙ before k
     go (inr k) e = one (Column (from - height)) (is_column height from k) ∙ ap (λ b. not (eqb column (from - height)) && b) e ∙ gone k
 

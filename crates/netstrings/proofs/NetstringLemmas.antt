@@ -96,7 +96,8 @@ digits_and_rest bytes text rest s = s.whole ∙ append_assoc (decimal (length te
 joined : (bytes text rest : List ℕ) → bytes ≡ decimal (length text) ++ (58 ∷ ((text ++ (44 ∷ [])) ++ rest)) → bytes ≡ netstring text ++ rest
 joined bytes text rest e = e ∙ sym (append_assoc (decimal (length text)) (58 ∷ (text ++ (44 ∷ []))) rest)
 
-meets_colon : (prefix tail bytes text rest : List ℕ) → HasNoColon prefix → bytes ≡ prefix ++ (58 ∷ tail) → StartsWith bytes text rest → (prefix ≡ decimal (length text)) × (tail ≡ (text ++ (44 ∷ [])) ++ rest)
+meets_colon : (prefix tail bytes text rest : List ℕ) → HasNoColon prefix → bytes ≡ prefix ++ (58 ∷ tail) → StartsWith bytes text rest
+    → (prefix ≡ decimal (length text)) × (tail ≡ (text ++ (44 ∷ [])) ++ rest)
 meets_colon prefix tail bytes text rest clean e s =
     same_colon prefix (decimal (length text)) tail ((text ++ (44 ∷ [])) ++ rest) clean (no_colon-decimal (length text) (omega arith)) (sym e ∙ digits_and_rest bytes text rest s)
 

@@ -84,7 +84,8 @@ signed_zero : (s t x y : ℤ) → x ≡ pos 0 → y ≡ pos 0 → x ≡ s *ℤ (
 signed_zero s t x y e f = e ∙ sym (ap (λ (z : ℤ). s *ℤ (t *ℤ z)) f ∙ ap (λ (z : ℤ). s *ℤ z) (mul-zero t) ∙ mul-zero s)
 
 module _ (m n : Matrix) (is_m : IsMatrix m) (is_n : IsMatrix n) (height_same : height m ≡ height n) (width_same : m.width ≡ n.width) (no_violator : HasNoViolator m) where
-  pub first_rows_free : (groups : List ℕ) (count : ℕ) (rows columns : List ℤ) → AreSignedGroups m n (height m) groups columns → AreRowsMultiplied m n count rows columns → count ≤ height m → HasNoFaultBefore n count
+  pub first_rows_free : (groups : List ℕ) (count : ℕ) (rows columns : List ℤ) → AreSignedGroups m n (height m) groups columns
+      → AreRowsMultiplied m n count rows columns → count ≤ height m → HasNoFaultBefore n count
   first_rows_free groups count rows columns signed multiplied fits t c d path l fault = free t c d path (fault_on (entry n) (entry whole) count agree t c d path l fault)
     where
       entries : ℕ → ℕ → ℤ
@@ -99,7 +100,8 @@ module _ (m n : Matrix) (is_m : IsMatrix m) (is_n : IsMatrix n) (height_same : h
       is_whole : IsTernary whole
       is_whole = filled_is_ternary (height m) m.width entries (λ row column. entry_by_sign (sign_of rows row) (sign_of columns column *ℤ entry m row column) (sign_at rows multiplied.row_signs row) (entry_by_sign (sign_of columns column) (entry m row column) (signed.each_sign column) (is_m.small row column)))
 
-      multiplied_back : (row column : ℕ) → (row < height m) ⊎ (height m ≤ row) → (column < m.width) ⊎ (m.width ≤ column) → entry m row column ≡ sign_of rows row *ℤ (sign_of columns column *ℤ entry whole row column)
+      multiplied_back : (row column : ℕ) → (row < height m) ⊎ (height m ≤ row) → (column < m.width) ⊎ (m.width ≤ column)
+          → entry m row column ≡ sign_of rows row *ℤ (sign_of columns column *ℤ entry whole row column)
       multiplied_back row column (inl low) (inl near) =
           signed_twice (sign_of rows row) (sign_of columns column) (entry m row column) (sign_at rows multiplied.row_signs row) (signed.each_sign column)
           ∙ ap (λ (z : ℤ). sign_of rows row *ℤ (sign_of columns column *ℤ z)) (sym (entry-filled (height m) m.width entries row column low near))

@@ -190,7 +190,8 @@ module _ (m n : Matrix) where
   zero_row_multiplied signs row sign support none column l = (support.zeros_same row column).0 (none column) ∙ sym (ap (λ z. sign *ℤ (sign_of signs column *ℤ z)) (none column) ∙ times_zero sign (sign_of signs column))
 
   pub row_multiplied : (signs : List ℤ) (row first : ℕ) (sign : ℤ) → HaveOneSupport m n → IsRowForced m n signs row
-      → first < m.width → entry m row first ≢ pos 0 → IsSign (entry m row first) → sign ≡ row_sign_by m n signs row first → AgreeBefore (entry m) (entry n) (row + 1) → IsRowMultiplied m n signs row sign
+      → first < m.width → entry m row first ≢ pos 0 → IsSign (entry m row first) → sign ≡ row_sign_by m n signs row first
+      → AgreeBefore (entry m) (entry n) (row + 1) → IsRowMultiplied m n signs row sign
   row_multiplied signs row first sign support forced lf nonzero first_sign is_sign agreement column l = go (cases (entry m row column))
     where
       cases : (z : ℤ) → (z ≡ pos 0) ⊎ (z ≢ pos 0)
@@ -219,7 +220,8 @@ module _ (m n : Matrix) (row first : ℕ) (old_groups : List ℕ) (old_signs : L
   pub none_joined : AreSignedGroups m n (row + 1) old_groups old_signs → IsRowJoinedTo m n row first 0 old_groups old_groups old_signs old_signs
   none_joined all = record { all = all; coarser = λ c d lc ld e. e; kept = λ c d lc ld e. refl; joined = λ column l. absurd (omega arith) }
 
-  pub zeros_joined : (count next : ℕ) (groups : List ℕ) (signs : List ℤ) → IsRowJoinedTo m n row first count old_groups groups old_signs signs → ((column : ℕ) → count ≤ column → column < next → entry m row column ≡ pos 0)
+  pub zeros_joined : (count next : ℕ) (groups : List ℕ) (signs : List ℤ) → IsRowJoinedTo m n row first count old_groups groups old_signs signs
+      → ((column : ℕ) → count ≤ column → column < next → entry m row column ≡ pos 0)
       → IsRowJoinedTo m n row first next old_groups groups old_signs signs
   zeros_joined count next groups signs before zeros = record { all = before.all; coarser = before.coarser; kept = before.kept; joined = λ column l nonzero. go column l nonzero (cases_lt column count) }
     where
@@ -282,7 +284,8 @@ pub zero_multiplied : (m n : Matrix) (row column : ℕ) (sign s : ℤ) → HaveO
 zero_multiplied m n row column sign s same e = (same.zeros_same row column).0 e ∙ sym (ap (λ z. sign *ℤ (s *ℤ z)) e ∙ ap (λ z. sign *ℤ z) (mul-zero s) ∙ mul-zero sign)
 
 -- the columns before a position, the columns from there to the next one, and the next one
-pub columns_to_next : (P : ℕ → Type 0) (place next : ℕ) → ((column : ℕ) → column < place → P column) → ((column : ℕ) → place ≤ column → column < next → P column) → P next → (column : ℕ) → column < next + 1 → P column
+pub columns_to_next : (P : ℕ → Type 0) (place next : ℕ) → ((column : ℕ) → column < place → P column)
+    → ((column : ℕ) → place ≤ column → column < next → P column) → P next → (column : ℕ) → column < next + 1 → P column
 columns_to_next P place next before between here column l = go (cases_lt column place) (cases_eq column next)
   where
     go : (column < place) ⊎ (place ≤ column) → (column ≡ next) ⊎ (column ≢ next) → P column

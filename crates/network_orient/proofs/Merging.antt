@@ -16,7 +16,8 @@ module _ (old_groups : List ℕ) (old_signs : List ℤ) (replaced stays : ℕ) (
   pub merged_none : IsMergedTo 0 old_groups old_signs old_groups old_signs replaced stays factor
   merged_none = record { group_each = refl; sign_each = refl; moved = λ column l. absurd (omega arith); others = λ column n. (refl, refl); later = λ column l. (refl, refl) }
 
-  pub merged_all : (groups : List ℕ) (signs : List ℤ) → IsMergedTo (length old_groups) old_groups old_signs groups signs replaced stays factor → IsMerged old_groups old_signs groups signs replaced stays factor
+  pub merged_all : (groups : List ℕ) (signs : List ℤ) → IsMergedTo (length old_groups) old_groups old_signs groups signs replaced stays factor
+      → IsMerged old_groups old_signs groups signs replaced stays factor
   merged_all groups signs h = record { group_each = h.group_each; sign_each = h.sign_each; moved = h.moved; others = λ column l n. h.others column n }
 
   module _ (groups : List ℕ) (signs : List ℤ) (column : ℕ) (h : IsMergedTo column old_groups old_signs groups signs replaced stays factor) where

@@ -53,7 +53,8 @@ one_support net m n is_m is_n height_same width_same directed undirected = recor
     zeros row column low (inr far) = ((λ e. beyond_sizes n is_n row column (inr (omega (arith, far, width_same)))), (λ e. beyond_sizes m is_m row column (inr far)))
 
 -- a matrix with that support is not a network matrix if it does not agree
-pub agrees_where_network : (net : Network) (m n : Matrix) → IsTernary m → IsTernary n → height m ≡ height n → m.width ≡ n.width → Reproduces net m → ReproducesSupport net n → IsNetworkMatrix n → AgreeUpToSigns (entry m) (entry n)
+pub agrees_where_network : (net : Network) (m n : Matrix) → IsTernary m → IsTernary n → height m ≡ height n → m.width ≡ n.width → Reproduces net m
+    → ReproducesSupport net n → IsNetworkMatrix n → AgreeUpToSigns (entry m) (entry n)
 agrees_where_network net m n is_m is_n height_same width_same directed undirected network =
     signs_are_unique m n is_m.rectangular is_n.rectangular is_m.small is_n.small (one_support net m n is_m.rectangular is_n.rectangular height_same width_same directed undirected)
     (networks_are_unimodular m is_m (net, directed)).1 (networks_are_unimodular n is_n network).1
@@ -69,7 +70,8 @@ agree_before M N count agreement = record {
 }
 
 -- the network reversed by the signs reproduces the matrix
-pub reversed_reproduces : (net : Network) (m n : Matrix) (rows columns : List ℤ) → height m ≡ height n → m.width ≡ n.width → Reproduces net m → IsMultiplied (entry m) (entry n) (height m) m.width rows columns
+pub reversed_reproduces : (net : Network) (m n : Matrix) (rows columns : List ℤ) → height m ≡ height n → m.width ≡ n.width → Reproduces net m
+    → IsMultiplied (entry m) (entry n) (height m) m.width rows columns
     → Reproduces (reversed_network net rows columns) n
 reversed_reproduces net m n rows columns height_same width_same directed multiplied =
     subst (λ h. Realises (reversed_network net rows columns) (entry n) h n.width) height_same (subst (λ w. Realises (reversed_network net rows columns) (entry n) (height m) w) width_same

@@ -40,7 +40,8 @@ module _ (m n : Matrix) where
           let low : row < count = omega arith in
           subst (IsRowMultiplied m n columns row) (sym (get_or_append_left rows (sign ∷ []) (pos 1) row (omega (arith, low, before.row_each)))) (before.multiplied row low)
 
-  pub all_rows_multiplied : (groups : List ℕ) (rows columns : List ℤ) → AreSignedGroups m n (height m) groups columns → AreRowsMultiplied m n (height m) rows columns → IsMultiplied (entry m) (entry n) (height m) m.width rows columns
+  pub all_rows_multiplied : (groups : List ℕ) (rows columns : List ℤ) → AreSignedGroups m n (height m) groups columns
+      → AreRowsMultiplied m n (height m) rows columns → IsMultiplied (entry m) (entry n) (height m) m.width rows columns
   all_rows_multiplied groups rows columns all multiplied = record {
     rows = multiplied.row_signs;
     columns = all_by_places IsSign columns (pos 1) (λ column l. all.each_sign column);

@@ -43,7 +43,8 @@ filled_is_ternary m n entries each = record {
 }
 
 -- signs for lines as lists
-signs_listed : (m n : Matrix) (agreement : AgreeUpToSigns (entry m) (entry n)) → IsMultiplied (entry m) (entry n) (height m) m.width (map agreement.row_sign (first_lines (height m))) (map agreement.column_sign (first_lines m.width))
+signs_listed : (m n : Matrix) (agreement : AgreeUpToSigns (entry m) (entry n))
+    → IsMultiplied (entry m) (entry n) (height m) m.width (map agreement.row_sign (first_lines (height m))) (map agreement.column_sign (first_lines m.width))
 signs_listed m n agreement = record {
   rows = all-map IsSign agreement.row_sign (first_lines (height m)) (all_of (λ row. IsSign (agreement.row_sign row)) agreement.row_signs (first_lines (height m)));
   columns = all-map IsSign agreement.column_sign (first_lines m.width) (all_of (λ column. IsSign (agreement.column_sign column)) agreement.column_signs (first_lines m.width));
@@ -73,7 +74,8 @@ module _ (m : Matrix) (net : Network) (G : ReproducesSupport net m) where
   directed_is_ternary : IsTernary directed
   directed_is_ternary = filled_is_ternary (height m) m.width entries (λ row column. given_small row column (cases_lt column m.width))
 
-  path_by : (column : ℕ) (k : (column < m.width) ⊎ (m.width ≤ column)) → column < m.width → IsDirectedPathOf net.arcs (height m) (λ row. given row column k) (tail net.walks column) (head net.walks column)
+  path_by : (column : ℕ) (k : (column < m.width) ⊎ (m.width ≤ column)) → column < m.width
+      → IsDirectedPathOf net.arcs (height m) (λ row. given row column k) (tail net.walks column) (head net.walks column)
   path_by column (inl l) near = let path = G.paths column l in record { steps = path.steps; walk = path.walk; once = path.once; exact = λ row low. refl }
   path_by column (inr out) near = absurd (omega arith)
 

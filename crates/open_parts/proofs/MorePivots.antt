@@ -98,7 +98,8 @@ module _ (limit : ℕ) (m : Matrix) (Replaces : LineSet → Tree → Type 0) whe
   )
 
   mutual
-    open_refined : (path : List ℕ) (due : Due) (parent : LineSet) (levels : ℕ) (shape tree : Tree) → AreLines m parent → IsTreeWithin parent levels shape → AllByRecursion (IsShapedAt limit m) (places_from path [] due shape)
+    open_refined : (path : List ℕ) (due : Due) (parent : LineSet) (levels : ℕ) (shape tree : Tree) → AreLines m parent → IsTreeWithin parent levels shape
+        → AllByRecursion (IsShapedAt limit m) (places_from path [] due shape)
         → Refines Replaces shape tree → Refines (ReplacesOpen limit m Replaces) shape tree
     open_refined path due parent levels (Branch lines finding trees) tree are within shaped r =
         go (refined_node Replaces lines finding trees tree r) (λ below all. open_each path lines finding (levels - 1) 0 trees below here within.4 below_shaped all)
@@ -112,12 +113,15 @@ module _ (limit : ℕ) (m : Matrix) (Replaces : LineSet → Tree → Type 0) whe
         below_shaped : AllByRecursion (IsShapedAt limit m) (places_below path [] lines finding 0 trees)
         below_shaped = subst (λ ps. AllByRecursion (IsShapedAt limit m) (places_below path ps lines finding 0 trees)) (no_pivot [] limit (part m lines) shaped.0.case shaped.0.found shaped.0.parts lines finding shaped.0.says shaped.0.finding) shaped.1
 
-        go : RefinedNode Replaces lines finding trees tree → ((below : Trees) → AllRefine Replaces trees below → AllRefine (ReplacesOpen limit m Replaces) trees below) → Refines (ReplacesOpen limit m Replaces) (Branch lines finding trees) tree
+        go : RefinedNode Replaces lines finding trees tree
+            → ((below : Trees) → AllRefine Replaces trees below → AllRefine (ReplacesOpen limit m Replaces) trees below)
+            → Refines (ReplacesOpen limit m Replaces) (Branch lines finding trees) tree
         go (replaced e replaces) each =
             subst (λ f. Refines (ReplacesOpen limit m Replaces) (Branch lines f trees) tree) (sym e) (record { replaces = replaces; are = here; leaf = leaf_shape lines finding place refl e shaped.0 })
         go (kept e below is all) each = subst (Refines (ReplacesOpen limit m Replaces) (Branch lines finding trees)) (sym is) (refined_kept (ReplacesOpen limit m Replaces) lines finding trees below e (each below all))
 
-    open_each : (path : List ℕ) (lines : LineSet) (finding : Finding) (levels k : ℕ) (trees below : Trees) → AreLines m lines → AreTreesWithin lines levels trees → AllByRecursion (IsShapedAt limit m) (places_below path [] lines finding k trees)
+    open_each : (path : List ℕ) (lines : LineSet) (finding : Finding) (levels k : ℕ) (trees below : Trees) → AreLines m lines
+        → AreTreesWithin lines levels trees → AllByRecursion (IsShapedAt limit m) (places_below path [] lines finding k trees)
         → AllRefine Replaces trees below → AllRefine (ReplacesOpen limit m Replaces) trees below
     open_each path lines finding levels k NoTrees below are within shaped e = e
     open_each path lines finding levels k (MoreTrees tree trees) below are within shaped (first, rest, e, r, all) =
@@ -172,7 +176,8 @@ module _ (limit : ℕ) (few : limit ≤ 24) (m : Matrix) (is : IsMatrix m) (made
   Tried = IsTriedLeaf limit m
 
   -- a node at which a fault is found does not say yes with more pivots
-  left_is_no_yes : (lines : LineSet) (other one : Tree) (found : Option LineSet) → Drawn' lines other → SaysYes other → IsFoundInRests limit m lines found → one ≡ leaf_with lines found → (fault : LineSet) → first_in fault_at one ≡ Some fault → ⊥
+  left_is_no_yes : (lines : LineSet) (other one : Tree) (found : Option LineSet) → Drawn' lines other → SaysYes other → IsFoundInRests limit m lines found
+      → one ≡ leaf_with lines found → (fault : LineSet) → first_in fault_at one ≡ Some fault → ⊥
   left_is_no_yes lines other one None replaces says search e fault is_named = none_is_some fault (sym (ap (first_in fault_at) e) ∙ is_named)
   left_is_no_yes lines other one (Some found) replaces says search e fault is_named =
       let v = found_violates limit m is (turns_of lines) lines found replaces.are search in
@@ -196,7 +201,8 @@ module _ (limit : ℕ) (few : limit ≤ 24) (m : Matrix) (is : IsMatrix m) (made
     node_keeps = both_forms (found_form limit made 1 m lines drawn replaces.replaces) (found_form limit made' 1 m lines drawn' replaces'.replaces)
 
   -- the children of a node that stays are tried
-  kept_below : (lines : LineSet) (finding : Finding) (below : Trees) (tree : Tree) → is_undecided finding ≡ false → Refines Tried (Branch lines finding below) tree → (trees : Trees) × (tree ≡ Branch lines finding trees) × AllRefine Tried below trees
+  kept_below : (lines : LineSet) (finding : Finding) (below : Trees) (tree : Tree) → is_undecided finding ≡ false
+      → Refines Tried (Branch lines finding below) tree → (trees : Trees) × (tree ≡ Branch lines finding trees) × AllRefine Tried below trees
   kept_below lines finding below tree e r = go (refined_node Tried lines finding below tree r)
     where
       go : RefinedNode Tried lines finding below tree → (trees : Trees) × (tree ≡ Branch lines finding trees) × AllRefine Tried below trees
@@ -204,9 +210,11 @@ module _ (limit : ℕ) (few : limit ≤ 24) (m : Matrix) (is : IsMatrix m) (made
       go (kept is' trees at all) = (trees, at, all)
 
   -- below a node that stays in both, a fault is kept if it is kept among the children
-  fault_below : (lines lines' : LineSet) (finding finding' : Finding) (below below' : Trees) (drawn drawn' tree other : Tree) → is_undecided finding ≡ false → is_undecided finding' ≡ false → drawn ≡ Branch lines finding below → drawn' ≡ Branch lines' finding' below'
+  fault_below : (lines lines' : LineSet) (finding finding' : Finding) (below below' : Trees) (drawn drawn' tree other : Tree) → is_undecided finding ≡ false
+      → is_undecided finding' ≡ false → drawn ≡ Branch lines finding below → drawn' ≡ Branch lines' finding' below'
       → first_in fault_at drawn ≡ None → Refines Tried drawn tree → Refines Tried drawn' other → (fault : LineSet) → first_in fault_at tree ≡ Some fault
-      → ((trees others : Trees) → AllRefine Tried below trees → AllRefine Tried below' others → first_among fault_at below ≡ None → first_among fault_at trees ≡ Some fault → (named : LineSet) × (first_among fault_at others ≡ Some named)) → HasFault other
+      → ((trees others : Trees) → AllRefine Tried below trees → AllRefine Tried below' others → first_among fault_at below ≡ None → first_among fault_at trees ≡ Some fault → (named : LineSet) × (first_among fault_at others ≡ Some named))
+      → HasFault other
   fault_below lines lines' finding finding' below below' drawn drawn' tree other e e' at at' none r r' fault names each =
       let t = kept_below lines finding below tree e (subst (λ d. Refines Tried d tree) at r) in
       let t' = kept_below lines' finding' below' other e' (subst (λ d. Refines Tried d other) at' r') in
@@ -217,7 +225,8 @@ module _ (limit : ℕ) (few : limit ≤ 24) (m : Matrix) (is : IsMatrix m) (made
       (here.0, ap (first_in fault_at) t'.1 ∙ here.1)
 
   mutual
-    keeps_fault : (shape shape' drawn drawn' tree other : Tree) → plain_tree shape ≡ plain_tree shape' → Refines Drawn shape drawn → Refines Drawn' shape' drawn' → first_in fault_at drawn ≡ None → Refines Tried drawn tree → Refines Tried drawn' other
+    keeps_fault : (shape shape' drawn drawn' tree other : Tree) → plain_tree shape ≡ plain_tree shape' → Refines Drawn shape drawn
+        → Refines Drawn' shape' drawn' → first_in fault_at drawn ≡ None → Refines Tried drawn tree → Refines Tried drawn' other
         → (fault : LineSet) → first_in fault_at tree ≡ Some fault → HasFault other
     keeps_fault (Branch lines finding trees) (Branch lines' finding' trees') drawn drawn' tree other e d d' none r r' fault names =
         go (refined_node Drawn lines finding trees drawn d) (refined_node Drawn' lines' finding' trees' drawn' d')
@@ -230,14 +239,16 @@ module _ (limit : ℕ) (few : limit ≤ 24) (m : Matrix) (is : IsMatrix m) (made
         one_finding = cc
 
         go : RefinedNode Drawn lines finding trees drawn → RefinedNode Drawn' lines' finding' trees' drawn'
-            → ((below below' : Trees) → AllRefine Drawn trees below → AllRefine Drawn' trees' below' → (ts ts' : Trees) → AllRefine Tried below ts → AllRefine Tried below' ts' → first_among fault_at below ≡ None → first_among fault_at ts ≡ Some fault → (named : LineSet) × (first_among fault_at ts' ≡ Some named)) → HasFault other
+            → ((below below' : Trees) → AllRefine Drawn trees below → AllRefine Drawn' trees' below' → (ts ts' : Trees) → AllRefine Tried below ts → AllRefine Tried below' ts' → first_among fault_at below ≡ None → first_among fault_at ts ≡ Some fault → (named : LineSet) × (first_among fault_at ts' ≡ Some named))
+            → HasFault other
         go (replaced is replaces) (replaced is' replaces') each = node_keeps lines drawn drawn' tree other replaces (subst (λ l. Drawn' l drawn') (sym one_lines) replaces') none r r' fault names
         go (replaced is replaces) (kept is' below' at' all') each = true_is_false (sym (ap is_undecided is) ∙ undecided_same finding finding' one_finding ∙ is')
         go (kept is below at all) (replaced is' replaces') each = true_is_false (sym (ap is_undecided is') ∙ sym (undecided_same finding finding' one_finding) ∙ is)
         go (kept is below at all) (kept is' below' at' all') each =
             fault_below lines lines' finding finding' below below' drawn drawn' tree other is is' at at' none r r' fault names (λ ts ts' a a' free there. each below below' all all' ts ts' a a' free there)
 
-    keep_fault : (shapes shapes' drawn drawn' trees others : Trees) → plain_trees shapes ≡ plain_trees shapes' → AllRefine Drawn shapes drawn → AllRefine Drawn' shapes' drawn' → first_among fault_at drawn ≡ None → AllRefine Tried drawn trees → AllRefine Tried drawn' others
+    keep_fault : (shapes shapes' drawn drawn' trees others : Trees) → plain_trees shapes ≡ plain_trees shapes' → AllRefine Drawn shapes drawn
+        → AllRefine Drawn' shapes' drawn' → first_among fault_at drawn ≡ None → AllRefine Tried drawn trees → AllRefine Tried drawn' others
         → (fault : LineSet) → first_among fault_at trees ≡ Some fault → (named : LineSet) × (first_among fault_at others ≡ Some named)
     keep_fault NoTrees shapes' drawn drawn' trees others e d d' none r r' fault names =
         none_is_some fault (sym (ap (first_among fault_at) (subst (λ t. AllRefine Tried t trees) d r)) ∙ names)
@@ -299,7 +310,8 @@ module _ (limit pivots more : ℕ) (few : limit ≤ 24) (m : Matrix) (is : IsMat
   stays_answered same (Open left) e kept_answer = tt
 
   -- a fault is found in the rests of an undecided node
-  found_answered : (left fault : LineSet) → verdict_of d.drawn ≡ Open left → Refines (IsTriedLeaf limit m) d.drawn tree → verdict_of tree ≡ No fault → (w : Verdict) → verdict_of d'.drawn ≡ w → IsTriedIfOpen limit m d'.drawn w other → (some : LineSet) × (verdict_of other ≡ No some)
+  found_answered : (left fault : LineSet) → verdict_of d.drawn ≡ Open left → Refines (IsTriedLeaf limit m) d.drawn tree → verdict_of tree ≡ No fault
+      → (w : Verdict) → verdict_of d'.drawn ≡ w → IsTriedIfOpen limit m d'.drawn w other → (some : LineSet) × (verdict_of other ≡ No some)
   found_answered left fault open' r says Yes e same =
       let yes = subst (VerdictMeans m) (ap verdict_of same ∙ e) (verdict_means m is (height m) m.width other (tried_shapes_are_trees limit more m other is d') (tried_shapes_are_sound limit more m other few is d')) in
       let refuted = subst (VerdictMeans m) says (verdict_means m is (height m) m.width tree (tried_shapes_are_trees limit pivots m tree is d) (tried_shapes_are_sound limit pivots m tree few is d)) in
@@ -313,7 +325,8 @@ module _ (limit pivots more : ℕ) (few : limit ≤ 24) (m : Matrix) (is : IsMat
       named_there named.0 named.1
 
   -- the undecided nodes are tried
-  tried_answered : (left : LineSet) → verdict_of d.drawn ≡ Open left → Refines (IsTriedLeaf limit m) d.drawn tree → IsTriedIfOpen limit m d'.drawn (verdict_of d'.drawn) other → (u : Verdict) → verdict_of tree ≡ u → KeepsAnswer u tree other
+  tried_answered : (left : LineSet) → verdict_of d.drawn ≡ Open left → Refines (IsTriedLeaf limit m) d.drawn tree
+      → IsTriedIfOpen limit m d'.drawn (verdict_of d'.drawn) other → (u : Verdict) → verdict_of tree ≡ u → KeepsAnswer u tree other
   tried_answered left open' r t' Yes e =
       let says = says_yes tree e in
       let same = faultless_same limit m (lines_at_root d.drawn) 2001 d.drawn tree (drawn_tree limit pivots m d.drawn tree is d.shape).nodes says.0 r in
@@ -321,7 +334,8 @@ module _ (limit pivots more : ℕ) (few : limit ≤ 24) (m : Matrix) (is : IsMat
   tried_answered left open' r t' (No fault) e = found_answered left fault open' r e (verdict_of d'.drawn) refl t'
   tried_answered left open' r t' (Open left') e = tt
 
-  answered_if_open : (v : Verdict) → verdict_of d.drawn ≡ v → KeepsAnswer v d.drawn d'.drawn → IsTriedIfOpen limit m d.drawn v tree → IsTriedIfOpen limit m d'.drawn (verdict_of d'.drawn) other → KeepsAnswer (verdict_of tree) tree other
+  answered_if_open : (v : Verdict) → verdict_of d.drawn ≡ v → KeepsAnswer v d.drawn d'.drawn → IsTriedIfOpen limit m d.drawn v tree
+      → IsTriedIfOpen limit m d'.drawn (verdict_of d'.drawn) other → KeepsAnswer (verdict_of tree) tree other
   answered_if_open Yes e law same t' = subst (λ v. KeepsAnswer v tree other) (sym (ap verdict_of same ∙ e)) (stays_answered same Yes e law)
   answered_if_open (No fault) e law same t' = subst (λ v. KeepsAnswer v tree other) (sym (ap verdict_of same ∙ e)) (stays_answered same (No fault) e law)
   answered_if_open (Open left) e law r t' = tried_answered left e r t' (verdict_of tree) refl

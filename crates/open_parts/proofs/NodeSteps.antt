@@ -41,7 +41,8 @@ child_lines m (Branch lines finding trees) child i rest e has =
 
 module _ (Replaces : LineSet → Tree → Type 0) where
   -- the node with its children refined
-  pub node_refined : (tree made : Tree) (below : Trees) → is_undecided (finding_of tree) ≡ false → made ≡ Branch (lines_at_root tree) (finding_of tree) below → AllRefine Replaces (trees_below tree) below → Refines Replaces tree made
+  pub node_refined : (tree made : Tree) (below : Trees) → is_undecided (finding_of tree) ≡ false → made ≡ Branch (lines_at_root tree) (finding_of tree) below
+      → AllRefine Replaces (trees_below tree) below → Refines Replaces tree made
   node_refined (Branch lines finding trees) made below e same all = subst (Refines Replaces (Branch lines finding trees)) (sym same) (refined_kept Replaces lines finding trees below e all)
 
   -- an undecided node
@@ -53,7 +54,8 @@ module _ (Replaces : LineSet → Tree → Type 0) where
 
   -- one more child
   pub more_refined : (trees : List Tree) (i : ℕ) (child : Tree) → slice_get trees i ≡ Some child → (before after : List Node) (made : Node) → after ≡ before ++ made ∷ []
-      → AllRefine Replaces (trees_from (take i trees)) (trees_from (map tree_of before)) → Refines Replaces child (tree_of made) → AllRefine Replaces (trees_from (take (i + 1) trees)) (trees_from (map tree_of after))
+      → AllRefine Replaces (trees_from (take i trees)) (trees_from (map tree_of before)) → Refines Replaces child (tree_of made)
+      → AllRefine Replaces (trees_from (take (i + 1) trees)) (trees_from (map tree_of after))
   more_refined trees i child found before after made e all r =
       let taken = take_more trees i child (slice_get_within trees i child found) ∙ ap (λ (t : Tree). take i trees ++ t ∷ []) (get_or_from_slice_get trees i child child found) in
       subst (λ (ts : List Tree). AllRefine Replaces (trees_from ts) (trees_from (map tree_of after))) (sym taken)
@@ -62,10 +64,12 @@ module _ (Replaces : LineSet → Tree → Type 0) where
       (refined_more Replaces (take i trees) (map tree_of before) child (tree_of made) all r)))
 
   -- all children
-  pub children_refined : (tree : Tree) (i : ℕ) → length (children_of tree) ≤ i → (made : Trees) → AllRefine Replaces (trees_from (take i (children_of tree))) made → AllRefine Replaces (trees_below tree) made
+  pub children_refined : (tree : Tree) (i : ℕ) → length (children_of tree) ≤ i → (made : Trees)
+      → AllRefine Replaces (trees_from (take i (children_of tree))) made → AllRefine Replaces (trees_below tree) made
   children_refined (Branch lines finding trees) i l made all =
       subst (λ ts. AllRefine Replaces ts made) (trees_back trees) (subst (λ (ts : List Tree). AllRefine Replaces (trees_from ts) made) (take_all i (list_of trees) l) all)
 
 -- as many children as the finding needs
-pub node_children : (m : Matrix) (Replaces : LineSet → Tree → Type 0) (tree : Tree) (made : List Node) → HasLinesOf m tree → AllRefine Replaces (trees_below tree) (trees_from (map tree_of made)) → HasChildren (finding_of tree) (length made)
+pub node_children : (m : Matrix) (Replaces : LineSet → Tree → Type 0) (tree : Tree) (made : List Node) → HasLinesOf m tree
+    → AllRefine Replaces (trees_below tree) (trees_from (map tree_of made)) → HasChildren (finding_of tree) (length made)
 node_children m Replaces (Branch lines finding trees) made has all = subst (HasChildren finding) (sym (sym (count_of made) ∙ count_refined Replaces trees (trees_from (map tree_of made)) all)) has.within.3

@@ -22,7 +22,8 @@ one_rest_verdict : (limit : ℕ) (n : Matrix) (tree other : Tree) → IsShape li
 one_rest_verdict limit n tree other shape shape' = verdict_plain tree ∙ ap verdict_of (one_shape limit n tree other shape shape') ∙ sym (verdict_plain other)
 
 module _ (limit : ℕ) (m : Matrix) where
-  one_result : (turns : List Line) (kept rest : LineSet) (v : Verdict) (one other : Option LineSet) → ((next : LineSet) → RemovesInTurn limit m turns next one → RemovesInTurn limit m turns next other → one ≡ other)
+  one_result : (turns : List Line) (kept rest : LineSet) (v : Verdict) (one other : Option LineSet)
+      → ((next : LineSet) → RemovesInTurn limit m turns next one → RemovesInTurn limit m turns next other → one ≡ other)
       → GoesOnAfter (RemovesInTurn limit m turns) kept rest v one → GoesOnAfter (RemovesInTurn limit m turns) kept rest v other → one ≡ other
   one_result turns kept rest Yes one other later f g = later kept f g
   one_result turns kept rest (No fault) one other later f g = f ∙ sym g
@@ -42,7 +43,8 @@ module _ (limit : ℕ) (m : Matrix) where
     pub violator : limit ≤ 24 → IsViolator (entry m) fault.rows fault.columns
 
   module _ (is : IsMatrix m) where
-    violates_after : (turns : List Line) (kept : LineSet) (line : Line) (are : AreLines m kept) (tree : Tree) (shape : IsShape limit (part m (rest_without kept line)) tree) (fault : LineSet) (v : Verdict) → verdict_of tree ≡ v
+    violates_after : (turns : List Line) (kept : LineSet) (line : Line) (are : AreLines m kept) (tree : Tree) (shape : IsShape limit (part m (rest_without kept line)) tree) (fault : LineSet) (v : Verdict)
+        → verdict_of tree ≡ v
         → ((next : LineSet) → AreLines m next → RemovesInTurn limit m turns next (Some fault) → Violates next fault)
         → GoesOnAfter (RemovesInTurn limit m turns) kept (rest_without kept line) v (Some fault) → Violates kept fault
     violates_after turns kept line are tree shape fault Yes e later goes = later kept are goes

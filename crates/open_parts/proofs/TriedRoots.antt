@@ -118,7 +118,8 @@ pub tried_shapes_are_sound : TriedShapesAreSound
 tried_shapes_are_sound limit pivots m tree few is d = sound_by limit pivots m d.drawn tree is d.shape few (tried_view limit m d.drawn tree pivots d.tried)
 
 -- the root has all lines
-pub root_is_all : (limit pivots : ℕ) (m : Matrix) (tree : Tree) → IsTriedWith limit pivots m tree → ((lines_at_root tree).rows ≡ first_lines (height m)) × ((lines_at_root tree).columns ≡ first_lines m.width)
+pub root_is_all : (limit pivots : ℕ) (m : Matrix) (tree : Tree) → IsTriedWith limit pivots m tree
+    → ((lines_at_root tree).rows ≡ first_lines (height m)) × ((lines_at_root tree).columns ≡ first_lines m.width)
 root_is_all limit pivots m tree d = go (tried_view limit m d.drawn tree pivots d.tried)
   where
     all : ((lines_at_root d.drawn).rows ≡ first_lines (height m)) × ((lines_at_root d.drawn).columns ≡ first_lines m.width)

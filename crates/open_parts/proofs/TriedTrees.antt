@@ -34,19 +34,22 @@ tried_lines limit m lines tree (found, search, e) = subst (λ t. lines_at_root t
 module _ (limit : ℕ) (m : Matrix) (is : IsMatrix m) where
   -- ---- lines and levels
 
-  leaf_within : (lines parent : LineSet) (levels : ℕ) (found : Option LineSet) (trees : Trees) → AreLines m lines → IsTreeWithin parent levels (Branch lines Undecided trees) → IsFoundInRests limit m lines found → IsTreeWithin parent levels (leaf_with lines found)
+  leaf_within : (lines parent : LineSet) (levels : ℕ) (found : Option LineSet) (trees : Trees) → AreLines m lines
+      → IsTreeWithin parent levels (Branch lines Undecided trees) → IsFoundInRests limit m lines found → IsTreeWithin parent levels (leaf_with lines found)
   leaf_within lines parent levels None trees here within search = (within.0, within.1, tt, refl, tt)
   leaf_within lines parent levels (Some fault) trees here within search = (within.0, within.1, (found_violates limit m is (turns_of lines) lines fault here search).among, refl, tt)
 
   mutual
-    pub tried_within : (parent : LineSet) (levels : ℕ) (drawn tree : Tree) → AreLines m parent → IsTreeWithin parent levels drawn → Refines (IsTriedLeaf limit m) drawn tree → IsTreeWithin parent levels tree
+    pub tried_within : (parent : LineSet) (levels : ℕ) (drawn tree : Tree) → AreLines m parent → IsTreeWithin parent levels drawn
+        → Refines (IsTriedLeaf limit m) drawn tree → IsTreeWithin parent levels tree
     tried_within parent levels (Branch lines finding trees) tree are within r =
         go (refined_node (IsTriedLeaf limit m) lines finding trees tree r) (λ below all. each_within lines (levels - 1) trees below here within.4 all)
       where
         here : AreLines m lines
         here = lines_within m lines parent within.1 are
 
-        go : RefinedNode (IsTriedLeaf limit m) lines finding trees tree → ((below : Trees) → AllRefine (IsTriedLeaf limit m) trees below → AreTreesWithin lines (levels - 1) below) → IsTreeWithin parent levels tree
+        go : RefinedNode (IsTriedLeaf limit m) lines finding trees tree
+            → ((below : Trees) → AllRefine (IsTriedLeaf limit m) trees below → AreTreesWithin lines (levels - 1) below) → IsTreeWithin parent levels tree
         go (replaced e (found, search, same)) each =
             subst (IsTreeWithin parent levels) (sym same) (leaf_within lines parent levels found trees here (subst (λ f. IsTreeWithin parent levels (Branch lines f trees)) e within) search)
         go (kept e below same all) each = subst (IsTreeWithin parent levels) (sym same) (
@@ -57,7 +60,8 @@ module _ (limit : ℕ) (m : Matrix) (is : IsMatrix m) where
           each below all,
         )
 
-    each_within : (lines : LineSet) (levels : ℕ) (trees below : Trees) → AreLines m lines → AreTreesWithin lines levels trees → AllRefine (IsTriedLeaf limit m) trees below → AreTreesWithin lines levels below
+    each_within : (lines : LineSet) (levels : ℕ) (trees below : Trees) → AreLines m lines → AreTreesWithin lines levels trees
+        → AllRefine (IsTriedLeaf limit m) trees below → AreTreesWithin lines levels below
     each_within lines levels NoTrees below are within e = subst (AreTreesWithin lines levels) (sym e) tt
     each_within lines levels (MoreTrees tree trees) below are within (first, rest, e, r, all) =
         subst (AreTreesWithin lines levels) (sym e) (tried_within lines levels tree first are within.0 r, each_within lines levels trees rest are within.1 all)
@@ -65,13 +69,15 @@ module _ (limit : ℕ) (m : Matrix) (is : IsMatrix m) where
   -- ---- rules
 
   module _ (few : limit ≤ 24) where
-    leaf_sound : (path : List ℕ) (due : Due) (lines : LineSet) (found : Option LineSet) → AreLines m lines → IsFoundInRests limit m lines found → HasItsSizes m due → HasItsLines due lines → AllByRecursion (KeepsAll m) (places_from path [] due (leaf_with lines found))
+    leaf_sound : (path : List ℕ) (due : Due) (lines : LineSet) (found : Option LineSet) → AreLines m lines → IsFoundInRests limit m lines found
+        → HasItsSizes m due → HasItsLines due lines → AllByRecursion (KeepsAll m) (places_from path [] due (leaf_with lines found))
     leaf_sound path due lines None here search sizes has = undecided_sound m [] lines (inl refl) path due sizes has
     leaf_sound path due lines (Some fault) here search sizes has =
         violator_sound m [] lines fault ((found_violates limit m is (turns_of lines) lines fault here search).violator few) (inl refl) path due sizes has
 
     mutual
-      pub tried_sound : (path : List ℕ) (pivots : List MadePivot) (due : Due) (parent : LineSet) (levels : ℕ) (drawn tree : Tree) → AreLines m parent → IsTreeWithin parent levels drawn → AllByRecursion (KeepsAll m) (places_from path pivots due drawn)
+      pub tried_sound : (path : List ℕ) (pivots : List MadePivot) (due : Due) (parent : LineSet) (levels : ℕ) (drawn tree : Tree) → AreLines m parent
+          → IsTreeWithin parent levels drawn → AllByRecursion (KeepsAll m) (places_from path pivots due drawn)
           → Refines (IsTriedLeaf limit m) drawn tree → AllByRecursion (KeepsAll m) (places_from path pivots due tree)
       tried_sound path pivots due parent levels (Branch lines finding trees) tree are within keeps r =
           go (refined_node (IsTriedLeaf limit m) lines finding trees tree r) (λ below all. each_sound path (pivots_below lines finding pivots) lines finding (levels - 1) 0 trees below here within.4 keeps.1 all)
@@ -91,7 +97,8 @@ module _ (limit : ℕ) (m : Matrix) (is : IsMatrix m) where
             each below all,
           )
 
-      each_sound : (path : List ℕ) (pivots : List MadePivot) (lines : LineSet) (finding : Finding) (levels k : ℕ) (trees below : Trees) → AreLines m lines → AreTreesWithin lines levels trees → AllByRecursion (KeepsAll m) (places_below path pivots lines finding k trees)
+      each_sound : (path : List ℕ) (pivots : List MadePivot) (lines : LineSet) (finding : Finding) (levels k : ℕ) (trees below : Trees) → AreLines m lines
+          → AreTreesWithin lines levels trees → AllByRecursion (KeepsAll m) (places_below path pivots lines finding k trees)
           → AllRefine (IsTriedLeaf limit m) trees below → AllByRecursion (KeepsAll m) (places_below path pivots lines finding k below)
       each_sound path pivots lines finding levels k NoTrees below are within keeps e = subst (λ t. AllByRecursion (KeepsAll m) (places_below path pivots lines finding k t)) (sym e) tt
       each_sound path pivots lines finding levels k (MoreTrees tree trees) below are within keeps (first, rest, e, r, all) =

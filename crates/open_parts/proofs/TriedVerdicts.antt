@@ -32,7 +32,8 @@ module _ (limit : ℕ) (m : Matrix) where
 
   -- ---- two trees
 
-  pub tried_same : (drawn drawn' tree tree' : Tree) → plain_tree drawn ≡ plain_tree drawn' → Refines (IsTriedLeaf limit m) drawn tree → Refines (IsTriedLeaf limit m) drawn' tree' → plain_tree tree ≡ plain_tree tree'
+  pub tried_same : (drawn drawn' tree tree' : Tree) → plain_tree drawn ≡ plain_tree drawn' → Refines (IsTriedLeaf limit m) drawn tree
+      → Refines (IsTriedLeaf limit m) drawn' tree' → plain_tree tree ≡ plain_tree tree'
   tried_same = refined_same (IsTriedLeaf limit m) (λ lines tree other leaf leaf'. ap plain_tree (one_leaf lines tree other leaf leaf'))
 
   -- ---- trees that stay
@@ -58,7 +59,8 @@ module _ (limit : ℕ) (m : Matrix) where
 
   mutual
     -- a tree stays if nothing is found at its undecided nodes
-    pub faultless_same : (parent : LineSet) (levels : ℕ) (drawn tree : Tree) → IsTreeWithin parent levels drawn → first_in fault_at tree ≡ None → Refines (IsTriedLeaf limit m) drawn tree → tree ≡ drawn
+    pub faultless_same : (parent : LineSet) (levels : ℕ) (drawn tree : Tree) → IsTreeWithin parent levels drawn → first_in fault_at tree ≡ None
+        → Refines (IsTriedLeaf limit m) drawn tree → tree ≡ drawn
     faultless_same parent levels (Branch lines finding trees) tree within none r =
         go (refined_node (IsTriedLeaf limit m) lines finding trees tree r) (λ below all e. all_faultless lines (levels - 1) trees below within.4 e all)
       where
@@ -66,12 +68,15 @@ module _ (limit : ℕ) (m : Matrix) where
         leaf_same is None at = at ∙ ap₂ (λ (f : Finding) (ts : Trees). Branch lines f ts) (sym is) (sym (no_children trees (subst (λ f. HasChildren f (count_trees trees)) is within.3)))
         leaf_same is (Some fault) at = none_is_some fault (sym none ∙ ap (first_in fault_at) at)
 
-        go : RefinedNode (IsTriedLeaf limit m) lines finding trees tree → ((below : Trees) → AllRefine (IsTriedLeaf limit m) trees below → first_among fault_at below ≡ None → below ≡ trees) → tree ≡ Branch lines finding trees
+        go : RefinedNode (IsTriedLeaf limit m) lines finding trees tree
+            → ((below : Trees) → AllRefine (IsTriedLeaf limit m) trees below → first_among fault_at below ≡ None → below ≡ trees)
+            → tree ≡ Branch lines finding trees
         go (replaced is (found, search, at)) each = leaf_same is found at
         go (kept is below at all) each =
             at ∙ ap (λ (ts : Trees). Branch lines finding ts) (each below all (none_or (fault_at lines finding) (first_among fault_at below) (sym (ap (first_in fault_at) at) ∙ none)).1)
 
-    all_faultless : (lines : LineSet) (levels : ℕ) (trees below : Trees) → AreTreesWithin lines levels trees → first_among fault_at below ≡ None → AllRefine (IsTriedLeaf limit m) trees below → below ≡ trees
+    all_faultless : (lines : LineSet) (levels : ℕ) (trees below : Trees) → AreTreesWithin lines levels trees → first_among fault_at below ≡ None
+        → AllRefine (IsTriedLeaf limit m) trees below → below ≡ trees
     all_faultless lines levels NoTrees below within none e = e
     all_faultless lines levels (MoreTrees tree trees) below within none (first, rest, at, r, all) =
         let faults = none_or (first_in fault_at first) (first_among fault_at rest) (sym (ap (first_among fault_at) at) ∙ none) in
@@ -81,7 +86,8 @@ module _ (limit : ℕ) (m : Matrix) where
 
   mutual
     -- nothing was found in the rests of the first undecided node
-    pub open_tried : (drawn tree : Tree) (found : LineSet) → first_in fault_at tree ≡ None → first_in open_at tree ≡ Some found → Refines (IsTriedLeaf limit m) drawn tree → IsFoundInRests limit m found None
+    pub open_tried : (drawn tree : Tree) (found : LineSet) → first_in fault_at tree ≡ None → first_in open_at tree ≡ Some found
+        → Refines (IsTriedLeaf limit m) drawn tree → IsFoundInRests limit m found None
     open_tried (Branch lines finding trees) tree found none first r =
         go (refined_node (IsTriedLeaf limit m) lines finding trees tree r) (λ below all e f. each_tried trees below found e f all)
       where
@@ -90,13 +96,15 @@ module _ (limit : ℕ) (m : Matrix) where
         leaf_tried (Some fault) search at = none_is_some fault (sym none ∙ ap (first_in fault_at) at)
 
         go : RefinedNode (IsTriedLeaf limit m) lines finding trees tree
-            → ((below : Trees) → AllRefine (IsTriedLeaf limit m) trees below → first_among fault_at below ≡ None → first_among open_at below ≡ Some found → IsFoundInRests limit m found None) → IsFoundInRests limit m found None
+            → ((below : Trees) → AllRefine (IsTriedLeaf limit m) trees below → first_among fault_at below ≡ None → first_among open_at below ≡ Some found → IsFoundInRests limit m found None)
+            → IsFoundInRests limit m found None
         go (replaced is (result, search, at)) each = leaf_tried result search at
         go (kept is below at all) each =
             each below all (none_or (fault_at lines finding) (first_among fault_at below) (sym (ap (first_in fault_at) at) ∙ none)).1
             (ap (λ (o : Option LineSet). option_or o (first_among open_at below)) (sym (open_kept lines finding is)) ∙ sym (ap (first_in open_at) at) ∙ first)
 
-    each_tried : (trees below : Trees) (found : LineSet) → first_among fault_at below ≡ None → first_among open_at below ≡ Some found → AllRefine (IsTriedLeaf limit m) trees below → IsFoundInRests limit m found None
+    each_tried : (trees below : Trees) (found : LineSet) → first_among fault_at below ≡ None → first_among open_at below ≡ Some found
+        → AllRefine (IsTriedLeaf limit m) trees below → IsFoundInRests limit m found None
     each_tried NoTrees below found none first e = none_is_some found (sym (ap (first_among open_at) e) ∙ first)
     each_tried (MoreTrees tree trees) below found none first (one, rest, at, r, all) =
         let faults = none_or (first_in fault_at one) (first_among fault_at rest) (sym (ap (first_among fault_at) at) ∙ none) in

@@ -12,7 +12,8 @@ use Rattle.parity.proofs.Elimination.{even_where_cleared, least_solution}
 use Rattle.parity.proofs.Systems.{column_set_from_solution, no_column_set, without_columns_apart, without_columns_lt}
 
 -- a remaining column gives the least column set
-pub least_from_free : (m : Matrix) (rows : List ℕ) (ones twos free : ℕ) (es : List Equation) → IsMatrix m → AreSums m rows ones twos → twos < 2 ^ m.width → IsBasis m.width ones (equations_of m ones rows) es
+pub least_from_free : (m : Matrix) (rows : List ℕ) (ones twos free : ℕ) (es : List Equation) → IsMatrix m → AreSums m rows ones twos → twos < 2 ^ m.width
+    → IsBasis m.width ones (equations_of m ones rows) es
     → IsLowest (reduced_by es (without_columns ones twos)) free → IsLeastColumnSet m rows (set_numbered m.width 0 (solved es (2 ^ free)))
 least_from_free m rows ones twos free es is are small basis low =
     column_set_from_solution m rows ones twos (solved es (2 ^ free)) is are
@@ -25,7 +26,8 @@ none_from_cleared m rows ones twos es is are basis none =
     no_column_set m rows ones twos is are (λ set hold. even_where_cleared m.width ones (equations_of m ones rows) es (without_columns ones twos) set basis none hold)
 
 -- the remaining column decides whether a column set exists
-pub free_by_search : (m : Matrix) (rows : List ℕ) (ones twos : ℕ) (es : List Equation) (free : Option ℕ) → IsMatrix m → AreSums m rows ones twos → twos < 2 ^ m.width → IsBasis m.width ones (equations_of m ones rows) es
+pub free_by_search : (m : Matrix) (rows : List ℕ) (ones twos : ℕ) (es : List Equation) (free : Option ℕ) → IsMatrix m → AreSums m rows ones twos
+    → twos < 2 ^ m.width → IsBasis m.width ones (equations_of m ones rows) es
     → IfSome free (IsLowest (reduced_by es (without_columns ones twos))) → IfNone free (reduced_by es (without_columns ones twos) ≡ 0)
     → IfSome free (λ column. IsLeastColumnSet m rows (set_numbered m.width 0 (solved es (2 ^ column)))) × IfNone free (HasNoColumnSet m rows)
 free_by_search m rows ones twos es (Some free) is are small basis some none = (least_from_free m rows ones twos free es is are small basis some, tt)

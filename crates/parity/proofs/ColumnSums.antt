@@ -15,7 +15,8 @@ pub no_sums : (m : Matrix) → AreSums m [] 0 0
 no_sums m = record { each = λ column. record { fours = pos 0; is = ap₂ (λ (a b : ℕ). (pos a +ℤ (pos b +ℤ pos b)) +ℤ pos 0) (sym (bit_at-zero column)) (sym (bit_at-zero column)) } }
 
 -- an entry s - 2 m, with bits s and m, added to a sum
-residue_more : (sum z : ℤ) (low high s m : ℕ) → low < 2 → high < 2 → s < 2 → m < 2 → HasResidue sum low high → z ≡ pos s +ℤ (neg_ℤ (pos m) +ℤ neg_ℤ (pos m)) → HasResidue (sum +ℤ z) ((low + s) % 2) ((high + (min low s + m) % 2) % 2)
+residue_more : (sum z : ℤ) (low high s m : ℕ) → low < 2 → high < 2 → s < 2 → m < 2 → HasResidue sum low high → z ≡ pos s +ℤ (neg_ℤ (pos m) +ℤ neg_ℤ (pos m))
+    → HasResidue (sum +ℤ z) ((low + s) % 2) ((high + (min low s + m) % 2) % 2)
 residue_more sum z low high s m hl hh hs hm h e =
     let total = high + min low s + m in
     let before = h.is in
@@ -33,7 +34,8 @@ sums_more m rows i ones twos is h are = record { each = each }
     ones_at : (column : ℕ) → bit_at (bit_xor ones (support_of m row)) column ≡ (bit_at ones column + bit_at (support_of m row) column) % 2
     ones_at column = bit_at_xor ones (support_of m row) column
 
-    twos_at : (column : ℕ) → bit_at (bit_xor twos (bit_xor (bit_and ones (support_of m row)) (minus_of m row))) column ≡ (bit_at twos column + (min (bit_at ones column) (bit_at (support_of m row) column) + bit_at (minus_of m row) column) % 2) % 2
+    twos_at : (column : ℕ)
+        → bit_at (bit_xor twos (bit_xor (bit_and ones (support_of m row)) (minus_of m row))) column ≡ (bit_at twos column + (min (bit_at ones column) (bit_at (support_of m row) column) + bit_at (minus_of m row) column) % 2) % 2
     twos_at column =
         bit_at_xor twos (bit_xor (bit_and ones (support_of m row)) (minus_of m row)) column
         ∙ ap (λ n. (bit_at twos column + n) % 2) (bit_at_xor (bit_and ones (support_of m row)) (minus_of m row) column ∙ ap (λ n. (n + bit_at (minus_of m row) column) % 2) (bit_at_and ones (support_of m row) column))
@@ -41,7 +43,8 @@ sums_more m rows i ones twos is h are = record { each = each }
     sum_at : (column : ℕ) → sum_over (take (i + 1) rows) (λ r. entry m r column) ≡ sum_over (take i rows) (λ r. entry m r column) +ℤ entry m row column
     sum_at column = sum_over-take_more rows (λ r. entry m r column) i h
 
-    each : (column : ℕ) → HasResidue (sum_over (take (i + 1) rows) (λ r. entry m r column)) (bit_at (bit_xor ones (support_of m row)) column) (bit_at (bit_xor twos (bit_xor (bit_and ones (support_of m row)) (minus_of m row))) column)
+    each : (column : ℕ)
+        → HasResidue (sum_over (take (i + 1) rows) (λ r. entry m r column)) (bit_at (bit_xor ones (support_of m row)) column) (bit_at (bit_xor twos (bit_xor (bit_and ones (support_of m row)) (minus_of m row))) column)
     each column =
         let more = residue_more (sum_over (take i rows) (λ r. entry m r column)) (entry m row column) (bit_at ones column) (bit_at twos column) (bit_at (support_of m row) column) (bit_at (minus_of m row) column)
         (bit_at-lt ones column) (bit_at-lt twos column) (bit_at-lt (support_of m row) column) (bit_at-lt (minus_of m row) column) (are.each column) (entry_bits m row column is) in

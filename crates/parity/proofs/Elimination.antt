@@ -77,7 +77,8 @@ basis_skip width excluded rows es row basis none = record {
   small = basis.small;
 }
 
-pub basis_push : (width excluded : ℕ) (rows : List ℕ) (es : List Equation) (row pivot : ℕ) → IsBasis width excluded rows es → bit_and row excluded ≡ 0 → row < 2 ^ width → IsLowest (reduced_by es row) pivot
+pub basis_push : (width excluded : ℕ) (rows : List ℕ) (es : List Equation) (row pivot : ℕ) → IsBasis width excluded rows es → bit_and row excluded ≡ 0
+    → row < 2 ^ width → IsLowest (reduced_by es row) pivot
     → IsBasis width excluded (rows ++ row ∷ []) (es ++ record { pivot = pivot; columns = reduced_by es row } ∷ [])
 basis_push width excluded rows es row pivot basis apart small low = record {
   follow = λ set hold.
@@ -96,7 +97,8 @@ basis_push width excluded rows es row pivot basis apart small low = record {
     e = record { pivot = pivot; columns = reduced_by es row }
 
 -- a number that is reduced to 0 has an even number of columns in common with each set for which the rows hold
-pub even_where_cleared : (width excluded : ℕ) (rows : List ℕ) (es : List Equation) (number set : ℕ) → IsBasis width excluded rows es → reduced_by es number ≡ 0 → AllByRecursion (λ row. common row set ≡ 0) rows → common number set ≡ 0
+pub even_where_cleared : (width excluded : ℕ) (rows : List ℕ) (es : List Equation) (number set : ℕ) → IsBasis width excluded rows es → reduced_by es number ≡ 0
+    → AllByRecursion (λ row. common row set ≡ 0) rows → common number set ≡ 0
 even_where_cleared width excluded rows es number set basis none hold =
     sym (common-reduced_by es number set (basis.follow set hold)) ∙ ap (λ n. common n set) none ∙ common-zero set
   where
@@ -110,7 +112,8 @@ common-solved [] number start = refl
 common-solved (e ∷ es) number start =
     by (solved es start) (common-solved es (cleared_by e number) start) (common_cases e.columns (solved es start)) (bit_cases number e.pivot)
   where
-    by : (set : ℕ) → common (cleared_by e number) set ≡ common (reduced_by (e ∷ es) number) start → (common e.columns set ≡ 1) ⊎ (common e.columns set ≡ 0) → (bit_at number e.pivot ≡ 1) ⊎ (bit_at number e.pivot ≡ 0)
+    by : (set : ℕ) → common (cleared_by e number) set ≡ common (reduced_by (e ∷ es) number) start → (common e.columns set ≡ 1) ⊎ (common e.columns set ≡ 0)
+        → (bit_at number e.pivot ≡ 1) ⊎ (bit_at number e.pivot ≡ 0)
         → common number (corrected_by e set) ≡ common (reduced_by (e ∷ es) number) start
     by set later (inl odd) (inl one) =
         ap (common number) (corrected_odd e set odd) ∙ common-xor_right number set (2 ^ e.pivot)
@@ -135,7 +138,8 @@ solved_at P [] free column at_free all one = elim (cases_eq column free) [
 ]
 solved_at P (e ∷ es) free column at_free all one = by (solved_at P es free column at_free all.1) (common_cases e.columns (solved es (2 ^ free))) (cases_eq column e.pivot)
   where
-    by : (bit_at (solved es (2 ^ free)) column ≡ 1 → P column) → (common e.columns (solved es (2 ^ free)) ≡ 1) ⊎ (common e.columns (solved es (2 ^ free)) ≡ 0) → (column ≡ e.pivot) ⊎ (column ≢ e.pivot) → P column
+    by : (bit_at (solved es (2 ^ free)) column ≡ 1 → P column) → (common e.columns (solved es (2 ^ free)) ≡ 1) ⊎ (common e.columns (solved es (2 ^ free)) ≡ 0)
+        → (column ≡ e.pivot) ⊎ (column ≢ e.pivot) → P column
     by earlier odd (inl same) = subst P (sym same) all.0
     by earlier (inl odd) (inr other) =
         let whole : bit_at (bit_xor (solved es (2 ^ free)) (2 ^ e.pivot)) column ≡ 1 = ap (λ n. bit_at n column) (sym (corrected_odd e (solved es (2 ^ free)) odd)) ∙ one in
@@ -167,7 +171,8 @@ pub apart_at : (number excluded column : ℕ) → bit_at number column ≡ 1 →
 apart_at number excluded column one apart =
     omega (arith, one, bit_at-lt excluded column, bit_at_and number excluded column, ap (λ n. bit_at n column) apart, bit_at-zero column)
 
-pub least_solution : (width excluded : ℕ) (rows : List ℕ) (es : List Equation) (odd free : ℕ) → IsBasis width excluded rows es → bit_and odd excluded ≡ 0 → odd < 2 ^ width → IsLowest (reduced_by es odd) free
+pub least_solution : (width excluded : ℕ) (rows : List ℕ) (es : List Equation) (odd free : ℕ) → IsBasis width excluded rows es → bit_and odd excluded ≡ 0
+    → odd < 2 ^ width → IsLowest (reduced_by es odd) free
     → IsLeastSolution width excluded rows odd (solved es (2 ^ free))
 least_solution width excluded rows es odd free basis odd_apart odd_small low = record {
   hold = hold;
@@ -193,7 +198,8 @@ least_solution width excluded rows es odd free basis odd_apart odd_small low = r
     pivots_below [] lows smalls = tt
     pivots_below (e ∷ fs) lows smalls = (below_width e.columns e.pivot width lows.0.there smalls.0, pivots_below fs lows.1 smalls.1)
 
-    pivots_apart : (fs : List Equation) → AllByRecursion (λ e. IsLowest e.columns e.pivot) fs → AllByRecursion (λ e. bit_and e.columns excluded ≡ 0) fs → AllByRecursion (λ e. bit_at excluded e.pivot ≡ 0) fs
+    pivots_apart : (fs : List Equation) → AllByRecursion (λ e. IsLowest e.columns e.pivot) fs → AllByRecursion (λ e. bit_and e.columns excluded ≡ 0) fs
+        → AllByRecursion (λ e. bit_at excluded e.pivot ≡ 0) fs
     pivots_apart [] lows aparts = tt
     pivots_apart (e ∷ fs) lows aparts = (apart_at e.columns excluded e.pivot lows.0.there aparts.0, pivots_apart fs lows.1 aparts.1)
 
@@ -206,7 +212,8 @@ least_solution width excluded rows es odd free basis odd_apart odd_small low = r
     Agrees : ℕ → ℕ → Type 0
     Agrees other column = (b : ℕ) × IsLowest b column × (common b set ≡ common b other)
 
-    agree : (other : ℕ) (fs : List Equation) → AllByRecursion (λ e. IsLowest e.columns e.pivot) fs → AllByRecursion (λ e. common e.columns set ≡ 0) fs → AllByRecursion (λ e. common e.columns other ≡ 0) fs → AllByRecursion (λ e. Agrees other e.pivot) fs
+    agree : (other : ℕ) (fs : List Equation) → AllByRecursion (λ e. IsLowest e.columns e.pivot) fs → AllByRecursion (λ e. common e.columns set ≡ 0) fs
+        → AllByRecursion (λ e. common e.columns other ≡ 0) fs → AllByRecursion (λ e. Agrees other e.pivot) fs
     agree other [] lows mine others = tt
     agree other (e ∷ fs) lows mine others = ((e.columns, lows.0, mine.0 ∙ sym others.0), agree other fs lows.1 mine.1 others.1)
 

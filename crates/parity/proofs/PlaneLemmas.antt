@@ -22,7 +22,8 @@ number_of-words_of (suc count) test zs h =
     ∙ bits_of-split test 64 zs
 
 -- the words of a row
-pub number_of-row : (m : Matrix) (test : ℤ → Bool) (row : ℕ) (words : List ℕ) → IsMatrix m → row < height m → words ≡ words_of (words_for m.width) test (row_of m row) → number_of words ≡ bits_of test (row_of m row)
+pub number_of-row : (m : Matrix) (test : ℤ → Bool) (row : ℕ) (words : List ℕ) → IsMatrix m → row < height m
+    → words ≡ words_of (words_for m.width) test (row_of m row) → number_of words ≡ bits_of test (row_of m row)
 number_of-row m test row words is h e = ap number_of e ∙ number_of-words_of (words_for m.width) test (row_of m row) (omega (arith, is.rectangular row h))
 
 pub length-row : (m : Matrix) (test : ℤ → Bool) (row : ℕ) (words : List ℕ) → words ≡ words_of (words_for m.width) test (row_of m row) → length words ≡ words_for m.width

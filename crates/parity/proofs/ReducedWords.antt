@@ -16,7 +16,8 @@ pub reduced_none : (words : List ℕ) → AreReduced 0 words words
 reduced_none words width excluded all = record { equations = []; basis = basis_none width excluded; rest = λ at le lt. refl }
 
 -- one word more is added to the words after it
-pub reduced_more : (place : ℕ) (words before after : List ℕ) → place < length words → length before ≡ length words → AreReduced place words before → AreCleared place before after → AreReduced (place + 1) words after
+pub reduced_more : (place : ℕ) (words before after : List ℕ) → place < length words → length before ≡ length words → AreReduced place words before
+    → AreCleared place before after → AreReduced (place + 1) words after
 reduced_more place words before after lt len so_far (inl (none, same)) width excluded all =
     let is = so_far width excluded all in record {
       equations = is.equations;
@@ -41,7 +42,8 @@ reduced_more place words before after lt len so_far (inr (pivot, low, added)) wi
     }
 
 -- the equations of rows, followed by a set without the columns that are excluded
-pub reduced_by_rows : (m : Matrix) (excluded number : ℕ) (rows after : List ℕ) → IsMatrix m → AllBelow (height m) rows → number < 2 ^ m.width → AreReduced (length rows) (equations_of m excluded rows ++ without_columns excluded number ∷ []) after
+pub reduced_by_rows : (m : Matrix) (excluded number : ℕ) (rows after : List ℕ) → IsMatrix m → AllBelow (height m) rows → number < 2 ^ m.width
+    → AreReduced (length rows) (equations_of m excluded rows ++ without_columns excluded number ∷ []) after
     → (es : List Equation) × IsBasis m.width excluded (equations_of m excluded rows) es × (get_or after (length rows) 0 ≡ reduced_by es (without_columns excluded number))
 reduced_by_rows m excluded number rows after is below small are_reduced = (
   by.equations,

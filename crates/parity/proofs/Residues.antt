@@ -98,7 +98,9 @@ later_parity f u first place h =
     let next : first + suc place ≡ (first + 1) + place = omega arith in
     subst (λ n. HasParity (f n) (bit_at (u / 2) place)) next (subst (HasParity (f (first + suc place))) (bit_at-suc u place) h)
 
-pub parity-numbered : (f : ℕ → ℤ) (count first number u : ℕ) → number < 2 ^ count → ((place : ℕ) → place < count → HasParity (f (first + place)) (bit_at u place)) → HasParity (sum_over (set_numbered count first number) f) (count_ones (bit_and u number))
+pub parity-numbered : (f : ℕ → ℤ) (count first number u : ℕ) → number < 2 ^ count
+    → ((place : ℕ) → place < count → HasParity (f (first + place)) (bit_at u place))
+    → HasParity (sum_over (set_numbered count first number) f) (count_ones (bit_and u number))
 parity-numbered f zero first number u small each =
     let none : number ≡ 0 = omega arith in
     record { twos = pos 0; is = ap pos (sym (ones-and_zero u number none)) ∙ omega (arith, sums) }
@@ -108,7 +110,8 @@ parity-numbered f (suc count) first number u small each =
     here : HasParity (f first) (u % 2)
     here = let at : first + 0 ≡ first = omega arith in subst (λ n. HasParity (f n) (u % 2)) at (subst (HasParity (f (first + 0))) (bit_at_lowest u) (each 0 (omega arith)))
 
-    by : (number % 2 ≡ 1) ⊎ (number % 2 ≡ 0) → HasParity (sum_over (set_numbered count (first + 1) (number / 2)) f) (count_ones (bit_and (u / 2) (number / 2))) → HasParity (sum_over (set_numbered (suc count) first number) f) (count_ones (bit_and u number))
+    by : (number % 2 ≡ 1) ⊎ (number % 2 ≡ 0) → HasParity (sum_over (set_numbered count (first + 1) (number / 2)) f) (count_ones (bit_and (u / 2) (number / 2)))
+        → HasParity (sum_over (set_numbered (suc count) first number) f) (count_ones (bit_and u number))
     by (inl odd) later =
         let whole : count_ones (bit_and u number) ≡ u % 2 + count_ones (bit_and (u / 2) (number / 2)) = omega (arith, ones-and u number) in
         let a = here.is in
@@ -124,7 +127,9 @@ later_double f u first place h =
     let next : first + suc place ≡ (first + 1) + place = omega arith in
     subst (λ n. HasDouble (f n) (bit_at (u / 2) place)) next (subst (HasDouble (f (first + suc place))) (bit_at-suc u place) h)
 
-pub double-numbered : (f : ℕ → ℤ) (count first number u : ℕ) → number < 2 ^ count → ((place : ℕ) → place < count → bit_at number place ≡ 1 → HasDouble (f (first + place)) (bit_at u place)) → HasDouble (sum_over (set_numbered count first number) f) (count_ones (bit_and u number))
+pub double-numbered : (f : ℕ → ℤ) (count first number u : ℕ) → number < 2 ^ count
+    → ((place : ℕ) → place < count → bit_at number place ≡ 1 → HasDouble (f (first + place)) (bit_at u place))
+    → HasDouble (sum_over (set_numbered count first number) f) (count_ones (bit_and u number))
 double-numbered f zero first number u small each =
     let none : number ≡ 0 = omega arith in
     let e = ones-and_zero u number none in
@@ -135,7 +140,8 @@ double-numbered f (suc count) first number u small each =
     here : number % 2 ≡ 1 → HasDouble (f first) (u % 2)
     here odd = let at : first + 0 ≡ first = omega arith in subst (λ n. HasDouble (f n) (u % 2)) at (subst (HasDouble (f (first + 0))) (bit_at_lowest u) (each 0 (omega arith) (bit_at_lowest number ∙ odd)))
 
-    by : (number % 2 ≡ 1) ⊎ (number % 2 ≡ 0) → HasDouble (sum_over (set_numbered count (first + 1) (number / 2)) f) (count_ones (bit_and (u / 2) (number / 2))) → HasDouble (sum_over (set_numbered (suc count) first number) f) (count_ones (bit_and u number))
+    by : (number % 2 ≡ 1) ⊎ (number % 2 ≡ 0) → HasDouble (sum_over (set_numbered count (first + 1) (number / 2)) f) (count_ones (bit_and (u / 2) (number / 2)))
+        → HasDouble (sum_over (set_numbered (suc count) first number) f) (count_ones (bit_and u number))
     by (inl odd) later =
         let whole : count_ones (bit_and u number) ≡ u % 2 + count_ones (bit_and (u / 2) (number / 2)) = omega (arith, ones-and u number) in
         let first_is = here odd in

@@ -38,7 +38,8 @@ entry_split (pos zero) is = omega (arith, ints)
 entry_split (pos (suc n)) is = omega (arith, ints, is.high)
 entry_split (negsuc n) is = omega (arith, ints, is.low)
 
-pub entry_bits : (m : Matrix) (row column : ℕ) → IsMatrix m → entry m row column ≡ pos (bit_at (support_of m row) column) +ℤ (neg_ℤ (pos (bit_at (minus_of m row) column)) +ℤ neg_ℤ (pos (bit_at (minus_of m row) column)))
+pub entry_bits : (m : Matrix) (row column : ℕ) → IsMatrix m
+    → entry m row column ≡ pos (bit_at (support_of m row) column) +ℤ (neg_ℤ (pos (bit_at (minus_of m row) column)) +ℤ neg_ℤ (pos (bit_at (minus_of m row) column)))
 entry_bits m row column is =
     entry_split (entry m row column) (is.small row column)
     ∙ ap₂ (λ (a b : ℕ). pos a +ℤ (neg_ℤ (pos b) +ℤ neg_ℤ (pos b))) (sym (bit_at-bits_of is_nonzero (row_of m row) column refl)) (sym (bit_at-bits_of is_minus (row_of m row) column refl))
@@ -47,7 +48,8 @@ entry_parity : (m : Matrix) (row column : ℕ) → IsMatrix m → HasParity (ent
 entry_parity m row column is = record { twos = neg_ℤ (pos (bit_at (minus_of m row) column)); is = entry_bits m row column is }
 
 -- ---- sums over a column set, by its number
-pub row_parity : (m : Matrix) (row set : ℕ) → IsMatrix m → set < 2 ^ m.width → HasParity (sum_over (set_numbered m.width 0 set) (λ column. entry m row column)) (count_ones (bit_and (support_of m row) set))
+pub row_parity : (m : Matrix) (row set : ℕ) → IsMatrix m → set < 2 ^ m.width
+    → HasParity (sum_over (set_numbered m.width 0 set) (λ column. entry m row column)) (count_ones (bit_and (support_of m row) set))
 row_parity m row set is small =
     parity-numbered (λ column. entry m row column) m.width 0 set (support_of m row) small (λ column lt.
     let at : column ≡ 0 + column = omega arith in
@@ -90,7 +92,8 @@ whole_double m rows ones twos set are small apart =
     let off : bit_at ones column ≡ 0 = apart_at set ones column one apart in
     subst (λ c. HasDouble (sum_over rows (λ row. entry m row c)) (bit_at twos column)) at (double_high (sum_over rows (λ row. entry m row column)) (bit_at ones column) (bit_at twos column) (are.each column) off))
 
-pub violator_from_solution : (m : Matrix) (rows : List ℕ) (ones twos set : ℕ) → IsMatrix m → AreSums m rows ones twos → set < 2 ^ m.width → Solves m rows ones twos set → IsViolator (entry m) rows (set_numbered m.width 0 set)
+pub violator_from_solution : (m : Matrix) (rows : List ℕ) (ones twos set : ℕ) → IsMatrix m → AreSums m rows ones twos → set < 2 ^ m.width
+    → Solves m rows ones twos set → IsViolator (entry m) rows (set_numbered m.width 0 set)
 violator_from_solution m rows ones twos set is are small solves = record {
   even_rows = all_weaker (λ row. common (without_columns ones (support_of m row)) set ≡ 0) (λ row. IsEven (sum_over (set_numbered m.width 0 set) (λ column. entry m row column)))
       (λ row none. even_from_count (sum_over (set_numbered m.width 0 set) (λ column. entry m row column)) (count_ones (bit_and (support_of m row) set)) (row_parity m row set is small) (sym (common-without_columns ones (support_of m row) set solves.apart) ∙ none)) rows solves.hold;
@@ -101,7 +104,8 @@ violator_from_solution m rows ones twos set is are small solves = record {
       (two_from_count (sum_over (set_numbered m.width 0 set) (λ column. sum_over rows (λ row. entry m row column))) (count_ones (bit_and twos set)) (whole_double m rows ones twos set are small solves.apart) (sym (common-without_columns ones twos set solves.apart) ∙ solves.fails));
 }
 
-pub solution_from_violator : (m : Matrix) (rows : List ℕ) (ones twos set : ℕ) → IsMatrix m → AreSums m rows ones twos → set < 2 ^ m.width → IsViolator (entry m) rows (set_numbered m.width 0 set) → Solves m rows ones twos set
+pub solution_from_violator : (m : Matrix) (rows : List ℕ) (ones twos set : ℕ) → IsMatrix m → AreSums m rows ones twos → set < 2 ^ m.width
+    → IsViolator (entry m) rows (set_numbered m.width 0 set) → Solves m rows ones twos set
 solution_from_violator m rows ones twos set is are small violator = record {
   apart = apart;
   hold = all_weaker (λ row. IsEven (sum_over (set_numbered m.width 0 set) (λ column. entry m row column))) (λ row. common (without_columns ones (support_of m row)) set ≡ 0)
@@ -134,7 +138,8 @@ without_columns_apart excluded number = same_from_bits (bit_and (without_columns
 pub without_columns_lt : (excluded number width : ℕ) → number < 2 ^ width → without_columns excluded number < 2 ^ width
 without_columns_lt excluded number width h = xor_lt width number (bit_and number excluded) h (omega (arith, and_le_l number excluded))
 
-pub column_set_from_solution : (m : Matrix) (rows : List ℕ) (ones twos set : ℕ) → IsMatrix m → AreSums m rows ones twos → IsLeastSolution m.width ones (equations_of m ones rows) (without_columns ones twos) set → IsLeastColumnSet m rows (set_numbered m.width 0 set)
+pub column_set_from_solution : (m : Matrix) (rows : List ℕ) (ones twos set : ℕ) → IsMatrix m → AreSums m rows ones twos
+    → IsLeastSolution m.width ones (equations_of m ones rows) (without_columns ones twos) set → IsLeastColumnSet m rows (set_numbered m.width 0 set)
 column_set_from_solution m rows ones twos set is are solution = record {
   column_set = column_set-numbered m set;
   violator = violator_from_solution m rows ones twos set is are solution.small (record {
@@ -159,5 +164,6 @@ no_column_set m rows ones twos is are none others is_set violator =
     let solves = solution_from_violator m rows ones twos number is are small (subst (IsViolator (entry m) rows) (sym (numbered_same m.width others increases)) violator) in
     omega (arith, solves.fails, none number (all-map (λ n. common n number ≡ 0) (λ row. without_columns ones (support_of m row)) rows solves.hold))
 
-pub equations_more : (m : Matrix) (excluded : ℕ) (rows : List ℕ) (i : ℕ) → i < length rows → equations_of m excluded (take (i + 1) rows) ≡ equations_of m excluded (take i rows) ++ without_columns excluded (support_of m (get_or rows i 0)) ∷ []
+pub equations_more : (m : Matrix) (excluded : ℕ) (rows : List ℕ) (i : ℕ) → i < length rows
+    → equations_of m excluded (take (i + 1) rows) ≡ equations_of m excluded (take i rows) ++ without_columns excluded (support_of m (get_or rows i 0)) ∷ []
 equations_more m excluded rows i h = map_more (λ row. without_columns excluded (support_of m row)) rows i 0 h

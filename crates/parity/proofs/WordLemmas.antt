@@ -21,7 +21,8 @@ pub bit_at-number_of : (words : List ℕ) (i : ℕ) → AreWords words → bit_a
 bit_at-number_of [] i are = bit_at-zero i ∙ sym (bit_at-zero (i % 64))
 bit_at-number_of (word ∷ words) i are = by (cases_lt i 64) (λ (j : ℕ). bit_at-number_of words j (rest_words word words are))
   where
-    by : (i < 64) ⊎ (64 ≤ i) → ((j : ℕ) → bit_at (number_of words) j ≡ bit_at (get_or words (j / 64) 0) (j % 64)) → bit_at (number_of words * 2 ^ 64 + word) i ≡ bit_at (get_or (word ∷ words) (i / 64) 0) (i % 64)
+    by : (i < 64) ⊎ (64 ≤ i) → ((j : ℕ) → bit_at (number_of words) j ≡ bit_at (get_or words (j / 64) 0) (j % 64))
+        → bit_at (number_of words * 2 ^ 64 + word) i ≡ bit_at (get_or (word ∷ words) (i / 64) 0) (i % 64)
     by (inl low) later =
         let first : i / 64 ≡ 0 = omega arith in
         let same : i % 64 ≡ i = omega arith in
@@ -39,7 +40,8 @@ number_of-xor_each xs ys zs x_words y_words each = same_from_bits (number_of zs)
     ∙ sym (bit_at_xor (number_of xs) (number_of ys) i))
 
 -- the words of the symmetric difference of two sets
-pub number_of-xor : (xs ys zs : List ℕ) → AreWords xs → AreWords ys → length ys ≡ length xs → length zs ≡ length xs → ((k : ℕ) → k < length xs → get_or zs k 0 ≡ bit_xor (get_or xs k 0) (get_or ys k 0)) → number_of zs ≡ bit_xor (number_of xs) (number_of ys)
+pub number_of-xor : (xs ys zs : List ℕ) → AreWords xs → AreWords ys → length ys ≡ length xs → length zs ≡ length xs
+    → ((k : ℕ) → k < length xs → get_or zs k 0 ≡ bit_xor (get_or xs k 0) (get_or ys k 0)) → number_of zs ≡ bit_xor (number_of xs) (number_of ys)
 number_of-xor xs ys zs x_words y_words y_long z_long each = number_of-xor_each xs ys zs x_words y_words (λ k. by k (cases_lt k (length xs)))
   where
     by : (k : ℕ) → (k < length xs) ⊎ (length xs ≤ k) → get_or zs k 0 ≡ bit_xor (get_or xs k 0) (get_or ys k 0)
@@ -47,7 +49,8 @@ number_of-xor xs ys zs x_words y_words y_long z_long each = number_of-xor_each x
     by k (inr past) = get_or_past zs k 0 (omega arith) ∙ sym (ap₂ bit_xor (get_or_past xs k 0 past) (get_or_past ys k 0 (omega arith)))
 
 -- the high bits of sums modulo 4, with one row added
-pub number_of-carry : (ones twos support minus after : List ℕ) → AreWords ones → AreWords twos → AreWords support → AreWords minus → length twos ≡ length ones → length support ≡ length ones → length minus ≡ length ones → length after ≡ length ones
+pub number_of-carry : (ones twos support minus after : List ℕ) → AreWords ones → AreWords twos → AreWords support → AreWords minus → length twos ≡ length ones
+    → length support ≡ length ones → length minus ≡ length ones → length after ≡ length ones
     → ((k : ℕ) → k < length ones → get_or after k 0 ≡ bit_xor (get_or twos k 0) (bit_xor (bit_and (get_or ones k 0) (get_or support k 0)) (get_or minus k 0)))
     → number_of after ≡ bit_xor (number_of twos) (bit_xor (bit_and (number_of ones) (number_of support)) (number_of minus))
 number_of-carry ones twos support minus after o_words t_words s_words m_words t_long s_long m_long a_long each =
@@ -102,7 +105,8 @@ number_of-without_columns bits excluded after b_words g_words b_long g_long each
     bits_are b g i = bit_at_xor b (bit_and b g) i ∙ ap (λ n. (bit_at b i + n) % 2) (bit_at_and b g i)
 
 -- a column toggled
-pub number_of-toggle : (words : List ℕ) (column : ℕ) → AreWords words → column / 64 < length words → number_of (set words (column / 64) (bit_xor (get_or words (column / 64) 0) (2 ^ (column % 64)))) ≡ bit_xor (number_of words) (2 ^ column)
+pub number_of-toggle : (words : List ℕ) (column : ℕ) → AreWords words → column / 64 < length words
+    → number_of (set words (column / 64) (bit_xor (get_or words (column / 64) 0) (2 ^ (column % 64)))) ≡ bit_xor (number_of words) (2 ^ column)
 number_of-toggle words column are h = same_from_bits (number_of after) (bit_xor (number_of words) (2 ^ column)) (λ i.
     bit_at-number_of after i (λ k. fits k (cases_eq k (column / 64))) ∙ at i (cases_eq (i / 64) (column / 64)) ∙ sym (bit_at_xor (number_of words) (2 ^ column) i ∙ ap (λ n. (n + bit_at (2 ^ column) i) % 2) (bit_at-number_of words i are)))
   where
@@ -136,7 +140,8 @@ number_of-toggle words column are h = same_from_bits (number_of after) (bit_xor 
         ∙ omega (arith, bit_at-pow_other column i other, bit_at-lt (get_or words (i / 64) 0) (i % 64))
 
 -- the least column, by the first nonzero word
-pub number_of-lowest : (words : List ℕ) (place bit : ℕ) → AreWords words → bit < 64 → bit_at (get_or words place 0) bit ≡ 1 → ((i : ℕ) → i < bit → bit_at (get_or words place 0) i ≡ 0) → ((k : ℕ) → k < place → get_or words k 0 ≡ 0) → IsLowest (number_of words) (64 * place + bit)
+pub number_of-lowest : (words : List ℕ) (place bit : ℕ) → AreWords words → bit < 64 → bit_at (get_or words place 0) bit ≡ 1
+    → ((i : ℕ) → i < bit → bit_at (get_or words place 0) i ≡ 0) → ((k : ℕ) → k < place → get_or words k 0 ≡ 0) → IsLowest (number_of words) (64 * place + bit)
 number_of-lowest words place bit are in_word one below before = record {
   there =
       let high : (64 * place + bit) / 64 ≡ place = omega arith in
@@ -159,7 +164,8 @@ number_of-none words are none = same_from_bits (number_of words) 0 (λ i. bit_at
     by k (inr past) = get_or_past words k 0 past
 
 -- the intersection of two sets, word by word
-pub ones-number_of : (x y : ℕ) (xs ys : List ℕ) → AreWords (x ∷ xs) → AreWords (y ∷ ys) → count_ones (bit_and (number_of (x ∷ xs)) (number_of (y ∷ ys))) ≡ count_ones (bit_and (number_of xs) (number_of ys)) + count_ones (bit_and x y)
+pub ones-number_of : (x y : ℕ) (xs ys : List ℕ) → AreWords (x ∷ xs) → AreWords (y ∷ ys)
+    → count_ones (bit_and (number_of (x ∷ xs)) (number_of (y ∷ ys))) ≡ count_ones (bit_and (number_of xs) (number_of ys)) + count_ones (bit_and x y)
 ones-number_of x y xs ys x_words y_words =
     ap count_ones (and_block 64 (number_of xs) (number_of ys) x y (x_words 0) (y_words 0))
     ∙ ones_cat 64 (bit_and (number_of xs) (number_of ys)) (bit_and x y) (omega (arith, and_le_l x y, x_words 0))

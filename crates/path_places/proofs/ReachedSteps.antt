@@ -122,7 +122,8 @@ module _ (lines : Lines) (side : Side) (is : IsSideOf lines side) where
           }
 
       -- if there is no such nonzero, walks of one more row are reached
-      pub next_step : (new : Bits) → ((i j : ℕ) → IsNonzeroAmong (edges_at side more) i j → ⊥) → ((c : ℕ) → has_column new.words c ≡ (has_column reached.words c || has_column more.words c)) → IsAtStep side.matrix.now lines new
+      pub next_step : (new : Bits) → ((i j : ℕ) → IsNonzeroAmong (edges_at side more) i j → ⊥)
+          → ((c : ℕ) → has_column new.words c ≡ (has_column reached.words c || has_column more.words c)) → IsAtStep side.matrix.now lines new
       next_step new none added = record {
         steps = suc now.steps;
         only = λ c e. elim (or_is (has_column reached.words c) (has_column more.words c) (sym (added c) ∙ e)) [
@@ -198,7 +199,8 @@ fewer_left side reached more new shape so grows added = elim ((count_within (lef
       | inr h ↦ is_not (has_column reached.words c) h
     ]
 
-    within : (c : ℕ) → has_column more.words c ≡ true → (left reached c ≡ true) ⊎ (left reached c ≡ false) → ((y : ℕ) → y < side.matrix.now.width → left reached y ≡ true → left new y ≡ true) → left reached c ≡ false
+    within : (c : ℕ) → has_column more.words c ≡ true → (left reached c ≡ true) ⊎ (left reached c ≡ false)
+        → ((y : ℕ) → y < side.matrix.now.width → left reached y ≡ true → left new y ≡ true) → left reached c ≡ false
     within c e (inl h) none =
         let next = so.only c e in
         absurd (not_both (has_column new.words c) (has_more c e) (not_is (has_column new.words c) (none c (column_in side.matrix.now next.row c shape next.row_in next.here) h)))

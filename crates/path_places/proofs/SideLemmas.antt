@@ -66,8 +66,10 @@ columns_across m own other = record { matrix = m; rows = other.rows; columns = o
 
 -- the ends of a side are its lines that meet the other lines
 pub side_between : (lines : Lines) (own other : LineMask) (side : Side) → AreSideLines side.matrix.now lines own → AreSideLines side.matrix.now (opposite lines) other
-    → ((r : ℕ) → has_column side.ends.rows.words r ≡ true → IsMeetingRow (rows_across side.matrix.now own other) r) → ((r : ℕ) → IsMeetingRow (rows_across side.matrix.now own other) r → has_column side.ends.rows.words r ≡ true)
-    → ((c : ℕ) → has_column side.ends.columns.words c ≡ true → IsMeetingColumn (columns_across side.matrix.now own other) c) → ((c : ℕ) → IsMeetingColumn (columns_across side.matrix.now own other) c → has_column side.ends.columns.words c ≡ true)
+    → ((r : ℕ) → has_column side.ends.rows.words r ≡ true → IsMeetingRow (rows_across side.matrix.now own other) r)
+    → ((r : ℕ) → IsMeetingRow (rows_across side.matrix.now own other) r → has_column side.ends.rows.words r ≡ true)
+    → ((c : ℕ) → has_column side.ends.columns.words c ≡ true → IsMeetingColumn (columns_across side.matrix.now own other) c)
+    → ((c : ℕ) → IsMeetingColumn (columns_across side.matrix.now own other) c → has_column side.ends.columns.words c ≡ true)
     → ((x : ℕ) → has_column side.inner.rows.words x ≡ (has_column own.rows.words x && not (has_column side.ends.rows.words x)))
     → ((x : ℕ) → has_column side.inner.columns.words x ≡ (has_column own.columns.words x && not (has_column side.ends.columns.words x)))
     → IsSideOf lines side

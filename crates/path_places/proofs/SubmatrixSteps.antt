@@ -37,7 +37,8 @@ module _ (s : SubmatrixView) where
   }
 
   pub row_met : (old new : Bits) (row : ℕ) → AreRowsMet s old row → IsMeetingRow s row → new.size ≡ old.size
-      → ((x : ℕ) → has_column new.words x ≡ true → (x ≡ row) ⊎ (has_column old.words x ≡ true)) → has_column new.words row ≡ true → ((x : ℕ) → has_column old.words x ≡ true → has_column new.words x ≡ true)
+      → ((x : ℕ) → has_column new.words x ≡ true → (x ≡ row) ⊎ (has_column old.words x ≡ true)) → has_column new.words row ≡ true
+      → ((x : ℕ) → has_column old.words x ≡ true → has_column new.words x ≡ true)
       → AreRowsMet s new (row + 1)
   row_met old new row so meets size only here kept = record {
     size = size ∙ so.size;

@@ -18,7 +18,8 @@ use Rattle.pivots.proofs.ChosenLines.{line_there, others_there}
 there : (lines : List ℕ) (line : ℕ) (has : Bool) (P : Type 0) → IsTrue has ↔ P → IsIn line (with_or_without lines line has) ↔ P
 there lines line has P odd = let is = line_there lines line has in (λ h. odd.0 (is.0 h), λ p. is.1 (odd.1 p))
 
-pub lines_before : (m : Matrix) (row column : ℕ) (rows columns : List ℕ) (has_row has_column : Bool) → IsTrue has_row ↔ IsOdd (sum_over rows (λ i. entry m i column)) → IsTrue has_column ↔ IsOdd (sum_over columns (entry m row))
+pub lines_before : (m : Matrix) (row column : ℕ) (rows columns : List ℕ) (has_row has_column : Bool)
+    → IsTrue has_row ↔ IsOdd (sum_over rows (λ i. entry m i column)) → IsTrue has_column ↔ IsOdd (sum_over columns (entry m row))
     → AreLinesBefore m row column rows columns (with_or_without rows row has_row) (with_or_without columns column has_column)
 lines_before m row column rows columns has_row has_column odd odd' = record {
   row_there = there rows row has_row (IsOdd (sum_over rows (λ i. entry m i column))) odd;
@@ -37,10 +38,12 @@ below n lines line made all inside others k h = elim (cases_eq (get_or made k 0)
       subst (λ x. x < n) p.there (all (place_of x lines) p.in_range)
 ]
 
-pub row_set : (m : Matrix) (row : ℕ) (rows : List ℕ) (has : Bool) (made : List ℕ) → made ≡ with_or_without rows row has → IsStrictlyIncreasing made → AllBelow (height m) rows → row < height m → IsRowSet m made
+pub row_set : (m : Matrix) (row : ℕ) (rows : List ℕ) (has : Bool) (made : List ℕ) → made ≡ with_or_without rows row has → IsStrictlyIncreasing made
+    → AllBelow (height m) rows → row < height m → IsRowSet m made
 row_set m row rows has made e increasing all inside = record { increasing = increasing; in_range = below (height m) rows row made all inside (λ x apart h. (others_there rows row has x apart).0 (subst (IsIn x) e h)) }
 
-pub column_set : (m : Matrix) (column : ℕ) (columns : List ℕ) (has : Bool) (made : List ℕ) → made ≡ with_or_without columns column has → IsStrictlyIncreasing made → AllBelow m.width columns → column < m.width → IsColumnSet m made
+pub column_set : (m : Matrix) (column : ℕ) (columns : List ℕ) (has : Bool) (made : List ℕ) → made ≡ with_or_without columns column has
+    → IsStrictlyIncreasing made → AllBelow m.width columns → column < m.width → IsColumnSet m made
 column_set m column columns has made e increasing all inside = record { increasing = increasing; in_range = below m.width columns column made all inside (λ x apart h. (others_there columns column has x apart).0 (subst (IsIn x) e h)) }
 
 pub pivot_place : (m : Matrix) (row column : ℕ) → IsMatrix m → row < height m → column < m.width → entry m row column ≢ pos 0 → IsPivotPlace m row column

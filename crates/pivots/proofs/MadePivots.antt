@@ -91,7 +91,8 @@ module _ (m : Matrix) (r c : ℕ) (place : IsPivotPlace m r c) where
       (violator_rows_reordered (entry m) i (r ∷ []) (r ∷ i ∷ []) (two_lines r i) (c ∷ j ∷ []) (one_more_later r i [] (i ∷ []) (one_more_first i [])) (in_order r i)
       (square_violator (entry m) r i c j s.square))
 
-  pub first_two : IsMatrix m → (i j p : ℕ) (rows columns : List ℕ) → HasSquareViolator m r c i j → i ≡ get_or (without (first_lines (height m)) r) p 0 → IsFirstTwoEntry m (without (first_lines (height m)) r) r c p j
+  pub first_two : IsMatrix m → (i j p : ℕ) (rows columns : List ℕ) → HasSquareViolator m r c i j → i ≡ get_or (without (first_lines (height m)) r) p 0
+      → IsFirstTwoEntry m (without (first_lines (height m)) r) r c p j
       → rows ≡ two_lines r i → columns ≡ two_lines c j → ShowsFirstTwo m r c rows columns
   first_two is i j p rows columns s at first e f = record {
     other_row = i;

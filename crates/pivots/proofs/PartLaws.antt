@@ -47,7 +47,8 @@ pub parity : (z : ℤ) → (b : Bool) × HasParity b z
 parity z = elim (even_or_odd z) [ inl e ↦ (false, e) | inr e ↦ (true, e) ]
 
 -- equal entries have the same violators
-same_violator : (M N : ℕ → ℕ → ℤ) (rows columns P D : List ℕ) → AllByRecursion (Contains rows) P → AllByRecursion (Contains columns) D → ((i j : ℕ) → Contains rows i → Contains columns j → M i j ≡ N i j) → IsViolator M P D → IsViolator N P D
+same_violator : (M N : ℕ → ℕ → ℤ) (rows columns P D : List ℕ) → AllByRecursion (Contains rows) P → AllByRecursion (Contains columns) D
+    → ((i j : ℕ) → Contains rows i → Contains columns j → M i j ≡ N i j) → IsViolator M P D → IsViolator N P D
 same_violator M N rows columns P D in_rows in_columns same v =
     violator_same M N P D
     (all_weaker (Contains rows) (λ i. AllByRecursion (λ j. M i j ≡ N i j) D) (λ i hi. all_weaker (Contains columns) (λ j. M i j ≡ N i j) (λ j hj. same i j hi hj) D in_columns) P in_rows) v
@@ -140,7 +141,8 @@ stay lines line xs made there all others = all_of_members (Contains lines) made 
   | inr apart ↦ all_in (Contains lines) xs all x ((others x apart).0 h)
 ])
 
-pub lines_before_among : (m : Matrix) (lines : LineSet) (place : Position) (P D R C : List ℕ) → IsPlaceIn m lines place → AreAmong lines P D → AreLinesBefore m place.row place.column P D R C → AreAmong lines R C
+pub lines_before_among : (m : Matrix) (lines : LineSet) (place : Position) (P D R C : List ℕ) → IsPlaceIn m lines place → AreAmong lines P D
+    → AreLinesBefore m place.row place.column P D R C → AreAmong lines R C
 lines_before_among m lines place P D R C place_in among before = record {
   rows = stay lines.rows place.row P R place_in.row among.rows before.other_rows;
   columns = stay lines.columns place.column D C place_in.column among.columns before.other_columns;
@@ -167,7 +169,8 @@ part_pivots_keep_violators m lines place small is_rows is_columns place_in = (
 pub replaced_is_small : (m : Matrix) (lines : LineSet) (place : Position) → HasTernaryEntries m → IsTernaryPivot m lines place → (i j : ℕ) → IsEntry (replaced_entry m lines place i j)
 replaced_is_small m lines place small ternary i j = go (listed lines.rows lines.columns (Row i)) (listed lines.rows lines.columns (Column j)) refl refl
   where
-    go : (s t : Bool) → listed lines.rows lines.columns (Row i) ≡ s → listed lines.rows lines.columns (Column j) ≡ t → IsEntry (cond (s && t) (pivot_entry (entry m) place.row place.column i j) (entry m i j))
+    go : (s t : Bool) → listed lines.rows lines.columns (Row i) ≡ s → listed lines.rows lines.columns (Column j) ≡ t
+        → IsEntry (cond (s && t) (pivot_entry (entry m) place.row place.column i j) (entry m i j))
     go true true e f = ternary i j (has_line_from_listed lines.rows lines.columns (Row i) e) (has_line_from_listed lines.rows lines.columns (Column j) f)
     go true false e f = small i j
     go false t e f = small i j

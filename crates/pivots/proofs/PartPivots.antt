@@ -29,7 +29,8 @@ test_of_places lines x y increasing hx hy = same_test (eqb x y) (eqb (get_or lin
     (λ e. eq-eqb x y (same_place lines x y (increasing_distinct lines increasing) hx hy (eqb-true (get_or lines x 0) (get_or lines y 0) e)))
 
 -- an entry of a pivot, with the lines by their places
-entry_by_places : (M : ℕ → ℕ → ℤ) (f g : ℕ → ℕ) (r c i j : ℕ) → eqb i r ≡ eqb (f i) (f r) → eqb j c ≡ eqb (g j) (g c) → pivot_entry (λ i j. M (f i) (g j)) r c i j ≡ pivot_entry M (f r) (g c) (f i) (g j)
+entry_by_places : (M : ℕ → ℕ → ℤ) (f g : ℕ → ℕ) (r c i j : ℕ) → eqb i r ≡ eqb (f i) (f r) → eqb j c ≡ eqb (g j) (g c)
+    → pivot_entry (λ i j. M (f i) (g j)) r c i j ≡ pivot_entry M (f r) (g c) (f i) (g j)
 entry_by_places M f g r c i j rows columns =
     ap₂ (λ (s t : Bool). cond s (cond t (M (f r) (g c)) (M (f r) (g c) *ℤ M (f r) (g j))) (cond t (neg_ℤ (M (f r) (g c) *ℤ M (f i) (g c))) (M (f i) (g j) -ℤ M (f r) (g c) *ℤ (M (f i) (g c) *ℤ M (f r) (g j))))) rows columns
 
@@ -61,7 +62,8 @@ module _ (m : Matrix) (lines : LineSet) (is_rows : IsRowSet m lines.rows) (is_co
       place : Position
       place = numbered_place lines row column
 
-      same : (i j : ℕ) → i < length lines.rows → j < length lines.columns → entry (part_of (pivoted_part m lines (numbered_place lines row column))) i j ≡ pivot_entry (entry (part_of m)) row column i j
+      same : (i j : ℕ) → i < length lines.rows → j < length lines.columns
+          → entry (part_of (pivoted_part m lines (numbered_place lines row column))) i j ≡ pivot_entry (entry (part_of m)) row column i j
       same i j hi hj =
           entry-submatrix (pivoted_part m lines (numbered_place lines row column)) lines.rows lines.columns i j hi hj
           ∙ entry_among m lines (numbered_place lines row column) is_rows is_columns (get_or lines.rows i 0) (get_or lines.columns j 0) (Contains-get_or lines.rows i 0 hi) (Contains-get_or lines.columns j 0 hj)

@@ -124,7 +124,8 @@ module _ (m : Matrix) (lines : LineSet) (place : Position) where
     others = λ i j h. refl;
   })
 
-  pub rows_go_on : (now next : Matrix) (k : ℕ) → k < length lines.rows → IsPivotedRow m now next lines.columns place (get_or lines.rows k 0) → ArePivotedTo m now lines place k → ArePivotedTo m next lines place (k + 1)
+  pub rows_go_on : (now next : Matrix) (k : ℕ) → k < length lines.rows → IsPivotedRow m now next lines.columns place (get_or lines.rows k 0)
+      → ArePivotedTo m now lines place k → ArePivotedTo m next lines place (k + 1)
   rows_go_on now next k inside row h = record {
     within = omega arith;
     shape = row.shape;
@@ -191,7 +192,8 @@ module _ (m : Matrix) (lines : LineSet) (place : Position) (is : IsMatrix m) (is
       (pivot_place m place.row place.column is (below place.row place_in.row) (below' place.column place_in.column) place_in.nonzero) is.small
       (below row there) (below' column first.column_in) first.two
 
-  pub shows_first_two : (now : Matrix) (k column : ℕ) (rows columns : List ℕ) → k < length lines.rows → ArePivotedTo m now lines place k → IsFirstTwoOfRow m lines.columns place (get_or lines.rows k 0) column
+  pub shows_first_two : (now : Matrix) (k column : ℕ) (rows columns : List ℕ) → k < length lines.rows → ArePivotedTo m now lines place k
+      → IsFirstTwoOfRow m lines.columns place (get_or lines.rows k 0) column
       → rows ≡ two_lines place.row (get_or lines.rows k 0) → columns ≡ two_lines place.column column → ShowsFirstTwoIn m lines place rows columns
   shows_first_two now k column rows columns inside h first e f = record {
     other_row = row;

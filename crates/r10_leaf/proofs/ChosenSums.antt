@@ -45,7 +45,8 @@ sum_over_filter : (p : ℕ → Bool) (xs : List ℕ) (f : ℕ → ℤ) → sum_o
 sum_over_filter p [] f = refl
 sum_over_filter p (x ∷ xs) f = go (p x) (sum_over_filter p xs f)
   where
-    go : (b : Bool) → sum_over (filter p xs) f ≡ sum_over xs (λ y. cond (p y) (f y) (pos 0)) → sum_over (cond b (x ∷ filter p xs) (filter p xs)) f ≡ cond b (f x) (pos 0) +ℤ sum_over xs (λ y. cond (p y) (f y) (pos 0))
+    go : (b : Bool) → sum_over (filter p xs) f ≡ sum_over xs (λ y. cond (p y) (f y) (pos 0))
+        → sum_over (cond b (x ∷ filter p xs) (filter p xs)) f ≡ cond b (f x) (pos 0) +ℤ sum_over xs (λ y. cond (p y) (f y) (pos 0))
     go true e = ap (λ z. f x +ℤ z) e
     go false e = omega (arith, sums)
 

@@ -77,7 +77,8 @@ module _ (table : List (List ℤ)) (rows columns : List ℕ) where
         row i h = map_members (entry arranged i) (value i) columns (λ j g. entry-arranged i j ((row_order.all i).0 h) ((column_order.all j).0 g))
             ∙ map-beside columns (beside rows table [] i) (pos 0) column_order.distinct (long rows table row_order.distinct many_rows many_columns i h)
           where
-            long : (xs : List ℕ) (values : List (List ℤ)) → IsDistinct xs → length values ≡ length xs → AllByRecursion (λ line. length line ≡ length columns) values → (x : ℕ) → IsIn x xs → length (beside xs values [] x) ≡ length columns
+            long : (xs : List ℕ) (values : List (List ℤ)) → IsDistinct xs → length values ≡ length xs
+                → AllByRecursion (λ line. length line ≡ length columns) values → (x : ℕ) → IsIn x xs → length (beside xs values [] x) ≡ length columns
             long [] values d e all x h = absurd h
             long (y ∷ ys) [] d e all x h = absurd (omega arith)
             long (y ∷ ys) (v ∷ values) d e all x h = pick (nat_eq x y) refl h (long ys values d.1 (omega arith) all.1 x)

@@ -160,7 +160,8 @@ module _ (m : Matrix) (table : List (List ℕ)) (is : IsTable table) (rows : Lis
 -- ---- the number of an order
 
 -- the matrix has as many lines as the table
-pub sizes : (m : Matrix) (rows columns : List ℕ) (line : List ℕ) (lines : List (List ℕ)) → length line ≡ 5 → length lines ≡ 4 → marks m rows columns ≡ line ∷ lines → (length rows ≡ 5) × (length columns ≡ 5)
+pub sizes : (m : Matrix) (rows columns : List ℕ) (line : List ℕ) (lines : List (List ℕ)) → length line ≡ 5 → length lines ≡ 4
+    → marks m rows columns ≡ line ∷ lines → (length rows ≡ 5) × (length columns ≡ 5)
 sizes m [] columns line lines e f h = absurd (let g : 0 ≡ suc (length lines) = ap length h in omega arith)
 sizes m (r ∷ rows) columns line lines e f h = (
   (let g = ap length h in let k = length-map rows (λ row. map (λ column. mark (entry m row column)) columns) in omega arith),

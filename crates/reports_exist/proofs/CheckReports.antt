@@ -45,7 +45,8 @@ module _ (a : Matrix) (c : SizedChain) where
     violator : IsSignedViolator a signs c.chain.violator
 
   -- the part after these steps is the first that breaks its rule
-  broken_after : HasChainSizes a c → (done steps : List SignStep) (s : Matrix) → c.chain.steps ≡ done ++ steps → LeadTo (KeepsRule a) (unsigned a) done s → Breaks a s steps c.chain.violator → IsFirstBrokenPart a c (length done + 1)
+  broken_after : HasChainSizes a c → (done steps : List SignStep) (s : Matrix) → c.chain.steps ≡ done ++ steps → LeadTo (KeepsRule a) (unsigned a) done s
+      → Breaks a s steps c.chain.violator → IsFirstBrokenPart a c (length done + 1)
   broken_after sizes done steps s e lead breaks = record {
     before = length done;
     part_is = refl;
@@ -60,7 +61,8 @@ module _ (a : Matrix) (c : SizedChain) where
     );
   }
 
-  follow : HasChainSizes a c → (steps done : List SignStep) (s : Matrix) → c.chain.steps ≡ done ++ steps → LeadTo (KeepsRule a) (unsigned a) done s → NotExcluded (KeepsRest s steps ⊎ ((part : ℕ) × IsFirstBrokenPart a c part))
+  follow : HasChainSizes a c → (steps done : List SignStep) (s : Matrix) → c.chain.steps ≡ done ++ steps → LeadTo (KeepsRule a) (unsigned a) done s
+      → NotExcluded (KeepsRest s steps ⊎ ((part : ℕ) × IsFirstBrokenPart a c part))
   follow sizes [] done s e lead neither = one_of_two (IsSignedViolator a s c.chain.violator) (λ either. elim either [
     | inl keeps ↦ neither (inl (record { signs = s; lead = refl; violator = keeps }))
     | inr breaks ↦ neither (inr (length done + 1, broken_after sizes done [] s e lead breaks))
@@ -107,7 +109,8 @@ module _ (either : SoundOrBroken) where
         | inr broken ↦ none (refused_report broken.0 broken.1, refused broken.0 broken.1 broken.2 refl)
       ])
 
-  by_kind : (file : List ℕ) (form : MatrixForm) (kind : EvidenceKind) (matrix evidence : List ℕ) (m : Matrix) → matrix_in form (is_of_support kind) matrix ≡ Ok m → HasReport (EvidenceReports file kind m evidence)
+  by_kind : (file : List ℕ) (form : MatrixForm) (kind : EvidenceKind) (matrix evidence : List ℕ) (m : Matrix)
+      → matrix_in form (is_of_support kind) matrix ≡ Ok m → HasReport (EvidenceReports file kind m evidence)
   by_kind file form kinds.Tree matrix evidence m e = on_text faults.Tree file (TreeDecides m) (tree (text_of evidence)) (tree_has_report m (read_is_matrix form false matrix m e) evidence)
   by_kind file form kinds.Chain matrix evidence m e =
       on_text faults.Chain file (ChainDecides m) (chain (text_of evidence)) (λ c f. chain_has_report m c (read_is_matrix form true matrix m e) (read_is_binary form matrix m e))

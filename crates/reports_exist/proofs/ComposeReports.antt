@@ -21,7 +21,8 @@ sum_rectangular YForm first second = rectangular_filled _ _ _
 sum_rectangular Mixed first second = rectangular_filled _ _ _
 sum_rectangular Concentrated first second = rectangular_filled _ _ _
 
-sum_is_matrix : (kind : SumKind) (first second : Matrix) → HaveFewRows kind first second → HaveFewColumns kind first second → HaveSum kind first second → HasTernaryEntries (sum_of kind first second) → IsMatrix (sum_of kind first second)
+sum_is_matrix : (kind : SumKind) (first second : Matrix) → HaveFewRows kind first second → HaveFewColumns kind first second → HaveSum kind first second
+    → HasTernaryEntries (sum_of kind first second) → IsMatrix (sum_of kind first second)
 sum_is_matrix kind first second rows columns have small =
     let lost = sums_lose_lines kind first second have in
     let lost_rows = lost.0 in

@@ -42,7 +42,8 @@ matrix_of_rows m all rows columns = record {
 circulant_is_matrix : IsMatrix circulant
 circulant_is_matrix = matrix_of_rows circulant circulant_rows (omega arith) (omega arith)
 
-blocks_small : (m n up left : ℕ) (first right below second : ℕ → ℕ → ℤ) → ((r c : ℕ) → IsEntry (first r c)) → ((r c : ℕ) → IsEntry (right r c)) → ((r c : ℕ) → IsEntry (below r c)) → ((r c : ℕ) → IsEntry (second r c))
+blocks_small : (m n up left : ℕ) (first right below second : ℕ → ℕ → ℤ) → ((r c : ℕ) → IsEntry (first r c)) → ((r c : ℕ) → IsEntry (right r c))
+    → ((r c : ℕ) → IsEntry (below r c)) → ((r c : ℕ) → IsEntry (second r c))
     → (r c : ℕ) → IsEntry (four_blocks m n up left first right below second r c)
 blocks_small m n up left first right below second f g h s r c = go (nat_lt r m) (nat_lt c n)
   where

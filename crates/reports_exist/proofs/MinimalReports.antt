@@ -18,7 +18,8 @@ module _ (P : Matrix → Type 0) (m : Matrix) where
   ])
 
   -- the minimal set that is reported if its file is requested, and none otherwise
-  pub asked_exists : ((rows columns : List ℕ) → IsGreedySet P m rows columns → IsMinimalWithout P m rows columns) → (name : Option (List ℕ)) → NotExcluded ((found : Option LineSet) × IsMinimalAsked P m name found)
+  pub asked_exists : ((rows columns : List ℕ) → IsGreedySet P m rows columns → IsMinimalWithout P m rows columns) → (name : Option (List ℕ))
+      → NotExcluded ((found : Option LineSet) × IsMinimalAsked P m name found)
   asked_exists minimal None none = none (None, refl)
   asked_exists minimal (Some name) none = greedy_from (lines_of (first_lines (height m)) (first_lines m.width)) (first_lines (height m)) (first_lines m.width) (λ set.
       none (Some set.0, record { greedy = set.1; minimal = minimal set.0.rows set.0.columns set.1 }))

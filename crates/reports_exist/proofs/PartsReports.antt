@@ -34,7 +34,8 @@ abbrev HasParts : Matrix → Finding → Type 0
 HasParts m finding = (kind : SumKind) × (both : Arranged) × ArePartsOfRoot m finding kind both
 
 module _ (m : Matrix) (is : IsMatrix m) where
-  made : (finding : Finding) (kind : SumKind) (arrangement : Arrangement) → IsRootSum m kind (arranged m arrangement) finding → HasSignedLines m arrangement → IsRoundTrip kind m (arranged m arrangement) → HasParts m finding
+  made : (finding : Finding) (kind : SumKind) (arrangement : Arrangement) → IsRootSum m kind (arranged m arrangement) finding → HasSignedLines m arrangement
+      → IsRoundTrip kind m (arranged m arrangement) → HasParts m finding
   made finding kind arrangement of_root fits round = (
     kind,
     arranged m arrangement,

@@ -14,7 +14,8 @@ use Rattle.reports_exist.proofs.OrderReports.{order_has_report}
 abbrev AreGiven : List InputFile → Given → Type 0
 AreGiven files found = ((bytes : List (List ℕ)) × (found ≡ texts bytes) × (length bytes ≡ length files)) ⊎ ((name : List ℕ) × (found ≡ too_much name))
 
-one_more : (file : InputFile) (files : List InputFile) (content : List ℕ) (long : Bool) (others : Given) → nat_lt (most_bytes file.kind) (length content) ≡ long → AreGiven files others → AreGiven (file ∷ files) (and_then file.name (reading_of (most_bytes file.kind) (Some content)) others)
+one_more : (file : InputFile) (files : List InputFile) (content : List ℕ) (long : Bool) (others : Given) → nat_lt (most_bytes file.kind) (length content) ≡ long
+    → AreGiven files others → AreGiven (file ∷ files) (and_then file.name (reading_of (most_bytes file.kind) (Some content)) others)
 one_more file files content true others e given = inr (file.name, rw e refl)
 one_more file files content false others e (inl (bytes, f, count)) = inl (content ∷ bytes, rw (e, f) refl, ap suc count)
 one_more file files content false others e (inr (name, f)) = inr (name, rw (e, f) refl)

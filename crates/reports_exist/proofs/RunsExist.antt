@@ -46,7 +46,8 @@ AreSmall m rows = (row : ℕ) → IsIn row rows → IsTernaryRow m.width (entry 
 -- the run on these rows ends, with signs or with a violator
 pub data Ends (m : Matrix) (rows : List ℕ) : Type 0 where
   signed : (steps : List Pivot) (signs sums : List ℤ) → SignsRows m rows signs sums → SignsBySteps m rows steps (λ row. get_or signs row (pos 0)) → Ends m rows
-  violated : (steps : List Pivot) (row_marks column_marks odd : List Bool) → MarksViolator m rows row_marks column_marks odd → ViolatesBySteps m rows steps (marked row_marks) (marked column_marks) → Ends m rows
+  violated : (steps : List Pivot) (row_marks column_marks odd : List Bool) → MarksViolator m rows row_marks column_marks odd
+      → ViolatesBySteps m rows steps (marked row_marks) (marked column_marks) → Ends m rows
 
 -- ---- no row
 
@@ -64,7 +65,8 @@ ends_empty m = signed [] (replicate (height m) (pos 0)) (replicate m.width (pos 
 abbrev sums_with : Matrix → ℕ → List ℤ → List ℤ
 sums_with m row sums = map (λ column. get_or sums column (pos 0) +ℤ entry m row column) (first_lines m.width)
 
-ends_aside : (m : Matrix) (row : ℕ) (left : List ℕ) → IsRowSet m (row ∷ left) → AreSmall m (row ∷ left) → ((column : ℕ) → column < m.width → HasNoPivot m (row ∷ left) column) → Ends m left → Ends m (row ∷ left)
+ends_aside : (m : Matrix) (row : ℕ) (left : List ℕ) → IsRowSet m (row ∷ left) → AreSmall m (row ∷ left)
+    → ((column : ℕ) → column < m.width → HasNoPivot m (row ∷ left) column) → Ends m left → Ends m (row ∷ left)
 ends_aside m row left is small none (signed steps signs sums found run) =
     let here : 0 < length (row ∷ left) = omega arith in
     let row_in = is.in_range 0 here in
@@ -96,11 +98,13 @@ unfolding spot_key
 two_numbers s = refl
 
 module _ (m : Matrix) (rows : List ℕ) (is : IsRowSet m rows) (small : AreSmall m rows) where
-  nonzero_or_not : (xs : List ℕ) → AreSmall m xs → (column : ℕ) → column < m.width → ((place : ℕ) × (place < length xs) × IsSign (entry m (get_or xs place 0) column)) ⊎ AllByRecursion (λ row. entry m row column ≡ pos 0) xs
+  nonzero_or_not : (xs : List ℕ) → AreSmall m xs → (column : ℕ) → column < m.width
+      → ((place : ℕ) × (place < length xs) × IsSign (entry m (get_or xs place 0) column)) ⊎ AllByRecursion (λ row. entry m row column ≡ pos 0) xs
   nonzero_or_not [] small column l = inr tt
   nonzero_or_not (x ∷ xs) small column l = go (zero_or_sign (entry m x column) (small x (inl refl) column l)) (nonzero_or_not xs (λ row h. small row (inr h)) column l)
     where
-      go : (entry m x column ≡ pos 0) ⊎ IsSign (entry m x column) → ((place : ℕ) × (place < length xs) × IsSign (entry m (get_or xs place 0) column)) ⊎ AllByRecursion (λ row. entry m row column ≡ pos 0) xs
+      go : (entry m x column ≡ pos 0) ⊎ IsSign (entry m x column)
+          → ((place : ℕ) × (place < length xs) × IsSign (entry m (get_or xs place 0) column)) ⊎ AllByRecursion (λ row. entry m row column ≡ pos 0) xs
           → ((place : ℕ) × (place < length (x ∷ xs)) × IsSign (entry m (get_or (x ∷ xs) place 0) column)) ⊎ AllByRecursion (λ row. entry m row column ≡ pos 0) (x ∷ xs)
       go (inr sign) later = inl (0, omega arith, sign)
       go (inl e) (inl (place, low, sign)) = inl (suc place, omega (arith, low), sign)
@@ -317,7 +321,8 @@ abbrev pub EndBelow : ℕ → Type 0
 EndBelow bound = (m : Matrix) (rows : List ℕ) → length rows < bound → IsRowSet m rows → AreSmall m rows → NotExcluded (Ends m rows)
 
 module _ (m : Matrix) (rows : List ℕ) (is : IsRowSet m rows) (small : AreSmall m rows) (place column : ℕ) (first : IsFirstPivot m rows place column) where
-  all_small : ((s : Spot) → ¬ (HasTwo m rows is small place column first s)) → (k : ℕ) → k < length (remove rows place) → IsTernaryRow m.width (reduced (entry m) (get_or rows place 0) column (get_or (remove rows place) k 0))
+  all_small : ((s : Spot) → ¬ (HasTwo m rows is small place column first s)) → (k : ℕ) → k < length (remove rows place)
+      → IsTernaryRow m.width (reduced (entry m) (get_or rows place 0) column (get_or (remove rows place) k 0))
   all_small none k l j low = entry_unless (reduced (entry m) (get_or rows place 0) column (get_or (remove rows place) k 0) j) (λ two. none (record { place = k; column = j }) (record { within = l; column_in = low; two = two }))
 
   ends_by_pivot : (bound : ℕ) → length rows < suc bound → EndBelow bound → NotExcluded (Ends m rows)

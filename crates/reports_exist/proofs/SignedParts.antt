@@ -23,7 +23,8 @@ module _ {A : Type 0} (line : A → ℕ) (sign : A → ℤ) (m : Matrix) (is : I
   row_cells row signed bound (first ∷ columns) all zero = entry_by_sign (sign row) _ signed (entry_by_sign (sign first) _ all.0.1 (is.small (line row) (line first)))
   row_cells row signed bound (first ∷ columns) all (suc column) = row_cells row signed bound columns all.1 column
 
-  all_cells : (high wide : ℕ) (rows columns : List A) → AreSigned high rows → AreSigned wide columns → (row column : ℕ) → IsEntry (get_or (get_or (map (λ a. map (cell a) columns) rows) row []) column (pos 0))
+  all_cells : (high wide : ℕ) (rows columns : List A) → AreSigned high rows → AreSigned wide columns → (row column : ℕ)
+      → IsEntry (get_or (get_or (map (λ a. map (cell a) columns) rows) row []) column (pos 0))
   unfolding AreSigned
   all_cells high wide [] columns all all' row column = zero_is_entry
   all_cells high wide (first ∷ rows) columns all all' zero column = row_cells first all.0.1 wide columns all' column
@@ -34,7 +35,8 @@ module _ {A : Type 0} (line : A → ℕ) (sign : A → ℤ) (m : Matrix) (is : I
   row_lengths (first ∷ rows) columns zero l = length-map columns (cell first)
   row_lengths (first ∷ rows) columns (suc row) l = row_lengths rows columns row (omega (arith, l))
 
-  signed_matrix : (rows columns : List A) → length rows ≤ height m → AllByRecursion (λ a. (line a < height m) × IsSign (sign a)) rows → length columns ≤ m.width → AllByRecursion (λ a. (line a < m.width) × IsSign (sign a)) columns
+  signed_matrix : (rows columns : List A) → length rows ≤ height m → AllByRecursion (λ a. (line a < height m) × IsSign (sign a)) rows → length columns ≤ m.width
+      → AllByRecursion (λ a. (line a < m.width) × IsSign (sign a)) columns
       → IsMatrix (record { rows = map (λ row. map (λ column. sign row *ℤ (sign column *ℤ entry m (line row) (line column))) columns) rows; width = length columns })
   unfolding AreSigned cell
   signed_matrix rows columns few_rows all few_columns all' =
@@ -49,7 +51,8 @@ module _ {A : Type 0} (line : A → ℕ) (sign : A → ℤ) (m : Matrix) (is : I
       }
 
 -- the same with the lists first
-signed_is_matrix : {A : Type 0} (rows columns : List A) (line : A → ℕ) (sign : A → ℤ) (m : Matrix) → IsMatrix m → length rows ≤ height m → AllByRecursion (λ a. (line a < height m) × IsSign (sign a)) rows → length columns ≤ m.width
+signed_is_matrix : {A : Type 0} (rows columns : List A) (line : A → ℕ) (sign : A → ℤ) (m : Matrix) → IsMatrix m → length rows ≤ height m
+    → AllByRecursion (λ a. (line a < height m) × IsSign (sign a)) rows → length columns ≤ m.width
     → AllByRecursion (λ a. (line a < m.width) × IsSign (sign a)) columns → IsMatrix (record { rows = map (λ row. map (λ column. sign row *ℤ (sign column *ℤ entry m (line row) (line column))) columns) rows; width = length columns })
 signed_is_matrix rows columns line sign m is = signed_matrix line sign m is rows columns
 

@@ -20,7 +20,8 @@ pub this_report : (report : Report) → HasReport (λ other. other ≡ report)
 this_report report none = none (report, refl)
 
 -- on a text that represents something, or is at fault
-pub on_text : {A K : Type 0} (kind_of : K → FaultKind) (file : List ℕ) (Decides : A → Report → Type 0) (read : Result A (Fault K)) → ((x : A) → read ≡ Ok x → HasReport (Decides x)) → HasReport (ReportsText kind_of file Decides read)
+pub on_text : {A K : Type 0} (kind_of : K → FaultKind) (file : List ℕ) (Decides : A → Report → Type 0) (read : Result A (Fault K))
+    → ((x : A) → read ≡ Ok x → HasReport (Decides x)) → HasReport (ReportsText kind_of file Decides read)
 on_text kind_of file Decides (Ok x) decided none = decided x refl none
 on_text kind_of file Decides (Err fault) decided none = none (bad_text file (kind_of fault.0) fault.1, refl)
 
@@ -35,7 +36,9 @@ on_pair On reported (first ∷ []) count = absurd (omega (arith, count))
 on_pair On reported (first ∷ second ∷ []) count = reported first second
 on_pair On reported (first ∷ second ∷ other ∷ texts) count = absurd (omega (arith, count))
 
-pub on_matrix : (s : Source) (Decides : Matrix → Report → Type 0) → ((bytes : List ℕ) (m : Matrix) → matrix_in s.form s.binary bytes ≡ Ok m → HasReport (Decides m)) → (texts : List (List ℕ)) → length texts ≡ 1 → HasReport (ReportsMatrix s Decides texts)
+pub on_matrix : (s : Source) (Decides : Matrix → Report → Type 0)
+    → ((bytes : List ℕ) (m : Matrix) → matrix_in s.form s.binary bytes ≡ Ok m → HasReport (Decides m)) → (texts : List (List ℕ)) → length texts ≡ 1
+    → HasReport (ReportsMatrix s Decides texts)
 on_matrix s Decides decided [] count = absurd (omega (arith, count))
 on_matrix s Decides decided (bytes ∷ []) count = on_text faults.Matrix s.file Decides (matrix_in s.form s.binary bytes) (decided bytes)
 on_matrix s Decides decided (bytes ∷ other ∷ texts) count = absurd (omega (arith, count))

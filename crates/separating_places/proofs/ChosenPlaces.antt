@@ -142,7 +142,8 @@ chosen_place_in m lines state chosen (inr (none, inr (early, e))) = subst (λ o.
 -- ---- answers
 
 -- what the search along paths says of the first cut
-pub cut_answer : (m : Matrix) (side : LineSet) → IsFirstCutOn m side.rows side.columns → (found : Option Position) → MatchOption found (HasNoCutPlace m (side_of side)) (λ place. IsCutPlace m (side_of side) place.row place.column)
+pub cut_answer : (m : Matrix) (side : LineSet) → IsFirstCutOn m side.rows side.columns → (found : Option Position)
+    → MatchOption found (HasNoCutPlace m (side_of side)) (λ place. IsCutPlace m (side_of side) place.row place.column)
     → MatchOption found (HasNoPlaceFor m) (IsPlaceFor m)
 cut_answer m side first None none =
     λ place x. none place.row place.column (subst (λ (s : LineSet). IsCutPlace m (side_of s) place.row place.column) (one_first_cut m x.side side x.first first) x.at)
@@ -156,17 +157,20 @@ no_place_without_cut m none place x = none (side_of x.side) x.first.cut
 pub no_separating_place : (m : Matrix) (lines : LineSet) → HasNoPlaceFor (submatrix m lines.rows lines.columns) → HasNoSeparatingPlace m lines
 no_separating_place m lines none place x = none x.inside x.at
 
-pub named_place : (m : Matrix) (lines : LineSet) (inside place : Position) → IsPlaceFor (submatrix m lines.rows lines.columns) inside → place.row ≡ get_or lines.rows inside.row 0 → place.column ≡ get_or lines.columns inside.column 0 → IsSeparatingPlace m lines place
+pub named_place : (m : Matrix) (lines : LineSet) (inside place : Position) → IsPlaceFor (submatrix m lines.rows lines.columns) inside
+    → place.row ≡ get_or lines.rows inside.row 0 → place.column ≡ get_or lines.columns inside.column 0 → IsSeparatingPlace m lines place
 named_place m lines inside place at row column = record { inside = inside; at = at; row = row; column = column }
 
 -- no nonzero of the submatrix comes before a cut
 pub no_late : (m : Matrix) (lines : LineSet) (state : ℕ) → HasNoPlaceBeforeCut (submatrix m lines.rows lines.columns) → HasNoLatePlace m lines state
 no_late m lines state none late = none
 
-pub named_before_cut : (m : Matrix) (lines : LineSet) (inside place : Position) → IsFirstPlaceBeforeCut (submatrix m lines.rows lines.columns) inside → place.row ≡ get_or lines.rows inside.row 0 → place.column ≡ get_or lines.columns inside.column 0 → IsFirstBeforeCut m lines place
+pub named_before_cut : (m : Matrix) (lines : LineSet) (inside place : Position) → IsFirstPlaceBeforeCut (submatrix m lines.rows lines.columns) inside
+    → place.row ≡ get_or lines.rows inside.row 0 → place.column ≡ get_or lines.columns inside.column 0 → IsFirstBeforeCut m lines place
 named_before_cut m lines inside place at row column = record { inside = inside; at = at; row = row; column = column }
 
 -- the position is drawn
-pub drawn_last : (m : Matrix) (lines : LineSet) (state : ℕ) (found : Option DrawnPlace) → HasNoSeparatingPlace m lines → HasNoLatePlace m lines state → found ≡ drawn_place m lines state → IsNextPlace m lines state found
+pub drawn_last : (m : Matrix) (lines : LineSet) (state : ℕ) (found : Option DrawnPlace) → HasNoSeparatingPlace m lines → HasNoLatePlace m lines state
+    → found ≡ drawn_place m lines state → IsNextPlace m lines state found
 drawn_last m lines state None none early e = (none, early, sym e)
 drawn_last m lines state (Some chosen) none early e = inr (none, inr (early, sym e))

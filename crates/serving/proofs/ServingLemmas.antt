@@ -50,8 +50,10 @@ frame_taken exchanges one held rest first =
 -- ---- one turn
 
 -- a call of the shelf failed
-pub none_heard : (before now : Seen) (held : List ℕ) → now.reads ≡ before.reads → now.left ≡ before.left → IsTrue now.failed → now.moments ≡ before.moments ++ moment_of before ∷ [] → now.heard ≡ before.heard
-    → now.said ≡ before.said → now.taken ≡ before.taken → now.faults ≡ before.faults → now.tells ≡ before.tells → now.reading ≡ before.reading → now.writes ≡ before.writes → IsHeard before now held held (Err endings.Unread)
+pub none_heard : (before now : Seen) (held : List ℕ) → now.reads ≡ before.reads → now.left ≡ before.left → IsTrue now.failed
+    → now.moments ≡ before.moments ++ moment_of before ∷ [] → now.heard ≡ before.heard
+    → now.said ≡ before.said → now.taken ≡ before.taken → now.faults ≡ before.faults → now.tells ≡ before.tells → now.reading ≡ before.reading
+    → now.writes ≡ before.writes → IsHeard before now held held (Err endings.Unread)
 none_heard before now held reads left failed moments h said taken faults tells reading writes = record {
   given = [];
   texts = ap (λ (r : Reads). r.texts) reads ∙ sym (more_of_none before.reads.texts);
@@ -69,13 +71,15 @@ none_heard before now held reads left failed moments h said taken faults tells r
 }
 
 -- a reply to the request with a text
-pub right_reply : (rule : Rule) (text : List ℕ) (words : List (List ℕ)) (files : List NamedBytes) (bytes : List ℕ) → IsTextOf text words files → ((reply : ReplyValue) × (bytes ≡ reply_text reply) × rule words files reply)
+pub right_reply : (rule : Rule) (text : List ℕ) (words : List (List ℕ)) (files : List NamedBytes) (bytes : List ℕ) → IsTextOf text words files
+    → ((reply : ReplyValue) × (bytes ≡ reply_text reply) × rule words files reply)
     → (right : RightReplyTo rule text) × (bytes ≡ reply_text right.0.reply)
 right_reply rule text words files bytes is (reply, same, right) =
     ((record { text = text; reply = reply }, refl, record { words = words; files = files; is_request = is; is_reply = right }), same)
 
 -- what a line shows after a write
-pub after_write : {S O : Type 0} (s : shelves.Ghosts S) (o : sinks.Ghosts O) (old new : Line S O) (taken said : List ℕ) → new.shelf ≡ old.shelf → new.talk.heard ≡ old.talk.heard → new.talk.moments ≡ old.talk.moments
+pub after_write : {S O : Type 0} (s : shelves.Ghosts S) (o : sinks.Ghosts O) (old new : Line S O) (taken said : List ℕ) → new.shelf ≡ old.shelf
+    → new.talk.heard ≡ old.talk.heard → new.talk.moments ≡ old.talk.moments
     → o.taken new.out ≡ taken → new.talk.said ≡ said → seen_of s o new ≡ has_taken (seen_of s o old) taken (o.faults new.out) said
 after_write {S} {O} s o old new taken said shelf h moments t d =
     ap (λ (it : S). seen it new.talk.heard new.talk.moments (o.taken new.out) new.talk.said) shelf
@@ -99,7 +103,8 @@ after_write {S} {O} s o old new taken said shelf h moments t d =
       moments = moments;
     }
 
-pub said_whole : (rule : Rule) (text bytes : List ℕ) (before now : Seen) → ((right : RightReplyTo rule text) × (bytes ≡ reply_text right.0.reply)) → now ≡ has_taken before (before.taken ++ bytes) now.faults (before.said ++ bytes)
+pub said_whole : (rule : Rule) (text bytes : List ℕ) (before now : Seen) → ((right : RightReplyTo rule text) × (bytes ≡ reply_text right.0.reply))
+    → now ≡ has_taken before (before.taken ++ bytes) now.faults (before.said ++ bytes)
     → before.faults ≤ now.faults → IsReplied rule text before now (Ok tt)
 said_whole rule text bytes before now (right, same) is later = (right, subst (λ (b : List ℕ). now ≡ has_taken before (before.taken ++ b) now.faults (before.said ++ b)) same is, later)
 
@@ -180,7 +185,8 @@ reply_said before mid exchanges one said =
     ∙ append_assoc before (replies exchanges) (reply_text one.reply)
     ∙ ap (λ (xs : List ℕ). before ++ xs) (sym (replies_more exchanges one))
 
-reply_goes_on : (rule : Rule) (before mid now : Seen) (held rest after text : List ℕ) → Serves rule before mid held → StartsWith held text rest → IsReplied rule text mid now (Ok tt) → after ≡ rest → Serves rule before now after
+reply_goes_on : (rule : Rule) (before mid now : Seen) (held rest after text : List ℕ) → Serves rule before mid held → StartsWith held text rest
+    → IsReplied rule text mid now (Ok tt) → after ≡ rest → Serves rule before now after
 reply_goes_on rule before mid now held rest after text s first says is =
     let one = says.0.0 in
     let here : StartsWith held one.text rest = subst (λ (t : List ℕ). StartsWith held t rest) (sym says.0.1) first in
@@ -204,7 +210,8 @@ reply_goes_on rule before mid now held rest after text s first says is =
     } in
     subst (λ (xs : List ℕ). Serves rule before now xs) (sym is) (subst (λ (n : Seen). Serves rule before n rest) (sym says.1) next)
 
-same_served : (rule : Rule) (before mid now : Seen) (held : List ℕ) (ending : Ending) (s : Serves rule before mid held) → now ≡ mid → EndsServing rule held (before.taken ++ replies s.exchanges) before mid ending → HasServed rule before now ending
+same_served : (rule : Rule) (before mid now : Seen) (held : List ℕ) (ending : Ending) (s : Serves rule before mid held) → now ≡ mid
+    → EndsServing rule held (before.taken ++ replies s.exchanges) before mid ending → HasServed rule before now ending
 same_served rule before mid now held ending s same ended = subst (λ (n : Seen). HasServed rule before n ending) (sym same) (record {
   exchanges = s.exchanges;
   right = s.right;
@@ -218,7 +225,8 @@ same_served rule before mid now held ending s same ended = subst (λ (n : Seen).
   writes = s.writes;
 })
 
-reply_ends : (rule : Rule) (before mid now : Seen) (held rest text : List ℕ) (ending : Ending) → Serves rule before mid held → StartsWith held text rest → IsReplied rule text mid now (Err ending) → HasServed rule before now ending
+reply_ends : (rule : Rule) (before mid now : Seen) (held rest text : List ℕ) (ending : Ending) → Serves rule before mid held → StartsWith held text rest
+    → IsReplied rule text mid now (Err ending) → HasServed rule before now ending
 reply_ends rule before mid now held rest text endings.Done s first says = absurd says
 reply_ends rule before mid now held rest text endings.NoRequest s first says = same_served rule before mid now held endings.NoRequest s says.1 (no_request text rest first says.0 s.taken)
 reply_ends rule before mid now held rest text endings.Unread s first says = absurd says
@@ -257,7 +265,8 @@ first_on rule before mid now held s part moments = record {
     here : IsUpToDate rule (moment_of before) (moment_of mid)
     here = (held, record { exchanges = s.exchanges; right = s.right; heard = s.heard_is; said = s.said }, part)
 
-texts_on : (before mid now : Seen) (front held given : List ℕ) → mid.reads.texts ≡ with_more before.reads.texts (front ++ held) → now.reads.texts ≡ with_more mid.reads.texts given → now.reads.texts ≡ with_more before.reads.texts (front ++ (held ++ given))
+texts_on : (before mid now : Seen) (front held given : List ℕ) → mid.reads.texts ≡ with_more before.reads.texts (front ++ held)
+    → now.reads.texts ≡ with_more mid.reads.texts given → now.reads.texts ≡ with_more before.reads.texts (front ++ (held ++ given))
 texts_on before mid now front held given first next =
     next
     ∙ ap (λ (texts : List (List ℕ)). with_more texts given) first
@@ -296,7 +305,8 @@ piece_goes_on rule before mid now held after s part h = subst (λ (xs : List ℕ
   writes = h.writes ∙ s.writes;
 })
 
-piece_ends : (rule : Rule) (before mid now : Seen) (held after : List ℕ) (ending : Ending) → Serves rule before mid held → IsIncomplete held → IsHeard mid now held after (Err ending) → HasServed rule before now ending
+piece_ends : (rule : Rule) (before mid now : Seen) (held after : List ℕ) (ending : Ending) → Serves rule before mid held → IsIncomplete held
+    → IsHeard mid now held after (Err ending) → HasServed rule before now ending
 piece_ends rule before mid now held after ending s part h = record {
   exchanges = s.exchanges;
   right = s.right;
@@ -336,7 +346,8 @@ goes_on rule before mid now held after it s (turns.no_frame never is same) = abs
 is_same : (ending other : Ending) → ◌≡◌ {A = Result (Unit {0}) Ending} (Err ending) (Err other) → ending ≡ other
 is_same ending other e = cc
 
-pub ends_so : (rule : Rule) (before mid now : Seen) (held after : List ℕ) (ending : Ending) → Serves rule before mid held → IsTurn rule mid now held after (Err ending) → HasServed rule before now ending
+pub ends_so : (rule : Rule) (before mid now : Seen) (held after : List ℕ) (ending : Ending) → Serves rule before mid held
+    → IsTurn rule mid now held after (Err ending) → HasServed rule before now ending
 ends_so rule before mid now held after ending s (replied text rest first says is) = reply_ends rule before mid now held rest text ending s first says
 ends_so rule before mid now held after ending s (heard part h) = piece_ends rule before mid now held after ending s part h
 ends_so rule before mid now held after ending s (turns.no_frame never is same) =

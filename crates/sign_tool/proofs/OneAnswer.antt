@@ -106,7 +106,8 @@ signed_pivot : (steps : List Pivot) → SignsOnce steps → (sign sign' : ℕ �
 signed_pivot steps once sign sign' rows m m' after row column left [] same next value made run none = absurd (no_pivot_left m rows row column left none next)
 signed_pivot steps once sign sign' rows m m' after row column left (step ∷ steps') same next value made run run' = first step.row step.column run'
   where
-    first : (row' : ℕ) (column' : Option ℕ) → SignsBySteps m' rows (step_at row' column' ∷ steps') sign' → AreOneSigning rows (step_at row (Some column) ∷ steps) (step_at row' column' ∷ steps') sign sign'
+    first : (row' : ℕ) (column' : Option ℕ) → SignsBySteps m' rows (step_at row' column' ∷ steps') sign'
+        → AreOneSigning rows (step_at row (Some column) ∷ steps) (step_at row' column' ∷ steps') sign sign'
     first row' None (left', (aside', one', rest')) = absurd (next_or_aside rows m m' row row' column left left' same next aside')
     first row' (Some column') (left', (next', value', (after', made', rest'))) =
         let are = next_is rows m m' after after' row row' column column' left left' same next next' in
@@ -152,8 +153,10 @@ among_square m rows violator_rows violator_columns square = record {
     column_in j (inr (inl e)) = subst (λ c. c < m.width) (sym e) square.two.column_in
     column_in j (inr (inr none)) = absurd none
 
-among_first : (steps : List Pivot) → ((m : Matrix) (rows violator_rows violator_columns : List ℕ) → ViolatesBySteps m rows steps violator_rows violator_columns → AreAmong m rows violator_rows violator_columns)
-    → (row : ℕ) (column : Option ℕ) (m : Matrix) (rows violator_rows violator_columns : List ℕ) → ViolatesBySteps m rows (step_at row column ∷ steps) violator_rows violator_columns → AreAmong m rows violator_rows violator_columns
+among_first : (steps : List Pivot)
+    → ((m : Matrix) (rows violator_rows violator_columns : List ℕ) → ViolatesBySteps m rows steps violator_rows violator_columns → AreAmong m rows violator_rows violator_columns)
+    → (row : ℕ) (column : Option ℕ) (m : Matrix) (rows violator_rows violator_columns : List ℕ)
+    → ViolatesBySteps m rows (step_at row column ∷ steps) violator_rows violator_columns → AreAmong m rows violator_rows violator_columns
 among_first steps others row None m rows violator_rows violator_columns (left, (aside, rest)) =
     let among = others m left violator_rows violator_columns rest in
     record { rows_in = λ i h. subst (IsIn i) (sym aside.rows_are) (inr (among.rows_in i h)); columns_in = among.columns_in }
@@ -201,7 +204,8 @@ module _ (rows : List ℕ) (m m' : Matrix) (same : AreSame rows m m') (row colum
       (λ h. two.two (subst IsEntry (left_at place two.within last two.column_in) (subst (λ k. IsEntry (reduced (entry m') row column (get_or left k 0) last)) (sym one_place) (two'.first_column last h))))
       (λ h. two'.two (subst IsEntry (sym (left_at place' two'.within last' last_in)) (subst (λ k. IsEntry (reduced (entry m) row column (get_or left k 0) last')) one_place (two.first_column last' h))))
 
-square_once : (rows : List ℕ) (m m' : Matrix) (violator_rows violator_columns violator_rows' violator_columns' : List ℕ) → AreSame rows m m' → IsFirstSquare m rows violator_rows violator_columns → IsFirstSquare m' rows violator_rows' violator_columns'
+square_once : (rows : List ℕ) (m m' : Matrix) (violator_rows violator_columns violator_rows' violator_columns' : List ℕ) → AreSame rows m m'
+    → IsFirstSquare m rows violator_rows violator_columns → IsFirstSquare m' rows violator_rows' violator_columns'
     → AreOneViolator [] [] violator_rows violator_columns violator_rows' violator_columns'
 square_once rows m m' violator_rows violator_columns violator_rows' violator_columns' same s s' =
     let are = next_is rows m m' m m' s.row s'.row s.column s'.column s.left s'.left same s.next s'.next in
@@ -245,7 +249,8 @@ module _ (rows : List ℕ) (m m' after : Matrix) (same : AreSame rows m m') (row
 
 abbrev ViolatesOnce : List Pivot → Type 0
 ViolatesOnce steps = (rows : List ℕ) (m m' : Matrix) (steps' : List Pivot) (violator_rows violator_columns violator_rows' violator_columns' : List ℕ) → AreSame rows m m'
-    → ViolatesBySteps m rows steps violator_rows violator_columns → ViolatesBySteps m' rows steps' violator_rows' violator_columns' → AreOneViolator steps steps' violator_rows violator_columns violator_rows' violator_columns'
+    → ViolatesBySteps m rows steps violator_rows violator_columns → ViolatesBySteps m' rows steps' violator_rows' violator_columns'
+    → AreOneViolator steps steps' violator_rows violator_columns violator_rows' violator_columns'
 
 -- a pivot that is not made in one matrix is not made in the other matrix
 square_or_step : (rows : List ℕ) (m m' : Matrix) (row : ℕ) (column : Option ℕ) (steps : List Pivot) (violator_rows violator_columns violator_rows' violator_columns' : List ℕ) → AreSame rows m m'
@@ -264,7 +269,9 @@ violated_last rows m m' [] violator_rows violator_columns violator_rows' violato
 violated_last rows m m' (step ∷ steps') violator_rows violator_columns violator_rows' violator_columns' same s run' =
     absurd (square_or_step rows m' m step.row step.column steps' violator_rows' violator_columns' violator_rows violator_columns (same_back rows m m' same) s run')
 
-violated_aside : (steps : List Pivot) → ViolatesOnce steps → (rows : List ℕ) (m m' : Matrix) (row : ℕ) (left : List ℕ) (steps' : List Pivot) (violator_rows violator_columns violator_rows' violator_columns' : List ℕ) → AreSame rows m m'
+violated_aside : (steps : List Pivot) → ViolatesOnce steps
+    → (rows : List ℕ) (m m' : Matrix) (row : ℕ) (left : List ℕ) (steps' : List Pivot) (violator_rows violator_columns violator_rows' violator_columns' : List ℕ)
+    → AreSame rows m m'
     → IsPutAside m rows row left → ViolatesBySteps m left steps violator_rows violator_columns → ViolatesBySteps m' rows steps' violator_rows' violator_columns'
     → AreOneViolator (step_at row None ∷ steps) steps' violator_rows violator_columns violator_rows' violator_columns'
 violated_aside steps once rows m m' row left [] violator_rows violator_columns violator_rows' violator_columns' same aside run s' =
@@ -279,8 +286,11 @@ violated_aside steps once rows m m' row left (step ∷ steps') violator_rows vio
         record { steps_are = ap₂ (λ (r : ℕ) (ss : List Pivot). step_at r None ∷ ss) are.0 there.steps_are; rows_are = there.rows_are; columns_are = there.columns_are }
     first row' (Some column') (left', (next', rest')) = absurd (aside_or_next m rows row row' column' left left' aside (next_same rows m m' same row' column' left' next'))
 
-violated_pivot : (steps : List Pivot) → ViolatesOnce steps → (rows : List ℕ) (m m' after : Matrix) (row column : ℕ) (left : List ℕ) (steps' : List Pivot) (after_rows after_columns violator_rows violator_columns violator_rows' violator_columns' : List ℕ) → AreSame rows m m'
-    → IsPivotNext m rows row column left → IsPivotMade m after row column left → ViolatesBySteps after left steps after_rows after_columns → IsPulledBack m row column after_rows after_columns violator_rows violator_columns
+violated_pivot : (steps : List Pivot) → ViolatesOnce steps
+    → (rows : List ℕ) (m m' after : Matrix) (row column : ℕ) (left : List ℕ) (steps' : List Pivot) (after_rows after_columns violator_rows violator_columns violator_rows' violator_columns' : List ℕ)
+    → AreSame rows m m'
+    → IsPivotNext m rows row column left → IsPivotMade m after row column left → ViolatesBySteps after left steps after_rows after_columns
+    → IsPulledBack m row column after_rows after_columns violator_rows violator_columns
     → ViolatesBySteps m' rows steps' violator_rows' violator_columns' → AreOneViolator (step_at row (Some column) ∷ steps) steps' violator_rows violator_columns violator_rows' violator_columns'
 violated_pivot steps once rows m m' after row column left [] after_rows after_columns violator_rows violator_columns violator_rows' violator_columns' same next made run back s' =
     absurd (square_or_step rows m m' row (Some column) steps violator_rows violator_columns violator_rows' violator_columns' same s' (left, (next, (after, made, (after_rows, after_columns, run, back)))))

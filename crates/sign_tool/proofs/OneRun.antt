@@ -90,7 +90,8 @@ pub record AreOneNext (row row' column column' : ℕ) (left left' : List ℕ) : 
   pub one_column : column' ≡ column
   pub one_left : left' ≡ left
 
-pub one_next : (m : Matrix) (rows : List ℕ) (row column row' column' : ℕ) (left left' : List ℕ) → IsPivotNext m rows row column left → IsPivotNext m rows row' column' left' → AreOneNext row row' column column' left left'
+pub one_next : (m : Matrix) (rows : List ℕ) (row column row' column' : ℕ) (left left' : List ℕ) → IsPivotNext m rows row column left
+    → IsPivotNext m rows row' column' left' → AreOneNext row row' column column' left left'
 one_next m rows row column row' column' left left' f g =
     let columns : column' ≡ column = sym (one_column m rows f.place column g.place column' f.first g.first) in
     let places : g.place ≡ f.place = sym (one_place m rows f.place column g.place f.first (subst (IsFirstPivot m rows g.place) columns g.first)) in
@@ -159,7 +160,9 @@ without_rows m' (step ∷ steps') violator_rows violator_columns run = first ste
     first row (Some column) (left, (next, rest)) = none_next m' row column left next
 
 -- after a row that is put aside
-after_aside : (steps : List Pivot) → Excludes steps → (sign : ℕ → ℤ) (rows : List ℕ) (m m' : Matrix) (row : ℕ) (left : List ℕ) (steps' : List Pivot) (violator_rows violator_columns : List ℕ) → AreSame rows m m'
+after_aside : (steps : List Pivot) → Excludes steps
+    → (sign : ℕ → ℤ) (rows : List ℕ) (m m' : Matrix) (row : ℕ) (left : List ℕ) (steps' : List Pivot) (violator_rows violator_columns : List ℕ)
+    → AreSame rows m m'
     → IsPutAside m rows row left → SignsBySteps m left steps sign → ViolatesBySteps m' rows steps' violator_rows violator_columns → ⊥
 after_aside steps excludes sign rows m m' row left [] violator_rows violator_columns same aside run square =
     aside_or_next m rows row square.row square.column left square.left aside (next_same rows m m' same square.row square.column square.left square.next)
@@ -177,7 +180,9 @@ after_aside steps excludes sign rows m m' row left (step ∷ steps') violator_ro
     first row' (Some column') (left', (next', rest)) = aside_or_next m rows row row' column' left left' aside (next_same rows m m' same row' column' left' next')
 
 -- after a pivot
-after_pivot : (steps : List Pivot) → Excludes steps → (sign : ℕ → ℤ) (rows : List ℕ) (m m' after : Matrix) (row column : ℕ) (left : List ℕ) (steps' : List Pivot) (violator_rows violator_columns : List ℕ) → AreSame rows m m'
+after_pivot : (steps : List Pivot) → Excludes steps
+    → (sign : ℕ → ℤ) (rows : List ℕ) (m m' after : Matrix) (row column : ℕ) (left : List ℕ) (steps' : List Pivot) (violator_rows violator_columns : List ℕ)
+    → AreSame rows m m'
     → IsPivotNext m rows row column left → IsPivotMade m after row column left → SignsBySteps after left steps sign → ViolatesBySteps m' rows steps' violator_rows violator_columns → ⊥
 after_pivot steps excludes sign rows m m' after row column left [] violator_rows violator_columns same next made run square =
     let one = one_next m rows row column square.row square.column left square.left next (next_same rows m m' same square.row square.column square.left square.next) in
@@ -211,5 +216,6 @@ excluded : (steps : List Pivot) → Excludes steps
 excluded [] = excluded_last
 excluded (step ∷ steps) = excluded_first steps (excluded steps) step.row step.column
 
-pub signs_or_violates : (m : Matrix) (rows : List ℕ) (steps steps' : List Pivot) (sign : ℕ → ℤ) (violator_rows violator_columns : List ℕ) → SignsBySteps m rows steps sign → ViolatesBySteps m rows steps' violator_rows violator_columns → ⊥
+pub signs_or_violates : (m : Matrix) (rows : List ℕ) (steps steps' : List Pivot) (sign : ℕ → ℤ) (violator_rows violator_columns : List ℕ)
+    → SignsBySteps m rows steps sign → ViolatesBySteps m rows steps' violator_rows violator_columns → ⊥
 signs_or_violates m rows steps steps' sign violator_rows violator_columns = excluded steps sign rows m m steps' violator_rows violator_columns (same_self rows m)

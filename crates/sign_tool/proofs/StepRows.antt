@@ -44,7 +44,8 @@ pub one_more_next : (m : Matrix) (rows : List ℕ) (row column : ℕ) (left : Li
 one_more_next m rows row column left next =
     subst (λ r. HasOneMore r left rows) (sym next.row_is) (subst (λ xs. HasOneMore (get_or rows next.place 0) xs rows) (sym next.left_is) (one_more-remove rows next.place next.first.pivot.within))
 
-names_first : (rows left : List ℕ) (step : Pivot) (steps : List Pivot) → HasOneMore step.row left rows → IsDistinct rows → (IsDistinct left → NamesEachOnce steps left) → NamesEachOnce (step ∷ steps) rows
+names_first : (rows left : List ℕ) (step : Pivot) (steps : List Pivot) → HasOneMore step.row left rows → IsDistinct rows
+    → (IsDistinct left → NamesEachOnce steps left) → NamesEachOnce (step ∷ steps) rows
 names_first rows left step steps more distinct rest =
     let parts = distinct_fewer more.prefix more.back step.row (subst IsDistinct more.more_is distinct) in
     let apart : ¬ (IsIn step.row left) = subst (λ xs. ¬ (IsIn step.row xs)) (sym more.fewer_is) parts.0 in

@@ -126,7 +126,8 @@ record IsFirst (binary : Bool) (M : ℕ → ℕ → ℤ) (kind : LineKind) (own 
   some : IsSome (reason_for binary M kind own across line)
   before : (k : ℕ) → IsIn k xs → k < line → reason_for binary M kind own across k ≡ None
 
-first_is : (binary : Bool) (M : ℕ → ℕ → ℤ) (kind : LineKind) (own across xs : List ℕ) (step : Step) → IsStrictlyIncreasing xs → first_step_of binary M kind own across xs ≡ Some step → IsFirst binary M kind own across xs step
+first_is : (binary : Bool) (M : ℕ → ℕ → ℤ) (kind : LineKind) (own across xs : List ℕ) (step : Step) → IsStrictlyIncreasing xs
+    → first_step_of binary M kind own across xs ≡ Some step → IsFirst binary M kind own across xs step
 first_is binary M kind own across [] step increases e = some_not_none (sym e)
 first_is binary M kind own across (x ∷ xs) step increases e =
     go (reason_for binary M kind own across x) refl e (λ f. first_is binary M kind own across xs step (increasing_tail x xs increases) f)
@@ -230,7 +231,8 @@ module _ (binary : Bool) (m : Matrix) where
   P = IsSeriesParallel binary
 
   -- the greedy search removes an early line, so it may be removed before the search
-  pub early_removed : (count from n : ℕ) (R C A B : List ℕ) → IsStrictlyIncreasing R → IsStrictlyIncreasing C → from ≤ n → n < from + count → IsEarlyLine binary (entry m) R C (line_numbered (height m) n) → ¬ IsOn R C
+  pub early_removed : (count from n : ℕ) (R C A B : List ℕ) → IsStrictlyIncreasing R → IsStrictlyIncreasing C → from ≤ n → n < from + count
+      → IsEarlyLine binary (entry m) R C (line_numbered (height m) n) → ¬ IsOn R C
       → IsGreedyFrom P m (lines_between (height m) from count) (rows_without R (line_numbered (height m) n)) (columns_without C (line_numbered (height m) n)) A B
       → IsGreedyFrom P m (lines_between (height m) from count) R C A B
   early_removed zero from n R C A B r c low high early lacks g = absurd (omega (arith, low, high))

@@ -21,7 +21,8 @@ pub size-other : (m : Matrix) (kind : LineKind) → count_of_kind m (other_kind 
 size-other m Rows = refl
 size-other m Columns = refl
 
-pub meant_for : (binary : Bool) (M : ℕ → ℕ → ℤ) (kind : LineKind) (R C : List ℕ) (removed : ℕ) (reason : Reason) → IsStrictlyIncreasing C → reason_for binary M (other_kind kind) R C removed ≡ Some reason
+pub meant_for : (binary : Bool) (M : ℕ → ℕ → ℤ) (kind : LineKind) (R C : List ℕ) (removed : ℕ) (reason : Reason) → IsStrictlyIncreasing C
+    → reason_for binary M (other_kind kind) R C removed ≡ Some reason
     → IsMeant binary (λ k l. table M kind l k) (line_named kind) R C removed reason
 meant_for binary M Rows R C removed reason increases e = meaning binary (λ k l. M l k) Column Row R C removed reason increases e
 meant_for binary M Columns R C removed reason increases e = meaning binary (λ k l. M k l) Row Column R C removed reason increases e

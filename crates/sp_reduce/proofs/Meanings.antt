@@ -71,7 +71,8 @@ meaning binary M kind cross R C i reason increases e =
 
 -- ---- no reason
 
-pub irreducible_from_none : (binary : Bool) (M : ℕ → ℕ → ℤ) (kind cross : ℕ → Line) (R C : List ℕ) (i : ℕ) → IsStrictlyIncreasing C → first_reason binary M kind cross R C i ≡ None → ¬ IsReducible binary M R C i
+pub irreducible_from_none : (binary : Bool) (M : ℕ → ℕ → ℤ) (kind cross : ℕ → Line) (R C : List ℕ) (i : ℕ) → IsStrictlyIncreasing C
+    → first_reason binary M kind cross R C i ≡ None → ¬ IsReducible binary M R C i
 irreducible_from_none binary M kind cross R C i increases e r = true_is_false (sym (reason_from_reducible binary M kind cross R C i increases r) ∙ ap is_some e)
 
 pub none_from_irreducible : (binary : Bool) (M : ℕ → ℕ → ℤ) (kind cross : ℕ → Line) (R C : List ℕ) (i : ℕ) → ¬ IsReducible binary M R C i → first_reason binary M kind cross R C i ≡ None

@@ -104,7 +104,8 @@ both_filters : (p q : ℕ → Bool) (xs : List ℕ) → filter q (filter p xs) �
 both_filters p q [] = refl
 both_filters p q (x ∷ xs) = go (p x) (both_filters p q xs)
   where
-    go : (b : Bool) → filter q (filter p xs) ≡ filter (λ x. p x && q x) xs → filter q (cond b (x ∷ filter p xs) (filter p xs)) ≡ cond (b && q x) (x ∷ filter (λ x. p x && q x) xs) (filter (λ x. p x && q x) xs)
+    go : (b : Bool) → filter q (filter p xs) ≡ filter (λ x. p x && q x) xs
+        → filter q (cond b (x ∷ filter p xs) (filter p xs)) ≡ cond (b && q x) (x ∷ filter (λ x. p x && q x) xs) (filter (λ x. p x && q x) xs)
     go true e = ap (λ (ys : List ℕ). cond (q x) (x ∷ ys) ys) e
     go false e = e
 
@@ -221,7 +222,8 @@ module _ (binary : Bool) (M : ℕ → ℕ → ℤ) (R C : List ℕ) (w : IsClose
         no_line binary M (others (λ i. s (Row i)) R) (others (λ j. s (Column j)) C) other_rows other_columns line (other_line line there out)
         (lacking (λ l. not (s l)) (ap not has))
 
-  any_lacking : (n : ℕ) (s : Line → Bool) (line : Line) → HasLine R C line → s line ≡ false → length (rows_of s R) + length (columns_of s C) ≤ n → IsSeriesParallelOn binary M (rows_of s R) (columns_of s C)
+  any_lacking : (n : ℕ) (s : Line → Bool) (line : Line) → HasLine R C line → s line ≡ false → length (rows_of s R) + length (columns_of s C) ≤ n
+      → IsSeriesParallelOn binary M (rows_of s R) (columns_of s C)
   any_lacking zero s line there out few = ([], (empty_from_length (rows_of s R) (omega (arith, few)), empty_from_length (columns_of s C) (omega (arith, few))))
   any_lacking (suc n) s line there out few =
       go (s one) refl (first_step binary M (rows_of s R) (columns_of s C) (lines_of (rows_of s R) (columns_of s C))) refl

@@ -72,7 +72,8 @@ after_step binary M n R C o = elim o as (λ _. Removal) [
 ]
 
 -- a rest with no lines shows an order
-pub series_parallel_from_rest : (binary : Bool) (M : ℕ → ℕ → ℤ) (n : ℕ) (R C : List ℕ) → (removal_on binary M n R C).rows ≡ [] → (removal_on binary M n R C).columns ≡ [] → IsSeriesParallelOn binary M R C
+pub series_parallel_from_rest : (binary : Bool) (M : ℕ → ℕ → ℤ) (n : ℕ) (R C : List ℕ) → (removal_on binary M n R C).rows ≡ []
+    → (removal_on binary M n R C).columns ≡ [] → IsSeriesParallelOn binary M R C
 series_parallel_from_rest binary M zero R C r c = ([], (r, c))
 series_parallel_from_rest binary M (suc n) R C r c =
     go (first_step binary M R C (lines_of R C)) refl r c (λ l a b. series_parallel_from_rest binary M n (rows_without R l) (columns_without C l) a b)

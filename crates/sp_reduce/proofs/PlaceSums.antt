@@ -70,7 +70,8 @@ tally_same number marks size p q same =
     (λ k h. ap (λ (b : Bool). cond (get_or marks k false && b) (number k) 0) (same k (first_lines_in size k h)))
 
 -- only the marked places matter
-pub tally_same_marked : (number : ℕ → ℕ) (marks : List Bool) (size : ℕ) (p q : ℕ → Bool) → ((k : ℕ) → k < size → get_or marks k false ≡ true → p k ≡ q k) → tally number marks size p ≡ tally number marks size q
+pub tally_same_marked : (number : ℕ → ℕ) (marks : List Bool) (size : ℕ) (p q : ℕ → Bool) → ((k : ℕ) → k < size → get_or marks k false ≡ true → p k ≡ q k)
+    → tally number marks size p ≡ tally number marks size q
 tally_same_marked number marks size p q same =
     sum_same (λ k. cond (get_or marks k false && p k) (number k) 0) (λ k. cond (get_or marks k false && q k) (number k) 0) (first_lines size)
     (λ k h. ap (λ (b : Bool). cond b (number k) 0) (go (get_or marks k false) (p k) (q k) (λ e. same k (first_lines_in size k h) e)))
@@ -146,7 +147,8 @@ module _ (number : ℕ → ℕ) (marks : List Bool) (size own place : ℕ) (befo
 
 -- ---- the marks
 
-pub one_marked : (size : ℕ) (lines : List ℕ) (marks : List Bool) (i : ℕ) → i < length lines → get_or lines i 0 < size → AreMarks size (take i lines) marks → AreMarks size (take (i + 1) lines) (set marks (get_or lines i 0) true)
+pub one_marked : (size : ℕ) (lines : List ℕ) (marks : List Bool) (i : ℕ) → i < length lines → get_or lines i 0 < size → AreMarks size (take i lines) marks
+    → AreMarks size (take (i + 1) lines) (set marks (get_or lines i 0) true)
 one_marked size lines marks i h small are = record {
   long = length-set marks line true ∙ are.long;
   exact = λ k. subst (λ (xs : List ℕ). (get_or (set marks line true) k false ≡ true) ↔ IsIn k xs) (sym (take_more lines i 0 h)) (exact k);

@@ -194,7 +194,8 @@ module _ (binary : Bool) (m : Matrix) where
       whole n = omega arith
 
   -- a run of lines is removed, and then what the stated order removes
-  pub search_removed : (next count : ℕ) (lines rest : LineSet) → IsGreedySearch binary m next lines.rows lines.columns → next + count ≤ height m + m.width → IsRestWithout binary m lines next count rest
+  pub search_removed : (next count : ℕ) (lines rest : LineSet) → IsGreedySearch binary m next lines.rows lines.columns → next + count ≤ height m + m.width
+      → IsRestWithout binary m lines next count rest
       → IsGreedySearch binary m (next + count) rest.rows rest.columns
   search_removed next count lines rest s few left =
       let R = lines.rows in

@@ -46,7 +46,8 @@ module _ (binary : Bool) (M : ℕ → ℕ → ℤ) (kind : LineKind) (own across
       → first_step_of binary M kind own across (take (i + 1) xs) ≡ None
   first_step_more xs i h none here = rw (add-one i) (step_more xs i h none here)
 
-  pub first_step_here : (xs : List ℕ) (i : ℕ) (reason : Reason) → i < length xs → first_step_of binary M kind own across (take i xs) ≡ None → reason_for binary M kind own across (get_or xs i 0) ≡ Some reason
+  pub first_step_here : (xs : List ℕ) (i : ℕ) (reason : Reason) → i < length xs → first_step_of binary M kind own across (take i xs) ≡ None
+      → reason_for binary M kind own across (get_or xs i 0) ≡ Some reason
       → first_step_of binary M kind own across xs ≡ Some (record { line = line_named kind (get_or xs i 0); reason = reason })
   unfolding step_with
   first_step_here [] i reason h none here = absurd (omega arith)
@@ -62,7 +63,8 @@ module _ (binary : Bool) (M : ℕ → ℕ → ℤ) (kind : LineKind) (own across
 -- a line is marked if it has no reason
 pub settled_set : (binary : Bool) (m : Matrix) (side : StayingLines) (across : List ℕ) (place : ℕ) (mark : Bool) → place < length side.settled.items → IsSettled binary m side across
     → (mark ≡ true → reason_for binary (entry m) side.kind side.stays.items across (get_or side.stays.items place 0) ≡ None)
-    → (at : ℕ) → at < length side.stays.items → get_or (set side.settled.items place mark) at false ≡ true → reason_for binary (entry m) side.kind side.stays.items across (get_or side.stays.items at 0) ≡ None
+    → (at : ℕ) → at < length side.stays.items → get_or (set side.settled.items place mark) at false ≡ true
+    → reason_for binary (entry m) side.kind side.stays.items across (get_or side.stays.items at 0) ≡ None
 settled_set binary m side across place mark h is none at inside e = elim (cases_eq at place) [
   | inl q ↦
       ap (λ (k : ℕ). reason_for binary (entry m) side.kind side.stays.items across (get_or side.stays.items k 0)) q

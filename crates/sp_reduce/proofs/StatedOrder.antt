@@ -41,7 +41,8 @@ first_step-joined binary M R C = rows_first binary M R C R (map Column C) ∙ ap
 pub by_row : (binary : Bool) (M : ℕ → ℕ → ℤ) (R C : List ℕ) (step : Step) → first_step_of binary M Rows R C R ≡ Some step → first_step binary M R C (lines_of R C) ≡ Some step
 by_row binary M R C step e = first_step-joined binary M R C ∙ ap (λ (o : Option Step). option_or o (first_step_of binary M Columns C R C)) e
 
-pub by_column : (binary : Bool) (M : ℕ → ℕ → ℤ) (R C : List ℕ) (found : Option Step) → first_step_of binary M Rows R C R ≡ None → first_step_of binary M Columns C R C ≡ found → first_step binary M R C (lines_of R C) ≡ found
+pub by_column : (binary : Bool) (M : ℕ → ℕ → ℤ) (R C : List ℕ) (found : Option Step) → first_step_of binary M Rows R C R ≡ None
+    → first_step_of binary M Columns C R C ≡ found → first_step binary M R C (lines_of R C) ≡ found
 by_column binary M R C found e f = first_step-joined binary M R C ∙ ap (λ (o : Option Step). option_or o (first_step_of binary M Columns C R C)) e ∙ f
 
 abbrev IsRow : Line → Type 0
@@ -53,11 +54,13 @@ IsColumn (Row n) = ⊥
 IsColumn (Column n) = Unit {0}
 
 -- the lines that remain without a row, and without a column
-pub without_row : (R C R' C' : List ℕ) (line : Line) → line ≡ line_named Rows (index_of_line line) → R' ≡ without R (index_of_line line) → C' ≡ C → (R' ≡ rows_without R line) × (C' ≡ columns_without C line)
+pub without_row : (R C R' C' : List ℕ) (line : Line) → line ≡ line_named Rows (index_of_line line) → R' ≡ without R (index_of_line line) → C' ≡ C
+    → (R' ≡ rows_without R line) × (C' ≡ columns_without C line)
 without_row R C R' C' (Row n) e r c = (r, c)
 without_row R C R' C' (Column n) e r c = absurd (subst IsRow (sym e) tt)
 
-pub without_column : (R C R' C' : List ℕ) (line : Line) → line ≡ line_named Columns (index_of_line line) → C' ≡ without C (index_of_line line) → R' ≡ R → (R' ≡ rows_without R line) × (C' ≡ columns_without C line)
+pub without_column : (R C R' C' : List ℕ) (line : Line) → line ≡ line_named Columns (index_of_line line) → C' ≡ without C (index_of_line line) → R' ≡ R
+    → (R' ≡ rows_without R line) × (C' ≡ columns_without C line)
 without_column R C R' C' (Column n) e c r = (r, c)
 without_column R C R' C' (Row n) e c r = absurd (subst IsColumn (sym e) tt)
 
@@ -102,7 +105,8 @@ module _ (binary : Bool) (M : ℕ → ℕ → ℤ) (end : Removal) (steps : List
       → IsOnTheWay binary M end (steps ++ step ∷ []) (rows_without R step.line) (columns_without C step.line)
   one_step step e w = go w.fuel w.enough w.steps_are w.rows_are w.columns_are
     where
-      go : (fuel : ℕ) → length R + length C ≤ fuel → steps ++ (removal_on binary M fuel R C).steps ≡ end.steps → (removal_on binary M fuel R C).rows ≡ end.rows → (removal_on binary M fuel R C).columns ≡ end.columns
+      go : (fuel : ℕ) → length R + length C ≤ fuel → steps ++ (removal_on binary M fuel R C).steps ≡ end.steps → (removal_on binary M fuel R C).rows ≡ end.rows
+          → (removal_on binary M fuel R C).columns ≡ end.columns
           → IsOnTheWay binary M end (steps ++ step ∷ []) (rows_without R step.line) (columns_without C step.line)
       go zero h s r c = some_not_none (sym e ∙ no_lines h)
       go (suc n) h s r c =

@@ -65,11 +65,13 @@ height-submatrix : (m : Matrix) (R C : List ℕ) → height (submatrix m R C) �
 height-submatrix m R C = length-map R (λ row. map (entry m row) C)
 
 -- some lines can all be removed if and only if the submatrix on them is series-parallel
-pub submatrix_from_lines : (binary : Bool) (m : Matrix) (R C : List ℕ) → IsStrictlyIncreasing R → IsStrictlyIncreasing C → IsSeriesParallelOn binary (entry m) R C → IsSeriesParallel binary (submatrix m R C)
+pub submatrix_from_lines : (binary : Bool) (m : Matrix) (R C : List ℕ) → IsStrictlyIncreasing R → IsStrictlyIncreasing C
+    → IsSeriesParallelOn binary (entry m) R C → IsSeriesParallel binary (submatrix m R C)
 submatrix_from_lines binary m R C r c sp = subst (λ (n : ℕ). IsSeriesParallelOn binary (entry (submatrix m R C)) (first_lines n) (first_lines (length C))) (sym (height-submatrix m R C))
     (series_parallel-embeds binary (entry (submatrix m R C)) (entry m) sp.0 (first_lines (length R)) (first_lines (length C)) R C (first_lines_increase (length R)) (first_lines_increase (length C)) (submatrix_embeds binary m R C r c) sp.1)
 
-pub lines_from_submatrix : (binary : Bool) (m : Matrix) (R C : List ℕ) → IsStrictlyIncreasing R → IsStrictlyIncreasing C → IsSeriesParallel binary (submatrix m R C) → IsSeriesParallelOn binary (entry m) R C
+pub lines_from_submatrix : (binary : Bool) (m : Matrix) (R C : List ℕ) → IsStrictlyIncreasing R → IsStrictlyIncreasing C
+    → IsSeriesParallel binary (submatrix m R C) → IsSeriesParallelOn binary (entry m) R C
 lines_from_submatrix binary m R C r c sp =
     let v = subst (λ (n : ℕ). IsSeriesParallelOn binary (entry (submatrix m R C)) (first_lines n) (first_lines (length C))) (height-submatrix m R C) sp in
     series_parallel-embeds binary (entry m) (entry (submatrix m R C)) v.0 R C (first_lines (length R)) (first_lines (length C)) r c (embeds_submatrix binary m R C) v.1

@@ -244,12 +244,14 @@ tallies_skip m kind visited marks row t within out are = record {
         nothing true = refl
         nothing false = refl
 
-    same : (x : LineKind) (before after : ℕ → ℕ → Bool) → ((i j : ℕ) → i ≢ row → before i j ≡ after i j) → AreVisited x visited marks → (l : ℕ) → IsCounted x visited l → (k : ℕ) → get_or marks k false ≡ true
+    same : (x : LineKind) (before after : ℕ → ℕ → Bool) → ((i j : ℕ) → i ≢ row → before i j ≡ after i j) → AreVisited x visited marks → (l : ℕ)
+        → IsCounted x visited l → (k : ℕ) → get_or marks k false ≡ true
         → by_kind before x l k ≡ by_kind after x l k
     same Rows before after equal visits l one k e = equal l k (λ r. true≢false (sym one ∙ ap (λ (i : ℕ). get_or visited i false) r ∙ out))
     same Columns before after equal visits l one k e = equal k l (λ r. true≢false (sym (visits k e) ∙ ap (λ (i : ℕ). get_or visited i false) r ∙ out))
 
-pub tallies_step : (m : Matrix) (kind : LineKind) (visited marks : List Bool) (row from next : ℕ) (t t' : Tallies) → AreTallies m kind visited marks row from t → get_or visited row false ≡ true → row < height m → next < m.width
+pub tallies_step : (m : Matrix) (kind : LineKind) (visited marks : List Bool) (row from next : ℕ) (t t' : Tallies) → AreTallies m kind visited marks row from t
+    → get_or visited row false ≡ true → row < height m → next < m.width
     → from ≤ next → support m row next ≡ true → ((c : ℕ) → from ≤ c → c < next → support m row c ≡ false)
     → t'.counts.items ≡ set t.counts.items (own_line kind row next) (get_or t.counts.items (own_line kind row next) 0 + cond (get_or marks (own_line (other_kind kind) row next) false) 1 0)
     → t'.sums.items ≡ set t.sums.items (own_line kind row next)
@@ -330,7 +332,9 @@ module _ (m : Matrix) (kind : LineKind) (visited marks : List Bool) (across : Li
       ∙ tally_marked weight marks (cross_size m kind) across (by_kind (λ i j. is_minus (entry m i j)) kind l) marked is.increasing inside ∙ by_table_minus l
 
   -- and only of some lines
-  pub tallies_of : (lines : List ℕ) (some : Tallies) → AllBelow (count_of_kind m kind) lines → ((k : ℕ) → k < length lines → IsCounted kind visited (get_or lines k 0)) → AreTalliesAt lines (length lines) t some → AreTalliesOf m kind lines across some
+  pub tallies_of : (lines : List ℕ) (some : Tallies) → AllBelow (count_of_kind m kind) lines
+      → ((k : ℕ) → k < length lines → IsCounted kind visited (get_or lines k 0)) → AreTalliesAt lines (length lines) t some
+      → AreTalliesOf m kind lines across some
   tallies_of lines some below counted at = record {
     many_counts = at.many_counts;
     many_sums = at.many_sums;
@@ -342,6 +346,7 @@ module _ (m : Matrix) (kind : LineKind) (visited marks : List Bool) (across : Li
 
 -- ---- the rows that are visited
 
-pub lines_counted : (m : Matrix) (kind : LineKind) (lines across : List ℕ) (visited : List Bool) → AreMarks (height m) (rows_for kind lines across) visited → (k : ℕ) → k < length lines → IsCounted kind visited (get_or lines k 0)
+pub lines_counted : (m : Matrix) (kind : LineKind) (lines across : List ℕ) (visited : List Bool) → AreMarks (height m) (rows_for kind lines across) visited
+    → (k : ℕ) → k < length lines → IsCounted kind visited (get_or lines k 0)
 lines_counted m Rows lines across visited are k h = (are.exact (get_or lines k 0)).1 (in-get_or lines k h)
 lines_counted m Columns lines across visited are k h = tt

@@ -63,7 +63,8 @@ module _ (m : Matrix) (side : StayingLines) (across : List ℕ) (counted : AreNo
       ∙ sym (counted.sums place in_range)
 
   may_be : (g : ℕ → ℤ) → ((x : ℕ) → is_nonzero (g x) ≡ is_nonzero (table (entry m) side.kind (get_or side.stays.items place 0) x))
-      → equal_at across (table (entry m) side.kind (get_or side.stays.items other 0)) g ≡ true → not (eqb (get_or side.stays.items other 0) (get_or side.stays.items place 0)) ≡ true → may_be_twins side place other ≡ true
+      → equal_at across (table (entry m) side.kind (get_or side.stays.items other 0)) g ≡ true
+      → not (eqb (get_or side.stays.items other 0) (get_or side.stays.items place 0)) ≡ true → may_be_twins side place other ≡ true
   may_be g like e apart =
       is_and (eqb (get_or side.sums.items other 0) (get_or side.sums.items place 0)) (not (eqb (get_or side.stays.items other 0) (get_or side.stays.items place 0)))
       (eq-eqb (get_or side.sums.items other 0) (get_or side.sums.items place 0) (same_sum g like e)) apart
@@ -112,7 +113,8 @@ module _ (m : Matrix) (side : StayingLines) (across : List ℕ) (counted : AreNo
       false_is (is_negative (table (entry m) side.kind) across (get_or side.stays.items place 0) (get_or side.stays.items other 0)) (λ e. true≢false (sym (negative_may_be e) ∙ differ))
 
 -- the entries -1 have at most the sum of all nonzeros
-pub minus_at_most : (m : Matrix) (side : StayingLines) (across : List ℕ) → AreNonzerosCounted m side across → (place : ℕ) → place < length side.stays.items → get_or side.minus_sums.items place 0 ≤ get_or side.sums.items place 0
+pub minus_at_most : (m : Matrix) (side : StayingLines) (across : List ℕ) → AreNonzerosCounted m side across → (place : ℕ) → place < length side.stays.items
+    → get_or side.minus_sums.items place 0 ≤ get_or side.sums.items place 0
 minus_at_most m side across counted place inside =
     let split = minus_weight_at-negative across (table (entry m) side.kind (get_or side.stays.items place 0)) in
     let sum = counted.sums place inside in

@@ -15,7 +15,8 @@ pub sum_by-without : (f : ℕ → ℕ) (i : ℕ) (xs : List ℕ) → IsDistinct 
 sum_by-without f i [] d h = absurd h
 sum_by-without f i (x ∷ xs) d h = sum_by-cons f x xs ∙ go (eqb x i) refl h (λ k. sum_by-without f i xs d.1 k)
   where
-    go : (b : Bool) → eqb x i ≡ b → (i ≡ x) ⊎ IsIn i xs → (IsIn i xs → sum_by f xs ≡ f i + sum_by f (without xs i)) → f x + sum_by f xs ≡ f i + sum_by f (cond (not b) (x ∷ without xs i) (without xs i))
+    go : (b : Bool) → eqb x i ≡ b → (i ≡ x) ⊎ IsIn i xs → (IsIn i xs → sum_by f xs ≡ f i + sum_by f (without xs i))
+        → f x + sum_by f xs ≡ f i + sum_by f (cond (not b) (x ∷ without xs i) (without xs i))
     go true e h k =
         let q : x ≡ i = eqb-true x i e in
         ap (λ (v : ℕ). f v + sum_by f xs) q ∙ ap (λ (zs : List ℕ). f i + sum_by f zs) (sym (without_none i xs (λ g. d.0 (subst (λ (v : ℕ). IsIn v xs) (sym q) g))))

@@ -128,7 +128,8 @@ inside_marks marks line h = elim (cases_lt line (length marks)) [
   | inr l ↦ true_is_false (sym (marked_contains marks line h) ∙ get_or_past marks line false l)
 ]
 
-pub core_found : (m : SparseRows) (core : TwoCore) → AreSparseRows m → HasRemoved m core → LinesHaveTwo m core → IsTwoCore (entry (matrix_of_runs m)) (marked core.rows.items) (marked core.columns.items)
+pub core_found : (m : SparseRows) (core : TwoCore) → AreSparseRows m → HasRemoved m core → LinesHaveTwo m core
+    → IsTwoCore (entry (matrix_of_runs m)) (marked core.rows.items) (marked core.columns.items)
 core_found m core shape stands two = core_is (matrix_of_runs m) (matrix_is_ternary m shape).rectangular core.steps.items (marked core.rows.items) (marked core.columns.items)
     (subst (λ (n : ℕ). IsThinRemoval (entry (matrix_of_runs m)) (first_lines n) (first_lines m.width) core.steps.items (marked core.rows.items) (marked core.columns.items)) (sym (length-map m.runs _)) stands.removal)
     (record {

@@ -182,7 +182,8 @@ module _ (m t : SparseRows) (d : Division) (shape : AreSparseRows m) (shape_t : 
     column_three = column_three;
   }
 
-pub open_set_is : (m t : SparseRows) (d : Division) (part : ℕ) (R C : List ℕ) → AreSparseRows m → AreSparseRows t → AreCrossed m t → Divides m t d → IsThickPart d.thick_rows.items d.thick_columns.items part
+pub open_set_is : (m t : SparseRows) (d : Division) (part : ℕ) (R C : List ℕ) → AreSparseRows m → AreSparseRows t → AreCrossed m t → Divides m t d
+    → IsThickPart d.thick_rows.items d.thick_columns.items part
     → IsPartSet d part R C → AreOpenLines (matrix_of_runs m) R C
 open_set_is m t d part R C shape shape_t crossed divides thick is =
     subst (λ (x : List ℕ). AreOpenLines (matrix_of_runs m) x C) (sym is.rows_are)

@@ -107,7 +107,8 @@ module _ (m : SparseRows) (row_marks column_marks : List Bool) where
   })
 
   module _ (row : ℕ) (x : SparseRows) (is : IsRestrictedBelow m row_marks column_marks row x) where
-    pub restricted_with : (y : SparseRows) (run : List Nonzero) → is_marked row_marks row ≡ true → run ≡ run_of m row → HasRun x row (marked_run column_marks run) y → IsRestrictedBelow m row_marks column_marks (row + 1) y
+    pub restricted_with : (y : SparseRows) (run : List Nonzero) → is_marked row_marks row ≡ true → run ≡ run_of m row
+        → HasRun x row (marked_run column_marks run) y → IsRestrictedBelow m row_marks column_marks (row + 1) y
     restricted_with y run h e has = record {
       rows = has.rows ∙ is.rows;
       width = has.width ∙ is.width;
@@ -187,7 +188,8 @@ module _ (m : SparseRows) (row_marks column_marks : List Bool) (x : SparseRows) 
     | inr h ↦ subst (λ (run : List Nonzero). length run ≤ 2) (sym (run_unmarked row h)) (omega arith)
   ]
 
-pub restrictions_cross : (m t x y : SparseRows) (row_marks column_marks : List Bool) → AreCrossed m t → IsRestricted m row_marks column_marks x → IsRestricted t column_marks row_marks y → AreCrossed x y
+pub restrictions_cross : (m t x y : SparseRows) (row_marks column_marks : List Bool) → AreCrossed m t → IsRestricted m row_marks column_marks x
+    → IsRestricted t column_marks row_marks y → AreCrossed x y
 restrictions_cross m t x y row_marks column_marks crossed is other = record {
   rows = other.rows ∙ crossed.rows ∙ sym is.width;
   columns = other.width ∙ crossed.columns ∙ sym is.rows;

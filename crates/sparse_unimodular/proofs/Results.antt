@@ -18,7 +18,8 @@ match_none {A = A} o P Q e h = subst (λ (p : Option A). MatchOption p P Q) e h
 pub match_some : {A : Type 0} (o : Option A) (x : A) (P : Type 0) (Q : A → Type 0) → o ≡ Some x → MatchOption o P Q → Q x
 match_some {A = A} o x P Q e h = subst (λ (p : Option A). MatchOption p P Q) e h
 
-pub parts_of_lists : (m : Matrix) (r r' c c' : List Bool) (a a' b b' : List ℕ) (t t' : List (Option ℕ)) → r ≡ r' → c ≡ c' → a ≡ a' → b ≡ b' → t ≡ t' → ArePartsFree m r c a b t → ArePartsFree m r' c' a' b' t'
+pub parts_of_lists : (m : Matrix) (r r' c c' : List Bool) (a a' b b' : List ℕ) (t t' : List (Option ℕ)) → r ≡ r' → c ≡ c' → a ≡ a' → b ≡ b' → t ≡ t'
+    → ArePartsFree m r c a b t → ArePartsFree m r' c' a' b' t'
 parts_of_lists m r r' c c' a a' b b' t t' er ec ea eb et h =
     subst (λ (x : List Bool). ArePartsFree m x c' a' b' t') er (subst (λ (x : List Bool). ArePartsFree m r x a' b' t') ec
     (subst (λ (x : List ℕ). ArePartsFree m r c x b' t') ea (subst (λ (x : List ℕ). ArePartsFree m r c a x t') eb

@@ -36,7 +36,8 @@ module _ (t : SparseRows) (marks crossing : List Bool) (numbers : List ℕ) (cou
     abbrev here : ℕ
     here = part_number numbers line
 
-    pub thick_with : AreBelow marks numbers count → is_marked marks line ≡ true → 2 < nonzeros_left t crossing line → AreThickBelow t marks crossing numbers count (line + 1) (set found here (Some line))
+    pub thick_with : AreBelow marks numbers count → is_marked marks line ≡ true → 2 < nonzeros_left t crossing line
+        → AreThickBelow t marks crossing numbers count (line + 1) (set found here (Some line))
     thick_with below h three = record {
       size = length-set found here (Some line) ∙ is.size;
       some = λ part other e. elim (same_or_not part here) [

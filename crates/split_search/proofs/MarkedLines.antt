@@ -47,7 +47,8 @@ only_more old marks run k l within only line h = elim (same_or_not line (get_or 
 -- one more column whose rows are marked
 pub crossing_more : (t : SparseRows) (marks before later : List Bool) (column : ℕ) → ((line : ℕ) → is_marked before line ≡ true → is_marked later line ≡ true)
     → (is_marked marks column ≡ true → AreMarked later (run_of t column))
-    → ((other : ℕ) → other < column → is_marked marks other ≡ true → AreMarked before (run_of t other)) → (other : ℕ) → other < column + 1 → is_marked marks other ≡ true → AreMarked later (run_of t other)
+    → ((other : ℕ) → other < column → is_marked marks other ≡ true → AreMarked before (run_of t other)) → (other : ℕ) → other < column + 1
+    → is_marked marks other ≡ true → AreMarked later (run_of t other)
 crossing_more t marks before later column kept here are other l h = elim (cases_lt other column) [
   | inl b ↦ all_weaker (λ y. is_marked before y.line ≡ true) (λ y. is_marked later y.line ≡ true) (λ y. kept y.line) (run_of t other) (are other b h)
   | inr b ↦ let e : other ≡ column = omega (arith, l, b) in subst (λ (c : ℕ). AreMarked later (run_of t c)) (sym e) (here (subst (λ (c : ℕ). is_marked marks c ≡ true) e h))

@@ -74,18 +74,21 @@ end_nonzero t column x y shape (inl e) = let within = ends_within t column x y s
 end_nonzero t column x y shape (inr e) = let within = ends_within t column x y shape (inr e) in
     subst (λ (run : List Nonzero). value_in run x.line ≢ pos 0) (sym e) (value_there t.width (y ∷ x ∷ []) 1 (omega arith) (within.1, (within.0, tt)))
 
-pub row_closed : (m t : SparseRows) (nodes : List (Option Node)) (row : ℕ) (run : List Nonzero) → AreSparseRows t → AreCrossed m t → run ≡ run_of m row → AllByRecursion (λ x. IsColumnClosed t nodes row x.line) run
+pub row_closed : (m t : SparseRows) (nodes : List (Option Node)) (row : ℕ) (run : List Nonzero) → AreSparseRows t → AreCrossed m t → run ≡ run_of m row
+    → AllByRecursion (λ x. IsColumnClosed t nodes row x.line) run
     → IsRowClosed t nodes row
 row_closed m t nodes row run shape crossed same all column x y ends e =
     value_line (IsColumnClosed t nodes row) run column all
     (λ z. end_nonzero t column x y shape ends (ap (sparse_entry t column) e ∙ crossed.entries row column ∙ ap (λ (r : List Nonzero). value_in r column) (sym same) ∙ z)) x y ends e
 
-pub closed_kept : (t : SparseRows) (before after : List (Option Node)) (queue later : List ℕ) (head : ℕ) → head ≤ length queue → KeepsReached before after → HasAppended queue later → AreClosedBelow t before queue head
+pub closed_kept : (t : SparseRows) (before after : List (Option Node)) (queue later : List ℕ) (head : ℕ) → head ≤ length queue → KeepsReached before after
+    → HasAppended queue later → AreClosedBelow t before queue head
     → AreClosedBelow t after later head
 closed_kept t before after queue later head l kept longer closed k below column x y ends e =
     kept y.line (closed k below column x y ends (e ∙ longer.same k (omega (arith, l, below))))
 
-pub closed_more : (t : SparseRows) (nodes : List (Option Node)) (queue : List ℕ) (head row : ℕ) → row ≡ get_or queue head 0 → AreClosedBelow t nodes queue head → IsRowClosed t nodes row → AreClosedBelow t nodes queue (head + 1)
+pub closed_more : (t : SparseRows) (nodes : List (Option Node)) (queue : List ℕ) (head row : ℕ) → row ≡ get_or queue head 0 → AreClosedBelow t nodes queue head
+    → IsRowClosed t nodes row → AreClosedBelow t nodes queue (head + 1)
 closed_more t nodes queue head row is closed here k below = elim (cases_lt k head) [
   | inl l ↦ closed k l
   | inr l ↦ subst (IsRowClosed t nodes) (is ∙ ap (λ (i : ℕ). get_or queue i 0) (let e : head ≡ k = omega (arith, l, below) in e)) here
@@ -111,7 +114,8 @@ module _ (t : SparseRows) (before nodes later : List (Option Node)) (root here k
       (all-append (λ x. IsColumnClosed t later here x.line) (take k run) (get_or run k no_nonzero ∷ []) (columns_kept t nodes later here (take k run) kept follows.4)
       (column_closed t later here (get_or run k no_nonzero).line (kept here (follows.2 here reached)) closed, tt))
 
-  pub follows_with : (next : List ℕ) (row : ℕ) → next ≡ queue ++ row ∷ [] → ReachesRow t nodes later root (length queue) row → unreached later + 1 ≡ unreached nodes → row < t.width → Follows t before later root old next here (take (k + 1) run)
+  pub follows_with : (next : List ℕ) (row : ℕ) → next ≡ queue ++ row ∷ [] → ReachesRow t nodes later root (length queue) row
+      → unreached later + 1 ≡ unreached nodes → row < t.width → Follows t before later root old next here (take (k + 1) run)
   follows_with next row next_is reaches fewer inside = subst (λ (q : List ℕ). Follows t before later root old q here (take (k + 1) run)) (sym next_is) (
     record { grows = subst (Grows t later root) (sym longer) reaches.grows; queue_is = queue_more t nodes later queue root (length queue) row follows.0.queue_is reaches inside },
     (let n = follows.1 in omega (arith, longer, fewer, n)),

@@ -6,7 +6,8 @@ use Rattle.text_fields.specs.TextWords.{is_space, with_word, run_and_words, word
 use Rattle.text_fields.proofs.Runs.{words_skip, run_more, run_stops}
 use Rattle.text_fields.proofs.Entries.{zero_text, one_text, minus_one_text}
 
-run_of_one : (bytes : List ℕ) (at d : ℕ) → at + 1 < length bytes → get_or bytes at 0 ≡ d → is_space d ≡ false → is_space (get_or bytes (at + 1) 0) ≡ true → run_and_words at (drop at bytes) ≡ (d ∷ [], words_from (at + 1) (drop (at + 1) bytes))
+run_of_one : (bytes : List ℕ) (at d : ℕ) → at + 1 < length bytes → get_or bytes at 0 ≡ d → is_space d ≡ false → is_space (get_or bytes (at + 1) 0) ≡ true
+    → run_and_words at (drop at bytes) ≡ (d ∷ [], words_from (at + 1) (drop (at + 1) bytes))
 run_of_one bytes at d inside is solid space =
     let more = run_more bytes at (omega arith) (rw is solid) in
     let stops = run_stops bytes (at + 1) (omega arith) space in
@@ -18,7 +19,8 @@ one_byte bytes at d inside before is solid space =
     words_skip bytes at (omega arith) before
     ∙ ap (λ (run : List ℕ × List (ℕ × List ℕ)). with_word (at + 1) run.0 run.1) (run_of_one bytes (at + 1) d (omega arith) is solid space)
 
-two_bytes : (bytes : List ℕ) (at d e : ℕ) → at + 3 < length bytes → is_space (get_or bytes at 0) ≡ true → get_or bytes (at + 1) 0 ≡ d → is_space d ≡ false → get_or bytes (at + 1 + 1) 0 ≡ e → is_space e ≡ false → is_space (get_or bytes (at + 1 + 1 + 1) 0) ≡ true
+two_bytes : (bytes : List ℕ) (at d e : ℕ) → at + 3 < length bytes → is_space (get_or bytes at 0) ≡ true → get_or bytes (at + 1) 0 ≡ d → is_space d ≡ false
+    → get_or bytes (at + 1 + 1) 0 ≡ e → is_space e ≡ false → is_space (get_or bytes (at + 1 + 1 + 1) 0) ≡ true
     → words_from at (drop at bytes) ≡ (at + 1, d ∷ e ∷ []) ∷ words_from (at + 1 + 1 + 1) (drop (at + 1 + 1 + 1) bytes)
 two_bytes bytes at d e inside before first first_solid second second_solid space =
     let more = run_more bytes (at + 1) (omega arith) (rw first first_solid) in
@@ -26,13 +28,15 @@ two_bytes bytes at d e inside before first first_solid second second_solid space
     let run : run_and_words (at + 1) (drop (at + 1) bytes) ≡ (d ∷ e ∷ [], words_from (at + 1 + 1 + 1) (drop (at + 1 + 1 + 1) bytes)) = more ∙ rw (later, first) refl in
     words_skip bytes at (omega arith) before ∙ ap (λ (run : List ℕ × List (ℕ × List ℕ)). with_word (at + 1) run.0 run.1) run
 
-plus_word : (bytes : List ℕ) (at size : ℕ) (entry : ℤ) → at + 3 < length bytes → is_space (get_or bytes at 0) ≡ true → get_or bytes (at + 1) 0 ≡ 48 + size → size ≤ 1 → entry ≡ pos size → is_space (get_or bytes (at + 1 + 1) 0) ≡ true
+plus_word : (bytes : List ℕ) (at size : ℕ) (entry : ℤ) → at + 3 < length bytes → is_space (get_or bytes at 0) ≡ true → get_or bytes (at + 1) 0 ≡ 48 + size
+    → size ≤ 1 → entry ≡ pos size → is_space (get_or bytes (at + 1 + 1) 0) ≡ true
     → words_from at (drop at bytes) ≡ (at + 1, signed_decimal entry) ∷ words_from (at + 1 + 1) (drop (at + 1 + 1) bytes)
 plus_word bytes at zero entry inside before digit small is space = rw (is, zero_text) (one_byte bytes at 48 (omega arith) before (omega arith) refl space)
 plus_word bytes at (suc zero) entry inside before digit small is space = rw (is, one_text) (one_byte bytes at 49 (omega arith) before (omega arith) refl space)
 plus_word bytes at (suc (suc n)) entry inside before digit small is space = absurd (omega arith)
 
-minus_word : (bytes : List ℕ) (at : ℕ) (entry : ℤ) → at + 3 < length bytes → is_space (get_or bytes at 0) ≡ true → get_or bytes (at + 1) 0 ≡ 45 → get_or bytes (at + 1 + 1) 0 ≡ 49 → entry ≡ negsuc 0 → is_space (get_or bytes (at + 1 + 1 + 1) 0) ≡ true
+minus_word : (bytes : List ℕ) (at : ℕ) (entry : ℤ) → at + 3 < length bytes → is_space (get_or bytes at 0) ≡ true → get_or bytes (at + 1) 0 ≡ 45
+    → get_or bytes (at + 1 + 1) 0 ≡ 49 → entry ≡ negsuc 0 → is_space (get_or bytes (at + 1 + 1 + 1) 0) ≡ true
     → words_from at (drop at bytes) ≡ (at + 1, signed_decimal entry) ∷ words_from (at + 1 + 1 + 1) (drop (at + 1 + 1 + 1) bytes)
 minus_word bytes at entry inside before sign digit is space = rw (is, minus_one_text) (two_bytes bytes at 45 49 inside before sign refl digit refl space)
 

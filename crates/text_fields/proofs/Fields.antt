@@ -16,7 +16,8 @@ pub record Fielded {A K : Type 0} (parse : List ℕ → Result A K) (text : Text
   pub size_is : text.size ≡ rest.size
   pub parsed : parse word.1 ≡ Ok x
 
-due_ok : {K : Type 0} (short : K) (size : ℕ) (words : List (ℕ × List ℕ)) (word : ℕ × List ℕ) (rest : Text) → due_of short size words ≡ Ok (word, rest) → (words ≡ word ∷ rest.words) × (size ≡ rest.size)
+due_ok : {K : Type 0} (short : K) (size : ℕ) (words : List (ℕ × List ℕ)) (word : ℕ × List ℕ) (rest : Text) → due_of short size words ≡ Ok (word, rest)
+    → (words ≡ word ∷ rest.words) × (size ≡ rest.size)
 due_ok short size [] word rest h = absurd (cc)
 due_ok short size (first ∷ later) word rest h =
     let e = ok_same (first, record { size = size; words = later }) (word, rest) h in
@@ -60,13 +61,15 @@ pub record AreFields {A K : Type 0} (parse : List ℕ → Result A K) (n : ℕ) 
   pub spell : Spell parse (texts_of prefix) read
   pub count : length read ≡ n
 
-another_ok : {A K : Type 0} (short : K) (parse : List ℕ → Result A K) (before : List A) (text : Text) (next : List A × Text) → another short parse before text ≡ Ok next → (x : A) × (field short parse text ≡ Ok (x, next.1)) × (next.0 ≡ before ++ x ∷ [])
+another_ok : {A K : Type 0} (short : K) (parse : List ℕ → Result A K) (before : List A) (text : Text) (next : List A × Text)
+    → another short parse before text ≡ Ok next → (x : A) × (field short parse text ≡ Ok (x, next.1)) × (next.0 ≡ before ++ x ∷ [])
 another_ok {A} short parse before text next h =
     let b = bind_ok (field short parse text) (λ (value : A × Text). Ok (before ++ value.0 ∷ [], value.1)) next h in
     let e = ok_same (before ++ b.0.0 ∷ [], b.0.1) next b.2 in
     (b.0.0, b.1 ∙ ap (λ (p : List A × Text). Ok (b.0.0, p.1)) e, sym (ap (λ (p : List A × Text). p.0) e))
 
-pub fields_ok : {A K : Type 0} (short : K) (parse : List ℕ → Result A K) (n : ℕ) (before : List A) (text : Text) (values : List A) (rest : Text) → times (another short parse) n before text ≡ Ok (values, rest) → AreFields parse n text before values rest
+pub fields_ok : {A K : Type 0} (short : K) (parse : List ℕ → Result A K) (n : ℕ) (before : List A) (text : Text) (values : List A) (rest : Text)
+    → times (another short parse) n before text ≡ Ok (values, rest) → AreFields parse n text before values rest
 fields_ok {A} short parse zero before text values rest h =
     let e = ok_same (before, text) (values, rest) h in
     record {
@@ -110,6 +113,7 @@ ended_ok extra made text x h = go text.words h
     go (word ∷ words) h = absurd (cc)
 
 -- the value of a word, with the text after it
-pub placed_reads : {A K : Type 0} (place : ℕ) (parsed : Result A K) (rest : Text) (r : Result A (FieldError K)) → Gives (λ x. x) r (placed place parsed) → Reads (λ x. x) rest r (placed place parsed >>= λ value. Ok (value, rest))
+pub placed_reads : {A K : Type 0} (place : ℕ) (parsed : Result A K) (rest : Text) (r : Result A (FieldError K)) → Gives (λ x. x) r (placed place parsed)
+    → Reads (λ x. x) rest r (placed place parsed >>= λ value. Ok (value, rest))
 placed_reads place parsed rest (Ok x) gives = rw gives refl
 placed_reads {A} place parsed rest (Err e) fails = bind_fails e (placed place parsed) (λ (value : A). Ok (value, rest)) fails

@@ -27,7 +27,8 @@ line_written draft words none = go draft.bytes draft.is_begun none words
     go bytes false none (word ∷ words) = ap with_end (words_after bytes word words) ∙ ap (λ b. record { bytes = b; is_begun = false }) (append_assoc bytes (join_with_byte 32 (word ∷ words)) (10 ∷ []))
 
 -- a line whose words were written one after another
-pub line_ended : {A : Type 0} (draft start : Draft) (write : A → List ℕ) (values : List A) (n : ℕ) → draft ≡ fold with_word start (map write (take n values)) → length values ≤ n → start.is_begun ≡ false → with_end draft ≡ with_line start (map write values)
+pub line_ended : {A : Type 0} (draft start : Draft) (write : A → List ℕ) (values : List A) (n : ℕ) → draft ≡ fold with_word start (map write (take n values))
+    → length values ≤ n → start.is_begun ≡ false → with_end draft ≡ with_line start (map write values)
 line_ended draft start write values n written past none =
     ap with_end written ∙ ap (λ vs. with_end (fold with_word start (map write vs))) (take_all n values past) ∙ line_written start (map write values) none
 

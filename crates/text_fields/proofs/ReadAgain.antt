@@ -26,7 +26,8 @@ again_field short parse word x h size (first ∷ []) later e = let same : first.
 again_field short parse word x h size (first ∷ second ∷ prefix) later e = absurd (cc)
 
 -- one reader after another
-pub again_bind : {K A B : Type 0} (read : Reader K A) (next : A × Text → Result (B × Text) (Fault K)) (words more : List (List ℕ)) (x : A) (y : B) → Again read words x → Again (λ text. next (x, text)) more y → Again (λ text. read text >>= next) (words ++ more) y
+pub again_bind : {K A B : Type 0} (read : Reader K A) (next : A × Text → Result (B × Text) (Fault K)) (words more : List (List ℕ)) (x : A) (y : B)
+    → Again read words x → Again (λ text. next (x, text)) more y → Again (λ text. read text >>= next) (words ++ more) y
 again_bind read next words more x y first second size prefix later e =
     let s = split_texts prefix words more e in
     let here : read (record { size = size; words = prefix ++ later }) ≡ Ok (x, record { size = size; words = s.second ++ later }) =

@@ -8,7 +8,8 @@ pub Spell-map : {A K : Type 0} (parse : List ℕ → Result A K) (write : A → 
 Spell-map parse write [] all = tt
 Spell-map parse write (x ∷ values) all = (all.0, Spell-map parse write values all.1)
 
-pub Spell-append : {A K : Type 0} (parse : List ℕ → Result A K) (words : List (List ℕ)) (values : List A) (more : List (List ℕ)) (others : List A) → Spell parse words values → Spell parse more others → Spell parse (words ++ more) (values ++ others)
+pub Spell-append : {A K : Type 0} (parse : List ℕ → Result A K) (words : List (List ℕ)) (values : List A) (more : List (List ℕ)) (others : List A)
+    → Spell parse words values → Spell parse more others → Spell parse (words ++ more) (values ++ others)
 Spell-append parse [] [] more others spell later = later
 Spell-append parse [] (x ∷ values) more others spell later = absurd spell
 Spell-append parse (word ∷ words) [] more others spell later = absurd spell
@@ -25,6 +26,7 @@ pub words-map : {A : Type 0} (P : List ℕ → Type 0) (write : A → List ℕ) 
 words-map P write [] all = tt
 words-map P write (x ∷ values) all = (all.0, words-map P write values all.1)
 
-pub words-rows : {A : Type 0} (P : List ℕ → Type 0) (write : A → List ℕ) (rows : List (List A)) → AllByRecursion (AllByRecursion (λ x. P (write x))) rows → AllByRecursion (AllByRecursion P) (map (map write) rows)
+pub words-rows : {A : Type 0} (P : List ℕ → Type 0) (write : A → List ℕ) (rows : List (List A)) → AllByRecursion (AllByRecursion (λ x. P (write x))) rows
+    → AllByRecursion (AllByRecursion P) (map (map write) rows)
 words-rows P write [] all = tt
 words-rows P write (row ∷ rows) all = (words-map P write row all.0, words-rows P write rows all.1)

@@ -53,7 +53,8 @@ module _ (m : Matrix) (a b : Connector) (x : Line) (S : Lines) (good : IsGoodThr
   abbrev of_other : ℕ → ℤ
   of_other column = determinant *ℤ (entry m b.row a.column *ℤ entry m b.other column -ℤ entry m b.other a.column *ℤ entry m b.row column)
 
-  parts : (row column : ℕ) → row < height m → column < m.width → S (Row row) ≡ false → S (Column column) ≡ true → entry m row column ≡ of_first column *ℤ entry m row a.column +ℤ of_other column *ℤ entry m row a.other
+  parts : (row column : ℕ) → row < height m → column < m.width → S (Row row) ≡ false → S (Column column) ≡ true
+      → entry m row column ≡ of_first column *ℤ entry m row a.column +ℤ of_other column *ℤ entry m row a.other
   parts row column lr lc er ec =
       lower_at m good.1.grown.closed row column lr lc er ec
       ∙ spread_parts determinant (entry m b.row a.column) (entry m b.row a.other) (entry m b.other a.column) (entry m b.other a.other) (entry m row a.column) (entry m row a.other) (entry m b.row column) (entry m b.other column)
@@ -129,12 +130,14 @@ module _ (m : Matrix) where
   concentrated_seed s S e g = subst (λ (f : Form). IsGoodThree (height m) m.width (entry m) f s.pair.first s.pair.second s.line S) e g
 
   -- if two connectors are in no good seed, no good seed has their row i in side one and their column j in side two
-  pub none_between : (d : Connectors) → IsConnectorPair (height m) m.width (entry m) Concentrated d.first d.second → HasNoGood m (all_prefix Concentrated d) → HasNoneBetween m d.first.row d.second.column
+  pub none_between : (d : Connectors) → IsConnectorPair (height m) m.width (entry m) Concentrated d.first d.second → HasNoGood m (all_prefix Concentrated d)
+      → HasNoneBetween m d.first.row d.second.column
   none_between d pair none s S ef g row_one =
       true_is (S (Column d.second.column)) (λ out. some_elsewhere m s.pair.first s.pair.second s.line S (concentrated_seed s S ef g) d pair row_one out none)
 
   -- a row of column j pulls a column that is in side one with row i
-  pub none_past : (d : Connectors) (rule : GrowthRule) (candidates : Bits) (row : ℕ) → IsConnectorPair (height m) m.width (entry m) Concentrated d.first d.second → lower_of m rule ≡ spread_at (entry m) d.first d.second
+  pub none_past : (d : Connectors) (rule : GrowthRule) (candidates : Bits) (row : ℕ)
+      → IsConnectorPair (height m) m.width (entry m) Concentrated d.first d.second → lower_of m rule ≡ spread_at (entry m) d.first d.second
       → AreCandidates m d.first.row candidates → row < height m → entry m row d.second.column ≢ pos 0 → PullsOther m rule candidates row → HasNoneBetween m d.first.row d.second.column
   none_past d rule candidates row pair lower are inside nonzero pulled s S ef g row_one =
       true_is (S (Column d.second.column)) (λ out.
@@ -175,7 +178,8 @@ module _ (m : Matrix) where
   pub none_to_first : (c : Corners) → HasNoneBelow m (corner_prefix Concentrated c) (c.one.column + 1)
   none_to_first c b l = no_column c b (inl (omega arith))
 
-  pub none_over_zeros : (c : Corners) (from q : ℕ) → HasNoneBelow m (corner_prefix Concentrated c) from → ((column : ℕ) → from ≤ column → column < q → support m c.one.row column ≡ false) → HasNoneBelow m (corner_prefix Concentrated c) q
+  pub none_over_zeros : (c : Corners) (from q : ℕ) → HasNoneBelow m (corner_prefix Concentrated c) from
+      → ((column : ℕ) → from ≤ column → column < q → support m c.one.row column ≡ false) → HasNoneBelow m (corner_prefix Concentrated c) q
   none_over_zeros c from q before zeros b l = elim (cases_lt b from) [
     | inl low ↦ before b low
     | inr high ↦ no_column c b (inr (inl (zero_is (entry m c.one.row b) (zeros b high l))))
@@ -191,14 +195,16 @@ module _ (m : Matrix) where
   pub none_to_second : (c : Corners) (q : ℕ) → HasNoneBelow m (corner_prefix Concentrated c ++ q ∷ []) (c.two.row + 1)
   none_to_second c q b l = no_row c q b (λ other. let r = other.increases in omega arith)
 
-  pub none_over_zero_rows : (c : Corners) (q from o : ℕ) → HasNoneBelow m (corner_prefix Concentrated c ++ q ∷ []) from → ((row : ℕ) → from ≤ row → row < o → support m row c.two.column ≡ false) → HasNoneBelow m (corner_prefix Concentrated c ++ q ∷ []) o
+  pub none_over_zero_rows : (c : Corners) (q from o : ℕ) → HasNoneBelow m (corner_prefix Concentrated c ++ q ∷ []) from
+      → ((row : ℕ) → from ≤ row → row < o → support m row c.two.column ≡ false) → HasNoneBelow m (corner_prefix Concentrated c ++ q ∷ []) o
   none_over_zero_rows c q from o before zeros b l = elim (cases_lt b from) [
     | inl low ↦ before b low
     | inr high ↦ no_row c q b (λ other. other.nonzero (zero_is (entry m b c.two.column) (zeros b high l)))
   ]
 
 -- connectors that were found, and their rule
-pub pair_of : (m : Matrix) (c : Corners) (q o : ℕ) → AreInside m c → AreConcentratedCorners (entry m) c → q < m.width → o < height m → IsOtherColumn (entry m) c q → IsOtherRow (entry m) c q o → IsConnectorPair (height m) m.width (entry m) Concentrated (first_at c q) (second_at c o)
+pub pair_of : (m : Matrix) (c : Corners) (q o : ℕ) → AreInside m c → AreConcentratedCorners (entry m) c → q < m.width → o < height m
+    → IsOtherColumn (entry m) c q → IsOtherRow (entry m) c q o → IsConnectorPair (height m) m.width (entry m) Concentrated (first_at c q) (second_at c o)
 pair_of m c q o inside corners lq lo column row = record {
   values = record {
     first_corner = corners.first;
@@ -209,7 +215,8 @@ pair_of m c q o inside corners lq lo column row = record {
   second_lines = (inside.row_two, (inside.column_two, (lo, tt)));
 }
 
-pub spread_connectors : (m : Matrix) (rule : GrowthRule) (d : Connectors) → IsConnectorPair (height m) m.width (entry m) Concentrated d.first d.second → IsRuleOf m rule → upper_of m rule ≡ zeros → lower_of m rule ≡ spread_at (entry m) d.first d.second → AreConnectorsOf m Concentrated rule d
+pub spread_connectors : (m : Matrix) (rule : GrowthRule) (d : Connectors) → IsConnectorPair (height m) m.width (entry m) Concentrated d.first d.second
+    → IsRuleOf m rule → upper_of m rule ≡ zeros → lower_of m rule ≡ spread_at (entry m) d.first d.second → AreConnectorsOf m Concentrated rule d
 spread_connectors m rule d pair inside upper lower = record { pair = pair; inside = inside; upper = upper; lower = lower }
 
 -- ---- candidates
@@ -237,7 +244,8 @@ pub no_second : (m : Matrix) (i p k j : ℕ) (candidates : Bits) → AreCandidat
 no_second m i p k j candidates are (inl e) = no_second_corner m 3 i p k j (zero_is (entry m k j) e)
 no_second m i p k j candidates are (inr e) = λ s S h g. none_of_seed m i j (are.others j (let l = (good_inside m s S g).column_two in let n = h.1.1.1.1.0 in omega arith) e) s S (sym (form_is Concentrated s.form h.0)) h.1.0 h.1.1.1.1.0 g
 
-pub none_between_seconds : (m : Matrix) (i p k from j : ℕ) (columns candidates : Bits) → AreCandidates m i candidates → ((x : ℕ) → has_column columns.words x ≡ false → (support m k x ≡ false) ⊎ (has_column candidates.words x ≡ false))
+pub none_between_seconds : (m : Matrix) (i p k from j : ℕ) (columns candidates : Bits) → AreCandidates m i candidates
+    → ((x : ℕ) → has_column columns.words x ≡ false → (support m k x ≡ false) ⊎ (has_column candidates.words x ≡ false))
     → HasNoneBelow m (3 ∷ i ∷ p ∷ k ∷ []) from → ((x : ℕ) → from ≤ x → x < j → has_column columns.words x ≡ false) → HasNoneBelow m (3 ∷ i ∷ p ∷ k ∷ []) j
 none_between_seconds m i p k from j columns candidates are others before none b l = elim (cases_lt b from) [
   | inl low ↦ before b low
@@ -245,13 +253,16 @@ none_between_seconds m i p k from j columns candidates are others before none b 
 ]
 
 -- row k is 0 in each candidate
-pub no_common : (m : Matrix) (i p k : ℕ) (candidates : Bits) → AreCandidates m i candidates → ((x : ℕ) → (support m k x ≡ false) ⊎ (has_column candidates.words x ≡ false)) → HasNoGood m (3 ∷ i ∷ p ∷ k ∷ [])
+pub no_common : (m : Matrix) (i p k : ℕ) (candidates : Bits) → AreCandidates m i candidates
+    → ((x : ℕ) → (support m k x ≡ false) ⊎ (has_column candidates.words x ≡ false)) → HasNoGood m (3 ∷ i ∷ p ∷ k ∷ [])
 no_common m i p k candidates are none s S h g = no_second m i p k s.pair.second.column candidates are (none s.pair.second.column) s S (h.0, (h.1.0, (h.1.1.0, (h.1.1.1.0, (refl, tt))))) g
 
 -- ---- the first connectors with two corners
 
 module _ (m : Matrix) (c : Corners) (d : Connectors) (is : IsFirstPair m c d) where
-  pub pair_found : (o : Option Three) (three : Three) → o ≡ Some three → MatchOption o (HasNoneBetween m d.first.row d.second.column) (IsFirstOf m (all_prefix Concentrated d)) → IsFirstOf m (corner_prefix Concentrated c) three
+  pub pair_found : (o : Option Three) (three : Three) → o ≡ Some three
+      → MatchOption o (HasNoneBetween m d.first.row d.second.column) (IsFirstOf m (all_prefix Concentrated d))
+      → IsFirstOf m (corner_prefix Concentrated c) three
   pair_found o three e h =
       let here : IsFirstOf m (corner_prefix Concentrated c ++ d.first.other ∷ d.second.other ∷ []) three =
       subst (λ (z : Corners). IsFirstOf m (corner_prefix Concentrated z ++ d.first.other ∷ d.second.other ∷ []) three) is.corners (subst (λ (z : Option Three). MatchOption z (HasNoneBetween m d.first.row d.second.column) (IsFirstOf m (all_prefix Concentrated d))) e h) in

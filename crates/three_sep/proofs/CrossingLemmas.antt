@@ -32,6 +32,7 @@ module _ (M : ℕ → ℕ → ℤ) (one two : Connector) where
   lower_crossing Mixed c = refl
   lower_crossing Concentrated c = absurd c
 
-  pub closed_crossing : (m n : ℕ) (S : Lines) (form : Form) → IsCrossing form → IsClosed m n M (upper_block M form one two) (lower_block M form one two) S → IsClosed m n M (product_at M one.row two.column) (product_at M two.row one.column) S
+  pub closed_crossing : (m n : ℕ) (S : Lines) (form : Form) → IsCrossing form → IsClosed m n M (upper_block M form one two) (lower_block M form one two) S
+      → IsClosed m n M (product_at M one.row two.column) (product_at M two.row one.column) S
   closed_crossing m n S form c closed =
       subst (λ (u : ℕ → ℕ → ℤ). IsClosed m n M u (product_at M two.row one.column) S) (upper_crossing form c) (subst (λ (l : ℕ → ℕ → ℤ). IsClosed m n M (upper_block M form one two) l S) (lower_crossing form c) closed)

@@ -90,7 +90,8 @@ no_cut_below_more m prefix a before here b l = elim (same_or_not b a) [
   | inr n ↦ before b (omega (arith, n))
 ]
 
-pub cut_level_found : (m : Matrix) (prefix : List ℕ) (a : ℕ) (lines : LineSet) → length prefix < 6 → HasNoCutSeedBelow m prefix a → IsFirstCutWith m (prefix ++ a ∷ []) lines → IsFirstCutWith m prefix lines
+pub cut_level_found : (m : Matrix) (prefix : List ℕ) (a : ℕ) (lines : LineSet) → length prefix < 6 → HasNoCutSeedBelow m prefix a
+    → IsFirstCutWith m (prefix ++ a ∷ []) lines → IsFirstCutWith m prefix lines
 cut_level_found m prefix a lines short before found = record {
   seed = found.seed;
   side = found.side;
@@ -109,7 +110,8 @@ cut_level_found m prefix a lines short before found = record {
 }
 
 -- answers of calls
-pub cut_some : (m : Matrix) (prefix : List ℕ) (a : ℕ) (o : Option LineSet) (lines : LineSet) → length prefix < 6 → HasNoCutSeedBelow m prefix a → o ≡ Some lines → IsFoundCut m (prefix ++ a ∷ []) o → IsFirstCutWith m prefix lines
+pub cut_some : (m : Matrix) (prefix : List ℕ) (a : ℕ) (o : Option LineSet) (lines : LineSet) → length prefix < 6 → HasNoCutSeedBelow m prefix a → o ≡ Some lines
+    → IsFoundCut m (prefix ++ a ∷ []) o → IsFirstCutWith m prefix lines
 cut_some m prefix a o lines short before e h = cut_level_found m prefix a lines short before (MatchOption-at_some (HasNoCutSeed m (prefix ++ a ∷ [])) (IsFirstCutWith m (prefix ++ a ∷ [])) lines e h)
 
 pub cut_none : (m : Matrix) (prefix : List ℕ) (a : ℕ) (o : Option LineSet) → HasNoCutSeedBelow m prefix a → o ≡ None → IsFoundCut m (prefix ++ a ∷ []) o → HasNoCutSeedBelow m prefix (a + 1)
@@ -130,7 +132,8 @@ pub cut_seed_from_third : (m : Matrix) (c : Corners) (place : ℕ) (x : Line) (s
     → BeginsWith (cut_prefix c ++ place ∷ []) (cut_key m s) → s ≡ cut_seed_at c x s.fourth
 cut_seed_from_third m c place x s lx ls e h = cut_seed_is s c.one.row c.one.column c.two.row c.two.column x s.fourth h.0 h.1.0 h.1.1.0 h.1.1.1.0 (line_is (height m) m.width x s.third lx ls (e ∙ h.1.1.1.1.0)) refl
 
-pub cut_seed_from_fourth : (m : Matrix) (c : Corners) (third fourth : ℕ) (x y : Line) (s : CutSeed) → IsLine (height m) m.width x → IsLine (height m) m.width y → IsLine (height m) m.width s.third → IsLine (height m) m.width s.fourth
+pub cut_seed_from_fourth : (m : Matrix) (c : Corners) (third fourth : ℕ) (x y : Line) (s : CutSeed) → IsLine (height m) m.width x → IsLine (height m) m.width y
+    → IsLine (height m) m.width s.third → IsLine (height m) m.width s.fourth
     → line_number (height m) x ≡ third → line_number (height m) y ≡ fourth → BeginsWith (cut_prefix c ++ third ∷ fourth ∷ []) (cut_key m s) → s ≡ cut_seed_at c x y
 cut_seed_from_fourth m c third fourth x y s lx ly ls lt ex ey h =
     cut_seed_is s c.one.row c.one.column c.two.row c.two.column x y h.0 h.1.0 h.1.1.0 h.1.1.1.0 (line_is (height m) m.width x s.third lx ls (ex ∙ h.1.1.1.1.0)) (line_is (height m) m.width y s.fourth ly lt (ey ∙ h.1.1.1.1.1.0))
@@ -147,7 +150,9 @@ module _ (m : Matrix) (groups : Groups) (hold : HoldTogether (IsCut m) m groups)
   parted : (s : CutSeed) (S : Lines) → IsGoodCut m s S → (x y : Line) → IsLine (height m) m.width x → IsLine (height m) m.width y → S x ≡ true → S y ≡ false → name_of m groups x ≢ name_of m groups y
   parted s S g x y lx ly ex ey same = not_both (S x) ex (hold S (seed_is_cut m s S g) x y lx ly same ∙ ey)
 
-  pub no_seed_in_one_group : (i : ℕ) → HasNames m groups → ((k l : ℕ) → k < length groups.names.items → l < length groups.names.items → get_or groups.names.items k 0 ≡ get_or groups.names.items l 0) → HasNoCutSeed m (i ∷ [])
+  pub no_seed_in_one_group : (i : ℕ) → HasNames m groups
+      → ((k l : ℕ) → k < length groups.names.items → l < length groups.names.items → get_or groups.names.items k 0 ≡ get_or groups.names.items l 0)
+      → HasNoCutSeed m (i ∷ [])
   no_seed_in_one_group i names one s S h g =
       let li : s.corners.one.row < length groups.names.items = let l = g.inside.row_one in omega (arith, names, l) in
       let lk : s.corners.two.row < length groups.names.items = let l = g.inside.row_two in omega (arith, names, l) in
@@ -192,7 +197,8 @@ module _ (m : Matrix) (c : Corners) where
       let g = subst (λ (z : CutSeed). IsGoodCut m z S) (cut_seed_from_corners m c s h) g0 in
       refused S g.good.grown.closed g.good.grown.has.1.1 g.good.two (seed_is_cut_at m (cut_seed_at c s.third s.fourth) S g).enough
 
-  pub no_seed_beside : (place : ℕ) (x : Line) → IsLine (height m) m.width x → line_number (height m) x ≡ place → HasNoLeaving m (rule_of c) (x ∷ first_corner c) (second_corner c) 4 → HasNoCutSeed m (cut_prefix c ++ place ∷ [])
+  pub no_seed_beside : (place : ℕ) (x : Line) → IsLine (height m) m.width x → line_number (height m) x ≡ place
+      → HasNoLeaving m (rule_of c) (x ∷ first_corner c) (second_corner c) 4 → HasNoCutSeed m (cut_prefix c ++ place ∷ [])
   no_seed_beside place x lx number refused s S h g0 =
       let g = subst (λ (z : CutSeed). IsGoodCut m z S) (cut_seed_from_third m c place x s lx g0.third number h) g0 in
       refused S g.good.grown.closed g.good.grown.has.1 (record { none = g.good.two; enough = g.good.enough })
@@ -259,8 +265,10 @@ module _ (m : Matrix) (c : Corners) where
       }
 
 -- what the test of the side with the fourth line decides, by the rule of the corners
-pub decided_with : (m : Matrix) (c : Corners) (x y : Line) (rule : GrowthRule) → rule ≡ rule_of c → (side : GrowingSet) (answer : Bool) (S : Lines) → IsGrowing m (upper_of m (rule_of c)) (lower_of m (rule_of c)) (x ∷ first_corner c) side
-    → ((first : List Line) → IsGrowing m (upper_of m rule) (lower_of m rule) first side → DecidesLeaving m rule (y ∷ first) (second_corner c) 4 answer S) → DecidesLeaving m (rule_of c) (y ∷ x ∷ first_corner c) (second_corner c) 4 answer S
+pub decided_with : (m : Matrix) (c : Corners) (x y : Line) (rule : GrowthRule) → rule ≡ rule_of c → (side : GrowingSet) (answer : Bool) (S : Lines)
+    → IsGrowing m (upper_of m (rule_of c)) (lower_of m (rule_of c)) (x ∷ first_corner c) side
+    → ((first : List Line) → IsGrowing m (upper_of m rule) (lower_of m rule) first side → DecidesLeaving m rule (y ∷ first) (second_corner c) 4 answer S)
+    → DecidesLeaving m (rule_of c) (y ∷ x ∷ first_corner c) (second_corner c) 4 answer S
 decided_with m c x y rule same side answer S growing decided =
     subst (λ (r : GrowthRule). DecidesLeaving m r (y ∷ x ∷ first_corner c) (second_corner c) 4 answer S) same
     (decided (x ∷ first_corner c) (subst (λ (r : GrowthRule). IsGrowing m (upper_of m r) (lower_of m r) (x ∷ first_corner c) side) (sym same) growing))
@@ -270,10 +278,12 @@ number_below : (m : Matrix) (x : Line) → IsLine (height m) m.width x → (b ro
 number_below m (Row r) l b rows columns er ec e = omega arith
 number_below m (Column c) l b rows columns er ec e = omega arith
 
-pub third_below : (m : Matrix) (c : Corners) (rows columns : ℕ) → rows ≡ height m → columns ≡ m.width → (s : CutSeed) (S : Lines) (b : ℕ) → IsGoodCut m s S → BeginsWith (cut_prefix c ++ b ∷ []) (cut_key m s) → b < rows + columns
+pub third_below : (m : Matrix) (c : Corners) (rows columns : ℕ) → rows ≡ height m → columns ≡ m.width → (s : CutSeed) (S : Lines) (b : ℕ) → IsGoodCut m s S
+    → BeginsWith (cut_prefix c ++ b ∷ []) (cut_key m s) → b < rows + columns
 third_below m c rows columns er ec s S b g h = number_below m s.third g.third b rows columns er ec h.1.1.1.1.0
 
-pub fourth_below : (m : Matrix) (c : Corners) (third rows columns : ℕ) → rows ≡ height m → columns ≡ m.width → (s : CutSeed) (S : Lines) (b : ℕ) → IsGoodCut m s S → BeginsWith (cut_prefix c ++ third ∷ b ∷ []) (cut_key m s) → b < rows + columns
+pub fourth_below : (m : Matrix) (c : Corners) (third rows columns : ℕ) → rows ≡ height m → columns ≡ m.width → (s : CutSeed) (S : Lines) (b : ℕ)
+    → IsGoodCut m s S → BeginsWith (cut_prefix c ++ third ∷ b ∷ []) (cut_key m s) → b < rows + columns
 fourth_below m c third rows columns er ec s S b g h = number_below m s.fourth g.good.line b rows columns er ec h.1.1.1.1.1.0
 
 -- ---- the answer of the whole search

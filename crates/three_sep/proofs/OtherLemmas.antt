@@ -6,12 +6,14 @@ use Rattle.cuts.specs.declared.groups.Groups.{Groups}
 use Rattle.three_sep.specs.Searches.{HasNoColumn, HasNoRow}
 
 pub no_column : (m : Matrix) (groups : Groups) (rows own across : ℕ) → rows ≡ height m
-    → ((x : ℕ) → x < m.width → entry m own x ≡ pos 0 → entry m across x ≢ pos 0 → slice_index_or groups.names.items (rows + x) 0 ≡ slice_index_or groups.names.items (0 + across) 0) → HasNoColumn m groups own across
+    → ((x : ℕ) → x < m.width → entry m own x ≡ pos 0 → entry m across x ≢ pos 0 → slice_index_or groups.names.items (rows + x) 0 ≡ slice_index_or groups.names.items (0 + across) 0)
+    → HasNoColumn m groups own across
 no_column m groups rows own across is h = λ x l z n. ap (λ (r : ℕ). slice_index_or groups.names.items (r + x) 0) (sym is) ∙ h x l z n ∙ ap (λ (y : ℕ). slice_index_or groups.names.items y 0) (zero-add across)
 
 module _ (m n : Matrix) (e : n ≡ transposed m) (shape : IsMatrix m) where
   pub no_row : (groups : Groups) (rows own across : ℕ) → rows ≡ height m
-      → ((x : ℕ) → x < n.width → entry n own x ≡ pos 0 → entry n across x ≢ pos 0 → slice_index_or groups.names.items (0 + x) 0 ≡ slice_index_or groups.names.items (rows + across) 0) → HasNoRow m groups own across
+      → ((x : ℕ) → x < n.width → entry n own x ≡ pos 0 → entry n across x ≢ pos 0 → slice_index_or groups.names.items (0 + x) 0 ≡ slice_index_or groups.names.items (rows + across) 0)
+      → HasNoRow m groups own across
   no_row groups rows own across is h = λ r l z nonzero.
       ap (λ (y : ℕ). slice_index_or groups.names.items y 0) (sym (zero-add r))
       ∙ h r (subst (λ (k : Matrix). r < k.width) (sym e) l) (transposed_entry m n e r own shape ∙ z) (λ q. nonzero (sym (transposed_entry m n e r across shape) ∙ q))

@@ -127,14 +127,17 @@ level_found m prefix a three short before found = record {
 abbrev pub seed_at : Form → Connectors → Line → Seed
 seed_at form d x = record { form = form; pair = d; line = x }
 
-seed_is : (s : Seed) (kind : Form) (i p k j q o : ℕ) (x : Line) → kind ≡ s.form → i ≡ s.pair.first.row → p ≡ s.pair.first.column → k ≡ s.pair.second.row → j ≡ s.pair.second.column → q ≡ s.pair.first.other → o ≡ s.pair.second.other → x ≡ s.line
+seed_is : (s : Seed) (kind : Form) (i p k j q o : ℕ) (x : Line) → kind ≡ s.form → i ≡ s.pair.first.row → p ≡ s.pair.first.column → k ≡ s.pair.second.row
+    → j ≡ s.pair.second.column → q ≡ s.pair.first.other → o ≡ s.pair.second.other → x ≡ s.line
     → s ≡ record { form = kind; pair = record { first = record { row = i; column = p; other = q }; second = record { row = k; column = j; other = o } }; line = x }
 seed_is s kind i p k j q o x e1 e2 e3 e4 e5 e6 e7 e8 = rw (e1, e2, e3, e4, e5, e6, e7, e8) refl
 
-pub seed_from_corners : (m : Matrix) (form : Form) (c : Corners) (s : Seed) → BeginsWith (corner_prefix form c) (seed_key m s) → s ≡ seed_at form (connectors_at c s.pair.first.other s.pair.second.other) s.line
+pub seed_from_corners : (m : Matrix) (form : Form) (c : Corners) (s : Seed) → BeginsWith (corner_prefix form c) (seed_key m s)
+    → s ≡ seed_at form (connectors_at c s.pair.first.other s.pair.second.other) s.line
 seed_from_corners m form c s h = seed_is s form c.one.row c.one.column c.two.row c.two.column s.pair.first.other s.pair.second.other s.line (form_is form s.form h.0) h.1.0 h.1.1.0 h.1.1.1.0 h.1.1.1.1.0 refl refl refl
 
-pub seed_from_first : (m : Matrix) (form : Form) (c : Corners) (q : ℕ) (s : Seed) → BeginsWith (corner_prefix form c ++ q ∷ []) (seed_key m s) → s ≡ seed_at form (connectors_at c q s.pair.second.other) s.line
+pub seed_from_first : (m : Matrix) (form : Form) (c : Corners) (q : ℕ) (s : Seed) → BeginsWith (corner_prefix form c ++ q ∷ []) (seed_key m s)
+    → s ≡ seed_at form (connectors_at c q s.pair.second.other) s.line
 seed_from_first m form c q s h = seed_is s form c.one.row c.one.column c.two.row c.two.column q s.pair.second.other s.line (form_is form s.form h.0) h.1.0 h.1.1.0 h.1.1.1.0 h.1.1.1.1.0 h.1.1.1.1.1.0 refl refl
 
 pub seed_from_second : (m : Matrix) (form : Form) (d : Connectors) (s : Seed) → BeginsWith (all_prefix form d) (seed_key m s) → s ≡ seed_at form d s.line
@@ -309,7 +312,8 @@ below_none m b l = absurd (omega arith)
 
 -- ---- answers of calls
 
-pub found_some : (m : Matrix) (prefix : List ℕ) (a : ℕ) (o : Option Three) (three : Three) → length prefix < 8 → HasNoneBelow m prefix a → o ≡ Some three → IsFoundSeparation m (prefix ++ a ∷ []) o → IsFirstOf m prefix three
+pub found_some : (m : Matrix) (prefix : List ℕ) (a : ℕ) (o : Option Three) (three : Three) → length prefix < 8 → HasNoneBelow m prefix a → o ≡ Some three
+    → IsFoundSeparation m (prefix ++ a ∷ []) o → IsFirstOf m prefix three
 found_some m prefix a o three short before e h = level_found m prefix a three short before (subst (IsFoundSeparation m (prefix ++ a ∷ [])) e h)
 
 pub none_more : (m : Matrix) (prefix : List ℕ) (a : ℕ) (o : Option Three) → HasNoneBelow m prefix a → o ≡ None → IsFoundSeparation m (prefix ++ a ∷ []) o → HasNoneBelow m prefix (a + 1)
@@ -319,7 +323,8 @@ pub none_of : (P : Type 0) (Q : Three → Type 0) (o : Option Three) → o ≡ N
 none_of P Q o e h = subst (λ (z : Option Three). MatchOption z P Q) e h
 
 -- what follows from an answer in each of its cases
-pub map_found : {E : Type 0} (P P' : Type 0) (Q Q' : Three → Type 0) (r : Result (Option Three) E) → (P → P') → ((x : Three) → Q x → Q' x) → IfOk r (λ a. MatchOption a P Q) → IfOk r (λ a. MatchOption a P' Q')
+pub map_found : {E : Type 0} (P P' : Type 0) (Q Q' : Three → Type 0) (r : Result (Option Three) E) → (P → P') → ((x : Three) → Q x → Q' x)
+    → IfOk r (λ a. MatchOption a P Q) → IfOk r (λ a. MatchOption a P' Q')
 map_found P P' Q Q' (Ok None) none some h = none h
 map_found P P' Q Q' (Ok (Some x)) none some h = some x h
 map_found P P' Q Q' (Err e) none some h = tt

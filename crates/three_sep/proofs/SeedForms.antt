@@ -20,7 +20,8 @@ use Rattle.three_sep.specs.ThreeSeparations.{IsFirstThreeSeparation}
 -- ---- the side as two lists
 
 -- a good seed with the same lines of the matrix
-good_same : (m n : ℕ) (M : ℕ → ℕ → ℤ) (form : Form) (one two : Connector) (x : Line) (S T : Lines) → ((y : Line) → IsLine m n y → S y ≡ T y) → IsGoodThree m n M form one two x S → IsGoodThree m n M form one two x T
+good_same : (m n : ℕ) (M : ℕ → ℕ → ℤ) (form : Form) (one two : Connector) (x : Line) (S T : Lines) → ((y : Line) → IsLine m n y → S y ≡ T y)
+    → IsGoodThree m n M form one two x S → IsGoodThree m n M form one two x T
 good_same m n M form one two x S T same g = (
   g.0,
   record {
@@ -73,7 +74,8 @@ no_three m none form one two T s =
     none (record { form = form; pair = record { first = one; second = two }; line = g.0 }) g.1 tt g.2
 
 -- the answer of the whole search
-pub found : {E : Type 0} (matrix m : Matrix) → matrix ≡ m → (r : Result (Option Three) E) → IfOk r (IsFoundSeparation matrix []) → IfOk r (λ a. MatchOption a (HasNoThreeSeparation m) (λ three. IsFirstThreeSeparation m three))
+pub found : {E : Type 0} (matrix m : Matrix) → matrix ≡ m → (r : Result (Option Three) E) → IfOk r (IsFoundSeparation matrix [])
+    → IfOk r (λ a. MatchOption a (HasNoThreeSeparation m) (λ three. IsFirstThreeSeparation m three))
 found matrix m e (Ok None) none = subst HasNoThreeSeparation e (no_three matrix none)
 found matrix m e (Ok (Some three)) first = subst (λ (z : Matrix). IsFirstThreeSeparation z three) e (first_three matrix three first)
 found matrix m e (Err h) answer = tt

@@ -66,14 +66,16 @@ module _ (m : Matrix) (form : Form) (rule : GrowthRule) (d : Connectors) (are : 
     unless_parting : HasNoneParting m rule (firsts form d) (seconds form d) → ⊥
     unless_parting refused = refused S closed good.1.grown.has.1 good.1.two (three_separation_of_seed (height m) m.width (entry m) form d.first d.second x S good).enough
 
-  pub no_good_line : (place : ℕ) (x : Line) → IsLine (height m) m.width x → line_number (height m) x ≡ place → HasNoLeaving m rule (x ∷ firsts form d) (seconds form d) 4 → HasNoGood m (all_prefix form d ++ place ∷ [])
+  pub no_good_line : (place : ℕ) (x : Line) → IsLine (height m) m.width x → line_number (height m) x ≡ place
+      → HasNoLeaving m rule (x ∷ firsts form d) (seconds form d) 4 → HasNoGood m (all_prefix form d ++ place ∷ [])
   no_good_line place x lx number refused s S h g = unless x S (subst (λ (z : Seed). IsGoodSeed m z S) (seed_from_all m form d place x s lx g.1.line number h) g) refused
 
   pub no_good_parting : HasNoneParting m rule (firsts form d) (seconds form d) → HasNoGood m (all_prefix form d)
   no_good_parting refused s S h g = unless_parting s.line S (subst (λ (z : Seed). IsGoodSeed m z S) (seed_from_second m form d s h) g) refused
 
   -- a side that leaves the second connector is the side of a good seed
-  pub good_from_leaving : (x : Line) (S : Lines) → IsLine (height m) m.width x → IsBeside (first_is_flat form) d.first x → IsBeside (second_is_flat form) d.second x → IsLeaving m rule (x ∷ firsts form d) (seconds form d) 4 S → IsGoodSeed m (seed_at form d x) S
+  pub good_from_leaving : (x : Line) (S : Lines) → IsLine (height m) m.width x → IsBeside (first_is_flat form) d.first x
+      → IsBeside (second_is_flat form) d.second x → IsLeaving m rule (x ∷ firsts form d) (seconds form d) 4 S → IsGoodSeed m (seed_at form d x) S
   good_from_leaving x S lx beside_first beside_second is = (
     are.pair,
     record {
@@ -126,7 +128,9 @@ module _ (m : Matrix) (form : Form) (crossing : IsCrossing form) (c : Corners) w
       refused S (crossing_closed q o s.line S g) g.1.grown.has.1 (record { none = corners_none q o s.line S g; enough = g.1.enough })
 
   -- the closure of the first connector has the other line of the second connector
-  pub no_good_held : (q o : ℕ) (L : Lines) → IsGrown (height m) m.width (entry m) (product_at (entry m) c.one.row c.two.column) (product_at (entry m) c.two.row c.one.column) (held_lines form c q) L → IsLine (height m) m.width (other_line (second_is_flat form) o)
+  pub no_good_held : (q o : ℕ) (L : Lines)
+      → IsGrown (height m) m.width (entry m) (product_at (entry m) c.one.row c.two.column) (product_at (entry m) c.two.row c.one.column) (held_lines form c q) L
+      → IsLine (height m) m.width (other_line (second_is_flat form) o)
       → L (other_line (second_is_flat form) o) ≡ true → HasNoGood m (corner_prefix form c ++ q ∷ o ∷ [])
   no_good_held q o L least line held s S h g0 =
       let d = connectors_at c q o in
@@ -134,7 +138,8 @@ module _ (m : Matrix) (form : Form) (crossing : IsCrossing form) (c : Corners) w
       not_both (S (other_line (second_is_flat form) o)) (least.least S (crossing_closed q o s.line S g) g.1.grown.has.1 (other_line (second_is_flat form) o) line held) (second_out m (seed_at form d s.line) S g).2
 
   -- two connectors with their rule
-  pub crossing_connectors : (q o : ℕ) → HasCorners m c → IsTied (entry m) (first_is_flat form) (first_at c q) c.two.row c.two.column → IsTied (entry m) (second_is_flat form) (second_at c o) c.one.row c.one.column → IsLine (height m) m.width (other_line (first_is_flat form) q)
+  pub crossing_connectors : (q o : ℕ) → HasCorners m c → IsTied (entry m) (first_is_flat form) (first_at c q) c.two.row c.two.column
+      → IsTied (entry m) (second_is_flat form) (second_at c o) c.one.row c.one.column → IsLine (height m) m.width (other_line (first_is_flat form) q)
       → IsLine (height m) m.width (other_line (second_is_flat form) o) → AreConnectorsOf m form (rule_of c) (connectors_at c q o)
   crossing_connectors q o are first second line_first line_second = record {
     pair = record {
@@ -153,7 +158,8 @@ module _ (m : Matrix) (form : Form) (crossing : IsCrossing form) (c : Corners) w
 
 -- ---- lists of lines
 
-pub lines_of_filters : (m n : ℕ) (S : Lines) (rows columns : List ℕ) → rows ≡ filter (λ r. S (Row r)) (first_lines m) → columns ≡ filter (λ c. S (Column c)) (first_lines n) → HasLines m n S rows columns
+pub lines_of_filters : (m n : ℕ) (S : Lines) (rows columns : List ℕ) → rows ≡ filter (λ r. S (Row r)) (first_lines m)
+    → columns ≡ filter (λ c. S (Column c)) (first_lines n) → HasLines m n S rows columns
 lines_of_filters m n S rows columns er ec =
     subst (λ (xs : List ℕ). HasLines m n S xs columns) (sym er) (subst (λ (xs : List ℕ). HasLines m n S (filter (λ r. S (Row r)) (first_lines m)) xs) (sym ec) (record {
       rows_increasing = IsStrictlyIncreasing-filter (λ r. S (Row r)) (first_lines m) (first_lines_increase m);

@@ -59,7 +59,8 @@ module _ (u1 u2 x1 x2 y1 y2 a1 a2 b1 b2 e1 e2 : ℤ) where
       ∙ one-mul here
 
   -- the same for entries that are equal to these sums
-  pub spread_same : (d x y z w row_first row_other column_first column_other value : ℤ) → IsSign d → d ≡ x *ℤ w -ℤ y *ℤ z → x ≡ b1 *ℤ x1 +ℤ b2 *ℤ x2 → y ≡ e1 *ℤ x1 +ℤ e2 *ℤ x2 → z ≡ b1 *ℤ y1 +ℤ b2 *ℤ y2
+  pub spread_same : (d x y z w row_first row_other column_first column_other value : ℤ) → IsSign d → d ≡ x *ℤ w -ℤ y *ℤ z → x ≡ b1 *ℤ x1 +ℤ b2 *ℤ x2
+      → y ≡ e1 *ℤ x1 +ℤ e2 *ℤ x2 → z ≡ b1 *ℤ y1 +ℤ b2 *ℤ y2
       → w ≡ e1 *ℤ y1 +ℤ e2 *ℤ y2 → row_first ≡ b1 *ℤ u1 +ℤ b2 *ℤ u2 → row_other ≡ e1 *ℤ u1 +ℤ e2 *ℤ u2 → column_first ≡ a1 *ℤ x1 +ℤ a2 *ℤ x2 → column_other ≡ a1 *ℤ y1 +ℤ a2 *ℤ y2 → value ≡ here
       → value ≡ spread d x y z w row_first row_other column_first column_other
   spread_same d x y z w row_first row_other column_first column_other value sign ed ex ey ez ew erf ero ecf eco ev =

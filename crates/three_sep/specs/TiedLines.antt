@@ -39,4 +39,5 @@ corners_exchanged c = record { one = c.two; two = c.one }
 -- has a tied line of the first corner, it has all tied lines of the second. So no good seed of the forms delta, Y and mixed has the corners.
 pub record AreRefused (m : Matrix) (c : Corners) : Type 0 where
   pub no_tied : (T : Lines) → IsClosedIn m (upper_of m (rule_of c)) (lower_of m (rule_of c)) T → HasAll T (first_corner c) → HasNone T (second_corner c)
-      → AreEnough (first_lines (height m)) (first_lines m.width) T 4 → (x y : Line) → IsLine (height m) m.width x → IsLine (height m) m.width y → IsTiedLine (entry m) c.one c.two x → IsTiedLine (entry m) c.two c.one y → T x ≡ true → T y ≡ true
+      → AreEnough (first_lines (height m)) (first_lines m.width) T 4 → (x y : Line) → IsLine (height m) m.width x → IsLine (height m) m.width y
+      → IsTiedLine (entry m) c.one c.two x → IsTiedLine (entry m) c.two c.one y → T x ≡ true → T y ≡ true

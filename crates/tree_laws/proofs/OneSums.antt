@@ -31,7 +31,8 @@ none_passes : (test : LineSet → Bool) (children : List LineSet) → count_by t
 none_passes test [] e h = true_is_false (sym h)
 none_passes test (child ∷ children) e h = go (test child) refl (sym (counted test child children) ∙ e) h (λ f g. none_passes test children f g)
   where
-    go : (b : Bool) → test child ≡ b → cond (test child) 1 0 + count_by test children ≡ 0 → (test child || list_any test children) ≡ true → (count_by test children ≡ 0 → list_any test children ≡ true → ⊥) → ⊥
+    go : (b : Bool) → test child ≡ b → cond (test child) 1 0 + count_by test children ≡ 0 → (test child || list_any test children) ≡ true
+        → (count_by test children ≡ 0 → list_any test children ≡ true → ⊥) → ⊥
     go true t e h k = absurd (clash (rw t at e))
       where
         clash : 1 + count_by test children ≡ 0 → ⊥
@@ -50,7 +51,9 @@ index_below : (test : LineSet → Bool) (children : List LineSet) → list_any t
 index_below test [] h = true_is_false (sym h)
 index_below test (child ∷ children) h = go (test child) refl h (λ f. index_below test children f)
   where
-    go : (b : Bool) → test child ≡ b → (test child || list_any test children) ≡ true → (list_any test children ≡ true → index_of test children < length children) → cond (test child) 0 (suc (index_of test children)) < suc (length children)
+    go : (b : Bool) → test child ≡ b → (test child || list_any test children) ≡ true
+        → (list_any test children ≡ true → index_of test children < length children)
+        → cond (test child) 0 (suc (index_of test children)) < suc (length children)
     go true t h k = rw t (omega arith)
     go false t h k = rw t (let l = k (rw t at h) in omega (arith, l))
 
@@ -69,12 +72,14 @@ weaker_any p q (child ∷ children) h = elim (or_is (p child && q child) (list_a
         go false e = e
 
 -- if each of two tests is passed by exactly one child, and some child passes both, it is the same child
-same_index : (p q : LineSet → Bool) (children : List LineSet) → count_by p children ≡ 1 → count_by q children ≡ 1 → list_any (λ x. p x && q x) children ≡ true → index_of p children ≡ index_of q children
+same_index : (p q : LineSet → Bool) (children : List LineSet) → count_by p children ≡ 1 → count_by q children ≡ 1 → list_any (λ x. p x && q x) children ≡ true
+    → index_of p children ≡ index_of q children
 same_index p q [] e f h = refl
 same_index p q (child ∷ children) e f h =
     go (p child) (q child) refl refl (sym (counted p child children) ∙ e) (sym (counted q child children) ∙ f) h (λ a b c. same_index p q children a b c)
   where
-    go : (a b : Bool) → p child ≡ a → q child ≡ b → cond (p child) 1 0 + count_by p children ≡ 1 → cond (q child) 1 0 + count_by q children ≡ 1 → ((p child && q child) || list_any (λ x. p x && q x) children) ≡ true
+    go : (a b : Bool) → p child ≡ a → q child ≡ b → cond (p child) 1 0 + count_by p children ≡ 1 → cond (q child) 1 0 + count_by q children ≡ 1
+        → ((p child && q child) || list_any (λ x. p x && q x) children) ≡ true
         → (count_by p children ≡ 1 → count_by q children ≡ 1 → list_any (λ x. p x && q x) children ≡ true → index_of p children ≡ index_of q children)
         → cond (p child) 0 (suc (index_of p children)) ≡ cond (q child) 0 (suc (index_of q children))
     go true true t u e f h k = rw (t, u) refl
@@ -106,7 +111,8 @@ at_child m (child ∷ children) free zero l P Q rows columns =
 at_child m (child ∷ children) free (suc part) l P Q rows columns =
     at_child m children free.1 part (omega (arith, l)) P Q (λ r h. at_later (λ x. is_among x.rows r) (rows r h)) (λ c h. at_later (λ x. is_among x.columns c) (columns c h))
   where
-    at_later : (test : LineSet → Bool) → ((test child || list_any test children) ≡ true) × (cond (test child) 0 (suc (index_of test children)) ≡ suc part) → (list_any test children ≡ true) × (index_of test children ≡ part)
+    at_later : (test : LineSet → Bool) → ((test child || list_any test children) ≡ true) × (cond (test child) 0 (suc (index_of test children)) ≡ suc part)
+        → (list_any test children ≡ true) × (index_of test children ≡ part)
     at_later test w = go (test child) w.0 w.1
       where
         go : (b : Bool) → (b || list_any test children) ≡ true → cond b 0 (suc (index_of test children)) ≡ suc part → (list_any test children ≡ true) × (index_of test children ≡ part)

@@ -71,8 +71,10 @@ module _ (root : Matrix) (pivots : List MadePivot) (is : IsMatrix (matrix_after 
   m = matrix_after root pivots
 
   -- a node whose children are free is free
-  step : (lines : LineSet) (finding : Finding) (trees : Trees) → AreLines m lines → FitsLines lines finding trees → HasChildren finding (count_trees trees) → ((broken : Rule) → Demands broken m lines finding (lines_of_each trees))
-      → fault_at lines finding ≡ None → open_at lines finding ≡ None → AreDue lines finding 0 trees → AllByRecursion (IsFreeOn (matrix_after root (pivots_below lines finding pivots))) (lines_of_each trees) → IsFreeOn m lines
+  step : (lines : LineSet) (finding : Finding) (trees : Trees) → AreLines m lines → FitsLines lines finding trees → HasChildren finding (count_trees trees)
+      → ((broken : Rule) → Demands broken m lines finding (lines_of_each trees))
+      → fault_at lines finding ≡ None → open_at lines finding ≡ None → AreDue lines finding 0 trees
+      → AllByRecursion (IsFreeOn (matrix_after root (pivots_below lines finding pivots))) (lines_of_each trees) → IsFreeOn m lines
   unfolding AreDue
   step lines Empty trees are fits count keeps no_fault no_open due free = free_empty m lines (keeps rule.NotEmpty)
   step lines (Cycle fault) trees are fits count keeps no_fault no_open due free = some_is_none fault no_fault
@@ -101,7 +103,8 @@ module _ (root : Matrix) (pivots : List MadePivot) (is : IsMatrix (matrix_after 
       (free_same (pivoted_part m lines place) (lines_at_root tree) lines due.0.0 due.0.1 free.0)
 
   -- the current matrix at its children also satisfies `IsMatrix`
-  goes_on : (lines : LineSet) (finding : Finding) (children : List LineSet) → ((broken : Rule) → Demands broken m lines finding children) → IsMatrix (matrix_after root (pivots_below lines finding pivots))
+  goes_on : (lines : LineSet) (finding : Finding) (children : List LineSet) → ((broken : Rule) → Demands broken m lines finding children)
+      → IsMatrix (matrix_after root (pivots_below lines finding pivots))
   goes_on lines (Pivoted place) children keeps = pivoted_is_matrix m lines place is (keeps rule.NotPivot).1
   goes_on lines Empty children keeps = is
   goes_on lines (Cycle fault) children keeps = is
@@ -119,7 +122,8 @@ module _ (root : Matrix) (pivots : List MadePivot) (is : IsMatrix (matrix_after 
 -- the faults of a matrix
 module _ (m : Matrix) where
   -- a fault that a node names
-  fault_here : (lines : LineSet) (finding : Finding) (trees : Trees) (fault : LineSet) → AreLines m lines → FitsLines lines finding trees → ((broken : Rule) → Demands broken m lines finding (lines_of_each trees)) → fault_at lines finding ≡ Some fault
+  fault_here : (lines : LineSet) (finding : Finding) (trees : Trees) (fault : LineSet) → AreLines m lines → FitsLines lines finding trees
+      → ((broken : Rule) → Demands broken m lines finding (lines_of_each trees)) → fault_at lines finding ≡ Some fault
       → AreLines m fault × IsViolator (entry m) fault.rows fault.columns
   fault_here lines (Cycle found) trees fault are fits keeps e =
       subst (λ f. AreLines m f × IsViolator (entry m) f.rows f.columns) (some_same found fault e) (lines_within m found lines fits are, keeps rule.NotViolator)
@@ -138,7 +142,8 @@ module _ (m : Matrix) where
   fault_here lines (Pivoted place) trees fault are fits keeps e = some_is_none fault (sym e)
 
   -- a node that names a fault has no pivot above it
-  root_fault : (pivots : List MadePivot) (lines : LineSet) (finding : Finding) (trees : Trees) (fault : LineSet) → AreLines m lines → FitsLines lines finding trees → ((broken : Rule) → Demands broken (matrix_after m pivots) lines finding (lines_of_each trees)) → MayStand pivots finding
+  root_fault : (pivots : List MadePivot) (lines : LineSet) (finding : Finding) (trees : Trees) (fault : LineSet) → AreLines m lines
+      → FitsLines lines finding trees → ((broken : Rule) → Demands broken (matrix_after m pivots) lines finding (lines_of_each trees)) → MayStand pivots finding
       → fault_at lines finding ≡ Some fault → AreLines m fault × IsViolator (entry m) fault.rows fault.columns
   root_fault [] lines finding trees fault are fits keeps may e = fault_here lines finding trees fault are fits keeps e
   root_fault (last ∷ pivots) lines (Cycle found) trees fault are fits keeps may e = absurd may
@@ -160,7 +165,8 @@ module _ (m : Matrix) where
   due_here : (path : List ℕ) (pivots : List MadePivot) (due : Due) (tree : Tree) → AllByRecursion (KeepsAll m) (places_from path pivots due tree) → HasItsLines due (lines_at_root tree)
   due_here path pivots due (Branch lines finding trees) keeps = keeps.0 rule.Lines
 
-  due_each : (path : List ℕ) (pivots : List MadePivot) (lines : LineSet) (finding : Finding) (k : ℕ) (trees : Trees) → AllByRecursion (KeepsAll m) (places_below path pivots lines finding k trees) → AreDue lines finding k trees
+  due_each : (path : List ℕ) (pivots : List MadePivot) (lines : LineSet) (finding : Finding) (k : ℕ) (trees : Trees)
+      → AllByRecursion (KeepsAll m) (places_below path pivots lines finding k trees) → AreDue lines finding k trees
   unfolding AreDue
   due_each path pivots lines finding k NoTrees keeps = tt
   due_each path pivots lines finding k (MoreTrees tree trees) keeps = (
@@ -169,7 +175,8 @@ module _ (m : Matrix) where
   )
 
   mutual
-    pub free_tree : (path : List ℕ) (pivots : List MadePivot) (due : Due) (parent : LineSet) (levels : ℕ) (tree : Tree) → IsMatrix (matrix_after m pivots) → AreLines m parent → IsTreeWithin parent levels tree → AllByRecursion (KeepsAll m) (places_from path pivots due tree)
+    pub free_tree : (path : List ℕ) (pivots : List MadePivot) (due : Due) (parent : LineSet) (levels : ℕ) (tree : Tree) → IsMatrix (matrix_after m pivots)
+        → AreLines m parent → IsTreeWithin parent levels tree → AllByRecursion (KeepsAll m) (places_from path pivots due tree)
         → first_in fault_at tree ≡ None → first_in open_at tree ≡ None → IsFreeOn (matrix_after m pivots) (lines_at_root tree)
     free_tree path pivots due parent levels (Branch lines finding trees) is are fits keeps no_fault no_open =
         let here = lines_within m lines parent fits.1 are in
@@ -180,7 +187,9 @@ module _ (m : Matrix) where
         step m pivots is lines finding trees (lines_after m pivots lines here) fits.2 fits.3 own faults.0 opens.0 (due_each path below lines finding 0 trees keeps.1)
         (free_trees path below lines finding (levels - 1) 0 trees (goes_on m pivots is lines finding (lines_of_each trees) own) here fits.4 keeps.1 faults.1 opens.1)
 
-    pub free_trees : (path : List ℕ) (pivots : List MadePivot) (lines : LineSet) (finding : Finding) (levels k : ℕ) (trees : Trees) → IsMatrix (matrix_after m pivots) → AreLines m lines → AreTreesWithin lines levels trees → AllByRecursion (KeepsAll m) (places_below path pivots lines finding k trees)
+    pub free_trees : (path : List ℕ) (pivots : List MadePivot) (lines : LineSet) (finding : Finding) (levels k : ℕ) (trees : Trees)
+        → IsMatrix (matrix_after m pivots) → AreLines m lines → AreTreesWithin lines levels trees
+        → AllByRecursion (KeepsAll m) (places_below path pivots lines finding k trees)
         → first_among fault_at trees ≡ None → first_among open_at trees ≡ None → AllByRecursion (IsFreeOn (matrix_after m pivots)) (lines_of_each trees)
     free_trees path pivots lines finding levels k NoTrees is are fits keeps no_fault no_open = tt
     free_trees path pivots lines finding levels k (MoreTrees tree trees) is are fits keeps no_fault no_open =
@@ -194,7 +203,8 @@ module _ (m : Matrix) where
 
   mutual
     -- the first fault that a tree names is a violator
-    pub fault_tree : (path : List ℕ) (pivots : List MadePivot) (due : Due) (parent : LineSet) (levels : ℕ) (tree : Tree) (fault : LineSet) → AreLines m parent → IsTreeWithin parent levels tree → AllByRecursion (KeepsAll m) (places_from path pivots due tree)
+    pub fault_tree : (path : List ℕ) (pivots : List MadePivot) (due : Due) (parent : LineSet) (levels : ℕ) (tree : Tree) (fault : LineSet) → AreLines m parent
+        → IsTreeWithin parent levels tree → AllByRecursion (KeepsAll m) (places_from path pivots due tree)
         → first_in fault_at tree ≡ Some fault → AreLines m fault × IsViolator (entry m) fault.rows fault.columns
     fault_tree path pivots due parent levels (Branch lines finding trees) fault are fits keeps found =
         let here = lines_within m lines parent fits.1 are in
@@ -203,7 +213,8 @@ module _ (m : Matrix) where
           | inr e ↦ fault_trees path (pivots_below lines finding pivots) lines finding (levels - 1) 0 trees fault here fits.4 keeps.1 e
         ]
 
-    pub fault_trees : (path : List ℕ) (pivots : List MadePivot) (lines : LineSet) (finding : Finding) (levels k : ℕ) (trees : Trees) (fault : LineSet) → AreLines m lines → AreTreesWithin lines levels trees → AllByRecursion (KeepsAll m) (places_below path pivots lines finding k trees)
+    pub fault_trees : (path : List ℕ) (pivots : List MadePivot) (lines : LineSet) (finding : Finding) (levels k : ℕ) (trees : Trees) (fault : LineSet)
+        → AreLines m lines → AreTreesWithin lines levels trees → AllByRecursion (KeepsAll m) (places_below path pivots lines finding k trees)
         → first_among fault_at trees ≡ Some fault → AreLines m fault × IsViolator (entry m) fault.rows fault.columns
     fault_trees path pivots lines finding levels k NoTrees fault are fits keeps found = some_is_none fault (sym found)
     fault_trees path pivots lines finding levels k (MoreTrees tree trees) fault are fits keeps found =
@@ -216,7 +227,8 @@ module _ (m : Matrix) where
 
 module _ (m : Matrix) (is : IsMatrix m) where
   -- all lines of the matrix
-  whole : (rows columns : ℕ) (tree : Tree) → IsTreeFor rows columns tree → IsSoundTree m rows columns tree → AreLines m (lines_at_root tree) × ((lines_at_root tree).rows ≡ first_lines (height m)) × ((lines_at_root tree).columns ≡ first_lines m.width)
+  whole : (rows columns : ℕ) (tree : Tree) → IsTreeFor rows columns tree → IsSoundTree m rows columns tree
+      → AreLines m (lines_at_root tree) × ((lines_at_root tree).rows ≡ first_lines (height m)) × ((lines_at_root tree).columns ≡ first_lines m.width)
   whole rows columns (Branch lines finding trees) tree keeps =
       let sizes = keeps.0 rule.Size in
       let all = keeps.0 rule.Lines in (

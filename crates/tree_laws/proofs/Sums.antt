@@ -19,7 +19,8 @@ use Rattle.tree_laws.proofs.FreeSets.{IsFreeOn}
 none_on : (m : Matrix) (lines child : LineSet) (set : Lines) → child ≡ lines_kept set lines → IsFreeOn m child → HasNoViolator (on_lines m lines.rows lines.columns set)
 none_on m lines child set e free = submatrix_from_free m (rows_in set lines.rows) (columns_in set lines.columns) (subst (IsFreeOn m) e free)
 
-pub free_two : (m : Matrix) → IsMatrix m → (lines : LineSet) (two : Two) → HaveLines 2 (sides lines two.side) → IsReference (entry m) (sides lines two.side) two.row two.column → AreTwoBlocks (entry m) (sides lines two.side) two.row two.column
+pub free_two : (m : Matrix) → IsMatrix m → (lines : LineSet) (two : Two) → HaveLines 2 (sides lines two.side)
+    → IsReference (entry m) (sides lines two.side) two.row two.column → AreTwoBlocks (entry m) (sides lines two.side) two.row two.column
     → IsFreeOn m (two_one lines two) → IsFreeOn m (two_two lines two) → IsFreeOn m lines
 free_two m is lines two enough reference blocks one other =
     let children = two_sums_have_children lines two in
@@ -27,7 +28,8 @@ free_two m is lines two enough reference blocks one other =
     ((two_separations_decide m lines.rows lines.columns (side_one two.side) two.row two.column is.small ((two_sums_separate (entry m) lines two).0 (enough, reference, blocks))).1
     (none_on m lines (two_one lines two) (child_one (side_one two.side) (Row two.row ∷ [])) children.0 one, none_on m lines (two_two lines two) (child_two (side_one two.side) (Column two.column ∷ [])) children.1 other))
 
-pub free_three : (m : Matrix) → IsMatrix m → (lines : LineSet) (t : Three) → HaveLines 4 (sides lines t.side) → AreConnectorsOfSides (entry m) (sides lines t.side) t → HasCornerSign (entry m) t → AreThreeBlocks (entry m) (sides lines t.side) t
+pub free_three : (m : Matrix) → IsMatrix m → (lines : LineSet) (t : Three) → HaveLines 4 (sides lines t.side)
+    → AreConnectorsOfSides (entry m) (sides lines t.side) t → HasCornerSign (entry m) t → AreThreeBlocks (entry m) (sides lines t.side) t
     → IsFreeOn m (three_one lines t) → IsFreeOn m (three_two lines t) → IsFreeOn m lines
 free_three m is lines t enough joined plus blocks one other =
     let children = three_sums_have_children lines t in

@@ -44,7 +44,8 @@ pub child_joined : (read : Reader Tree) (trees : List Tree) (text : Text) (tree 
 child_joined read trees text tree rest made = rw made refl
 
 -- the reader has read another tree
-pub one_more : (read : Reader Tree) (trees : List Tree) (text : Text) (next : List Tree) (rest : Text) → another_tree read trees text ≡ Ok (next, rest) → (tree : Tree) × (read text ≡ Ok (tree, rest)) × (next ≡ trees ++ tree ∷ [])
+pub one_more : (read : Reader Tree) (trees : List Tree) (text : Text) (next : List Tree) (rest : Text) → another_tree read trees text ≡ Ok (next, rest)
+    → (tree : Tree) × (read text ≡ Ok (tree, rest)) × (next ≡ trees ++ tree ∷ [])
 one_more read trees text next rest made =
     let b = bind_ok (read text) (λ (tree : Tree × Text). Ok (trees ++ tree.0 ∷ [], tree.1)) (next, rest) made in
     let e = ok_same (trees ++ b.0.0 ∷ [], b.0.1) (next, rest) b.2 in
@@ -68,7 +69,8 @@ first_fails read text (errors.Fault kind place) fails = go (read text) fails
     go (Err fault) h = ap Err (err_same fault (kind, place) h)
 
 -- the only tree that was read is the last one
-pub only_one : (read : Reader Tree) (text : Text) (others : List Node) (root : Node) (rest : Text) → another_tree read [] text ≡ Ok (map tree_of (others ++ root ∷ []), rest) → read text ≡ Ok (tree_of root, rest)
+pub only_one : (read : Reader Tree) (text : Text) (others : List Node) (root : Node) (rest : Text)
+    → another_tree read [] text ≡ Ok (map tree_of (others ++ root ∷ []), rest) → read text ≡ Ok (tree_of root, rest)
 only_one read text others root rest made =
     let one = one_more read [] text (map tree_of (others ++ root ∷ [])) rest made in
     go others one.0 one.1 one.2

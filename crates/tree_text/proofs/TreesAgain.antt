@@ -70,7 +70,8 @@ module _ (sizes : Sizes) (few_rows : sizes.rows ≤ 1000) (few_columns : sizes.c
       let second = again_bind (field Short (limited sizes.columns)) _ (decimal q ∷ []) (map number_of_line lines.rows ++ map number_of_line lines.columns) q lines (again_field Short (limited sizes.columns) (decimal q) q (limited_again sizes.columns q few_q (omega (arith, few_columns)))) rows in
       again_bind (field Short (limited sizes.rows)) _ (decimal p ∷ []) (decimal q ∷ (map number_of_line lines.rows ++ map number_of_line lines.columns)) p lines (again_field Short (limited sizes.rows) (decimal p) p (limited_again sizes.rows p few_p (omega (arith, few_rows)))) second
 
-pairs_again : (last : ℕ) (pairs : List Pair) → last ≤ 1000 → AllByRecursion (λ pair. (pair.tail ≤ last) × (pair.head ≤ last)) pairs → Again (times (another_pair last) (length pairs) []) (flat_map pair_words pairs) pairs
+pairs_again : (last : ℕ) (pairs : List Pair) → last ≤ 1000 → AllByRecursion (λ pair. (pair.tail ≤ last) × (pair.head ≤ last)) pairs
+    → Again (times (another_pair last) (length pairs) []) (flat_map pair_words pairs) pairs
 pairs_again last pairs small all = again_times (another_pair last) pair_words (λ pair. (pair.tail ≤ last) × (pair.head ≤ last)) each [] pairs all
   where
     each : (before : List Pair) (pair : Pair) → (pair.tail ≤ last) × (pair.head ≤ last) → Again (another_pair last before) (pair_words pair) (before ++ pair ∷ [])
@@ -124,13 +125,15 @@ module _ (sizes : Sizes) (few_rows : sizes.rows ≤ 1000) (few_columns : sizes.c
       let column = again_bind (field Short (line_of sizes.columns lines.columns)) _ (number_of_line c.column ∷ []) (number_of_line c.other ∷ []) c.column c (column_again c.column has.1) other in
       again_bind (field Short (line_of sizes.rows lines.rows)) _ (number_of_line c.row ∷ []) (number_of_line c.column ∷ number_of_line c.other ∷ []) c.row c (row_again c.row has.0) column
 
-  two_again : (t : Two) → AreLinesOf t.side lines → Contains lines.rows t.row → Contains lines.columns t.column → Again (two sizes lines) (number_of_line t.row ∷ number_of_line t.column ∷ set_words t.side) t
+  two_again : (t : Two) → AreLinesOf t.side lines → Contains lines.rows t.row → Contains lines.columns t.column
+      → Again (two sizes lines) (number_of_line t.row ∷ number_of_line t.column ∷ set_words t.side) t
   two_again t side row column =
       let last = again_wrap (line_set sizes (Some lines)) (λ (side : LineSet). record { side = side; row = t.row; column = t.column }) (set_words t.side) t.side (part_again t.side side) in
       let second = again_bind (field Short (line_of sizes.columns lines.columns)) _ (number_of_line t.column ∷ []) (set_words t.side) t.column t (column_again t.column column) last in
       again_bind (field Short (line_of sizes.rows lines.rows)) _ (number_of_line t.row ∷ []) (number_of_line t.column ∷ set_words t.side) t.row t (row_again t.row row) second
 
-  place_again : (place : Position) → Contains lines.rows place.row → Contains lines.columns place.column → Again (pivot_place sizes lines) (number_of_line place.row ∷ number_of_line place.column ∷ []) place
+  place_again : (place : Position) → Contains lines.rows place.row → Contains lines.columns place.column
+      → Again (pivot_place sizes lines) (number_of_line place.row ∷ number_of_line place.column ∷ []) place
   place_again place row column =
       let last = again_wrap (field Short (line_of sizes.columns lines.columns)) (λ (column : ℕ). record { row = place.row; column = column }) (number_of_line place.column ∷ []) place.column (column_again place.column column) in
       again_bind (field Short (line_of sizes.rows lines.rows)) _ (number_of_line place.row ∷ []) (number_of_line place.column ∷ []) place.row place (row_again place.row row) last
@@ -161,7 +164,8 @@ module _ (sizes : Sizes) (few_rows : sizes.rows ≤ 1000) (few_columns : sizes.c
   counted : (read : Reader (Finding × ℕ)) (words : List (List ℕ)) (finding : Finding) (n m : ℕ) → m ≡ n → Again read words (finding, n) → Again read words (finding, m)
   counted read words finding n m e again = subst (λ k. Again read words (finding, k)) (sym e) again
 
-  own_again : (finding : Finding) (trees : Trees) → FitsLines lines finding trees → HasChildren finding (count_trees trees) → Again (own_part sizes lines (kind_of finding)) (own_words finding trees) (finding, count_trees trees)
+  own_again : (finding : Finding) (trees : Trees) → FitsLines lines finding trees → HasChildren finding (count_trees trees)
+      → Again (own_part sizes lines (kind_of finding)) (own_words finding trees) (finding, count_trees trees)
   own_again Empty trees fits e = counted (own_part sizes lines kind.Empty) [] Empty 0 (count_trees trees) e (again_done (Empty, 0))
   own_again (Cycle fault) trees fits e = counted (own_part sizes lines kind.Cycle) (set_words fault) (Cycle fault) 0 (count_trees trees) e (again_wrap (line_set sizes (Some lines)) (λ (f : LineSet). (Cycle f, 0)) (set_words fault) fault (part_again fault fits))
   own_again (Reduced steps) trees fits e =
@@ -294,7 +298,8 @@ module _ (v : Version) (sizes : Sizes) (few_rows : sizes.rows ≤ 1000) (few_col
   abbrev header : Header
   header = record { version = v; sizes = sizes }
 
-  opening_again : (parent : Option LineSet) (lines : LineSet) (finding : Finding) (trees : Trees) → has_word v (kind_of finding) ≡ true → IsSome sizes parent lines → FitsLines lines finding trees → HasChildren finding (count_trees trees)
+  opening_again : (parent : Option LineSet) (lines : LineSet) (finding : Finding) (trees : Trees) → has_word v (kind_of finding) ≡ true
+      → IsSome sizes parent lines → FitsLines lines finding trees → HasChildren finding (count_trees trees)
       → Again (opening header parent) (opening_words lines finding trees) (record { lines = lines; finding = finding; children = count_trees trees })
   opening_again parent lines finding trees has some fits children =
       let head : NodeOpening = record { lines = lines; finding = finding; children = count_trees trees } in
@@ -304,7 +309,8 @@ module _ (v : Version) (sizes : Sizes) (few_rows : sizes.rows ≤ 1000) (few_col
       again_bind (field Short (kind_in v)) _ (word_of_kind (kind_of finding) ∷ []) (set_words lines ++ own_words finding trees) (kind_of finding) head (again_field Short (kind_in v) (word_of_kind (kind_of finding)) (kind_of finding) (kind_again v (kind_of finding) has)) set
 
   mutual
-    node_again : (levels : ℕ) (parent : Option LineSet) (tree : Tree) (whole : LineSet) → IsKnown v tree → IsSome sizes parent (lines_at_root tree) → IsTreeWithin whole levels tree → Again (node header levels parent) (node_words tree) tree
+    node_again : (levels : ℕ) (parent : Option LineSet) (tree : Tree) (whole : LineSet) → IsKnown v tree → IsSome sizes parent (lines_at_root tree)
+        → IsTreeWithin whole levels tree → Again (node header levels parent) (node_words tree) tree
     node_again levels parent (Branch lines finding trees) whole known some (l, part, fits, children, below) =
         let more : levels ≡ suc (levels - 1) = omega (arith, l) in
         let head : NodeOpening = record { lines = lines; finding = finding; children = count_trees trees } in
@@ -314,7 +320,8 @@ module _ (v : Version) (sizes : Sizes) (few_rows : sizes.rows ≤ 1000) (few_col
         (again_bind (opening header parent) (λ (h : NodeOpening × Text). times (another_tree (node header (levels - 1) (Some (h.0).lines))) (h.0).children [] h.1 >>= λ (children : List Tree × Text). Ok (Branch (h.0).lines (h.0).finding (trees_from children.0), children.1)) (opening_words lines finding trees) (forest_words trees) head (Branch lines finding trees) (opening_again parent lines finding trees known.0 some fits children)
         (subst (λ tree. Again (λ text. times (another_tree (node header (levels - 1) (Some lines))) (count_trees trees) [] text >>= λ (children : List Tree × Text). Ok (Branch lines finding (trees_from children.0), children.1)) (forest_words trees) tree) back forest))
 
-    forest_again : (levels : ℕ) (lines : LineSet) (before : List Tree) (trees : Trees) → AreKnown v trees → IsStrictlyIncreasing lines.rows → IsStrictlyIncreasing lines.columns → AllBelow sizes.rows lines.rows → AllBelow sizes.columns lines.columns → AreTreesWithin lines levels trees
+    forest_again : (levels : ℕ) (lines : LineSet) (before : List Tree) (trees : Trees) → AreKnown v trees → IsStrictlyIncreasing lines.rows
+        → IsStrictlyIncreasing lines.columns → AllBelow sizes.rows lines.rows → AllBelow sizes.columns lines.columns → AreTreesWithin lines levels trees
         → Again (times (another_tree (node header levels (Some lines))) (count_trees trees) before) (forest_words trees) (before ++ list_of trees)
     forest_again levels lines before NoTrees known rows columns rows_in columns_in within = subst (λ ts. Again {K = TreeKind} (λ text. Ok (before, text)) [] ts) (sym (append-nil before)) (again_done before)
     forest_again levels lines before (MoreTrees tree trees) known rows columns rows_in columns_in within =
@@ -443,13 +450,16 @@ module _ (sizes : Sizes) (few_rows : sizes.rows ≤ 1000) (few_columns : sizes.c
       go (Pivoted place) fits = (line_word place.row (row place.row fits.0), (line_word place.column (column place.column fits.1), tt))
 
   mutual
-    node_all : (levels : ℕ) (parent : Option LineSet) (tree : Tree) (whole : LineSet) → IsSome sizes parent (lines_at_root tree) → IsTreeWithin whole levels tree → AllByRecursion AreWords (node_lines tree)
+    node_all : (levels : ℕ) (parent : Option LineSet) (tree : Tree) (whole : LineSet) → IsSome sizes parent (lines_at_root tree)
+        → IsTreeWithin whole levels tree → AllByRecursion AreWords (node_lines tree)
     node_all levels parent (Branch lines finding trees) whole some (l, part, fits, children, below) = (
       (kind_word (kind_of finding), set_all parent lines some),
       all-append AreWords (line_for (own_words finding trees)) (forest_lines trees) (line_for_words (own_words finding trees) (own_all parent lines finding trees some fits)) (forest_all (levels - 1) lines trees some.rows.increases some.columns.increases some.rows.below some.columns.below below),
     )
 
-    forest_all : (levels : ℕ) (lines : LineSet) (trees : Trees) → IsStrictlyIncreasing lines.rows → IsStrictlyIncreasing lines.columns → AllBelow sizes.rows lines.rows → AllBelow sizes.columns lines.columns → AreTreesWithin lines levels trees → AllByRecursion AreWords (forest_lines trees)
+    forest_all : (levels : ℕ) (lines : LineSet) (trees : Trees) → IsStrictlyIncreasing lines.rows → IsStrictlyIncreasing lines.columns
+        → AllBelow sizes.rows lines.rows → AllBelow sizes.columns lines.columns → AreTreesWithin lines levels trees
+        → AllByRecursion AreWords (forest_lines trees)
     forest_all levels lines NoTrees rows columns rows_in columns_in within = tt
     forest_all levels lines (MoreTrees tree trees) rows columns rows_in columns_in within =
         let some = some_from sizes few_rows few_columns lines rows columns rows_in columns_in (lines_at_root tree) (part_of lines levels tree within.0) in

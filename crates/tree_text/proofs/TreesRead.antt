@@ -42,7 +42,8 @@ use Rattle.tree_text.specs.TreeReading.{increasing_lines, line_set, another_pair
 use Rattle.tree_text.proofs.WordsRead.{times_keep, spelled_all, limited_ok, IsAmong, line_of_ok, step_ok, lines_ok}
 
 -- a value that a field has read
-pub field_value : {A : Type 0} (parse : List ℕ → Result A TreeKind) (P : A → Type 0) → ((word : List ℕ) (x : A) → parse word ≡ Ok x → P x) → (text : Text) (x : A × Text) → field Short parse text ≡ Ok x → P x.0
+pub field_value : {A : Type 0} (parse : List ℕ → Result A TreeKind) (P : A → Type 0) → ((word : List ℕ) (x : A) → parse word ≡ Ok x → P x)
+    → (text : Text) (x : A × Text) → field Short parse text ≡ Ok x → P x.0
 field_value parse P each text x h = let f = field_ok Short parse text x.0 x.1 h in each f.word.1 x.0 f.parsed
 
 -- an increasing list of lines below a bound, all of them among the lines of `whole`
@@ -88,12 +89,14 @@ lines_of_whole sizes whole lines some = record {
   columns = λ column h. all_contained (Contains whole.columns) lines.columns column some.columns.within h;
 }
 
-pairs_ok : (last n : ℕ) (text : Text) (pairs : List Pair × Text) → times (another_pair last) n [] text ≡ Ok pairs → (length pairs.0 ≡ n) × AllByRecursion (λ pair. (pair.tail ≤ last) × (pair.head ≤ last)) pairs.0
+pairs_ok : (last n : ℕ) (text : Text) (pairs : List Pair × Text) → times (another_pair last) n [] text ≡ Ok pairs
+    → (length pairs.0 ≡ n) × AllByRecursion (λ pair. (pair.tail ≤ last) × (pair.head ≤ last)) pairs.0
 pairs_ok last n text pairs h =
     let all = times_keep (another_pair last) (λ k pairs. (length pairs ≡ k) × AllByRecursion (λ pair. (pair.tail ≤ last) × (pair.head ≤ last)) pairs) keeps n 0 [] text pairs.0 pairs.1 (refl, tt) h in
     (let e = all.0 in omega (arith, e), all.1)
   where
-    keeps : (k : ℕ) (s : List Pair) (text : Text) (next : List Pair) (rest : Text) → (length s ≡ k) × AllByRecursion (λ pair. (pair.tail ≤ last) × (pair.head ≤ last)) s → another_pair last s text ≡ Ok (next, rest)
+    keeps : (k : ℕ) (s : List Pair) (text : Text) (next : List Pair) (rest : Text)
+        → (length s ≡ k) × AllByRecursion (λ pair. (pair.tail ≤ last) × (pair.head ≤ last)) s → another_pair last s text ≡ Ok (next, rest)
         → (length next ≡ suc k) × AllByRecursion (λ pair. (pair.tail ≤ last) × (pair.head ≤ last)) next
     keeps k s text next rest held made =
         let tail = bind_ok (field Short (limited last) text) (λ (tail : ℕ × Text). field Short (limited last) tail.1 >>= λ (head : ℕ × Text). Ok (s ++ (record { tail = tail.0; head = head.0 }) ∷ [], head.1)) (next, rest) made in
@@ -232,7 +235,8 @@ opening_ok header parent text head h =
     let e = ap (λ (p : NodeOpening × Text). p.0) (ok_same (made, own.0.1) head own.2) in
     subst (IsOpening sizes parent) e (record { lines = line_set_ok sizes parent kind.0.1 lines.0 lines.1; fits = own_part_ok sizes lines.0.0 kind.0.0 lines.0.1 own.0 own.1 })
 
-trees_push : (parent : LineSet) (levels : ℕ) (trees : List Tree) (tree : Tree) → AreTreesWithin parent levels (trees_from trees) → IsTreeWithin parent levels tree → AreTreesWithin parent levels (trees_from (trees ++ tree ∷ []))
+trees_push : (parent : LineSet) (levels : ℕ) (trees : List Tree) (tree : Tree) → AreTreesWithin parent levels (trees_from trees)
+    → IsTreeWithin parent levels tree → AreTreesWithin parent levels (trees_from (trees ++ tree ∷ []))
 trees_push parent levels [] tree all one = (one, tt)
 trees_push parent levels (first ∷ trees) tree all one = (all.0, trees_push parent levels trees tree all.1 one)
 
@@ -242,7 +246,8 @@ record IsRead (sizes : Sizes) (levels : ℕ) (parent : Option LineSet) (tree : T
   within : (whole : LineSet) → AreLinesOf (lines_at_root tree) whole → IsTreeWithin whole levels tree
 
 child_kept : (header : Header) (levels : ℕ) (lines : LineSet) → ((text : Text) (tree : Tree × Text) → node header levels (Some lines) text ≡ Ok tree → IsRead header.sizes levels (Some lines) tree.0)
-    → (k : ℕ) (s : List Tree) (text : Text) (next : List Tree) (rest : Text) → (length s ≡ k) × AreTreesWithin lines levels (trees_from s) → another_tree (node header levels (Some lines)) s text ≡ Ok (next, rest)
+    → (k : ℕ) (s : List Tree) (text : Text) (next : List Tree) (rest : Text) → (length s ≡ k) × AreTreesWithin lines levels (trees_from s)
+    → another_tree (node header levels (Some lines)) s text ≡ Ok (next, rest)
     → (length next ≡ suc k) × AreTreesWithin lines levels (trees_from next)
 child_kept header levels lines each k s text next rest held made =
     let one = bind_ok (node header levels (Some lines) text) (λ (tree : Tree × Text). Ok (s ++ tree.0 ∷ [], tree.1)) (next, rest) made in

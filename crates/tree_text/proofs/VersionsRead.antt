@@ -69,13 +69,16 @@ module _ (sizes : Sizes) where
       let kind = bind_ok (field Short (kind_in One) text) (λ (kind : KindWord × Text). line_set sizes parent kind.1 >>= λ (lines : LineSet × Text). own_part sizes lines.0 kind.0 lines.1 >>= λ (own : (Finding × ℕ) × Text). Ok (record { lines = lines.0; finding = (own.0).0; children = (own.0).1 }, own.1)) head h in
       rw (field_kept (kind_in One) (kind_in Two) kind_kept text kind.0 kind.1) kind.2
 
-  child_kept : (levels : ℕ) (lines : LineSet) → ((text : Text) (tree : Tree × Text) → node (in_version sizes One) levels (Some lines) text ≡ Ok tree → node (in_version sizes Two) levels (Some lines) text ≡ Ok tree)
-      → (trees : List Tree) (text : Text) (next : List Tree × Text) → another_tree (node (in_version sizes One) levels (Some lines)) trees text ≡ Ok next → another_tree (node (in_version sizes Two) levels (Some lines)) trees text ≡ Ok next
+  child_kept : (levels : ℕ) (lines : LineSet)
+      → ((text : Text) (tree : Tree × Text) → node (in_version sizes One) levels (Some lines) text ≡ Ok tree → node (in_version sizes Two) levels (Some lines) text ≡ Ok tree)
+      → (trees : List Tree) (text : Text) (next : List Tree × Text) → another_tree (node (in_version sizes One) levels (Some lines)) trees text ≡ Ok next
+      → another_tree (node (in_version sizes Two) levels (Some lines)) trees text ≡ Ok next
   child_kept levels lines kept trees text next h =
       let tree = bind_ok (node (in_version sizes One) levels (Some lines) text) (λ (tree : Tree × Text). Ok (trees ++ tree.0 ∷ [], tree.1)) next h in
       rw (kept text tree.0 tree.1) tree.2
 
-  node_kept : (levels : ℕ) (parent : Option LineSet) (text : Text) (tree : Tree × Text) → node (in_version sizes One) levels parent text ≡ Ok tree → node (in_version sizes Two) levels parent text ≡ Ok tree
+  node_kept : (levels : ℕ) (parent : Option LineSet) (text : Text) (tree : Tree × Text) → node (in_version sizes One) levels parent text ≡ Ok tree
+      → node (in_version sizes Two) levels parent text ≡ Ok tree
   node_kept zero parent text tree h = h
   node_kept (suc levels) parent text tree h =
       let head = bind_ok (opening (in_version sizes One) parent text) (λ (head : NodeOpening × Text). times (another_tree (node (in_version sizes One) levels (Some (head.0).lines))) (head.0).children [] head.1 >>= λ (children : List Tree × Text). Ok (Branch (head.0).lines (head.0).finding (trees_from children.0), children.1)) tree h in
@@ -116,7 +119,8 @@ module _ (read : Header → Reader Tree) (kept : (sizes : Sizes) (text : Text) (
     abbrev after_title : (ℕ × List ℕ) → Result Title TreeKind → Result PlainTree (Fault TreeKind)
     after_title word titled = (placed name.0 titled >>= text_from word) >>= λ found. after_version (field Short (version_in found.0) found.1)
 
-    titled_kept : (first second : ℕ × List ℕ) (t : PlainTree) → first.1 ≡ version_word One → second.1 ≡ version_word Two → after_title first (Ok title.Tree) ≡ Ok t → after_title second (Ok title.Tree) ≡ Ok t
+    titled_kept : (first second : ℕ × List ℕ) (t : PlainTree) → first.1 ≡ version_word One → second.1 ≡ version_word Two
+        → after_title first (Ok title.Tree) ≡ Ok t → after_title second (Ok title.Tree) ≡ Ok t
     titled_kept first second t one two h =
         let begun = subst (λ r. after_version r ≡ Ok t) (versioned One size first words one refl) h in
         subst (λ r. after_version r ≡ Ok t) (sym (versioned Two size second words two refl)) (rest_kept (record { size = size; words = words }) t begun)
@@ -127,6 +131,7 @@ module _ (read : Header → Reader Tree) (kept : (sizes : Sizes) (text : Text) (
       let is : title_in name.1 ≡ Ok title.Tree = ap title_in titled in
       subst (λ r. after_title size name words second r ≡ Ok t) (sym is) (titled_kept size name words first second t one two (subst (λ r. after_title size name words first r ≡ Ok t) is h))
 
-pub read_in_version_two : (size : ℕ) (name first second : ℕ × List ℕ) (words : List (ℕ × List ℕ)) (t : PlainTree) → name.1 ≡ title_word title.Tree → first.1 ≡ version_word One → second.1 ≡ version_word Two
+pub read_in_version_two : (size : ℕ) (name first second : ℕ × List ℕ) (words : List (ℕ × List ℕ)) (t : PlainTree) → name.1 ≡ title_word title.Tree
+    → first.1 ≡ version_word One → second.1 ≡ version_word Two
     → tree (record { size = size; words = name ∷ first ∷ words }) ≡ Ok t → tree (record { size = size; words = name ∷ second ∷ words }) ≡ Ok t
 read_in_version_two = whole_kept (λ header. node header 2001 None) (λ sizes. node_kept sizes 2001 None)

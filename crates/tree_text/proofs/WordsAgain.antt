@@ -44,7 +44,8 @@ among_again (Some lines) line (k, l, e) =
 pub line_of_again : (most : ℕ) (lines : List ℕ) (line : ℕ) → line < most → most ≤ 1000 → Contains lines line → line_of most lines (number_of_line line) ≡ Ok line
 line_of_again most lines line below small is = rw (line_in_again most line below small) (among_again (Some lines) line is)
 
-pub next_line_again : (most : ℕ) (whole : Option (List ℕ)) (before line : ℕ) → before ≤ line → line < most → most ≤ 1000 → IsAmong whole line → next_line most whole before (number_of_line line) ≡ Ok line
+pub next_line_again : (most : ℕ) (whole : Option (List ℕ)) (before line : ℕ) → before ≤ line → line < most → most ≤ 1000 → IsAmong whole line
+    → next_line most whole before (number_of_line line) ≡ Ok line
 next_line_again most whole before line above below small is =
     let t : leb before line ≡ true = le-leb before line above in
     rw (line_in_again most line below small, t) (among_again whole line is)
@@ -59,7 +60,8 @@ again_lines most whole small before (line ∷ lines) increases within =
     subst (Again (times (another_line most whole) (length (line ∷ lines)) before) (map number_of_line (line ∷ lines))) (append_assoc before (line ∷ []) lines)
     (again_bind (another_line most whole before) (λ (next : List ℕ × Text). times (another_line most whole) (length lines) next.0 next.1) (number_of_line line ∷ []) (map number_of_line lines) (before ++ line ∷ []) ((before ++ line ∷ []) ++ lines) one (again_lines most whole small (before ++ line ∷ []) lines (subst (λ low. IncreasesIn low most lines) (sym last) increases.2) within.1))
 
-pub step_again : (sizes : Sizes) (lines : LineSet) (line : Line) → sizes.rows ≤ 1000 → sizes.columns ≤ 1000 → ((row : ℕ) → Contains lines.rows row → row < sizes.rows) → ((column : ℕ) → Contains lines.columns column → column < sizes.columns)
+pub step_again : (sizes : Sizes) (lines : LineSet) (line : Line) → sizes.rows ≤ 1000 → sizes.columns ≤ 1000
+    → ((row : ℕ) → Contains lines.rows row → row < sizes.rows) → ((column : ℕ) → Contains lines.columns column → column < sizes.columns)
     → HasLine lines.rows lines.columns line → step_in sizes lines (line_name line) ≡ Ok line
 step_again sizes lines (Row row) few_rows few_columns rows columns is = rw (line_of_again sizes.rows lines.rows row (rows row is) few_rows is) refl
 step_again sizes lines (Column column) few_rows few_columns rows columns is = rw (line_of_again sizes.columns lines.columns column (columns column is) few_columns is) refl

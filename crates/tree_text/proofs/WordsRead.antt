@@ -26,7 +26,8 @@ use Rattle.tree_text.specs.TreeValues.{limited, line_in, among, line_of, last_nu
 use Rattle.tree_text.specs.TreeReading.{another_line}
 
 -- an invariant of each step is an invariant of all steps
-pub times_keep : {S F : Type 0} (step : S → Text → Result (S × Text) F) (P : ℕ → S → Type 0) → ((k : ℕ) (s : S) (text : Text) (next : S) (rest : Text) → P k s → step s text ≡ Ok (next, rest) → P (suc k) next)
+pub times_keep : {S F : Type 0} (step : S → Text → Result (S × Text) F) (P : ℕ → S → Type 0)
+    → ((k : ℕ) (s : S) (text : Text) (next : S) (rest : Text) → P k s → step s text ≡ Ok (next, rest) → P (suc k) next)
     → (n k : ℕ) (s : S) (text : Text) (last : S) (rest : Text) → P k s → times step n s text ≡ Ok (last, rest) → P (n + k) last
 times_keep {S} step P keeps zero k s text last rest h made = let e = ok_same (s, text) (last, rest) made in let same : 0 + k ≡ k = omega arith in rw same (subst (P k) (ap (λ (p : S × Text). p.0) e) h)
 times_keep {S} step P keeps (suc n) k s text last rest h made =
@@ -34,7 +35,8 @@ times_keep {S} step P keeps (suc n) k s text last rest h made =
     let more : suc n + k ≡ n + suc k = omega arith in
     rw more (times_keep step P keeps n (suc k) b.0.0 b.0.1 last rest (keeps k s text b.0.0 b.0.1 h b.1) b.2)
 
-pub spelled_all : {A K : Type 0} (parse : List ℕ → Result A K) (P : A → Type 0) → ((word : List ℕ) (x : A) → parse word ≡ Ok x → P x) → (words : List (List ℕ)) (values : List A) → Spell parse words values → AllByRecursion P values
+pub spelled_all : {A K : Type 0} (parse : List ℕ → Result A K) (P : A → Type 0) → ((word : List ℕ) (x : A) → parse word ≡ Ok x → P x)
+    → (words : List (List ℕ)) (values : List A) → Spell parse words values → AllByRecursion P values
 spelled_all parse P each [] [] spell = tt
 spelled_all parse P each [] (x ∷ values) spell = absurd spell
 spelled_all parse P each (word ∷ words) [] spell = absurd spell
@@ -91,7 +93,9 @@ step_ok sizes lines (letter ∷ number) line h = go (eqb letter 114) (eqb letter
         let b = bind_ok (line_of sizes.columns lines.columns number) (λ column. Ok (Column column)) line h in
         subst (HasLine lines.rows lines.columns) (ok_same (Column b.0) line b.2) (line_of_ok sizes.columns lines.columns number b.0 b.1)
 
-    go : (r c : Bool) → cond r (line_of sizes.rows lines.rows number >>= λ row. Ok (Row row)) (cond c (line_of sizes.columns lines.columns number >>= λ column. Ok (Column column)) (Err NotNumber)) ≡ Ok line → HasLine lines.rows lines.columns line
+    go : (r c : Bool)
+        → cond r (line_of sizes.rows lines.rows number >>= λ row. Ok (Row row)) (cond c (line_of sizes.columns lines.columns number >>= λ column. Ok (Column column)) (Err NotNumber)) ≡ Ok line
+        → HasLine lines.rows lines.columns line
     go true c h = row h
     go false true h = column h
     go false false h = absurd (cc)
@@ -104,7 +108,8 @@ pub record AreLinesRead (most n : ℕ) (whole : Option (List ℕ)) (before lines
   pub increases : IncreasesIn (last_number before) most read
   pub within : AllByRecursion (IsAmong whole) read
 
-pub lines_ok : (most : ℕ) (whole : Option (List ℕ)) (n : ℕ) (before : List ℕ) (text : Text) (lines : List ℕ) (rest : Text) → times (another_line most whole) n before text ≡ Ok (lines, rest) → AreLinesRead most n whole before lines
+pub lines_ok : (most : ℕ) (whole : Option (List ℕ)) (n : ℕ) (before : List ℕ) (text : Text) (lines : List ℕ) (rest : Text)
+    → times (another_line most whole) n before text ≡ Ok (lines, rest) → AreLinesRead most n whole before lines
 lines_ok most whole zero before text lines rest h =
     let e = ok_same (before, text) (lines, rest) h in
     record { read = []; lines_are = sym (ap (λ (p : List ℕ × Text). p.0) e) ∙ sym (append-nil before); count = refl; increases = tt; within = tt }

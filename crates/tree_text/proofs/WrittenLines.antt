@@ -39,7 +39,8 @@ later_words words [] some = absurd (omega (arith, some))
 later_words words (pair ∷ pairs) some = some_after words (flat_map pair_words (pair ∷ pairs)) (omega arith)
 
 -- the line of a network that has words
-pub network_ended : (text middle start : Draft) (n : net.Network) → text ≡ fold with_word middle (flat_map pair_words n.walks) → middle ≡ fold with_word start (flat_map pair_words n.arcs) → start.is_begun ≡ false
+pub network_ended : (text middle start : Draft) (n : net.Network) → text ≡ fold with_word middle (flat_map pair_words n.walks)
+    → middle ≡ fold with_word start (flat_map pair_words n.arcs) → start.is_begun ≡ false
     → 0 < length (network_words n) → with_end text ≡ fold with_line start (line_for (network_words n))
 network_ended text middle start n walks arcs none some =
     let all : text ≡ fold with_word start (network_words n) = walks ∙ ap (λ t. fold with_word t (flat_map pair_words n.walks)) arcs ∙ sym (fold-append with_word start (flat_map pair_words n.arcs) (flat_map pair_words n.walks)) in
@@ -57,14 +58,16 @@ one_sum_line node children is =
     sym (ap own_text_line (tree_is node ∙ ap (λ (s : Finding × Trees). Branch node.lines s.0 s.1) (ap said is ∙ said_one_sum children)) ∙ ap (λ n. (decimal n ∷ []) ∷ []) (count_is children))
 
 -- the lines of a node before the lines of its children
-pub opening_written : (start after : Draft) (tree : Tree) → after ≡ fold with_line start (opening_lines tree) → fold with_line after (forest_lines (trees_from (children_of tree))) ≡ fold with_line start (node_lines tree)
+pub opening_written : (start after : Draft) (tree : Tree) → after ≡ fold with_line start (opening_lines tree)
+    → fold with_line after (forest_lines (trees_from (children_of tree))) ≡ fold with_line start (node_lines tree)
 opening_written start after (Branch lines finding trees) written =
     ap (λ (d : Draft). fold with_line d (forest_lines (trees_from (list_of trees)))) written
     ∙ ap (λ ts. fold with_line (fold with_line start (opening_lines (Branch lines finding trees))) (forest_lines ts)) (trees_back trees)
     ∙ sym (fold-append with_line start (opening_lines (Branch lines finding trees)) (forest_lines trees))
 
 -- the lines of another child
-pub child_written : (start after total : Draft) (trees rest : List Tree) (tree : Tree) → trees ≡ tree ∷ rest → after ≡ fold with_line start (node_lines tree) → fold with_line start (forest_lines (trees_from trees)) ≡ total
+pub child_written : (start after total : Draft) (trees rest : List Tree) (tree : Tree) → trees ≡ tree ∷ rest → after ≡ fold with_line start (node_lines tree)
+    → fold with_line start (forest_lines (trees_from trees)) ≡ total
     → fold with_line after (forest_lines (trees_from rest)) ≡ total
 child_written start after total trees rest tree order written whole =
     ap (λ (d : Draft). fold with_line d (forest_lines (trees_from rest))) written ∙ sym (fold-append with_line start (node_lines tree) (forest_lines (trees_from rest)))

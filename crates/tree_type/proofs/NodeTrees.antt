@@ -41,8 +41,10 @@ said_pivoted place child = ap said (sym (kind.rolls-Pivoted place child)) ∙ fo
 pub said_one_sum : (children : NodeList) → said (kind.OneSum children) ≡ (OneSum, trees_of children)
 said_one_sum children = ap said (sym (kind.rolls-OneSum children)) ∙ fold-roll-Kind (Finding × Trees) Tree Trees kind_step node_step list_step (open'.OneSum children)
 
-pub said_two_sum : (two : Two) (one_child : Box Node Global) (two_child : Box Node Global) → said (kind.TwoSum two one_child two_child) ≡ (TwoSum two, two_trees (tree_of one_child.value) (tree_of two_child.value))
+pub said_two_sum : (two : Two) (one_child : Box Node Global) (two_child : Box Node Global)
+    → said (kind.TwoSum two one_child two_child) ≡ (TwoSum two, two_trees (tree_of one_child.value) (tree_of two_child.value))
 said_two_sum two one_child two_child = ap said (sym (kind.rolls-TwoSum two one_child two_child)) ∙ fold-roll-Kind (Finding × Trees) Tree Trees kind_step node_step list_step (open'.TwoSum two one_child two_child)
 
-pub said_three_sum : (three : Three) (one_child : Box Node Global) (two_child : Box Node Global) → said (kind.ThreeSum three one_child two_child) ≡ (ThreeSum three, two_trees (tree_of one_child.value) (tree_of two_child.value))
+pub said_three_sum : (three : Three) (one_child : Box Node Global) (two_child : Box Node Global)
+    → said (kind.ThreeSum three one_child two_child) ≡ (ThreeSum three, two_trees (tree_of one_child.value) (tree_of two_child.value))
 said_three_sum three one_child two_child = ap said (sym (kind.rolls-ThreeSum three one_child two_child)) ∙ fold-roll-Kind (Finding × Trees) Tree Trees kind_step node_step list_step (open'.ThreeSum three one_child two_child)

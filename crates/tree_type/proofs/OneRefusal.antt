@@ -16,7 +16,8 @@ others : {A : Type 0} (x y : A) (xs ys : List A) → x ∷ xs ≡ y ∷ ys → x
 others {A = A} x y xs ys e = ap (λ zs. elim zs as (λ _. List A) [ [] ↦ xs | _ ∷ rest ↦ rest ]) e
 
 -- the first place that breaks a rule
-one_place : (m : Matrix) (before before' after after' : List Place) (place place' : Place) (broken broken' : Rule) → AllByRecursion (KeepsAll m) before → AllByRecursion (KeepsAll m) before' → ¬ (Keeps m place broken) → ¬ (Keeps m place' broken')
+one_place : (m : Matrix) (before before' after after' : List Place) (place place' : Place) (broken broken' : Rule) → AllByRecursion (KeepsAll m) before
+    → AllByRecursion (KeepsAll m) before' → ¬ (Keeps m place broken) → ¬ (Keeps m place' broken')
     → before ++ place ∷ after ≡ before' ++ place' ∷ after' → place ≡ place'
 one_place m [] [] after after' place place' broken broken' s s' d d' e = first_item place place' after after' e
 one_place m [] (x ∷ before') after after' place place' broken broken' s s' d d' e = absurd (d (subst (λ p. Keeps m p broken) (sym (first_item place x after (before' ++ place' ∷ after') e)) (s'.0 broken)))
@@ -62,7 +63,8 @@ one_rule m place r s a b = go (cases_lt (rule_number r) (rule_number s)) (cases_
     go (inr l) (inl k) = absurd (b.breaks (a.keeps s k))
     go (inr l) (inr k) = same_rule r s (omega (arith, l, k))
 
-pub one_refusal : (m : Matrix) (nodes : List Place) (path path' : List ℕ) (broken broken' : Rule) → IsFirstBroken m nodes path broken → IsFirstBroken m nodes path' broken' → (path ≡ path') × (broken ≡ broken')
+pub one_refusal : (m : Matrix) (nodes : List Place) (path path' : List ℕ) (broken broken' : Rule) → IsFirstBroken m nodes path broken
+    → IsFirstBroken m nodes path' broken' → (path ≡ path') × (broken ≡ broken')
 one_refusal m nodes path path' broken broken' a b =
     let same = one_place m a.before b.before a.after b.after a.place b.place broken broken' a.sound b.sound a.breaks.breaks b.breaks.breaks (sym a.order ∙ b.order) in (
       a.path_is ∙ ap (λ p. p.path) same ∙ sym b.path_is,

@@ -42,7 +42,8 @@ by_kind node P each =
     let rolls = roll-out-Kind node.kind in
     subst P (sym (ap finding_of (tree_is node) ∙ ap (λ (k : Kind). (said k).0) (sym rolls) ∙ said_in case)) (each case rolls)
 
-pub names_no_fault : (node : Node) (lines : LineSet) → ((fault : LineSet) → node.kind ≢ kind.Cycle fault) → ((fault : LineSet) → node.kind ≢ kind.Violator fault) → fault_at lines (finding_of (tree_of node)) ≡ None
+pub names_no_fault : (node : Node) (lines : LineSet) → ((fault : LineSet) → node.kind ≢ kind.Cycle fault)
+    → ((fault : LineSet) → node.kind ≢ kind.Violator fault) → fault_at lines (finding_of (tree_of node)) ≡ None
 names_no_fault node lines no_cycle no_violator = by_kind node (λ finding. fault_at lines finding ≡ None) each
   where
     each : (case : KindCase) → roll-Kind case ≡ node.kind → fault_at lines (finding_in case) ≡ None

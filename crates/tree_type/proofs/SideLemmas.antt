@@ -68,19 +68,23 @@ module _ (lines set : LineSet) where
 
   -- ---- connectors
 
-  connector_to_one : (flat : Bool) (c : Connector) → HasConnector flat (inside set.rows lines.rows) (inside set.columns lines.columns) c → AreOn lines.rows lines.columns S true (connector_lines flat c)
+  connector_to_one : (flat : Bool) (c : Connector) → HasConnector flat (inside set.rows lines.rows) (inside set.columns lines.columns) c
+      → AreOn lines.rows lines.columns S true (connector_lines flat c)
   connector_to_one true c h = (from_one set.rows lines.rows c.row h.0, (from_one set.columns lines.columns c.column h.1, (from_one set.columns lines.columns c.other h.2, tt)))
   connector_to_one false c h = (from_one set.rows lines.rows c.row h.0, (from_one set.columns lines.columns c.column h.1, (from_one set.rows lines.rows c.other h.2, tt)))
 
-  connector_from_one : (flat : Bool) (c : Connector) → AreOn lines.rows lines.columns S true (connector_lines flat c) → HasConnector flat (inside set.rows lines.rows) (inside set.columns lines.columns) c
+  connector_from_one : (flat : Bool) (c : Connector) → AreOn lines.rows lines.columns S true (connector_lines flat c)
+      → HasConnector flat (inside set.rows lines.rows) (inside set.columns lines.columns) c
   connector_from_one true c h = (to_one set.rows lines.rows c.row h.0.0 h.0.1, to_one set.columns lines.columns c.column h.1.0.0 h.1.0.1, to_one set.columns lines.columns c.other h.1.1.0.0 h.1.1.0.1)
   connector_from_one false c h = (to_one set.rows lines.rows c.row h.0.0 h.0.1, to_one set.columns lines.columns c.column h.1.0.0 h.1.0.1, to_one set.rows lines.rows c.other h.1.1.0.0 h.1.1.0.1)
 
-  connector_to_two : (flat : Bool) (c : Connector) → HasConnector flat (outside set.rows lines.rows) (outside set.columns lines.columns) c → AreOn lines.rows lines.columns S false (connector_lines flat c)
+  connector_to_two : (flat : Bool) (c : Connector) → HasConnector flat (outside set.rows lines.rows) (outside set.columns lines.columns) c
+      → AreOn lines.rows lines.columns S false (connector_lines flat c)
   connector_to_two true c h = (from_two set.rows lines.rows c.row h.0, (from_two set.columns lines.columns c.column h.1, (from_two set.columns lines.columns c.other h.2, tt)))
   connector_to_two false c h = (from_two set.rows lines.rows c.row h.0, (from_two set.columns lines.columns c.column h.1, (from_two set.rows lines.rows c.other h.2, tt)))
 
-  connector_from_two : (flat : Bool) (c : Connector) → AreOn lines.rows lines.columns S false (connector_lines flat c) → HasConnector flat (outside set.rows lines.rows) (outside set.columns lines.columns) c
+  connector_from_two : (flat : Bool) (c : Connector) → AreOn lines.rows lines.columns S false (connector_lines flat c)
+      → HasConnector flat (outside set.rows lines.rows) (outside set.columns lines.columns) c
   connector_from_two true c h = (to_two set.rows lines.rows c.row h.0.0 h.0.1, to_two set.columns lines.columns c.column h.1.0.0 h.1.0.1, to_two set.columns lines.columns c.other h.1.1.0.0 h.1.1.0.1)
   connector_from_two false c h = (to_two set.rows lines.rows c.row h.0.0 h.0.1, to_two set.columns lines.columns c.column h.1.0.0 h.1.0.1, to_two set.rows lines.rows c.other h.1.1.0.0 h.1.1.0.1)
 
@@ -91,7 +95,8 @@ pub two_sums_separate : (M : ℕ → ℕ → ℤ) (lines : LineSet) (two : Two)
     ↔ IsTwoSeparation M lines.rows lines.columns (side_one two.side) two.row two.column
 two_sums_separate M lines two = (to, from)
   where
-    to : HaveLines 2 (sides lines two.side) × IsReference M (sides lines two.side) two.row two.column × AreTwoBlocks M (sides lines two.side) two.row two.column → IsTwoSeparation M lines.rows lines.columns (side_one two.side) two.row two.column
+    to : HaveLines 2 (sides lines two.side) × IsReference M (sides lines two.side) two.row two.column × AreTwoBlocks M (sides lines two.side) two.row two.column
+        → IsTwoSeparation M lines.rows lines.columns (side_one two.side) two.row two.column
     to (enough, reference, blocks) = record {
       one = (from_one two.side.columns lines.columns two.column reference.column, tt);
       two = (from_two two.side.rows lines.rows two.row reference.row, tt);
@@ -103,7 +108,8 @@ two_sums_separate M lines two = (to, from)
       enough = enough_to lines two.side 2 enough;
     }
 
-    from : IsTwoSeparation M lines.rows lines.columns (side_one two.side) two.row two.column → HaveLines 2 (sides lines two.side) × IsReference M (sides lines two.side) two.row two.column × AreTwoBlocks M (sides lines two.side) two.row two.column
+    from : IsTwoSeparation M lines.rows lines.columns (side_one two.side) two.row two.column
+        → HaveLines 2 (sides lines two.side) × IsReference M (sides lines two.side) two.row two.column × AreTwoBlocks M (sides lines two.side) two.row two.column
     from s = (
       enough_from lines two.side 2 s.enough,
       record {
@@ -122,7 +128,8 @@ pub three_sums_separate : (M : ℕ → ℕ → ℤ) (lines : LineSet) (t : Three
     ↔ IsThreeSeparation M lines.rows lines.columns (side_one t.side) t.form t.first t.second
 three_sums_separate M lines t = (to, from)
   where
-    to : HaveLines 4 (sides lines t.side) × AreConnectorsOfSides M (sides lines t.side) t × AreThreeBlocks M (sides lines t.side) t → IsThreeSeparation M lines.rows lines.columns (side_one t.side) t.form t.first t.second
+    to : HaveLines 4 (sides lines t.side) × AreConnectorsOfSides M (sides lines t.side) t × AreThreeBlocks M (sides lines t.side) t
+        → IsThreeSeparation M lines.rows lines.columns (side_one t.side) t.form t.first t.second
     to (enough, joined, blocks) = record {
       one = connector_to_one lines t.side (first_is_flat t.form) t.first joined.first;
       two = connector_to_two lines t.side (second_is_flat t.form) t.second joined.second;
@@ -134,7 +141,8 @@ three_sums_separate M lines t = (to, from)
       enough = enough_to lines t.side 4 enough;
     }
 
-    from : IsThreeSeparation M lines.rows lines.columns (side_one t.side) t.form t.first t.second → HaveLines 4 (sides lines t.side) × AreConnectorsOfSides M (sides lines t.side) t × AreThreeBlocks M (sides lines t.side) t
+    from : IsThreeSeparation M lines.rows lines.columns (side_one t.side) t.form t.first t.second
+        → HaveLines 4 (sides lines t.side) × AreConnectorsOfSides M (sides lines t.side) t × AreThreeBlocks M (sides lines t.side) t
     from s = (
       enough_from lines t.side 4 s.enough,
       record {

@@ -55,7 +55,8 @@ module _ (m : Matrix) where
       (found.parts, found_all m found.parts found.seen (height m + m.width) found.are (omega arith))
 
   -- with one part only, each set of lines that is apart is empty or has all lines
-  all_in_one : (parts : List LineSet) → AreComponents m parts → length parts < 2 → (S : Lines) → IsApart (height m) m.width (entry m) S → (x y : Line) → IsLineOf m x → IsLineOf m y → S x ≡ true → S y ≡ true
+  all_in_one : (parts : List LineSet) → AreComponents m parts → length parts < 2 → (S : Lines) → IsApart (height m) m.width (entry m) S → (x y : Line)
+      → IsLineOf m x → IsLineOf m y → S x ≡ true → S y ≡ true
   all_in_one parts are one S apart x y x_is y_is x_in =
       (are.components 0 some).least S apart (x, x_is, x_in) (λ line is inside. in_first line is) y y_is (in_first y y_is)
     where
@@ -69,7 +70,8 @@ module _ (m : Matrix) where
           go (a, l, has) = let first : a ≡ 0 = omega arith in listed_from_has_line (part_at parts 0).rows (part_at parts 0).columns line (subst (λ k. HasLine (part_at parts k).rows (part_at parts k).columns line) first has)
 
   -- a set that is apart, with a line in it and a line outside
-  pub two_parts : (S : Lines) → IsApart (height m) m.width (entry m) S → (x y : Line) → IsLineOf m x → IsLineOf m y → S x ≡ true → S y ≡ false → (parts : List LineSet) × AreComponents m parts × (2 ≤ length parts)
+  pub two_parts : (S : Lines) → IsApart (height m) m.width (entry m) S → (x y : Line) → IsLineOf m x → IsLineOf m y → S x ≡ true → S y ≡ false
+      → (parts : List LineSet) × AreComponents m parts × (2 ≤ length parts)
   two_parts S apart x y x_is y_is x_in y_out =
       let found = components_exist in (
         found.0,

@@ -141,7 +141,8 @@ module _ (m : Matrix) where
         eq : (a b : ℕ) → nat_eq a b ≡ true → a ≡ b
         eq a b e = grind (arith, nat_tests)
 
-        labelled : AreTogether m row (height m + column) → (x y : ℕ) → x < height m + m.width → y < height m + m.width → (s t : Bool) → nat_eq (get_or labels x 0) (get_or labels row 0) ≡ s → nat_eq (get_or labels y 0) (get_or labels row 0) ≡ t
+        labelled : AreTogether m row (height m + column) → (x y : ℕ) → x < height m + m.width → y < height m + m.width → (s t : Bool)
+            → nat_eq (get_or labels x 0) (get_or labels row 0) ≡ s → nat_eq (get_or labels y 0) (get_or labels row 0) ≡ t
             → cond s (get_or labels (height m + column) 0) (get_or labels x 0) ≡ cond t (get_or labels (height m + column) 0) (get_or labels y 0) → AreTogether m x y
         labelled here x y hx hy true true f g e i j side s = p.linked.labelled x y hx hy (eq (get_or labels x 0) (get_or labels row 0) f ∙ sym (eq (get_or labels y 0) (get_or labels row 0) g)) i j side s
         labelled here x y hx hy false false f g e i j side s = p.linked.labelled x y hx hy e i j side s

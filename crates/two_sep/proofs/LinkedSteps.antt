@@ -18,7 +18,8 @@ use Rattle.two_sep.proofs.SeedSteps.{other_closed}
 
 module _ (m : Matrix) (i j : ℕ) (row : i < height m) (column : j < m.width) (nonzero : entry m i j ≢ pos 0) (labels : List ℕ) (linked : AreLabelled m labels) (start : List Line) where
   -- the lines with the label of a line are on its side
-  on_side : (side : Lines) → TwoSeparates m side i j → (place : ℕ) → place < height m + m.width → (line : Line) → HasLabel m labels (get_or labels place 0) line → side line ≡ side (line_at_number (height m) place)
+  on_side : (side : Lines) → TwoSeparates m side i j → (place : ℕ) → place < height m + m.width → (line : Line) → HasLabel m labels (get_or labels place 0) line
+      → side line ≡ side (line_at_number (height m) place)
   on_side side s place l line has =
       sym (ap side (line_of-number (height m) m.width line has.inside))
       ∙ linked.labelled (line_number (height m) line) place (number_in (height m) m.width line has.inside) l has.same i j side s

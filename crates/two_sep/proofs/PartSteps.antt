@@ -284,7 +284,8 @@ module _ (m : Matrix) where
   }
 
 -- a line of a part found before adds none
-pub found_passed : (m : Matrix) (number : ℕ) (found : FoundParts) → HasFound m number found → (line : Line) → IsLine (height m) m.width line → line_number (height m) line ≡ number → as_set found.lines line ≡ true → HasFound m (number + 1) found
+pub found_passed : (m : Matrix) (number : ℕ) (found : FoundParts) → HasFound m number found → (line : Line) → IsLine (height m) m.width line
+    → line_number (height m) line ≡ number → as_set found.lines line ≡ true → HasFound m (number + 1) found
 found_passed m number found has line inside number_is here = record {
   size = has.size;
   are = found_passes m found.parts (as_set found.lines) number has.are line inside number_is here;

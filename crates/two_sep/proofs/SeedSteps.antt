@@ -48,7 +48,8 @@ module _ (m : Matrix) (i j : ℕ) (row : i < height m) (column : j < m.width) (n
     not_good none side g = none side g.1.grown.closed g.1.grown.has (record { none = g.1.two; enough = g.1.enough })
 
     -- no line that pulls the seed in is good
-    pub bad_backwards : HasNoLeaving m (seed_rule i j) (seed ∷ Column j ∷ []) (Row i ∷ []) 2 → (bad : GrowingSet) → IsGrowing m (product_at (entry m) i j) zeros (seed ∷ []) bad → (y : Line) → IsLine h m.width y → set_of bad y ≡ true → NotGood y
+    pub bad_backwards : HasNoLeaving m (seed_rule i j) (seed ∷ Column j ∷ []) (Row i ∷ []) 2 → (bad : GrowingSet)
+        → IsGrowing m (product_at (entry m) i j) zeros (seed ∷ []) bad → (y : Line) → IsLine h m.width y → set_of bad y ≡ true → NotGood y
     bad_backwards none bad grows y y_in e side g = elim (two_cases (side seed)) [
       | inl t ↦ none side g.1.grown.closed (t, g.1.grown.has.1) (record { none = g.1.two; enough = g.1.enough })
       | inr f ↦ false≢true (sym (not_is (side y) (grows.least (opposite side) (other_closed y side g) (ap not f, tt) y y_in e)) ∙ g.1.grown.has.0)
@@ -56,7 +57,8 @@ module _ (m : Matrix) (i j : ℕ) (row : i < height m) (column : j < m.width) (n
 
     -- ---- the loop over the seeds
 
-    pub seeds_more : ((other : Line) → IsLine h m.width other → line_number h other < place → NotGood other) → NotGood seed → (other : Line) → IsLine h m.width other → line_number h other < place + 1 → NotGood other
+    pub seeds_more : ((other : Line) → IsLine h m.width other → line_number h other < place → NotGood other) → NotGood seed → (other : Line)
+        → IsLine h m.width other → line_number h other < place + 1 → NotGood other
     seeds_more before here other l k = elim (cases_lt (line_number h other) place) [
       | inl a ↦ before other l a
       | inr a ↦ subst NotGood (sym (line_is h m.width other seed l seed_in (omega arith))) here
@@ -68,7 +70,8 @@ module _ (m : Matrix) (i j : ℕ) (row : i < height m) (column : j < m.width) (n
     pub column_not_good : place ≡ h + j → NotGood seed
     column_not_good e side g = g.1.not_first.0 (line_is h m.width seed (Column j) seed_in column (number ∙ e))
 
-    pub first_found : ((other : Line) → IsLine h m.width other → line_number h other < place → NotGood other) → place ≢ i → place ≢ h + j → (S : Lines) → IsLeaving m (seed_rule i j) (seed ∷ Column j ∷ []) (Row i ∷ []) 2 S → IsFirstGoodSide m i j S
+    pub first_found : ((other : Line) → IsLine h m.width other → line_number h other < place → NotGood other) → place ≢ i → place ≢ h + j → (S : Lines)
+        → IsLeaving m (seed_rule i j) (seed ∷ Column j ∷ []) (Row i ∷ []) 2 S → IsFirstGoodSide m i j S
     first_found before not_row not_column S is = record {
       seed = seed;
       good = good_side not_row not_column S is;

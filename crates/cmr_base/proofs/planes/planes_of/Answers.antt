@@ -29,7 +29,8 @@ loop-row-preserved c = record {
 }
 
 -- all rows
-all_rows : (test : ℤ → Bool) (rows : List (List ℤ)) (words wanted row : ℕ) (bits : List ℕ) → words ≡ wanted → length rows ≡ row → bits ≡ flat_map (words_of words test) (take row rows) → bits ≡ flat_map (words_of wanted test) rows
+all_rows : (test : ℤ → Bool) (rows : List (List ℤ)) (words wanted row : ℕ) (bits : List ℕ) → words ≡ wanted → length rows ≡ row
+    → bits ≡ flat_map (words_of words test) (take row rows) → bits ≡ flat_map (words_of wanted test) rows
 all_rows test rows words wanted row bits e end so_far =
     so_far ∙ ap (flat_map (words_of words test)) (take_all row rows (omega (arith, end))) ∙ ap (λ (n : ℕ). flat_map (words_of n test) rows) e
 

@@ -10,7 +10,8 @@ lowest : (rest : ℕ) → 0 < rest → rest < 2 ^ 64 → (trailing_zeros w64 res
 lowest rest some fits = let zeros = bit_at-trailing_zeros w64 rest some fits in (zeros.0, ap (λ bit. eqb bit 1) zeros.1)
 
 -- its word is in the plane
-in_plane : (to row first word rest : ℕ) (before now : List ℕ) → row < 64 * to → ((k : ℕ) → k < 64 → has_bit word k ≡ true → (first + k) * to + to ≤ length before) → AreBitsTransposed to row first word rest before now
+in_plane : (to row first word rest : ℕ) (before now : List ℕ) → row < 64 * to
+    → ((k : ℕ) → k < 64 → has_bit word k ≡ true → (first + k) * to + to ≤ length before) → AreBitsTransposed to row first word rest before now
     → 0 < rest → (first + trailing_zeros w64 rest) * to + row / 64 < length now
 in_plane to row first word rest before now low inside so some =
     let there = lowest rest some so.fits in

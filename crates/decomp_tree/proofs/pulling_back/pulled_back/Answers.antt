@@ -20,13 +20,15 @@ some_said : {finding : Held} → Some finding ≡ None → ⊥
 some_said e = cc
 
 -- a node above the tree, where nothing else is said
-mapped_above : (m : Matrix) (lines : LineSet) (place : Position) (after tree : Tree) (verdict : Verdict) → SaysBeforePivot m place verdict None → tree ≡ Branch lines (Pivoted place) (one_tree after) → IsMappedBack m lines place after verdict tree
+mapped_above : (m : Matrix) (lines : LineSet) (place : Position) (after tree : Tree) (verdict : Verdict) → SaysBeforePivot m place verdict None
+    → tree ≡ Branch lines (Pivoted place) (one_tree after) → IsMappedBack m lines place after verdict tree
 mapped_above m lines place after tree Yes says e = e
 mapped_above m lines place after tree (No fault) says e = absurd (none_said says.2)
 mapped_above m lines place after tree (Open left) says e = absurd (none_said says)
 
 -- a leaf that says what is said
-told_by_leaf : (m : Matrix) (lines : LineSet) (place : Position) (after tree : Tree) (verdict : Verdict) (finding : Held) → SaysBeforePivot m place verdict (Some finding) → tree ≡ Branch lines (finding_shown finding) NoTrees
+told_by_leaf : (m : Matrix) (lines : LineSet) (place : Position) (after tree : Tree) (verdict : Verdict) (finding : Held)
+    → SaysBeforePivot m place verdict (Some finding) → tree ≡ Branch lines (finding_shown finding) NoTrees
     → IsMappedBack m lines place after verdict tree
 told_by_leaf m lines place after tree Yes finding says e = absurd (some_said says)
 told_by_leaf m lines place after tree (No fault) finding says e =

@@ -10,7 +10,8 @@ use Rattle.graph_realise.proofs.side_search.find_split.Goals as goal
 
 -- a row found in a list is found in an equal list
 found : (M : ℕ → ℕ → Bool) (S given : List ℕ) (o : Option SplitRow) → given ≡ S → IsStrictlyIncreasing S
-    → MatchOption o ((row : ℕ) → ¬ (Splits M given row)) (λ split. IsFirstSplit M given split.row × AreParts M given split.row split.parts) → MatchOption o ((row : ℕ) → ¬ (Splits M S row)) (IsSplit M S)
+    → MatchOption o ((row : ℕ) → ¬ (Splits M given row)) (λ split. IsFirstSplit M given split.row × AreParts M given split.row split.parts)
+    → MatchOption o ((row : ℕ) → ¬ (Splits M S row)) (IsSplit M S)
 found M S given None e increases none = subst (λ (rows : List ℕ). (row : ℕ) → ¬ (Splits M rows row)) e none
 found M S given (Some split) e increases (first, parts) =
     split_is M S split increases (subst (λ (rows : List ℕ). IsFirstSplit M rows split.row) e first) (subst (λ (rows : List ℕ). AreParts M rows split.row split.parts) e parts)

@@ -14,7 +14,8 @@ use Rattle.matrix_text.proofs.SparseAgain.{sparse_again}
 use Rattle.matrix_text.proofs.sparse.write_sparse.Goals as goal
 
 -- the lines of a row before the lines of the later rows
-row_first : (draft : Draft) (rows : List (List ℤ)) (row : ℕ) → row < length rows → fold with_line (fold with_line draft (map triple_line (row_triples (row + 1) 1 (get_or rows row [])))) (map triple_line (triples_from (row + 1 + 1) (drop (row + 1) rows))) ≡ fold with_line draft (map triple_line (triples_from (row + 1) (drop row rows)))
+row_first : (draft : Draft) (rows : List (List ℤ)) (row : ℕ) → row < length rows
+    → fold with_line (fold with_line draft (map triple_line (row_triples (row + 1) 1 (get_or rows row [])))) (map triple_line (triples_from (row + 1 + 1) (drop (row + 1) rows))) ≡ fold with_line draft (map triple_line (triples_from (row + 1) (drop row rows)))
 row_first draft rows row h =
     let here = row_triples (row + 1) 1 (get_or rows row []) in
     let after = triples_from (row + 1 + 1) (drop (row + 1) rows) in

@@ -18,7 +18,8 @@ pub prove-unreachable-requires-2 : goal.prove-unreachable-requires-2
 prove-unreachable-requires-2 c =
     omega (arith, length-increasing c.args.lines.now.columns c.args.matrix.now.width c.as_slice-columns.ensures.increasing c.requires.columns, ap length c.as_slice-columns.ensures.items)
 
-lines_are : (c : goal.In_ok-with_or_without-2) → AreLinesBefore c.args.matrix.now c.args.row c.args.column c.args.lines.now.rows c.args.lines.now.columns c.in_ok-with_or_without.field-0 c.in_ok-with_or_without-2.field-0
+lines_are : (c : goal.In_ok-with_or_without-2)
+    → AreLinesBefore c.args.matrix.now c.args.row c.args.column c.args.lines.now.rows c.args.lines.now.columns c.in_ok-with_or_without.field-0 c.in_ok-with_or_without-2.field-0
 lines_are c =
     let m = c.args.matrix.now in
     let fits : SFits w32 c.column_sum.result = search rules in

@@ -11,6 +11,8 @@ abbrev pub invariant-loop-place : goal.invariant-loop-place
 invariant-loop-place l = record {
   side_size : IsSizedFor l.matrix l.side;
   bad_size : IsSizedFor l.matrix l.bad;
-  before : (seed : Line) → IsLine (height l.matrix) l.matrix.width seed → line_number (height l.matrix) seed < l.place → (side : Lines) → ¬ (IsGoodTwo (height l.matrix) l.matrix.width (entry l.matrix) l.row l.column seed side);
-  pulled : (seed : Line) → IsLine (height l.matrix) l.matrix.width seed → set_of l.bad seed ≡ true → (side : Lines) → ¬ (IsGoodTwo (height l.matrix) l.matrix.width (entry l.matrix) l.row l.column seed side);
+  before : (seed : Line) → IsLine (height l.matrix) l.matrix.width seed → line_number (height l.matrix) seed < l.place → (side : Lines)
+      → ¬ (IsGoodTwo (height l.matrix) l.matrix.width (entry l.matrix) l.row l.column seed side);
+  pulled : (seed : Line) → IsLine (height l.matrix) l.matrix.width seed → set_of l.bad seed ≡ true → (side : Lines)
+      → ¬ (IsGoodTwo (height l.matrix) l.matrix.width (entry l.matrix) l.row l.column seed side);
 }

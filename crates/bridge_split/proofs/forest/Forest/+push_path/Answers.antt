@@ -11,7 +11,8 @@ module _ (table : CutTable) (depths parents reached : List ℕ) (room : HasTreeR
   low x y t = let l = t.are.inside x t.one_in in let r = room.depths_are in omega arith
 
   -- the values that the code reads for a part that is at least as deep as the other
-  up_here : (x y v a b : ℕ) → AreInOneTree (joins table) table.count (depth_at depths) (parent_at parents) reached x y → x ≢ y → a ≡ get_or depths x a → b ≡ get_or depths y b → b ≤ a → v ≡ get_or parents x v
+  up_here : (x y v a b : ℕ) → AreInOneTree (joins table) table.count (depth_at depths) (parent_at parents) reached x y → x ≢ y → a ≡ get_or depths x a
+      → b ≡ get_or depths y b → b ≤ a → v ≡ get_or parents x v
       → AreInOneTree (joins table) table.count (depth_at depths) (parent_at parents) reached v y × (x < table.count) × (joins table x v ≡ true) × (depth_at depths x ≡ suc (depth_at depths v))
   up_here x y v a b t n ea eb l ev =
       let f : a ≡ depth_at depths x = ea ∙ get_or_default depths x a 4294967295 (low x y t) in

@@ -33,7 +33,8 @@ chosen_plane-requires-2-clause-rows c =
 
 -- the words of one plane
 words : (a : Inside) (m : Matrix) (test : ℤ → Bool) (rows columns plane made : List ℕ) → matrix_of a ≡ m → test (pos 0) ≡ false → plane ≡ flat_map (words_of (words_for m.width) test) m.rows
-    → AllBelow (height m) rows → AllBelow m.width columns → IsPlaneChosen a.columns plane rows columns (length rows) made → made ≡ flat_map (words_of (words_for (length columns)) test) (submatrix m rows columns).rows
+    → AllBelow (height m) rows → AllBelow m.width columns → IsPlaneChosen a.columns plane rows columns (length rows) made
+    → made ≡ flat_map (words_of (words_for (length columns)) test) (submatrix m rows columns).rows
 words a m test rows columns plane made e none is in_height in_width all =
     chosen_words m test none rows columns plane made is in_height in_width (subst (λ (n : ℕ). IsPlaneChosen n plane rows columns (length rows) made) (sym (width_is a m e)) all)
 

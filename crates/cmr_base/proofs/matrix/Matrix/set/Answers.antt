@@ -41,7 +41,8 @@ index_mut-requires-2 c =
     omega (arith, a.minus.ok, c.place_of-place.ensures, place_in a c.args.self.now is_minus a.minus.items c.args.row c.args.column c.self.view_is planes.minus_is c.requires.row c.requires.column)
 
 -- one plane after the change
-changed_plane : (a : Inside) (m : Matrix) (test : ℤ → Bool) (plane : List ℕ) (row column place word : ℕ) (value : ℤ) → matrix_of a ≡ m → IsMatrix m → row < height m → column < m.width → test (pos 0) ≡ false
+changed_plane : (a : Inside) (m : Matrix) (test : ℤ → Bool) (plane : List ℕ) (row column place word : ℕ) (value : ℤ) → matrix_of a ≡ m → IsMatrix m
+    → row < height m → column < m.width → test (pos 0) ≡ false
     → plane ≡ flat_map (words_of (words_for m.width) test) m.rows → place ≡ row * words_for a.columns + column / 64
     → has_bit word (column % 64) ≡ test value → ((k : ℕ) → k < 64 → k ≢ column % 64 → bit_at word k ≡ bit_at (get_or plane place 0) k)
     → word < 2 ^ 64 → ((k : ℕ) → get_or plane k 0 < 2 ^ 64)

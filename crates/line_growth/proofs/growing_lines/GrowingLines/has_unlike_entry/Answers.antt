@@ -7,7 +7,8 @@ use Rattle.line_growth.specs.Rules.{sum_at}
 use Rattle.line_growth.proofs.growing_lines.GrowingLines.has_unlike_entry.Goals as goal
 
 -- another line is examined, and no line between is inside
-looked : (inside : ℕ → Bool) (agrees : ℕ → Type 0) (from line : ℕ) → ((x : ℕ) → x < from → inside x ≡ true → agrees x) → ((x : ℕ) → from ≤ x → x < line → inside x ≡ false) → agrees line → (x : ℕ) → x < line + 1 → inside x ≡ true → agrees x
+looked : (inside : ℕ → Bool) (agrees : ℕ → Type 0) (from line : ℕ) → ((x : ℕ) → x < from → inside x ≡ true → agrees x)
+    → ((x : ℕ) → from ≤ x → x < line → inside x ≡ false) → agrees line → (x : ℕ) → x < line + 1 → inside x ≡ true → agrees x
 looked inside agrees from line done none here x l e = elim (cases_lt x line) [
   | inl low ↦ elim (cases_lt x from) [
     | inl before ↦ done x before e

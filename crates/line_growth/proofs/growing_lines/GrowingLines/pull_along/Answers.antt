@@ -10,7 +10,8 @@ use Rattle.line_growth.proofs.growing_lines.GrowingLines.pull_along.Goals as goa
 use Rattle.line_growth.proofs.growing_lines.GrowingLines.pull_along.Goals.{then-is_unlike+in_ok-add, else-is_unlike}
 
 -- another line is examined, and the row is 0 in the columns before it
-looked : (along : ℕ → Bool) (agrees : ℕ → Type 0) (lines after : Growth) (from line : ℕ) → ((x : ℕ) → from ≤ x → x < line → along x ≡ false) → ((x : ℕ) → x < from → along x ≡ true → is_inside lines x ≡ false → agrees x)
+looked : (along : ℕ → Bool) (agrees : ℕ → Type 0) (lines after : Growth) (from line : ℕ) → ((x : ℕ) → from ≤ x → x < line → along x ≡ false)
+    → ((x : ℕ) → x < from → along x ≡ true → is_inside lines x ≡ false → agrees x)
     → ((x : ℕ) → is_inside lines x ≡ true → is_inside after x ≡ true) → (is_inside after line ≡ false → agrees line) → (x : ℕ) → x < line + 1 → along x ≡ true → is_inside after x ≡ false → agrees x
 looked along agrees lines after from line zeros done kept here x l t e = elim (cases_lt x line) [
   | inl low ↦ elim (cases_lt x from) [

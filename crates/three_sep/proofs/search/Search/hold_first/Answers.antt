@@ -23,7 +23,8 @@ pub hold-requires-clause-rule : goal.hold-requires-clause-rule
 hold-requires-clause-rule c = rw c.args.self.now.sides_fit (subst (λ (r : GrowthRule). IsRuleOf c.args.self.now.matrix.now r) (sym c.rule_at.ensures) (rule_inside c.args.self.now.matrix.now c.args.corners.now c.requires.inside))
 
 module _ (m : Matrix) (form : Form) (d : Corners) (q : ℕ) (rule : GrowthRule) (lines : List Line) (same : rule ≡ rule_of d) (are : lines ≡ held_lines form d q) where
-  growing_as : (side : GrowingSet) → IsGrowing m (upper_of m rule) (lower_of m rule) lines side → IsGrowing m (product_at (entry m) d.one.row d.two.column) (product_at (entry m) d.two.row d.one.column) (held_lines form d q) side
+  growing_as : (side : GrowingSet) → IsGrowing m (upper_of m rule) (lower_of m rule) lines side
+      → IsGrowing m (product_at (entry m) d.one.row d.two.column) (product_at (entry m) d.two.row d.one.column) (held_lines form d q) side
   growing_as side g = subst (λ (r : GrowthRule). IsGrowing m (upper_of m r) (lower_of m r) (held_lines form d q) side) same (subst (λ (xs : List Line). IsGrowing m (upper_of m rule) (lower_of m rule) xs side) are g)
 
   decided_as : (out : List Line) (answer : Bool) (S : Lines) → DecidesLeaving m rule lines out 4 answer S → DecidesLeaving m (rule_of d) (held_lines form d q) out 4 answer S
