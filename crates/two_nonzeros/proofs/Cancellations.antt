@@ -30,7 +30,7 @@ swapped a b e = omega (arith, sums)
 pub run_cancels : (sign : ℕ → ℤ) (run : List Nonzero) (row other : ℕ) → Cancels sign run → row < other → value_in run row ≢ pos 0 → value_in run other ≢ pos 0
     → (sign row *ℤ value_in run row) +ℤ (sign other *ℤ value_in run other) ≡ pos 0
 run_cancels sign [] row other c l h g = absurd (h refl)
-run_cancels sign (x ∷ []) row other c l h g = absurd (let e = only_there x row h in let f = only_there x other g in omega arith)
+run_cancels sign (x ∷ []) row other c l h g = absurd (let is_row = only_there x row h in let is_other = only_there x other g in omega arith)
 run_cancels sign (x ∷ y ∷ []) row other c l h g = go (two_cases (nat_eq x.line row)) (two_cases (nat_eq x.line other))
   where
     two : (r q : ℕ) → x.line ≡ r → y.line ≡ q → value_in (x ∷ y ∷ []) r ≡ x.value → value_in (x ∷ y ∷ []) q ≡ y.value
@@ -45,21 +45,22 @@ run_cancels sign (x ∷ y ∷ []) row other c l h g = go (two_cases (nat_eq x.li
 
     go : (nat_eq x.line row ≡ true) ⊎ (nat_eq x.line row ≡ false) → (nat_eq x.line other ≡ true) ⊎ (nat_eq x.line other ≡ false)
         → (sign row *ℤ value_in (x ∷ y ∷ []) row) +ℤ (sign other *ℤ value_in (x ∷ y ∷ []) other) ≡ pos 0
-    go (inl t) (inl u) = absurd (let e = eq_of x.line row t in let f = eq_of x.line other u in omega arith)
+    go (inl t) (inl u) = absurd (let is_row = eq_of x.line row t in let is_other = eq_of x.line other u in omega arith)
     go (inl t) (inr u) =
-        let e = eq_of x.line row t in
-        let n = ne_of x.line other u in
-        let f = second other n g in
-        two row other e f (at_first x (y ∷ []) row e) (second_value other n f)
+        let is_row = eq_of x.line row t in
+        let not_other = ne_of x.line other u in
+        let then_other = second other not_other g in
+        two row other is_row then_other (at_first x (y ∷ []) row is_row) (second_value other not_other then_other)
     go (inr t) (inl u) =
-        let e = eq_of x.line other u in
-        let n = ne_of x.line row t in
-        let f = second row n h in
-        swapped (sign other *ℤ value_in (x ∷ y ∷ []) other) (sign row *ℤ value_in (x ∷ y ∷ []) row) (two other row e f (at_first x (y ∷ []) other e) (second_value row n f))
-    go (inr t) (inr u) = absurd (let e = second row (ne_of x.line row t) h in let f = second other (ne_of x.line other u) g in omega arith)
+        let is_other = eq_of x.line other u in
+        let not_row = ne_of x.line row t in
+        let then_row = second row not_row h in
+        swapped (sign other *ℤ value_in (x ∷ y ∷ []) other) (sign row *ℤ value_in (x ∷ y ∷ []) row)
+        (two other row is_other then_row (at_first x (y ∷ []) other is_other) (second_value row not_row then_row))
+    go (inr t) (inr u) = absurd (let then_row = second row (ne_of x.line row t) h in let then_other = second other (ne_of x.line other u) g in omega arith)
 run_cancels sign (x ∷ y ∷ z ∷ run) row other c l h g = absurd c
 
-sign_is : (minus : List Bool) (row : ℕ) → IsSign (sign_at minus row)
+pub sign_is : (minus : List Bool) (row : ℕ) → IsSign (sign_at minus row)
 sign_is minus row = go (get_or minus row false)
   where
     go : (b : Bool) → IsSign (if b then negsuc 0 else pos 1)
