@@ -42,8 +42,8 @@ module _ (t : SparseRows) (nodes : List (Option Node)) (parent new : Node) (colu
   -- a reached row is the new row, or it was reached before
   was : (row : ℕ) (n : Node) → row_node later row ≡ Some n → ((row ≡ to.line) × (n ≡ new)) ⊎ ((row ≢ to.line) × (row_node nodes row ≡ Some n))
   was row n e = elim (two_cases (nat_eq row to.line)) [
-    | inl t ↦ let f = eq_of row to.line t in inl (f, some_same (sym (ap (row_node later) f) ∙ e) at_new)
-    | inr t ↦ let f = ne_of row to.line t in inr (f, sym (at_other row f) ∙ e)
+    | inl t ↦ let same_row = eq_of row to.line t in inl (same_row, some_same (sym (ap (row_node later) same_row) ∙ e) at_new)
+    | inr t ↦ let other_row = ne_of row to.line t in inr (other_row, sym (at_other row other_row) ∙ e)
   ]
 
   hung_later : (row : ℕ) (n : Node) (above : Option Edge) → IsHung t nodes row n above → IsHung t later row n above
@@ -99,8 +99,8 @@ module _ (t : SparseRows) (nodes : List (Option Node)) (parent new : Node) (colu
 
   numbered_later : AreNumberedBelow later (count + 1)
   numbered_later row n e = elim (was row n e) [
-    | inl h ↦ let k = ap (λ (k : Node). k.number) h.1 ∙ number_is in omega (arith, k)
-    | inr h ↦ let l = grows.numbered row n h.1 in omega (arith, l)
+    | inl h ↦ let same_number = ap (λ (k : Node). k.number) h.1 ∙ number_is in omega (arith, same_number)
+    | inr h ↦ let number_below = grows.numbered row n h.1 in omega (arith, number_below)
   ]
 
   grows_later : Grows t later parent.root (count + 1)
@@ -132,8 +132,8 @@ module _ (t : SparseRows) (nodes : List (Option Node)) (root count : ℕ) (new :
 
   root_was : (row : ℕ) (n : Node) → row_node with_root row ≡ Some n → ((row ≡ root) × (n ≡ new)) ⊎ ((row ≢ root) × (row_node nodes row ≡ Some n))
   root_was row n e = elim (two_cases (nat_eq row root)) [
-    | inl t ↦ let f = eq_of row root t in inl (f, some_same (sym (ap (row_node with_root) f) ∙ e) root_new)
-    | inr t ↦ let f = ne_of row root t in inr (f, sym (root_other row f) ∙ e)
+    | inl t ↦ let same_row = eq_of row root t in inl (same_row, some_same (sym (ap (row_node with_root) same_row) ∙ e) root_new)
+    | inr t ↦ let other_row = ne_of row root t in inr (other_row, sym (root_other row other_row) ∙ e)
   ]
 
   hung_rooted : (row : ℕ) (n : Node) (above : Option Edge) → IsHung t nodes row n above → IsHung t with_root row n above
@@ -177,8 +177,8 @@ module _ (t : SparseRows) (nodes : List (Option Node)) (root count : ℕ) (new :
 
   numbered_rooted : AreNumberedBelow with_root (count + 1)
   numbered_rooted row n e = elim (root_was row n e) [
-    | inl h ↦ let k = ap (λ (k : Node). k.number) h.1 ∙ number_is in omega (arith, k)
-    | inr h ↦ let l = numbered row n h.1 in omega (arith, l)
+    | inl h ↦ let same_number = ap (λ (k : Node). k.number) h.1 ∙ number_is in omega (arith, same_number)
+    | inr h ↦ let number_below = numbered row n h.1 in omega (arith, number_below)
   ]
 
   pub grows_rooted : Grows t with_root root (count + 1)
@@ -218,5 +218,5 @@ pub unreached-set : (nodes : List (Option Node)) (row : ℕ) (n : Node) → row 
 unreached-set [] row n l e = absurd (omega arith)
 unreached-set (None ∷ nodes) zero n l e = omega arith
 unreached-set (Some p ∷ nodes) zero n l e = some_none refl e
-unreached-set (None ∷ nodes) (suc row) n l e = let h = unreached-set nodes row n (omega arith) e in omega (arith, h)
+unreached-set (None ∷ nodes) (suc row) n l e = let one_fewer = unreached-set nodes row n (omega arith) e in omega (arith, one_fewer)
 unreached-set (Some p ∷ nodes) (suc row) n l e = unreached-set nodes row n (omega arith) e

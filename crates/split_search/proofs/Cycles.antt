@@ -65,7 +65,8 @@ module _ (t : SparseRows) (nodes : List (Option Node)) (first_marks second_marks
   pub cycle_closed : IsCycle t nodes column (turned second_marks column)
   cycle_closed = record {
     size = length-set second_marks column (not (get_or second_marks column false)) ∙ size;
-    even = λ row. closed_even (marked_sum t (replicate (length t.runs) false) row) (marked_sum t first_marks row) (marked_sum t second_marks row) (marked_sum t (turned second_marks column) row) (sparse_entry t column row)
+    even = λ row. closed_even (marked_sum t (replicate (length t.runs) false) row) (marked_sum t first_marks row) (marked_sum t second_marks row)
+        (marked_sum t (turned second_marks column) row) (sparse_entry t column row)
         (unit_at x.line row) (unit_at y.line row) (unit_at high row) (unit_at other row) (nothing row) (ap (λ (k : ℕ). unit_at k row) same_high)
         (one.even row) (two.even row) (turned_even second_marks column (λ k. sparse_entry t k row) column_in) (ends_even t column x y row ends apart within.0.sign within.1.sign);
     cancel = λ sign signs k h n. both_cancel sign signs k (sym (get_or-set_other second_marks column k (not (get_or second_marks column false)) false n) ∙ h);

@@ -25,13 +25,13 @@ MarksRun old marks run = (length marks ≡ length old) × ((line : ℕ) → is_m
 pub marks_more : (old marks : List Bool) (run : List Nonzero) (k : ℕ) → k < length run → AllByRecursion (IsNonzeroWithin (length old)) run → MarksRun old marks (take k run)
     → MarksRun old (set marks (get_or run k no_nonzero).line true) (take (k + 1) run)
 marks_more old marks run k l within is =
-    let x : Nonzero = get_or run k no_nonzero in
-    let there : IsNonzeroWithin (length old) x = all_at (IsNonzeroWithin (length old)) run k no_nonzero within l in (
-      length-set marks x.line true ∙ is.0,
-      λ line h. kept_mark marks x.line line (is.1 line h),
-      subst (AreMarked (set marks x.line true)) (sym (take_more run k no_nonzero l)) (all-append (λ y. is_marked (set marks x.line true) y.line ≡ true) (take k run) (x ∷ [])
-          (all_weaker (λ y. is_marked marks y.line ≡ true) (λ y. is_marked (set marks x.line true) y.line ≡ true) (λ y h. kept_mark marks x.line y.line h) (take k run) is.2)
-          (get_or-set_same marks x.line true false (let e = is.0 in let h = there.inside in omega (arith, e, h)), tt)),
+    let nonzero : Nonzero = get_or run k no_nonzero in
+    let there : IsNonzeroWithin (length old) nonzero = all_at (IsNonzeroWithin (length old)) run k no_nonzero within l in (
+      length-set marks nonzero.line true ∙ is.0,
+      λ line h. kept_mark marks nonzero.line line (is.1 line h),
+      subst (AreMarked (set marks nonzero.line true)) (sym (take_more run k no_nonzero l)) (all-append (λ y. is_marked (set marks nonzero.line true) y.line ≡ true) (take k run) (nonzero ∷ [])
+          (all_weaker (λ y. is_marked marks y.line ≡ true) (λ y. is_marked (set marks nonzero.line true) y.line ≡ true) (λ y h. kept_mark marks nonzero.line y.line h) (take k run) is.2)
+          (get_or-set_same marks nonzero.line true false (let same_size = is.0 in let line_inside = there.inside in omega (arith, same_size, line_inside)), tt)),
     )
 
 abbrev pub OnlyMarks : List Bool → List Bool → List Nonzero → Type 0
@@ -51,14 +51,16 @@ pub crossing_more : (t : SparseRows) (marks before later : List Bool) (column : 
     → is_marked marks other ≡ true → AreMarked later (run_of t other)
 crossing_more t marks before later column kept here are other l h = elim (cases_lt other column) [
   | inl b ↦ all_weaker (λ y. is_marked before y.line ≡ true) (λ y. is_marked later y.line ≡ true) (λ y. kept y.line) (run_of t other) (are other b h)
-  | inr b ↦ let e : other ≡ column = omega (arith, l, b) in subst (λ (c : ℕ). AreMarked later (run_of t c)) (sym e) (here (subst (λ (c : ℕ). is_marked marks c ≡ true) e h))
+  | inr b ↦ let same_column : other ≡ column = omega (arith, l, b) in
+      subst (λ (c : ℕ). AreMarked later (run_of t c)) (sym same_column) (here (subst (λ (c : ℕ). is_marked marks c ≡ true) same_column h))
 ]
 
 -- ---- sums over marked lines
 
 pub sum_marked_zero : (marks : List Bool) (f : ℕ → ℤ) → ((line : ℕ) → is_marked marks line ≡ true → f line ≡ pos 0) → sum_over (marked marks) f ≡ pos 0
 sum_marked_zero marks f zeros =
-    sum_over_same (marked marks) f (λ line. pos 0) (all_marked (λ line. f line ≡ pos 0) 0 marks (λ k n e h. zeros n (subst (λ (j : ℕ). is_marked marks j ≡ true) (let j : k ≡ n = omega (arith, e) in j) h)))
+    sum_over_same (marked marks) f (λ line. pos 0)
+    (all_marked (λ line. f line ≡ pos 0) 0 marks (λ k n e h. zeros n (subst (λ (j : ℕ). is_marked marks j ≡ true) (let same_line : k ≡ n = omega (arith, e) in same_line) h)))
     ∙ sum_over-zero (marked marks)
 
 -- a marked line is taken out of the sum
@@ -77,7 +79,7 @@ still_marked marks k line h e = (apart, sym (get_or-set_other marks k line false
 pub sum_marked_one : (marks : List Bool) (k : ℕ) (f : ℕ → ℤ) → is_marked marks k ≡ true → ((line : ℕ) → is_marked marks line ≡ true → line ≢ k → f line ≡ pos 0) → sum_over (marked marks) f ≡ f k
 sum_marked_one marks k f h zeros =
     sum_marked_without marks k f h
-    ∙ no_more (f k) (sum_over (marked (set marks k false)) f) (sum_marked_zero (set marks k false) f (λ line e. let s = still_marked marks k line h e in zeros line s.1 s.0))
+    ∙ no_more (f k) (sum_over (marked (set marks k false)) f) (sum_marked_zero (set marks k false) f (λ line e. let still = still_marked marks k line h e in zeros line still.1 still.0))
   where
     no_more : (a b : ℤ) → b ≡ pos 0 → a +ℤ b ≡ a
     no_more a b e = omega (arith, sums)
@@ -87,4 +89,4 @@ pub sum_marked_two : (marks : List Bool) (k j : ℕ) (f : ℕ → ℤ) → k ≢
 sum_marked_two marks k j f apart h g zeros =
     sum_marked_without marks k f h
     ∙ ap (λ (z : ℤ). f k +ℤ z) (sum_marked_one (set marks k false) j f (get_or-set_other marks k j false false (λ e. apart (sym e)) ∙ g)
-    (λ line e n. let s = still_marked marks k line h e in zeros line s.0 n))
+    (λ line e n. let still = still_marked marks k line h e in zeros line still.0 n))

@@ -27,8 +27,8 @@ get_or_append (y ∷ xs) x (suc k) l = get_or_append xs x k (omega (arith, l))
 
 pub longer_more : (before queue : List ℕ) (row : ℕ) → HasAppended before queue → HasAppended before (queue ++ row ∷ [])
 longer_more before queue row is = record {
-  at_least = let n = length-append queue (row ∷ []) in let l = is.at_least in omega (arith, n, l);
-  same = λ k l. get_or_append queue row k (let m = is.at_least in omega (arith, l, m)) ∙ is.same k l;
+  at_least = let one_longer = length-append queue (row ∷ []) in let not_shorter = is.at_least in omega (arith, one_longer, not_shorter);
+  same = λ k l. get_or_append queue row k (let not_shorter = is.at_least in omega (arith, l, not_shorter)) ∙ is.same k l;
 }
 
 pub queue_more : (t : SparseRows) (before after : List (Option Node)) (queue : List ℕ) (root number new : ℕ) → IsQueueOf t before queue → ReachesRow t before after root number new → new < t.width
@@ -91,7 +91,7 @@ pub closed_more : (t : SparseRows) (nodes : List (Option Node)) (queue : List �
     → IsRowClosed t nodes row → AreClosedBelow t nodes queue (head + 1)
 closed_more t nodes queue head row is closed here k below = elim (cases_lt k head) [
   | inl l ↦ closed k l
-  | inr l ↦ subst (IsRowClosed t nodes) (is ∙ ap (λ (i : ℕ). get_or queue i 0) (let e : head ≡ k = omega (arith, l, below) in e)) here
+  | inr l ↦ subst (IsRowClosed t nodes) (is ∙ ap (λ (i : ℕ). get_or queue i 0) (let at_head : head ≡ k = omega (arith, l, below) in at_head)) here
 ]
 
 -- no column joins a reached row with another if the rows of the whole queue are closed
@@ -118,7 +118,7 @@ module _ (t : SparseRows) (before nodes later : List (Option Node)) (root here k
       → unreached later + 1 ≡ unreached nodes → row < t.width → Follows t before later root old next here (take (k + 1) run)
   follows_with next row next_is reaches fewer inside = subst (λ (q : List ℕ). Follows t before later root old q here (take (k + 1) run)) (sym next_is) (
     record { grows = subst (Grows t later root) (sym longer) reaches.grows; queue_is = queue_more t nodes later queue root (length queue) row follows.0.queue_is reaches inside },
-    (let n = follows.1 in omega (arith, longer, fewer, n)),
+    (let same_total = follows.1 in omega (arith, longer, fewer, same_total)),
     λ r h. reaches.kept r (follows.2 r h),
     longer_more old queue row follows.3,
     closed_columns reaches.kept,

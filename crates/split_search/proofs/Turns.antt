@@ -125,7 +125,7 @@ module _ (t : SparseRows) (nodes : List (Option Node)) (before after : List Bool
 
   apart : here ≢ e.row
   apart f = let same : node ≡ below.parent = some_same found.1 (ap (row_node nodes) f ∙ below.reached) in
-      let k = ap (λ (n : Node). n.number) same in let l = below.number in omega (arith, k, l)
+      let same_number = ap (λ (n : Node). n.number) same in let number_below = below.number in omega (arith, same_number, number_below)
 
   abbrev low : Nonzero
   low = record { line = here; value = below.here }
@@ -137,10 +137,10 @@ module _ (t : SparseRows) (nodes : List (Option Node)) (before after : List Bool
   within = ends_within t e.column low high shape below.ends
 
   pub column_inside : e.column < length after
-  column_inside = let l = ends_inside t e.column low high below.ends in let k = is.size in omega (arith, l, k, count)
+  column_inside = let end_inside = ends_inside t e.column low high below.ends in let same_size = is.size in omega (arith, end_inside, same_size, count)
 
   pub fewer : node_number (row_node nodes e.row) < node_number (row_node nodes here)
-  fewer = let k = ap node_number below.reached in let l = ap node_number found.1 in let h = below.number in omega (arith, k, l, h)
+  fewer = let other_number = ap node_number below.reached in let own_number = ap node_number found.1 in let number_below = below.number in omega (arith, other_number, own_number, number_below)
 
   cancel_later : (sign : ℕ → ℤ) → AreSignsOf nodes sign → (column : ℕ) → is_marked (turned after e.column) column ≡ true → (is_marked before column ≡ true) ⊎ CancelsTwo t sign column
   cancel_later sign signs column h = elim (two_cases (nat_eq column e.column)) [
@@ -158,7 +158,8 @@ module _ (t : SparseRows) (nodes : List (Option Node)) (before after : List Bool
   turned_more = record {
     inside = within.1.inside;
     size = length-set after e.column (not (get_or after e.column false)) ∙ is.size;
-    even = λ row. chained (marked_sum t before row) (marked_sum t after row) (marked_sum t (turned after e.column) row) (sparse_entry t e.column row) (unit_at from row) (unit_at here row) (unit_at e.row row)
+    even = λ row. chained (marked_sum t before row) (marked_sum t after row) (marked_sum t (turned after e.column) row)
+        (sparse_entry t e.column row) (unit_at from row) (unit_at here row) (unit_at e.row row)
         (is.even row) (turned_even after e.column (λ column. sparse_entry t column row) column_inside)
         (ends_even t e.column low high row below.ends apart within.0.sign within.1.sign);
     cancel = cancel_later;

@@ -1,6 +1,6 @@
 -- The lines of a cycle that does not cancel are a violator.
 use Rattle.std.specs.List.{Contains}
-use Rattle.std.proofs.Common.{◌≡◌, ◌≢◌, ◌+◌, ◌∙◌, inl, inr, ℕ, ℤ, pos, negsuc, ◌+ℤ◌, ◌*ℤ◌, Bool, true, false, if◌then◌else◌, List, [], ◌∷◌, length, map, get_or, Option, refl, ap, ap₂, sym, subst, arith}
+use Rattle.std.proofs.Common.{◌≡◌, ◌≢◌, ◌+◌, ◌∙◌, inl, inr, ℕ, ℤ, pos, negsuc, ◌+ℤ◌, ◌*ℤ◌, Bool, true, if◌then◌else◌, List, [], ◌∷◌, length, map, Option, refl, ap, ap₂, sym, subst, arith}
 use Rattle.std.proofs.Math.Path.{fun_ext}
 use Rattle.std.proofs.lemmas.List.{length-map}
 use Rattle.cmr_base.specs.LineSets.{first_lines}
@@ -95,9 +95,9 @@ module _ (m t : SparseRows) (nodes : List (Option Node)) (column : ℕ) (x y : N
 
   sum_elsewhere : (k : ℕ) → is_marked marks k ≡ true → k ≢ column → column_sum k ≡ pos 0
   sum_elsewhere k h n =
-      let c = cycle.cancel sign signs k h n in
-      let both = ends_marked k c.first c.second c.ends h in
-      signed_ends t row_marks k c.first c.second sign c.ends c.apart both.0 both.1 ∙ c.cancel
+      let cancelling = cycle.cancel sign signs k h n in
+      let both = ends_marked k cancelling.first cancelling.second cancelling.ends h in
+      signed_ends t row_marks k cancelling.first cancelling.second sign cancelling.ends cancelling.apart both.0 both.1 ∙ cancelling.cancel
 
   rest_two : IsEven rest × IsTwoModFour rest
   rest_two =
@@ -115,7 +115,8 @@ module _ (m t : SparseRows) (nodes : List (Option Node)) (column : ℕ) (x y : N
   uncancelled_cycle = record {
     signs = each;
     even_rows = all_of (λ row. IsEven (sum_over (marked marks) (across t row))) cycle.even (marked row_marks);
-    even_columns = all_marked (λ k. IsEven (column_sum k)) 0 marks (λ j k e h. even_column k (subst (λ (i : ℕ). is_marked marks i ≡ true) (let f : j ≡ k = omega (arith, e) in f) h));
+    even_columns = all_marked (λ k. IsEven (column_sum k)) 0 marks
+        (λ j k e h. even_column k (subst (λ (i : ℕ). is_marked marks i ≡ true) (let same_column : j ≡ k = omega (arith, e) in same_column) h));
     two_mod_four = subst IsTwoModFour (sym (sum_marked_one marks column column_sum column_marked sum_elsewhere ∙ sum_here)) rest_two.1;
   }
 
@@ -123,10 +124,10 @@ module _ (m t : SparseRows) (nodes : List (Option Node)) (column : ℕ) (x y : N
   entries_are = fun_ext (λ row. fun_ext (λ k. matrix_entry m shape row k ∙ sym (crossed.entries row k)))
 
   height_is : height (matrix_of_runs m) ≡ 0 + length row_marks
-  height_is = let h = length-map m.runs (λ run. map (value_in run) (first_lines m.width)) in let w = crossed.columns in omega (arith, h, w, count)
+  height_is = let height_kept = length-map m.runs (λ run. map (value_in run) (first_lines m.width)) in let same_columns = crossed.columns in omega (arith, height_kept, same_columns, count)
 
   width_is : m.width ≡ 0 + length marks
-  width_is = let w = crossed.rows in let s = cycle.size in omega (arith, w, s)
+  width_is = let same_rows = crossed.rows in let same_size = cycle.size in omega (arith, same_rows, same_size)
 
   -- ---- each line has a nonzero
 
@@ -144,13 +145,16 @@ module _ (m t : SparseRows) (nodes : List (Option Node)) (column : ℕ) (x y : N
   row_in : (k : ℕ) → is_marked marks k ≡ true → HasRow k
   row_in k h = elim (same_or_not k column) [
     | inl e ↦ subst HasRow (sym e) (row_of_ends column x y ends apart column_marked)
-    | inr n ↦ let c = cycle.cancel sign signs k h n in row_of_ends k c.first c.second c.ends c.apart h
+    | inr n ↦ let cancelling = cycle.cancel sign signs k h n in row_of_ends k cancelling.first cancelling.second cancelling.ends cancelling.apart h
   ]
 
   nonzeros : HaveNonzeros (entry (matrix_of_runs m)) (marked row_marks) (marked marks)
   nonzeros = record {
-    rows_have = λ row h. let c = crossing.only row (marked_contains row_marks row h) in
-        (c.0, contains_marked marks c.0 c.1, λ z. c.2 (crossed.entries row c.0 ∙ sym (matrix_entry m shape row c.0) ∙ z));
+    rows_have = λ row h. let crossing_column = crossing.only row (marked_contains row_marks row h) in (
+      crossing_column.0,
+      contains_marked marks crossing_column.0 crossing_column.1,
+      λ z. crossing_column.2 (crossed.entries row crossing_column.0 ∙ sym (matrix_entry m shape row crossing_column.0) ∙ z),
+    );
     columns_have = λ k h. row_in k (marked_contains marks k h);
   }
 
@@ -162,15 +166,6 @@ module _ (m t : SparseRows) (nodes : List (Option Node)) (column : ℕ) (x y : N
         (uncancelled_cycles_are_violators (across t) sign (marked row_marks) (marked marks) uncancelled_cycle);
     nonzeros = nonzeros;
   }
-
--- ---- signs
-
-pub sign_is : (minus : List Bool) (row : ℕ) → IsSign (sign_at minus row)
-sign_is minus row = go (get_or minus row false)
-  where
-    go : (b : Bool) → IsSign (if b then negsuc 0 else pos 1)
-    go true = inr refl
-    go false = inl refl
 
 pub split_decides : (m : SparseRows) (minus : List Bool) → AreSparseRows m → AreSplitBy minus m → IsSplitBy m minus
 split_decides m minus shape split =

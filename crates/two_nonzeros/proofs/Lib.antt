@@ -1,1 +1,1 @@
-mod Cancellations
+pub mod Cancellations

@@ -13,9 +13,9 @@ push-requires c = λ k h.
 pub loop-line-preserved : goal.loop-line-preserved
 loop-line-preserved c =
     let marks = c.args.marks.now in
-    let k = c.loop-line.line in
+    let line = c.loop-line.line in
     elim c.if-mark.branch [
-      | then-mark+in_ok-push w ↦ w.lines-is ∙ w.in_ok-push.ensures.ok ∙ ap (λ xs. xs ++ k ∷ []) c.loop-line.invariant
-          ∙ sym (marked_there marks k c.loop-line-test.true w.if-mark.true)
-      | else-mark w ↦ w.lines-is ∙ c.loop-line.invariant ∙ sym (unmarked_there marks k c.loop-line-test.true w.if-mark.false)
+      | then-mark+in_ok-push w ↦ w.lines-is ∙ w.in_ok-push.ensures.ok ∙ ap (λ xs. xs ++ line ∷ []) c.loop-line.invariant
+          ∙ sym (marked_there marks line c.loop-line-test.true w.if-mark.true)
+      | else-mark w ↦ w.lines-is ∙ c.loop-line.invariant ∙ sym (unmarked_there marks line c.loop-line-test.true w.if-mark.false)
     ]

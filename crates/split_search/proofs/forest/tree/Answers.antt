@@ -8,16 +8,16 @@ seat-requires-clause-closed c = queue_closed c.args.columns.now c.args.nodes.now
 
 pub walk-requires-clause-walks : goal.walk-requires-clause-walks
 walk-requires-clause-walks c =
-    let t = c.args.columns.now in
+    let columns = c.args.columns.now in
     let later = c.seat.new.nodes.items in
     let queue = c.args.queue.now.items in
-    let e = c.seat.ensures in
-    let inside : c.args.root < t.width = search rules in
+    let seated = c.seat.ensures in
+    let inside : c.args.root < columns.width = search rules in
     let counted : c.len-from.result ≡ length queue = search rules in
     let longer : length (queue ++ c.args.root ∷ []) ≡ length queue + 1 = length-append queue (c.args.root ∷ []) in
-    subst (Walks t later c.args.root) (sym c.in_ok-push.ensures.items) (record {
-      grows = subst (Grows t later c.args.root) (sym longer) (subst (λ n. Grows t later c.args.root (n + 1)) counted e.grows);
-      queue_is = queue_more t c.args.nodes.now.items later queue c.args.root c.len-from.result c.args.root c.requires.between.queue_is e inside;
+    subst (Walks columns later c.args.root) (sym c.in_ok-push.ensures.items) (record {
+      grows = subst (Grows columns later c.args.root) (sym longer) (subst (λ n. Grows columns later c.args.root (n + 1)) counted seated.grows);
+      queue_is = queue_more columns c.args.nodes.now.items later queue c.args.root c.len-from.result c.args.root c.requires.between.queue_is seated inside;
     })
 
 pub walk-requires-clause-closed : goal.walk-requires-clause-closed

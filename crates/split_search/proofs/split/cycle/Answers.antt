@@ -1,7 +1,8 @@
 use Rattle.std.proofs.Common.{Bool, List, subst}
 use Rattle.two_nonzeros.specs.Cancelling.{sign_at}
+use Rattle.two_nonzeros.proofs.Cancellations.{sign_is}
 use Rattle.split_search.specs.Paths.{MarkRowsOf}
-use Rattle.split_search.proofs.Violations.{sign_is, violating}
+use Rattle.split_search.proofs.Violations.{violating}
 use Rattle.split_search.proofs.split.cycle.Goals as goal
 
 pub returns : goal.returns
