@@ -58,8 +58,8 @@ module _ (M : ℕ → ℕ → ℤ) (R C : List ℕ) (two : HaveTwo M R C) where
 
   pub part_of_rest : (rows columns : List ℕ) (steps : List Step) (R' C' : List ℕ) → IsThinRemoval M rows columns steps R' C' → IsPart R rows → IsPart C columns → IsPart R R' × IsPart C C'
   part_of_rest rows columns [] R' C' (e, f) r c = (subst (IsPart R) (sym e) r, subst (IsPart C) (sym f) c)
-  part_of_rest rows columns (s ∷ steps) R' C' (first, rest) r c = let w = stays rows columns s s.line refl first r c in
-      part_of_rest (rows_without rows s.line) (columns_without columns s.line) steps R' C' rest w.0 w.1
+  part_of_rest rows columns (s ∷ steps) R' C' (first, rest) r c = let kept = stays rows columns s s.line refl first r c in
+      part_of_rest (rows_without rows s.line) (columns_without columns s.line) steps R' C' rest kept.0 kept.1
 
 -- ---- a nonzero is within the matrix
 

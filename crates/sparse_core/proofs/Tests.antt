@@ -57,11 +57,11 @@ module _ (m : SparseRows) (core later : TwoCore) (stands : HasRemoved m core) (s
   removed_one facts = record {
     stands = stands_later;
     fewer = λ e.
-        let l = fewer_lines step.line (marked core.rows.items) (marked core.columns.items) is.remains in
-        let r = ap length rows_are in
-        let c = ap length columns_are in
-        omega (arith, l, r, c);
-    steps = λ e. let n = ap length steps_are in let k = length-more core.steps.items step in omega (arith, n, k);
+        let fewer_left = fewer_lines step.line (marked core.rows.items) (marked core.columns.items) is.remains in
+        let same_rows = ap length rows_are in
+        let same_columns = ap length columns_are in
+        omega (arith, fewer_left, same_rows, same_columns);
+    steps = λ e. let same_steps = ap length steps_are in let one_more = length-more core.steps.items step in omega (arith, same_steps, one_more);
     same = λ e. true_is_false e;
     hold = λ e. true_is_false e;
   }
@@ -77,15 +77,15 @@ module _ (m : SparseRows) (shape : AreSparseRows m) (core later : TwoCore) (stan
       → get_or core.rows.items row false ≡ true → HasThinReason (value_in run) marks Column reason
       → later.steps.items ≡ core.steps.items ++ record { line = Row row; reason = reason } ∷ [] → later.rows.items ≡ set core.rows.items row false → later.columns.items ≡ core.columns.items
       → IsTested m core later true facts
-  row_removed run marks e f reason facts there thin steps_are rows_are columns_are = let M : ℕ → ℕ → ℤ = entry (matrix_of_runs m) in
-      let thin' : HasThinReason (M row) core.columns.items Column reason = subst (λ (xs : List Bool). HasThinReason (M row) xs Column reason) f
-      (thin_same (value_in run) (M row) marks Column reason (λ k. matrix_entry m shape row k ∙ ap (λ (xs : List Nonzero). value_in xs k) (sym e)) thin) in
+  row_removed run marks e f reason facts there thin steps_are rows_are columns_are = let value : ℕ → ℕ → ℤ = entry (matrix_of_runs m) in
+      let thin' : HasThinReason (value row) core.columns.items Column reason = subst (λ (xs : List Bool). HasThinReason (value row) xs Column reason) f
+      (thin_same (value_in run) (value row) marks Column reason (λ k. matrix_entry m shape row k ∙ ap (λ (xs : List Nonzero). value_in xs k) (sym e)) thin) in
       removed_one m core later stands (record { line = Row row; reason = reason }) inside (record {
         remains = contains_marked core.rows.items row there;
-        reason = λ binary. reason_is binary M Row Column (marked core.rows.items) core.columns.items row reason thin';
-        thin = thin_is (M row) core.columns.items Column reason thin';
+        reason = λ binary. reason_is binary value Row Column (marked core.rows.items) core.columns.items row reason thin';
+        thin = thin_is (value row) core.columns.items Column reason thin';
       }) steps_are (ap length rows_are ∙ length-set core.rows.items row false) (ap length columns_are)
-      (ap marked rows_are ∙ marked-unmarked core.rows.items row (let l = stands.rows in omega (arith, l, inside))) (ap marked columns_are) facts
+      (ap marked rows_are ∙ marked-unmarked core.rows.items row (let mark_count = stands.rows in omega (arith, mark_count, inside))) (ap marked columns_are) facts
 
 module _ (m t : SparseRows) (shape : AreSparseRows m) (crossed : AreCrossed m t) (core later : TwoCore) (stands : HasRemoved m core) (column : ℕ) (inside : column < length t.runs) where
   value_is : (row : ℕ) → entry (matrix_of_runs m) row column ≡ value_in (run_of t column) row
@@ -101,15 +101,15 @@ module _ (m t : SparseRows) (shape : AreSparseRows m) (crossed : AreCrossed m t)
       → get_or core.columns.items column false ≡ true → HasThinReason (value_in run) marks Row reason
       → later.steps.items ≡ core.steps.items ++ record { line = Column column; reason = reason } ∷ [] → later.rows.items ≡ core.rows.items
       → later.columns.items ≡ set core.columns.items column false → IsTested m core later true facts
-  column_removed run marks e f reason facts there thin steps_are rows_are columns_are = let M : ℕ → ℕ → ℤ = λ j i. entry (matrix_of_runs m) i j in
-      let thin' : HasThinReason (M column) core.rows.items Row reason = subst (λ (xs : List Bool). HasThinReason (M column) xs Row reason) f
-      (thin_same (value_in run) (M column) marks Row reason (λ k. value_is k ∙ ap (λ (xs : List Nonzero). value_in xs k) (sym e)) thin) in
-      removed_one m core later stands (record { line = Column column; reason = reason }) (let w = crossed.rows in omega (arith, w, inside)) (record {
+  column_removed run marks e f reason facts there thin steps_are rows_are columns_are = let value_across : ℕ → ℕ → ℤ = λ j i. entry (matrix_of_runs m) i j in
+      let thin' : HasThinReason (value_across column) core.rows.items Row reason = subst (λ (xs : List Bool). HasThinReason (value_across column) xs Row reason) f
+      (thin_same (value_in run) (value_across column) marks Row reason (λ k. value_is k ∙ ap (λ (xs : List Nonzero). value_in xs k) (sym e)) thin) in
+      removed_one m core later stands (record { line = Column column; reason = reason }) (let crossed_rows = crossed.rows in omega (arith, crossed_rows, inside)) (record {
         remains = contains_marked core.columns.items column there;
-        reason = λ binary. reason_is binary M Column Row (marked core.columns.items) core.rows.items column reason thin';
-        thin = thin_is (M column) core.rows.items Row reason thin';
+        reason = λ binary. reason_is binary value_across Column Row (marked core.columns.items) core.rows.items column reason thin';
+        thin = thin_is (value_across column) core.rows.items Row reason thin';
       }) steps_are (ap length rows_are) (ap length columns_are ∙ length-set core.columns.items column false) (ap marked rows_are)
-      (ap marked columns_are ∙ marked-unmarked core.columns.items column (let l = stands.columns in let w = crossed.rows in omega (arith, l, w, inside))) facts
+      (ap marked columns_are ∙ marked-unmarked core.columns.items column (let mark_count = stands.columns in let crossed_rows = crossed.rows in omega (arith, mark_count, crossed_rows, inside))) facts
 
 -- ---- the first state and the last
 
@@ -131,8 +131,9 @@ inside_marks marks line h = elim (cases_lt line (length marks)) [
 pub core_found : (m : SparseRows) (core : TwoCore) → AreSparseRows m → HasRemoved m core → LinesHaveTwo m core
     → IsTwoCore (entry (matrix_of_runs m)) (marked core.rows.items) (marked core.columns.items)
 core_found m core shape stands two = core_is (matrix_of_runs m) (matrix_is_ternary m shape).rectangular core.steps.items (marked core.rows.items) (marked core.columns.items)
-    (subst (λ (n : ℕ). IsThinRemoval (entry (matrix_of_runs m)) (first_lines n) (first_lines m.width) core.steps.items (marked core.rows.items) (marked core.columns.items)) (sym (length-map m.runs _)) stands.removal)
+    (subst (λ (n : ℕ). IsThinRemoval (entry (matrix_of_runs m)) (first_lines n) (first_lines m.width)
+    core.steps.items (marked core.rows.items) (marked core.columns.items)) (sym (length-map m.runs _)) stands.removal)
     (record {
-      rows_have = λ row h. two.rows_have row (let l = inside_marks core.rows.items row h in let n = stands.rows in omega (arith, l, n)) h;
-      columns_have = λ column h. two.columns_have column (let l = inside_marks core.columns.items column h in let n = stands.columns in omega (arith, l, n)) h;
+      rows_have = λ row h. two.rows_have row (let mark_below = inside_marks core.rows.items row h in let mark_count = stands.rows in omega (arith, mark_below, mark_count)) h;
+      columns_have = λ column h. two.columns_have column (let mark_below = inside_marks core.columns.items column h in let mark_count = stands.columns in omega (arith, mark_below, mark_count)) h;
     })

@@ -40,7 +40,7 @@ module _ (f : ℕ → ℤ) (marks : List Bool) where
   crossing = marked marks
 
   zero_count : IsZeroOn f marks → nonzeros_at crossing f ≡ 0
-  zero_count zeros = let n = none_counted crossing f (λ x i. zeros x ((in_marked marks x).0 i)) in omega (arith, n)
+  zero_count zeros = let none_left = none_counted crossing f (λ x i. zeros x ((in_marked marks x).0 i)) in omega (arith, none_left)
 
   only_is : (k x : ℕ) → IsOnly f marks k → IsIn x crossing → f x ≢ pos 0 → x ≡ k
   only_is k x only i n = elim (same_or_not x k) [
@@ -132,8 +132,8 @@ few_nonzeros M kind cross lines C line reason e thin = go (two_cases (nat_eq (no
 
     go : (nat_eq (nonzeros_at C (M line)) 0 ≡ true) ⊎ (nat_eq (nonzeros_at C (M line)) 0 ≡ false)
         → (nat_eq (nonzeros_at C (M line)) 1 ≡ true) ⊎ (nat_eq (nonzeros_at C (M line)) 1 ≡ false) → nonzeros_at C (M line) ≤ 1
-    go (inl t) u = let n = eq_of (nonzeros_at C (M line)) 0 t in omega (arith, n)
-    go (inr f) (inl t) = let n = eq_of (nonzeros_at C (M line)) 1 t in omega (arith, n)
+    go (inl t) u = let none_left = eq_of (nonzeros_at C (M line)) 0 t in omega (arith, none_left)
+    go (inr f) (inl t) = let one_left = eq_of (nonzeros_at C (M line)) 1 t in omega (arith, one_left)
     go (inr f) (inr g) = copy_thin (first_equal M lines C line (M line)) (sym (rw (f, g) refl) ∙ e)
 
 -- so it has no two nonzeros, also at fewer crossing lines
