@@ -59,10 +59,11 @@ module _ (m x : SparseRows) (row_marks column_marks : List Bool) (shape : AreSpa
   same_height = height_of_runs x ∙ is.rows ∙ sym (height_of_runs m)
 
   row_below : (row : ℕ) → Contains (marked row_marks) row → row < height part
-  row_below row h = let i = mark_inside row_marks row (marked_contains row_marks row h) in let n = same_height in let k = height_of_runs m in omega (arith, i, n, k, row_count)
+  row_below row h = let mark_below = mark_inside row_marks row (marked_contains row_marks row h) in
+      let same_rows = same_height in let height = height_of_runs m in omega (arith, mark_below, same_rows, height, row_count)
 
   column_below : (column : ℕ) → Contains (marked column_marks) column → column < part.width
-  column_below column h = let i = mark_inside column_marks column (marked_contains column_marks column h) in let n = is.width in omega (arith, i, n, column_count)
+  column_below column h = let mark_below = mark_inside column_marks column (marked_contains column_marks column h) in let same_width = is.width in omega (arith, mark_below, same_width, column_count)
 
   pub free_from_restricted : HasNoViolator part → HasNoViolator (submatrix whole (marked row_marks) (marked column_marks))
   free_from_restricted none = submatrix_from_free whole (marked row_marks) (marked column_marks) (λ v. free_from_none part none (record {
@@ -84,19 +85,19 @@ module _ (m x : SparseRows) (row_marks column_marks : List Bool) (shape : AreSpa
         (all_of_members (λ row. is_marked row_marks row ≡ true) rows (λ row i. row_mark row (contains_from_in rows row i)))
         (all_of_members (λ column. is_marked column_marks column ≡ true) columns (λ column i. column_mark column (contains_from_in columns column i)))) v.violator;
     nonzeros = record {
-      rows_have = λ row h. let c = v.nonzeros.rows_have row h in (c.0, c.1, stays row c.0 c.2);
-      columns_have = λ column h. let r = v.nonzeros.columns_have column h in (r.0, r.1, stays r.0 column r.2);
+      rows_have = λ row h. let in_row = v.nonzeros.rows_have row h in (in_row.0, in_row.1, stays row in_row.0 in_row.2);
+      columns_have = λ column h. let in_column = v.nonzeros.columns_have column h in (in_column.0, in_column.1, stays in_column.0 column in_column.2);
     };
   }
     where
       row_mark : (row : ℕ) → Contains rows row → is_marked row_marks row ≡ true
-      row_mark row h = let c = v.nonzeros.rows_have row h in (both_marked row c.0 c.2).0
+      row_mark row h = let in_row = v.nonzeros.rows_have row h in (both_marked row in_row.0 in_row.2).0
 
       column_mark : (column : ℕ) → Contains columns column → is_marked column_marks column ≡ true
-      column_mark column h = let r = v.nonzeros.columns_have column h in (both_marked r.0 column r.2).1
+      column_mark column h = let in_column = v.nonzeros.columns_have column h in (both_marked in_column.0 column in_column.2).1
 
       stays : (row column : ℕ) → entry part row column ≢ pos 0 → entry whole row column ≢ pos 0
-      stays row column n e = let b = both_marked row column n in n (same_entry row column b.0 b.1 ∙ e)
+      stays row column n e = let marks_of_both = both_marked row column n in n (same_entry row column marks_of_both.0 marks_of_both.1 ∙ e)
 
 -- ---- the parts without a thick line
 
@@ -110,9 +111,9 @@ pub parts_are_free : (m : Matrix) (row_marks column_marks thin_rows thin_columns
     → AreThin row_marks of_rows thick thin_rows → AreThin column_marks of_columns thick thin_columns → HasNoViolator (submatrix m (marked thin_rows) (marked thin_columns))
     → ArePartsFree m row_marks column_marks of_rows of_columns thick
 parts_are_free m row_marks column_marks thin_rows thin_columns of_rows of_columns thick rows columns none part e =
-    let R = lines_of_part row_marks of_rows part in
-    let C = lines_of_part column_marks of_columns part in
-    submatrix_from_free m R C (narrower (entry m) (Contains (marked thin_rows)) (Contains (marked thin_columns)) (Contains R) (Contains C)
+    let part_rows = lines_of_part row_marks of_rows part in
+    let part_columns = lines_of_part column_marks of_columns part in
+    submatrix_from_free m part_rows part_columns (narrower (entry m) (Contains (marked thin_rows)) (Contains (marked thin_columns)) (Contains part_rows) (Contains part_columns)
     (within_thin row_marks thin_rows of_rows thick part rows e) (within_thin column_marks thin_columns of_columns thick part columns e)
     (free_from_submatrix m (marked thin_rows) (marked thin_columns) none))
 
@@ -137,17 +138,17 @@ module _ (m t : SparseRows) (shape : AreSparseRows m) (shape_t : AreSparseRows t
     column_set = record { increasing = v.row_set.increasing; in_range = subst (λ (n : ℕ). (k : ℕ) → k < length columns → slice_index columns k < n) (height_of_runs t ∙ crossed.rows) v.row_set.in_range };
     violator = violator_across rows columns v.violator;
     nonzeros = record {
-      rows_have = λ row h. let c = v.nonzeros.columns_have row h in (c.0, c.1, λ e. c.2 (entry_across row c.0 ∙ e));
-      columns_have = λ column h. let r = v.nonzeros.rows_have column h in (r.0, r.1, λ e. r.2 (entry_across r.0 column ∙ e));
+      rows_have = λ row h. let in_row = v.nonzeros.columns_have row h in (in_row.0, in_row.1, λ e. in_row.2 (entry_across row in_row.0 ∙ e));
+      columns_have = λ column h. let in_column = v.nonzeros.rows_have column h in (in_column.0, in_column.1, λ e. in_column.2 (entry_across in_column.0 column ∙ e));
     };
   }
 
   pub parts_free_across : (row_marks column_marks : List Bool) (of_rows of_columns : List ℕ) (thick : List (Option ℕ)) → ArePartsFree (matrix_of_runs t) column_marks row_marks of_columns of_rows thick
       → ArePartsFree (matrix_of_runs m) row_marks column_marks of_rows of_columns thick
   parts_free_across row_marks column_marks of_rows of_columns thick free part e =
-      let R = lines_of_part row_marks of_rows part in
-      let C = lines_of_part column_marks of_columns part in
-      submatrix_from_free (matrix_of_runs m) R C (λ v. free_from_submatrix (matrix_of_runs t) C R (free part e)
+      let part_rows = lines_of_part row_marks of_rows part in
+      let part_columns = lines_of_part column_marks of_columns part in
+      submatrix_from_free (matrix_of_runs m) part_rows part_columns (λ v. free_from_submatrix (matrix_of_runs t) part_columns part_rows (free part e)
       (record { R = v.C; C = v.R; rows = v.columns; columns = v.rows; violator = back_across v.R v.C v.violator }))
 
   pub crossed_back : AreCrossed t m
@@ -160,9 +161,10 @@ pub all_parts_free : (m t : SparseRows) (d : Division) → AreSparseRows m → D
     → ArePartsFree (matrix_of_runs m) d.core.rows.items d.core.columns.items d.parts.of_rows.items d.parts.of_columns.items d.thick_rows.items
     → ((part : ℕ) → part < d.parts.count → IsThinPart d.thick_rows.items d.thick_columns.items part) → IsTotallyUnimodular (matrix_of_runs m)
 all_parts_free m t d shape divides by_columns by_rows thin =
-    let M = matrix_of_runs m in
-    (camion M (matrix_is_ternary m shape).small).1
-    ((removals_decide M d.core.steps.items (marked d.core.rows.items) (marked d.core.columns.items) (matrix_is_ternary m shape)
-    (subst (λ (n : ℕ). IsThinRemoval (entry M) (first_lines n) (first_lines m.width) d.core.steps.items (marked d.core.rows.items) (marked d.core.columns.items)) (sym (height_of_runs m)) divides.removal)).1
-    ((numbered_parts_decide M d.core.rows.items d.core.columns.items d.parts.of_rows.items d.parts.of_columns.items d.parts.count divides.parts).1
+    let matrix = matrix_of_runs m in
+    (camion matrix (matrix_is_ternary m shape).small).1
+    ((removals_decide matrix d.core.steps.items (marked d.core.rows.items) (marked d.core.columns.items) (matrix_is_ternary m shape)
+    (subst (λ (n : ℕ). IsThinRemoval (entry matrix) (first_lines n) (first_lines m.width) d.core.steps.items (marked d.core.rows.items) (marked d.core.columns.items)) (sym (height_of_runs m))
+    divides.removal)).1
+    ((numbered_parts_decide matrix d.core.rows.items d.core.columns.items d.parts.of_rows.items d.parts.of_columns.items d.parts.count divides.parts).1
     (λ part l. elim (thin part l) [ inl e ↦ by_rows part e | inr e ↦ by_columns part e ])))

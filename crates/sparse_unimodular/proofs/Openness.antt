@@ -108,25 +108,26 @@ module _ (m t : SparseRows) (d : Division) (shape : AreSparseRows m) (shape_t : 
 
   column_at : (column : ℕ) → IsKept d.core.columns.items (run_of m thick.row) column → HasNonzeroAt (M thick.row) columns column
   column_at column kept =
-      let n : M thick.row column ≢ pos 0 = (λ e. kept.nonzero (sym (matrix_entry m shape thick.row column) ∙ e)) in
+      let is_nonzero : M thick.row column ≢ pos 0 = (λ e. kept.nonzero (sym (matrix_entry m shape thick.row column) ∙ e)) in
       record {
-        inside = is_line d.core.columns.items d.parts.of_columns.items part column kept.mark (numbers_agree thick.row column thick_row.mark kept.mark n ∙ thick_row.number);
-        nonzero = n;
+        inside = is_line d.core.columns.items d.parts.of_columns.items part column kept.mark (numbers_agree thick.row column thick_row.mark kept.mark is_nonzero ∙ thick_row.number);
+        nonzero = is_nonzero;
       }
 
   row_at : (row : ℕ) → IsKept d.core.rows.items (run_of t thick.column) row → HasNonzeroAt (λ r. M r thick.column) rows row
   row_at row kept =
-      let n : M row thick.column ≢ pos 0 = (λ e. kept.nonzero (crossed.entries row thick.column ∙ sym (matrix_entry m shape row thick.column) ∙ e)) in
+      let is_nonzero : M row thick.column ≢ pos 0 = (λ e. kept.nonzero (crossed.entries row thick.column ∙ sym (matrix_entry m shape row thick.column) ∙ e)) in
       record {
-        inside = is_line d.core.rows.items d.parts.of_rows.items part row kept.mark (sym (numbers_agree row thick.column kept.mark thick_column.mark n) ∙ thick_column.number);
-        nonzero = n;
+        inside = is_line d.core.rows.items d.parts.of_rows.items part row kept.mark (sym (numbers_agree row thick.column kept.mark thick_column.mark is_nonzero) ∙ thick_column.number);
+        nonzero = is_nonzero;
       }
 
   row_inside : thick.row < length m.runs
-  row_inside = let i = mark_inside d.core.rows.items thick.row thick_row.mark in let n = divides.rows in omega (arith, i, n)
+  row_inside = let mark_below = mark_inside d.core.rows.items thick.row thick_row.mark in let same_rows = divides.rows in omega (arith, mark_below, same_rows)
 
   column_inside : thick.column < length t.runs
-  column_inside = let i = mark_inside d.core.columns.items thick.column thick_column.mark in let n = divides.columns in let k = crossed.rows in omega (arith, i, n, k)
+  column_inside = let mark_below = mark_inside d.core.columns.items thick.column thick_column.mark in
+      let same_columns = divides.columns in let crossed_rows = crossed.rows in omega (arith, mark_below, same_columns, crossed_rows)
 
   row_three : HasThreeAmong (M thick.row) columns
   row_three =
@@ -168,11 +169,11 @@ module _ (m t : SparseRows) (d : Division) (shape : AreSparseRows m) (shape_t : 
     rows_within = λ row h. contains_marked d.core.rows.items row (line_is d.core.rows.items d.parts.of_rows.items part row h).0;
     columns_within = λ column h. contains_marked d.core.columns.items column (line_is d.core.columns.items d.parts.of_columns.items part column h).0;
     apart = λ row column in_rows in_columns n.
-        let h = marked_contains d.core.rows.items row in_rows in
-        let g = marked_contains d.core.columns.items column in_columns in
-        let same = numbers_agree row column h g n in (
-          λ r. is_line d.core.columns.items d.parts.of_columns.items part column g (same ∙ (line_is d.core.rows.items d.parts.of_rows.items part row r).1),
-          λ c. is_line d.core.rows.items d.parts.of_rows.items part row h (sym same ∙ (line_is d.core.columns.items d.parts.of_columns.items part column c).1),
+        let row_mark = marked_contains d.core.rows.items row in_rows in
+        let column_mark = marked_contains d.core.columns.items column in_columns in
+        let same = numbers_agree row column row_mark column_mark n in (
+          λ r. is_line d.core.columns.items d.parts.of_columns.items part column column_mark (same ∙ (line_is d.core.rows.items d.parts.of_rows.items part row r).1),
+          λ c. is_line d.core.rows.items d.parts.of_rows.items part row row_mark (sym same ∙ (line_is d.core.columns.items d.parts.of_columns.items part column c).1),
         );
     row = thick.row;
     row_in = is_line d.core.rows.items d.parts.of_rows.items part thick.row thick_row.mark thick_row.number;
@@ -190,11 +191,12 @@ open_set_is m t d part R C shape shape_t crossed divides thick is =
     (subst (λ (x : List ℕ). AreOpenLines (matrix_of_runs m) (lines_of_part d.core.rows.items d.parts.of_rows.items part) x) (sym is.columns_are) (record {
       row_set = record {
         increasing = part_increases d.core.rows.items d.parts.of_rows.items part;
-        in_range = λ k l. let i = part_inside d.core.rows.items d.parts.of_rows.items part k l in let n = divides.rows in let h = height_of_runs m in omega (arith, i, n, h);
+        in_range = λ k l. let line_below = part_inside d.core.rows.items d.parts.of_rows.items part k l in
+            let same_rows = divides.rows in let height = height_of_runs m in omega (arith, line_below, same_rows, height);
       };
       column_set = record {
         increasing = part_increases d.core.columns.items d.parts.of_columns.items part;
-        in_range = λ k l. let i = part_inside d.core.columns.items d.parts.of_columns.items part k l in let n = divides.columns in omega (arith, i, n);
+        in_range = λ k l. let line_below = part_inside d.core.columns.items d.parts.of_columns.items part k l in let same_columns = divides.columns in omega (arith, line_below, same_columns);
       };
       part = open_part_is m t d shape shape_t crossed divides part thick;
     }))

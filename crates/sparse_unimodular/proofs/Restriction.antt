@@ -75,7 +75,8 @@ module _ (before t : SparseRows) (row k : ℕ) (run : List Nonzero) (marks : Lis
   copy_with next inside within h e = subst (HasRun before row (marked_run marks (take (k + 1) run))) (sym next_is) (record {
     rows = length-set t.runs row (run_of t row ++ here ∷ []) ∙ is.rows;
     width = is.width;
-    here = get_or-set_same t.runs row (run_of t row ++ here ∷ []) [] (let n = is.rows in omega (arith, n, inside)) ∙ ap (λ (r : List Nonzero). r ++ here ∷ []) is.here ∙ sym (run_with marks run k below h);
+    here = get_or-set_same t.runs row (run_of t row ++ here ∷ []) [] (let same_rows = is.rows in omega (arith, same_rows, inside))
+        ∙ ap (λ (r : List Nonzero). r ++ here ∷ []) is.here ∙ sym (run_with marks run k below h);
     others = λ other n. get_or-set_other t.runs row other (run_of t row ++ here ∷ []) [] n ∙ is.others other n;
   })
     where
@@ -134,7 +135,8 @@ module _ (m : SparseRows) (row_marks column_marks : List Bool) where
       width = is.width;
       runs = λ other l. elim (cases_lt other row) [
         | inl b ↦ is.runs other b
-        | inr b ↦ is.rest other b ∙ sym (ap (λ (t : Bool). if t then marked_run column_marks (run_of m other) else []) (subst (λ (k : ℕ). is_marked row_marks k ≡ false) (let f : row ≡ other = omega (arith, l, b) in f) h))
+        | inr b ↦ is.rest other b ∙ sym (ap (λ (t : Bool). if t then marked_run column_marks (run_of m other) else [])
+            (subst (λ (k : ℕ). is_marked row_marks k ≡ false) (let same_row : row ≡ other = omega (arith, l, b) in same_row) h))
       ];
       rest = λ other l. is.rest other (omega (arith, l));
     }

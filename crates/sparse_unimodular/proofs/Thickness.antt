@@ -49,13 +49,13 @@ module _ (t : SparseRows) (marks crossing : List Bool) (numbers : List ℕ) (cou
         | inl f ↦ none_some line (sym e ∙ ap (thick_at (set found here (Some line))) f ∙ there)
         | inr n ↦ elim (cases_lt other line) [
           | inl b ↦ is.none other b mark (sym (get_or-set_other found here (part_number numbers other) (Some line) None n) ∙ e)
-          | inr b ↦ absurd (n (ap (part_number numbers) (let f : other ≡ line = omega (arith, l, b) in f)))
+          | inr b ↦ absurd (n (ap (part_number numbers) (let same_line : other ≡ line = omega (arith, l, b) in same_line)))
         ]
       ];
     }
       where
         there : thick_at (set found here (Some line)) here ≡ Some line
-        there = get_or-set_same found here (Some line) None (let n = is.size in let l = below line h in omega (arith, n, l))
+        there = get_or-set_same found here (Some line) None (let same_size = is.size in let number_below = below line h in omega (arith, same_size, number_below))
 
     pub thick_without : (is_marked marks line ≡ true → nonzeros_left t crossing line ≤ 2) → AreThickBelow t marks crossing numbers count (line + 1) found
     thick_without few = record {
@@ -63,8 +63,8 @@ module _ (t : SparseRows) (marks crossing : List Bool) (numbers : List ℕ) (cou
       some = is.some;
       none = λ other l mark e. elim (cases_lt other line) [
         | inl b ↦ is.none other b mark e
-        | inr b ↦ let f : other ≡ line = omega (arith, l, b) in
-            subst (λ (k : ℕ). nonzeros_left t crossing k ≤ 2) (sym f) (few (subst (λ (k : ℕ). is_marked marks k ≡ true) f mark))
+        | inr b ↦ let same_line : other ≡ line = omega (arith, l, b) in
+            subst (λ (k : ℕ). nonzeros_left t crossing k ≤ 2) (sym same_line) (few (subst (λ (k : ℕ). is_marked marks k ≡ true) same_line mark))
       ];
     }
 
@@ -72,5 +72,5 @@ module _ (t : SparseRows) (marks crossing : List Bool) (numbers : List ℕ) (cou
   thick_ends n found l is = record {
     size = is.size;
     some = is.some;
-    none = λ line mark. is.none line (let i = mark_inside marks line mark in omega (arith, i, l)) mark;
+    none = λ line mark. is.none line (let line_below = mark_inside marks line mark in omega (arith, line_below, l)) mark;
   }
