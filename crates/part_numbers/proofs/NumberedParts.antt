@@ -22,8 +22,8 @@ use Rattle.part_numbers.specs.PartNumbering.{part_number, lines_of_part, parts_o
 -- a line of a part is marked and has its number
 pub line_is : (marks : List Bool) (numbers : List ℕ) (part line : ℕ) → Contains (lines_of_part marks numbers part) line → (is_marked marks line ≡ true) × (part_number numbers line ≡ part)
 line_is marks numbers part line h =
-    let w = in_filter (λ x. nat_eq (part_number numbers x) part) line (marked marks) (in_from_contains (lines_of_part marks numbers part) line h) in
-    ((in_marked marks line).0 w.0, eq_of (part_number numbers line) part w.1)
+    let selected = in_filter (λ x. nat_eq (part_number numbers x) part) line (marked marks) (in_from_contains (lines_of_part marks numbers part) line h) in
+    ((in_marked marks line).0 selected.0, eq_of (part_number numbers line) part selected.1)
 
 pub is_line : (marks : List Bool) (numbers : List ℕ) (part line : ℕ) → is_marked marks line ≡ true → part_number numbers line ≡ part → Contains (lines_of_part marks numbers part) line
 is_line marks numbers part line mark e = contains_from_in (lines_of_part marks numbers part) line
@@ -43,10 +43,10 @@ module _ (M : ℕ → ℕ → ℤ) (row_marks column_marks : List Bool) (of_rows
   part_is part l = get_or-map-range_with_len part_named 0 count part part no_lines l (omega arith)
 
   below : (a : ℕ) → a < length parts → a < count
-  below a l = let n = length-parts in omega (arith, l, n)
+  below a l = let part_count = length-parts in omega (arith, l, part_count)
 
   above : (a : ℕ) → a < count → a < length parts
-  above a l = let n = length-parts in omega (arith, l, n)
+  above a l = let part_count = length-parts in omega (arith, l, part_count)
 
   row_is : (a r : ℕ) → a < length parts → Contains (part_at parts a).rows r → (is_marked row_marks r ≡ true) × (part_number of_rows r ≡ a)
   row_is a r l h = line_is row_marks of_rows a r (subst (λ (p : LineSet). Contains p.rows r) (part_is a (below a l)) h)
@@ -57,9 +57,9 @@ module _ (M : ℕ → ℕ → ℤ) (row_marks column_marks : List Bool) (of_rows
   apart : (a b r c : ℕ) → a < length parts → b < length parts → a ≢ b → Contains (part_at parts a).rows r → Contains (part_at parts b).columns c → M r c ≡ pos 0
   apart a b r c la lb differ h g = elim (two_cases (is_nonzero (M r c))) [
     | inl t ↦
-        let v = row_is a r la h in
-        let w = column_is b c lb g in
-        absurd (differ (sym v.1 ∙ sym (is.together r v.0 c w.0 (nonzero_is (M r c) t)) ∙ w.1))
+        let row_numbered = row_is a r la h in
+        let column_numbered = column_is b c lb g in
+        absurd (differ (sym row_numbered.1 ∙ sym (is.together r row_numbered.0 c column_numbered.0 (nonzero_is (M r c) t)) ∙ column_numbered.1))
     | inr f ↦ zero_is (M r c) f
   ]
 
@@ -67,10 +67,16 @@ module _ (M : ℕ → ℕ → ℤ) (row_marks column_marks : List Bool) (of_rows
   numbered_lines_are_parts = record {
     rows_within = λ a l r h. contains_marked row_marks r (row_is a r l h).0;
     columns_within = λ a l c h. contains_marked column_marks c (column_is a c l h).0;
-    rows_all = λ r h. let e = marked_contains row_marks r h in let l = is.rows_below r e in
-        (part_number of_rows r, above (part_number of_rows r) l, subst (λ (p : LineSet). Contains p.rows r) (sym (part_is (part_number of_rows r) l)) (is_line row_marks of_rows (part_number of_rows r) r e refl));
-    columns_all = λ c h. let e = marked_contains column_marks c h in let l = is.columns_below c e in
-        (part_number of_columns c, above (part_number of_columns c) l, subst (λ (p : LineSet). Contains p.columns c) (sym (part_is (part_number of_columns c) l)) (is_line column_marks of_columns (part_number of_columns c) c e refl));
+    rows_all = λ r h. let row_mark = marked_contains row_marks r h in let number_below = is.rows_below r row_mark in (
+      part_number of_rows r,
+      above (part_number of_rows r) number_below,
+      subst (λ (p : LineSet). Contains p.rows r) (sym (part_is (part_number of_rows r) number_below)) (is_line row_marks of_rows (part_number of_rows r) r row_mark refl),
+    );
+    columns_all = λ c h. let column_mark = marked_contains column_marks c h in let number_below = is.columns_below c column_mark in (
+      part_number of_columns c,
+      above (part_number of_columns c) number_below,
+      subst (λ (p : LineSet). Contains p.columns c) (sym (part_is (part_number of_columns c) number_below)) (is_line column_marks of_columns (part_number of_columns c) c column_mark refl),
+    );
     zero = apart;
   }
 
@@ -78,8 +84,9 @@ pub numbered_parts_decide : (m : Matrix) (row_marks column_marks : List Bool) (o
     → HasNoViolator (submatrix m (marked row_marks) (marked column_marks))
     ↔ ((part : ℕ) → part < count → HasNoViolator (submatrix m (lines_of_part row_marks of_rows part) (lines_of_part column_marks of_columns part)))
 numbered_parts_decide m row_marks column_marks of_rows of_columns count is = (
-  λ free part l. subst (λ (p : LineSet). HasNoViolator (submatrix m p.rows p.columns)) (named part l) (decide.0 free part (let n = size in omega (arith, l, n))),
-  λ all. decide.1 (λ part l. let k : part < count = (let n = size in omega (arith, l, n)) in subst (λ (p : LineSet). HasNoViolator (submatrix m p.rows p.columns)) (sym (named part k)) (all part k)),
+  λ free part l. subst (λ (p : LineSet). HasNoViolator (submatrix m p.rows p.columns)) (named part l) (decide.0 free part (let part_count = size in omega (arith, l, part_count))),
+  λ all. decide.1 (λ part l. let in_count : part < count = (let part_count = size in omega (arith, l, part_count)) in
+      subst (λ (p : LineSet). HasNoViolator (submatrix m p.rows p.columns)) (sym (named part in_count)) (all part in_count)),
 )
   where
     sets : List LineSet

@@ -8,10 +8,10 @@ returns-then-not-is_row_together c = (λ t. true_is_false (sym t), λ h. sym c.i
 
 pub returns : goal.returns
 returns c = (
-  λ t row mark. c.loop-row.invariant row (let l = mark_inside c.args.row_marks.now row mark in
+  λ t row mark. c.loop-row.invariant row (let row_below = mark_inside c.args.row_marks.now row mark in
       let end = c.loop-row-test.false in
       let count = c.rows-row-end.ensures.rows in
       let long = c.requires.row_marks in
-      omega (arith, l, end, count, long)) mark,
+      omega (arith, row_below, end, count, long)) mark,
   λ h. refl,
 )
