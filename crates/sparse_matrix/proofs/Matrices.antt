@@ -16,7 +16,7 @@ use Rattle.sparse_matrix.specs.SparseRows.{SparseRows, run_of, value_in, sparse_
 pub value_past : (width : ℕ) (run : List Nonzero) (column : ℕ) → AllByRecursion (IsNonzeroWithin width) run → width ≤ column → value_in run column ≡ pos 0
 value_past width [] column all l = refl
 value_past width (x ∷ run) column all l =
-    ap (λ (b : Bool). if b then x.value else value_in run column) (is_ne x.line column (λ e. let h = all.0.inside in omega (arith, e, h, l)))
+    ap (λ (b : Bool). if b then x.value else value_in run column) (is_ne x.line column (λ e. let line_inside = all.0.inside in omega (arith, e, line_inside, l)))
     ∙ value_past width run column all.1 l
 
 pub small_value : (width : ℕ) (run : List Nonzero) (column : ℕ) → AllByRecursion (IsNonzeroWithin width) run → IsEntry (value_in run column)

@@ -148,17 +148,18 @@ pub written_more : (old t next : SparseRows) (row k : ℕ) (run : List Nonzero) 
     → next ≡ with_nonzero t (get_or run k no_nonzero).line (record { line = row; value = to_z w8 (of_z w8 (get_or run k no_nonzero).value) })
     → IsWritten old row (take (k + 1) run) next
 written_more old t next row k run l within shape written e =
-    let x : Nonzero = get_or run k no_nonzero in
-    let at : IsNonzeroWithin (length old.runs) x = all_at (IsNonzeroWithin (length old.runs)) run k no_nonzero within l in
-    let next_is : next ≡ with_nonzero t x.line (record { line = row; value = x.value }) =
-    e ∙ ap (λ (z : ℤ). with_nonzero t x.line (record { line = row; value = z })) (byte_sign x.value at.sign) in
+    let nonzero : Nonzero = get_or run k no_nonzero in
+    let at : IsNonzeroWithin (length old.runs) nonzero = all_at (IsNonzeroWithin (length old.runs)) run k no_nonzero within l in
+    let next_is : next ≡ with_nonzero t nonzero.line (record { line = row; value = nonzero.value }) =
+    e ∙ ap (λ (z : ℤ). with_nonzero t nonzero.line (record { line = row; value = z })) (byte_sign nonzero.value at.sign) in
     subst (λ (n : SparseRows). IsWritten old row (take (k + 1) run) n) (sym next_is) (
-      length-set t.runs x.line (run_of t x.line ++ record { line = row; value = x.value } ∷ []) ∙ written.0,
+      length-set t.runs nonzero.line (run_of t nonzero.line ++ record { line = row; value = nonzero.value } ∷ []) ∙ written.0,
       written.1,
-      λ m is. subst (λ (r : List Nonzero). IsTransposedTo m row r (with_nonzero t x.line (record { line = row; value = x.value }))) (sym (take_more run k no_nonzero l))
-          (transposed_more m t row (take k run) x shape (subst (λ (n : ℕ). x.line < n) (sym written.0) at.inside)
+      λ m is. subst (λ (r : List Nonzero). IsTransposedTo m row r (with_nonzero t nonzero.line (record { line = row; value = nonzero.value }))) (sym (take_more run k no_nonzero l))
+          (transposed_more m t row (take k run) nonzero shape (subst (λ (n : ℕ). nonzero.line < n) (sym written.0) at.inside)
           (signs_within (length old.runs) (take k run) (all-take (IsNonzeroWithin (length old.runs)) k run within)) (written.2 m is)),
-      λ column. subst (λ (r : List Nonzero). sparse_entry (with_nonzero t x.line (record { line = row; value = x.value })) column row ≡ value_in r column) (sym (take_more run k no_nonzero l))
-          (entry_here t row (take k run) x shape (subst (λ (n : ℕ). x.line < n) (sym written.0) at.inside)
+      λ column. subst (λ (r : List Nonzero). sparse_entry (with_nonzero t nonzero.line (record { line = row; value = nonzero.value })) column row ≡ value_in r column)
+          (sym (take_more run k no_nonzero l))
+          (entry_here t row (take k run) nonzero shape (subst (λ (n : ℕ). nonzero.line < n) (sym written.0) at.inside)
           (signs_within (length old.runs) (take k run) (all-take (IsNonzeroWithin (length old.runs)) k run within)) written.3 column),
     )
