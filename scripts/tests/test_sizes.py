@@ -27,9 +27,9 @@ impl Block {
 fn nothing() {}
 """
 SHARED = 19
-LONG_LINES = 2183
-SHORT_NAMES = 4076
-TWICE = 219
+LONG_LINES = 2168
+SHORT_NAMES = 3941
+TWICE = 218
 PRIVATE = 0
 # The limits of the words of each kind of texts: of "where" in a thousand, and of the house words.
 WORDINGS = {"documents": (1, 0), "comments of .rt": (1, 3), "comments of .antt": (1, 2), "comments of .py": (1, 0)}
