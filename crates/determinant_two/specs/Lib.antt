@@ -1,0 +1,3 @@
+pub mod DeterminantTwo
+pub mod MinimalViolators
+pub mod Laws
