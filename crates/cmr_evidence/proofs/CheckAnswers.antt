@@ -36,6 +36,7 @@ use Rattle.cmr_front.specs.MatrixText.{matrix_in}
 use Rattle.cmr_front.specs.Report.{Report}
 use Rattle.cmr_front.specs.Status.{answer_status, failure_status}
 use Rattle.cmr_front.specs.Tool.{IsFaultOfFile, IsLawful}
+use Rattle.cmr_front.proofs.MatrixText.{read_is_matrix}
 use Rattle.cmr_front.proofs.Statuses.{IsAnswered, status_of}
 use Rattle.cmr_front.specs.Evidence.{IsSoundFor, evidence_files}
 use Rattle.cmr_front.proofs.Texts.{answered, one_of_text, pair_lawful, fault_of_last, fault_of_text}
@@ -71,27 +72,27 @@ one_tree m t r s (accepted sound means e) (refused path broken is f) = absurd (s
 one_tree m t r s (refused path broken is e) (accepted sound means f) = absurd (sound_unbroken m (places t.rows t.columns t.root) path broken sound is)
 one_tree m t r s (refused path broken is e) (refused path' broken' is' f) = status_of r _ e ∙ sym (status_of s _ f)
 
-by_verdict : (m : Matrix) (t : PlainTree) (sound : IsSoundFor m t) (v : Verdict) → verdict_of t.root ≡ v → VerdictMeans m v → (answer : Answer)
+by_verdict : (m : Matrix) (t : PlainTree) (is_matrix : IsMatrix m) (sound : IsSoundFor m t) (v : Verdict) → verdict_of t.root ≡ v → VerdictMeans m v → (answer : Answer)
     → (accepted_report m v).status ≡ answer_status answer → TreeMeans m t answer
-by_verdict m t sound verdicts.Yes e means Yes is = (sound, e, unimodular m means.unimodular)
-by_verdict m t sound verdicts.Yes e means No is = absurd (omega arith)
-by_verdict m t sound verdicts.Yes e means Undecided is = absurd (omega arith)
-by_verdict m t sound verdicts.Yes e means Refused is = absurd (omega arith)
-by_verdict m t sound (verdicts.No fault) e means Yes is = absurd (omega arith)
-by_verdict m t sound (verdicts.No fault) e means No is = (sound, fault, e, not_unimodular m fault means)
-by_verdict m t sound (verdicts.No fault) e means Undecided is = absurd (omega arith)
-by_verdict m t sound (verdicts.No fault) e means Refused is = absurd (omega arith)
-by_verdict m t sound (verdicts.Open lines) e means Yes is = absurd (omega arith)
-by_verdict m t sound (verdicts.Open lines) e means No is = absurd (omega arith)
-by_verdict m t sound (verdicts.Open lines) e means Undecided is = (sound, lines, e)
-by_verdict m t sound (verdicts.Open lines) e means Refused is = absurd (omega arith)
+by_verdict m t is_matrix sound verdicts.Yes e means Yes is = (sound, e, unimodular m means.unimodular)
+by_verdict m t is_matrix sound verdicts.Yes e means No is = absurd (omega arith)
+by_verdict m t is_matrix sound verdicts.Yes e means Undecided is = absurd (omega arith)
+by_verdict m t is_matrix sound verdicts.Yes e means Refused is = absurd (omega arith)
+by_verdict m t is_matrix sound (verdicts.No fault) e means Yes is = absurd (omega arith)
+by_verdict m t is_matrix sound (verdicts.No fault) e means No is = (sound, fault, e, not_unimodular m fault (is_ternary m is_matrix) means)
+by_verdict m t is_matrix sound (verdicts.No fault) e means Undecided is = absurd (omega arith)
+by_verdict m t is_matrix sound (verdicts.No fault) e means Refused is = absurd (omega arith)
+by_verdict m t is_matrix sound (verdicts.Open lines) e means Yes is = absurd (omega arith)
+by_verdict m t is_matrix sound (verdicts.Open lines) e means No is = absurd (omega arith)
+by_verdict m t is_matrix sound (verdicts.Open lines) e means Undecided is = (sound, lines, e)
+by_verdict m t is_matrix sound (verdicts.Open lines) e means Refused is = absurd (omega arith)
 
-tree_says : (m : Matrix) (t : PlainTree) (r : Report) (answer : Answer) → TreeDecides m t r → r.status ≡ answer_status answer → TreeMeans m t answer
-tree_says m t r answer (accepted sound means e) is = by_verdict m t sound (verdict_of t.root) refl means answer (sym (status_of r _ e) ∙ is)
-tree_says m t r Yes (refused path broken not e) is = let s = status_of r _ e in absurd (omega arith)
-tree_says m t r No (refused path broken not e) is = let s = status_of r _ e in absurd (omega arith)
-tree_says m t r Undecided (refused path broken not e) is = let s = status_of r _ e in absurd (omega arith)
-tree_says m t r Refused (refused path broken not e) is = (path, broken, not)
+tree_says : (m : Matrix) (t : PlainTree) (r : Report) (answer : Answer) → IsMatrix m → TreeDecides m t r → r.status ≡ answer_status answer → TreeMeans m t answer
+tree_says m t r answer is_matrix (accepted sound means e) is = by_verdict m t is_matrix sound (verdict_of t.root) refl means answer (sym (status_of r _ e) ∙ is)
+tree_says m t r Yes is_matrix (refused path broken not e) is = let s = status_of r _ e in absurd (omega arith)
+tree_says m t r No is_matrix (refused path broken not e) is = let s = status_of r _ e in absurd (omega arith)
+tree_says m t r Undecided is_matrix (refused path broken not e) is = let s = status_of r _ e in absurd (omega arith)
+tree_says m t r Refused is_matrix (refused path broken not e) is = (path, broken, not)
 
 -- ---- violators
 
@@ -101,15 +102,15 @@ one_violator m lines r s (accepted is e) (refused not f) = absurd (not is.violat
 one_violator m lines r s (refused not e) (accepted is f) = absurd (not is.violator)
 one_violator m lines r s (refused not e) (refused not' f) = status_of r _ e ∙ sym (status_of s _ f)
 
-violator_says : (m : Matrix) (lines : LineSet) (r : Report) (answer : Answer) → ViolatorDecides m lines r → r.status ≡ answer_status answer → ViolatorMeans m lines answer
-violator_says m lines r Yes (accepted refuted e) is = let s = status_of r _ e in absurd (omega arith)
-violator_says m lines r No (accepted refuted e) is = not_unimodular m lines refuted
-violator_says m lines r Undecided (accepted refuted e) is = let s = status_of r _ e in absurd (omega arith)
-violator_says m lines r Refused (accepted refuted e) is = let s = status_of r _ e in absurd (omega arith)
-violator_says m lines r Yes (refused not e) is = let s = status_of r _ e in absurd (omega arith)
-violator_says m lines r No (refused not e) is = let s = status_of r _ e in absurd (omega arith)
-violator_says m lines r Undecided (refused not e) is = let s = status_of r _ e in absurd (omega arith)
-violator_says m lines r Refused (refused not e) is = not
+violator_says : (m : Matrix) (lines : LineSet) (r : Report) (answer : Answer) → IsMatrix m → ViolatorDecides m lines r → r.status ≡ answer_status answer → ViolatorMeans m lines answer
+violator_says m lines r Yes is_matrix (accepted refuted e) is = let s = status_of r _ e in absurd (omega arith)
+violator_says m lines r No is_matrix (accepted refuted e) is = not_unimodular m lines (is_ternary m is_matrix) refuted
+violator_says m lines r Undecided is_matrix (accepted refuted e) is = let s = status_of r _ e in absurd (omega arith)
+violator_says m lines r Refused is_matrix (accepted refuted e) is = let s = status_of r _ e in absurd (omega arith)
+violator_says m lines r Yes is_matrix (refused not e) is = let s = status_of r _ e in absurd (omega arith)
+violator_says m lines r No is_matrix (refused not e) is = let s = status_of r _ e in absurd (omega arith)
+violator_says m lines r Undecided is_matrix (refused not e) is = let s = status_of r _ e in absurd (omega arith)
+violator_says m lines r Refused is_matrix (refused not e) is = not
 
 -- ---- chains
 
@@ -184,17 +185,17 @@ module _ (file : List ℕ) where
   one_evidence kinds.Chain bytes m r s a b = one_of_text faults.Chain file (ChainDecides m) (one_chain m) (chain (text_of bytes)) r s a b
   one_evidence kinds.Violator bytes m r s a b = one_of_text faults.Matrix file (ViolatorDecides m) (one_violator m) (named_lines (height m) m.width (text_of bytes)) r s a b
 
-  evidence_says : (kind : EvidenceKind) (bytes : List ℕ) (m : Matrix) (r : Report) (answer : Answer) → EvidenceReports file kind m bytes r
+  evidence_says : (kind : EvidenceKind) (bytes : List ℕ) (m : Matrix) (r : Report) (answer : Answer) → IsMatrix m → EvidenceReports file kind m bytes r
       → r.status ≡ answer_status answer → EvidenceMeans kind m bytes answer
-  evidence_says kinds.Tree bytes m r answer a is =
+  evidence_says kinds.Tree bytes m r answer is_matrix a is =
       let found = answered faults.Tree file (TreeDecides m) (tree (text_of bytes)) r answer a is in
-      (found.0, found.1, tree_says m found.0 r answer found.2 is)
-  evidence_says kinds.Chain bytes m r answer a is =
+      (found.0, found.1, tree_says m found.0 r answer is_matrix found.2 is)
+  evidence_says kinds.Chain bytes m r answer is_matrix a is =
       let found = answered faults.Chain file (ChainDecides m) (chain (text_of bytes)) r answer a is in
       (found.0, found.1, chain_says m found.0 r answer found.2 is)
-  evidence_says kinds.Violator bytes m r answer a is =
+  evidence_says kinds.Violator bytes m r answer is_matrix a is =
       let found = answered faults.Matrix file (ViolatorDecides m) (named_lines (height m) m.width (text_of bytes)) r answer a is in
-      (found.0, found.1, violator_says m found.0 r answer found.2 is)
+      (found.0, found.1, violator_says m found.0 r answer is_matrix found.2 is)
 
 module _ (o : CheckOrder) where
   one : (matrix evidence : List ℕ) (r s : Report) → CheckReports o matrix evidence r → CheckReports o matrix evidence s → r.status ≡ s.status
@@ -206,7 +207,8 @@ module _ (o : CheckOrder) where
   says matrix evidence r answer a is =
       let kind = evidence_kind evidence in
       let found = answered faults.Matrix o.matrix (λ m. EvidenceReports o.evidence kind m evidence) (matrix_in o.form (is_of_support kind) matrix) r answer a is in
-      (found.0, found.1, evidence_says o.evidence kind evidence found.0 r answer found.2 is)
+      let is_matrix = read_is_matrix o.form (is_of_support kind) matrix found.0 found.1 in
+      (found.0, found.1, evidence_says o.evidence kind evidence found.0 r answer is_matrix found.2 is)
 
   evidence_fault : (kind : EvidenceKind) (m : Matrix) (evidence : List ℕ) (r : Report) → EvidenceReports o.evidence kind m evidence r
       → r.status ≡ failure_status Text → IsFaultOfFile (evidence_files o.matrix o.evidence) r

@@ -1,4 +1,3 @@
-pub mod OtherDeterminants
 pub mod Unimodular
 pub mod VerdictWords
 pub mod CheckAnswers

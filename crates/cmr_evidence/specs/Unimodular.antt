@@ -1,10 +1,9 @@
 -- What a verdict says of a matrix: it is totally unimodular, or it has a violator.
-use Rattle.std.specs.Prelude.{◌≡◌, ℕ, List, length}
 use Rattle.cmr_base.specs.declared.line_set.LineSet.{LineSet}
-use Rattle.cmr_base.specs.Matrix.{Matrix, entry, IsEntry}
-use Rattle.cmr_base.specs.Determinants.{HasUnimodularMinors, determinant}
-use Rattle.cmr_base.specs.LineSets.{IsRowSet, IsColumnSet}
+use Rattle.cmr_base.specs.Matrix.{Matrix}
+use Rattle.cmr_base.specs.Determinants.{HasUnimodularMinors}
 use Rattle.cmr_base.specs.Signing.{IsTotallyUnimodular}
+use Rattle.determinant_two.specs.DeterminantTwo.{HasDeterminantTwo}
 use Rattle.ghouila.specs.IntegralLaws.{HasIntegralVertices}
 use Rattle.tree_laws.specs.Laws.{IsRefuted}
 
@@ -15,16 +14,7 @@ pub record IsUnimodular (m : Matrix) : Type 0 where
   pub minors : HasUnimodularMinors m
   pub vertices : HasIntegralVertices m
 
--- a square submatrix whose determinant is none of -1, 0 and 1
-pub record HasOtherDeterminant (m : Matrix) : Type 0 where
-  pub rows : List ℕ
-  pub columns : List ℕ
-  pub row_set : IsRowSet m rows
-  pub column_set : IsColumnSet m columns
-  pub square : length rows ≡ length columns
-  pub determinant : ¬ (IsEntry (determinant (entry m) rows columns))
-
--- these lines are a violator, whose rows have no signing
+-- These lines are a violator, whose rows have no signing. Some of them form a square submatrix with determinant 2 or -2.
 pub record IsNotUnimodular (m : Matrix) (fault : LineSet) : Type 0 where
   pub refuted : IsRefuted m fault
-  pub minor : HasOtherDeterminant m
+  pub minor : HasDeterminantTwo m fault.rows fault.columns

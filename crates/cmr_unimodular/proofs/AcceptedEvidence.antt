@@ -1,5 +1,5 @@
 -- `check` accepts the evidence that `tu` and `regular` write.
-use Rattle.std.proofs.Common.{◌≡◌, ◌∙◌, ℕ, true, false, List, [], ◌∷◌, Some, Ok, refl, sym, subst}
+use Rattle.std.proofs.Common.{◌≡◌, ◌∙◌, ℕ, true, false, List, [], ◌∷◌, Some, Ok, refl, sym, subst, arith}
 use Rattle.std.specs.List.{AllByRecursion}
 use Rattle.std.proofs.lemmas.Bool.{false≢true}
 use Rattle.cmr_base.specs.declared.limits.TheConstants.{MAX_EVIDENCE}
@@ -68,7 +68,7 @@ module _ (form : MatrixForm) (file evidence matrix_text : List ℕ) (m : Matrix)
       let bytes = submatrix_text (height m) m.width fault in
       let report = accepted_report m (verdicts.No fault) in
       let again : named_lines (height m) m.width (text_of bytes) ≡ Ok fault =
-      submatrix_again (height m) m.width fault is.height_in is.width_in refuted.row_set.increasing refuted.column_set.increasing refuted.row_set.in_range refuted.column_set.in_range in
+      submatrix_again (height m) m.width fault (omega (arith, is.height_in)) (omega (arith, is.width_in)) refuted.row_set.increasing refuted.column_set.increasing refuted.row_set.in_range refuted.column_set.in_range in
       subst (λ kind. CheckReportsBy (check_of form file evidence) kind matrix_text bytes report) (sym (kind_of_lines (height m) m.width bytes fault again))
       (read_reported faults.Matrix file (λ m. EvidenceReports evidence kinds.Violator m bytes) (matrix_in form false matrix_text) m report read
       (read_reported faults.Matrix evidence (ViolatorDecides m) (named_lines (height m) m.width (text_of bytes)) fault report again (accepted refuted refl)))

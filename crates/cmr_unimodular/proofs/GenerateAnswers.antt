@@ -76,7 +76,7 @@ says : (o : GenerateOrder) (r : Report) (answer : Answer) → GenerateDecides o 
 says o r answer d is =
     let v = d.verdict in
     let status : answer_status (answer_of (verdict_in v.tree)) ≡ answer_status answer = sym (status_of d.tested _ v.report_is) ∙ sym (status_of r _ d.report_is) ∙ is in
-    (d.made, d.is_made, unimodular_means o.budget o.pivots d.made v.tree v.decomposition v.right answer status)
+    (d.made, d.is_made, unimodular_means o.budget o.pivots d.made d.is_made.is_matrix v.tree v.decomposition v.right answer status)
 
 answers : (o : GenerateOrder) (r : Report) → GenerateDecides o r → IsAnswered r
 answers o r d = (answer_of (verdict_in d.verdict.tree), status_of r _ d.report_is ∙ status_of d.tested _ d.verdict.report_is)

@@ -94,8 +94,13 @@ says_signed o a signed steps is Refused none = none
 
 says : (o : RegularOrder) (a : Matrix) (r : Report) (answer : Answer) → RegularDecides o a r → r.status ≡ answer_status answer → RegularMeans o a answer
 says o a r answer d is =
-    let status : answer_status (answer_of (verdict_in d.tree)) ≡ answer_status answer = sym (status_of r _ d.report_is) ∙ is in
-    (d.steps, d.signed, d.signing, says_signed o a d.signed d.steps d.signing answer (unimodular_means o.budget o.pivots d.signed d.tree d.decomposition d.right answer status))
+    let status : answer_status (answer_of (verdict_in d.tree)) ≡ answer_status answer = sym (status_of r _ d.report_is) ∙ is in (
+      d.steps,
+      d.signed,
+      d.signing,
+      says_signed o a d.signed d.steps d.signing answer
+          (unimodular_means o.budget o.pivots d.signed d.signing.signed_matrix d.tree d.decomposition d.right answer status),
+    )
 
 pub regular_lawful : (o : RegularOrder) → IsLawful (regular_tool o)
 regular_lawful o = lawful (regular_source o) (RegularDecides o) (RegularMeans o) (says o) _ (one_status o) (λ a r d. (answer_of (verdict_in d.tree), status_of r _ d.report_is))

@@ -86,14 +86,14 @@ ends_aside m row left is small none (violated steps row_marks column_marks odd f
 -- ---- a pivot
 
 -- a position of some rows and a column
-record Spot : Type 0 where
+record LeftPlace : Type 0 where
   place : ℕ
   column : ℕ
 
-spot_key : Spot → List ℕ
+spot_key : LeftPlace → List ℕ
 spot_key s = s.place ∷ s.column ∷ []
 
-two_numbers : (s : Spot) → length (spot_key s) ≡ 2
+two_numbers : (s : LeftPlace) → length (spot_key s) ≡ 2
 unfolding spot_key
 two_numbers s = refl
 
@@ -194,12 +194,12 @@ module _ (m : Matrix) (rows : List ℕ) (is : IsRowSet m rows) (small : AreSmall
     -- ---- the first 2 or -2
 
     -- the pivot gives a 2 or a -2 at a position
-    record HasTwo (s : Spot) : Type 0 where
+    record HasTwo (s : LeftPlace) : Type 0 where
       within : s.place < length left
       column_in : s.column < m.width
       two : ¬ (IsEntry (reduced (entry m) row column (get_or left s.place 0) s.column))
 
-    first_two : (s : Spot) → IsFirstBy spot_key HasTwo s → IsFirstTwoEntry m left row column s.place s.column
+    first_two : (s : LeftPlace) → IsFirstBy spot_key HasTwo s → IsFirstTwoEntry m left row column s.place s.column
     unfolding spot_key
     first_two s f = record {
       within = f.has.within;
@@ -211,7 +211,7 @@ module _ (m : Matrix) (rows : List ℕ) (is : IsRowSet m rows) (small : AreSmall
           entry_unless (reduced (entry m) row column (get_or left s.place 0) j) (λ two. f.first (record { place = s.place; column = j }) (record { within = f.has.within; column_in = omega (arith, l, inside); two = two }) (inr (refl, inl l)));
     }
 
-    square_at : (s : Spot) → HasTwo s → HasSquareViolator m row column (get_or left s.place 0) s.column
+    square_at : (s : LeftPlace) → HasTwo s → HasSquareViolator m row column (get_or left s.place 0) s.column
     square_at s has =
         let other = get_or left s.place 0 in
         let there = in_at left s.place has.within in
@@ -225,7 +225,7 @@ module _ (m : Matrix) (rows : List ℕ) (is : IsRowSet m rows) (small : AreSmall
               ];
         }
 
-    ends_square : (s : Spot) → IsFirstBy spot_key HasTwo s → Ends m rows
+    ends_square : (s : LeftPlace) → IsFirstBy spot_key HasTwo s → Ends m rows
     ends_square s f =
         let other = get_or left s.place 0 in
         let square = square_at s f.has in
@@ -247,7 +247,7 @@ module _ (m : Matrix) (rows : List ℕ) (is : IsRowSet m rows) (small : AreSmall
           columns_are = in_two_marks m.width column s.column first.pivot.column_in square.column_in;
         })
       where
-        two_among : (s : Spot) → s.place < length left → (i : ℕ) → Contains (row ∷ get_or left s.place 0 ∷ []) i → Contains rows i
+        two_among : (s : LeftPlace) → s.place < length left → (i : ℕ) → Contains (row ∷ get_or left s.place 0 ∷ []) i → Contains rows i
         two_among s within i h = go (in_from_contains (row ∷ get_or left s.place 0 ∷ []) i h)
           where
             go : IsIn i (row ∷ get_or left s.place 0 ∷ []) → Contains rows i
@@ -321,12 +321,12 @@ abbrev pub EndBelow : ℕ → Type 0
 EndBelow bound = (m : Matrix) (rows : List ℕ) → length rows < bound → IsRowSet m rows → AreSmall m rows → NotExcluded (Ends m rows)
 
 module _ (m : Matrix) (rows : List ℕ) (is : IsRowSet m rows) (small : AreSmall m rows) (place column : ℕ) (first : IsFirstPivot m rows place column) where
-  all_small : ((s : Spot) → ¬ (HasTwo m rows is small place column first s)) → (k : ℕ) → k < length (remove rows place)
+  all_small : ((s : LeftPlace) → ¬ (HasTwo m rows is small place column first s)) → (k : ℕ) → k < length (remove rows place)
       → IsTernaryRow m.width (reduced (entry m) (get_or rows place 0) column (get_or (remove rows place) k 0))
   all_small none k l j low = entry_unless (reduced (entry m) (get_or rows place 0) column (get_or (remove rows place) k 0) j) (λ two. none (record { place = k; column = j }) (record { within = l; column_in = low; two = two }))
 
   ends_by_pivot : (bound : ℕ) → length rows < suc bound → EndBelow bound → NotExcluded (Ends m rows)
-  ends_by_pivot bound l later none = one_of_two ((s : Spot) × HasTwo m rows is small place column first s) (λ either. elim either [
+  ends_by_pivot bound l later none = one_of_two ((s : LeftPlace) × HasTwo m rows is small place column first s) (λ either. elim either [
     | inl two ↦ first_key spot_key 2 two_numbers (HasTwo m rows is small place column first) two.0 two.1 (λ s. none (ends_square m rows is small place column first s.0 s.1))
     | inr without ↦
         let all = all_small (λ s two. without (s, two)) in
