@@ -2,6 +2,7 @@
 use Rattle.std.proofs.Common.{◌≡◌, ◌⊎◌, ℕ, ℤ, pos, negsuc, zero, suc, Bool, true, List, [], ◌∷◌, map, Result, Ok, Err, sym, subst, inl, inr, refl}
 use Rattle.std.specs.Prelude.{IfOk}
 use Rattle.std.specs.List.{AllByRecursion, range_with_len, slice_index_or}
+use Rattle.cmr_base.specs.declared.limits.TheConstants.{MAX_COLUMNS, MAX_ROWS}
 use Rattle.cmr_base.specs.Matrix.{Matrix}
 use Rattle.cmr_base.specs.Trees.{IsBinary}
 use Rattle.cmr_base.proofs.Rows.{each-rows_of}
@@ -57,13 +58,13 @@ all-map P f (x ∷ xs) each = (each x, all-map P f xs each)
 pub dense_binary : (binary : Bool) (text : Text) (r : Result Matrix (FieldError TextKind)) → Gives (λ m. m) r (dense binary text) → binary ≡ true → IfOk r IsBinary
 dense_binary binary text (Err e) read is_binary = tt
 dense_binary binary text (Ok m) read is_binary =
-    let is = dense_texts.found true text (Ok m) (subst (λ (b : Bool). Gives (λ m. m) (Ok m) (dense b text)) is_binary read) in
+    let is = dense_texts.found MAX_ROWS MAX_COLUMNS true text (Ok m) (subst (λ (b : Bool). Gives (λ m. m) (Ok m) (dense b text)) is_binary read) in
     subst IsBinary (sym is.matrix) (each-rows_of IsZeroOrOne is.height is.width is.cells (inl refl) (spelled_cells IsZeroOrOne true (inl refl) word_binary is.entry_words is.cells is.entries_are))
 
 pub sparse_binary : (binary : Bool) (text : Text) (r : Result Matrix (FieldError TextKind)) → Gives (λ m. m) r (sparse binary text) → binary ≡ true → IfOk r IsBinary
 sparse_binary binary text (Err e) read is_binary = tt
 sparse_binary binary text (Ok m) read is_binary =
-    let is = sparse_texts.found true text (Ok m) (subst (λ (b : Bool). Gives (λ m. m) (Ok m) (sparse b text)) is_binary read) in
+    let is = sparse_texts.found MAX_ROWS MAX_COLUMNS true text (Ok m) (subst (λ (b : Bool). Gives (λ m. m) (Ok m) (sparse b text)) is_binary read) in
     subst IsBinary (sym is.matrix) (rows_binary (matrix_of_triples is.height is.width is.triples).rows
     (all-map (AllByRecursion IsZeroOrOne) (λ row. map (value_at is.triples row) (range_with_len 1 is.width)) (range_with_len 1 is.height)
     (λ row. all-map IsZeroOrOne (value_at is.triples row) (range_with_len 1 is.width) (spelled_values IsZeroOrOne true (inl refl) word_binary is.triple_words is.triples is.triples_are row))))

@@ -5,6 +5,7 @@ use Rattle.std.specs.Fmt.{decimal, signed_decimal}
 use Rattle.std.specs.List.{AllByRecursion, flat_map}
 use Rattle.std.proofs.Math.Nat.{suc-mul, zero-mul}
 use Rattle.std.proofs.lemmas.List.{take_at, drop_at, length-append}
+use Rattle.cmr_base.specs.declared.limits.TheConstants.{MAX_COLUMNS, MAX_ROWS}
 use Rattle.cmr_base.specs.Matrix.{Matrix, height, entry, IsMatrix, IsEntry, rows_of}
 use Rattle.text_fields.specs.TextWords.{text_of, words_from}
 use Rattle.text_fields.proofs.LineWords.{IsWord, words_in_lines}
@@ -40,7 +41,7 @@ entry_in_again binary z small may = rw (entry_again z small) (elim (entry_cases 
     minus false no_minus = refl
 
 pub dense_again : (binary : Bool) (m : Matrix) → IsMatrix m → (IsTrue binary → (row column : ℕ) → entry m row column ≢ negsuc 0) → dense binary (text_of (dense_text m)) ≡ Ok m
-dense_again binary m shape may = dense_only binary (length (dense_text m)) (words_from 0 (dense_text m)) m (record {
+dense_again binary m shape may = dense_only MAX_ROWS MAX_COLUMNS binary (length (dense_text m)) (words_from 0 (dense_text m)) m (record {
   height = height m;
   width = m.width;
   cells = flat_map (λ row. row) m.rows;

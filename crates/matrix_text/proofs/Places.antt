@@ -29,6 +29,17 @@ pub record AreHeld (height width : ℕ) (taken : List Bool) (cells : List ℤ) (
   pub values : (row column : ℕ) → row < height → column < width → get_or cells (row * width + column) (pos 0) ≡ value_at triples (row + 1) (column + 1)
   pub small : (k : ℕ) → IsEntry (get_or cells k (pos 0))
 
+-- the taken positions of a matrix are the named positions
+abbrev pub AreTaken : ℕ → ℕ → (ℕ → ℕ → Bool) → List Triple → Type 0
+AreTaken height width is_taken triples = (row column : ℕ) → 0 < row → row ≤ height → 0 < column → column ≤ width → is_taken row column ≡ is_place_named triples row column
+
+pub held_marks : (height width : ℕ) (taken : List Bool) (cells : List ℤ) (triples : List Triple) → AreHeld height width taken cells triples
+    → AreTaken height width (λ row column. get_or taken ((row - 1) * width + (column - 1)) false) triples
+held_marks height width taken cells triples held row column row_above row_in column_above column_in =
+    let r : row - 1 + 1 ≡ row = omega arith in
+    let k : column - 1 + 1 ≡ column = omega arith in
+    held.marks (row - 1) (column - 1) (omega arith) (omega arith) ∙ ap (λ n. is_place_named triples n (column - 1 + 1)) r ∙ ap (is_place_named triples row) k
+
 pub zero_small : IsEntry (pos 0)
 zero_small = record { low = omega (arith, ints); high = omega (arith, ints) }
 
@@ -56,11 +67,11 @@ value_unnamed (t ∷ triples) row column h =
     let others : is_place_named triples row column ≡ false = grind (arith, h) in
     rw first (value_unnamed triples row column others)
 
-value_other : (triples : List Triple) (t : Triple) (row column : ℕ) → names row column t ≡ false → value_at (triples ++ t ∷ []) row column ≡ value_at triples row column
+pub value_other : (triples : List Triple) (t : Triple) (row column : ℕ) → names row column t ≡ false → value_at (triples ++ t ∷ []) row column ≡ value_at triples row column
 value_other [] t row column h = rw h refl
 value_other (x ∷ triples) t row column h = ap (λ (z : ℤ). cond (names row column x) x.value z) (value_other triples t row column h)
 
-value_new : (triples : List Triple) (t : Triple) (row column : ℕ) → is_place_named triples row column ≡ false → names row column t ≡ true → value_at (triples ++ t ∷ []) row column ≡ t.value
+pub value_new : (triples : List Triple) (t : Triple) (row column : ℕ) → is_place_named triples row column ≡ false → names row column t ≡ true → value_at (triples ++ t ∷ []) row column ≡ t.value
 value_new [] t row column h named = rw named refl
 value_new (x ∷ triples) t row column h named =
     let first : names row column x ≡ false = grind (arith, h) in

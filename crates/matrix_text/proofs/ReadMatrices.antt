@@ -3,6 +3,7 @@ use Rattle.std.proofs.Common.{◌≡◌, ◌∙◌, ◌+◌, ℕ, zero, suc, ℤ
 use Rattle.std.specs.List.{range_with_len}
 use Rattle.std.proofs.lemmas.Int.{ints}
 use Rattle.std.proofs.lemmas.List.FromFn.{length-map-range_with_len, get_or-map-range_with_len}
+use Rattle.cmr_base.specs.declared.limits.TheConstants.{MAX_COLUMNS, MAX_ROWS}
 use Rattle.cmr_base.specs.Matrix.{Matrix, IsEntry, IsMatrix}
 use Rattle.cmr_base.proofs.Parts.{each-map}
 use Rattle.cmr_base.proofs.Views.{is_matrix-cells}
@@ -34,12 +35,12 @@ word_small binary word z e =
 
 pub dense_is_matrix : (binary : Bool) (text : Text) (m : Matrix) → dense binary text ≡ Ok m → IsMatrix m
 dense_is_matrix binary text m read =
-    let is = dense_found binary text m read in
+    let is = dense_found MAX_ROWS MAX_COLUMNS binary text m read in
     subst IsMatrix (sym is.matrix) (is_matrix-cells is.height is.width is.cells is.height_in is.width_in is.count (spelled_cells IsEntry binary zero_small (word_small binary) is.entry_words is.cells is.entries_are))
 
 pub sparse_is_matrix : (binary : Bool) (text : Text) (m : Matrix) → sparse binary text ≡ Ok m → IsMatrix m
 sparse_is_matrix binary text m read =
-    let is = sparse_found binary text m read in
+    let is = sparse_found MAX_ROWS MAX_COLUMNS binary text m read in
     let value = value_at is.triples in
     let row : ℕ → List ℤ = λ i. map (value i) (range_with_len 1 is.width) in
     let tall = length-map-range_with_len row 1 is.height in

@@ -135,7 +135,8 @@ kept_skip : (b : Bool) (t : Triple) (triples : List Triple) (r c : ℕ) → name
 kept_skip true t triples r c other = rw other refl
 kept_skip false t triples r c other = refl
 
-kept_here : (z : ℤ) (row column : ℕ) (triples : List Triple) → is_place_named triples row column ≡ false → value_at (cond (is_nonzero z) ((record { row = row; column = column; value = z }) ∷ triples) triples) row column ≡ z
+kept_here : (z : ℤ) (row column : ℕ) (triples : List Triple) → is_place_named triples row column ≡ false
+    → value_at (cond (is_nonzero z) ((record { row = row; column = column; value = z }) ∷ triples) triples) row column ≡ z
 kept_here (pos zero) row column triples none = value_unnamed triples row column none
 kept_here (pos (suc n)) row column triples none = let rows : eqb row row ≡ true = grind (arith, nat_tests) in let columns : eqb column column ≡ true = grind (arith, nat_tests) in rw (rows, columns) refl
 kept_here (negsuc n) row column triples none = let rows : eqb row row ≡ true = grind (arith, nat_tests) in let columns : eqb column column ≡ true = grind (arith, nat_tests) in rw (rows, columns) refl
@@ -198,7 +199,7 @@ sparse_again binary m shape may =
     let placed = all_placed (height m) m.width 1 m.rows (omega arith) (omega arith) wide in
     let spelled = all_values (IsSpelled binary) 1 m.rows (all_entries (IsSpelled binary) m.rows (λ r k. record { word = entry_word (entry m r k) (shape.small r k); value = entry_in_again binary (entry m r k) (shape.small r k) (λ b. may b r k) })) in
     let few : nonzeros_of m.rows ≤ MAX_ROWS * MAX_COLUMNS = omega (arith, few_nonzeros m.width m.rows wide, mul-le-mul few_rows few_columns) in
-    sparse_only binary (length (sparse_text m)) (words_from 0 (sparse_text m)) m (record {
+    sparse_only MAX_ROWS MAX_COLUMNS binary (length (sparse_text m)) (words_from 0 (sparse_text m)) m (record {
       height = height m;
       width = m.width;
       triples = triples;

@@ -4,7 +4,6 @@ use Rattle.std.specs.Prelude.{IfOk}
 use Rattle.std.specs.List.{AllByRecursion}
 use Rattle.std.proofs.lemmas.List.{append-nil}
 use Rattle.std.proofs.lemmas.List.Folds.{list_any-append}
-use Rattle.cmr_base.specs.declared.limits.TheConstants.{MAX_COLUMNS, MAX_ROWS}
 use Rattle.cmr_base.specs.Matrix.{Matrix}
 use Rattle.cmr_base.proofs.Booleans.{eq_swapped}
 use Rattle.text_fields.specs.TextWords.{Text}
@@ -20,7 +19,7 @@ use Rattle.matrix_text.specs.declared.error.TextKind.{TextKind}
 use Rattle.matrix_text.specs.declared.error.TextKind.TheVariants.{Short, Extra, TooManyRows, TooManyColumns}
 use Rattle.matrix_text.specs.TextKinds.{text_kind, limit_kind}
 use Rattle.matrix_text.specs.Values.{count, limited, entry_in}
-use Rattle.matrix_text.specs.Sparse.{Triple, names, is_place_named, matrix_of_triples, SpellTriples, IsPlaced, NameOnce, IsSparse, free_place, another_triple, matrix_by_triples, sparse}
+use Rattle.matrix_text.specs.Sparse.{Triple, names, is_place_named, matrix_of_triples, SpellTriples, IsPlaced, NameOnce, IsSparseWithin, free_place, another_triple, matrix_by_triples, sparse_within}
 use Rattle.matrix_text.proofs.Lines.{size_found}
 use Rattle.matrix_text.proofs.FreePlaces.{free_place_ok, free_place_again}
 
@@ -181,66 +180,69 @@ list_found binary height width n text m h =
 three_words : (a b c : ℕ × List ℕ) (words x y rest : List (ℕ × List ℕ)) → words ≡ a ∷ x → x ≡ b ∷ y → y ≡ c ∷ rest → texts_of words ≡ a.1 ∷ b.1 ∷ c.1 ∷ texts_of rest
 three_words a b c words x y rest e f g = rw (e, f, g) refl
 
--- a text that is read is a sparse text
-pub sparse_found : (binary : Bool) (text : Text) (m : Matrix) → sparse binary text ≡ Ok m → IsSparse binary (texts_of text.words) m
-sparse_found binary text m h =
-    let a = bind_ok (field Short (limited MAX_ROWS TooManyRows) text) (λ (height : ℕ × Text). field Short (limited MAX_COLUMNS TooManyColumns) height.1 >>= λ width. field Short count width.1 >>= λ n. matrix_by_triples binary height.0 width.0 n.0 n.1 >>= λ matrix. ended Extra matrix.0 matrix.1) m h in
-    let b = bind_ok (field Short (limited MAX_COLUMNS TooManyColumns) a.0.1) (λ (width : ℕ × Text). field Short count width.1 >>= λ n. matrix_by_triples binary a.0.0 width.0 n.0 n.1 >>= λ matrix. ended Extra matrix.0 matrix.1) m a.2 in
-    let d = bind_ok (field Short count b.0.1) (λ (n : ℕ × Text). matrix_by_triples binary a.0.0 b.0.0 n.0 n.1 >>= λ matrix. ended Extra matrix.0 matrix.1) m b.2 in
-    go a.0 b.0 d.0 a.1 b.1 d.1 d.2
-  where
-    go : (a b d : ℕ × Text) → field Short (limited MAX_ROWS TooManyRows) text ≡ Ok a → field Short (limited MAX_COLUMNS TooManyColumns) a.1 ≡ Ok b
-        → field Short count b.1 ≡ Ok d → (matrix_by_triples binary a.0 b.0 d.0 d.1 >>= λ matrix. ended Extra matrix.0 matrix.1) ≡ Ok m
-        → IsSparse binary (texts_of text.words) m
-    go a b d ha hb hd h =
-        let height = size_found MAX_ROWS TooManyRows text a ha in
-        let width = size_found MAX_COLUMNS TooManyColumns a.1 b hb in
-        let n = count_found b.1 d hd in
-        let all = list_found binary a.0 b.0 d.0 d.1 m h in
-        record {
-          height = a.0;
-          width = b.0;
-          triples = all.triples;
-          height_word = height.0.1;
-          width_word = width.0.1;
-          count_word = n.0.1;
-          triple_words = texts_of (d.1).words;
-          words_are = three_words height.0 width.0 n.0 text.words (a.1).words (b.1).words (d.1).words height.1 width.1 n.1;
-          height_is = height.2;
-          width_is = width.2;
-          height_in = height.3;
-          width_in = width.3;
-          count_is = n.2 ∙ ap Ok (sym all.count);
-          triples_are = all.spell;
-          placed = all.placed;
-          once = all.once;
-          matrix = all.matrix;
-        }
+module _ (most_rows most_columns : ℕ) (binary : Bool) where
+  -- a text that is read is a sparse text
+  pub sparse_found : (text : Text) (m : Matrix) → sparse_within most_rows most_columns binary text ≡ Ok m → IsSparseWithin most_rows most_columns binary (texts_of text.words) m
+  sparse_found text m h =
+      let a = bind_ok (field Short (limited most_rows TooManyRows) text) (λ (height : ℕ × Text). field Short (limited most_columns TooManyColumns) height.1 >>= λ width. field Short count width.1 >>= λ n. matrix_by_triples binary height.0 width.0 n.0 n.1 >>= λ matrix. ended Extra matrix.0 matrix.1) m h in
+      let b = bind_ok (field Short (limited most_columns TooManyColumns) a.0.1) (λ (width : ℕ × Text). field Short count width.1 >>= λ n. matrix_by_triples binary a.0.0 width.0 n.0 n.1 >>= λ matrix. ended Extra matrix.0 matrix.1) m a.2 in
+      let d = bind_ok (field Short count b.0.1) (λ (n : ℕ × Text). matrix_by_triples binary a.0.0 b.0.0 n.0 n.1 >>= λ matrix. ended Extra matrix.0 matrix.1) m b.2 in
+      go a.0 b.0 d.0 a.1 b.1 d.1 d.2
+    where
+      go : (a b d : ℕ × Text) → field Short (limited most_rows TooManyRows) text ≡ Ok a → field Short (limited most_columns TooManyColumns) a.1 ≡ Ok b
+          → field Short count b.1 ≡ Ok d → (matrix_by_triples binary a.0 b.0 d.0 d.1 >>= λ matrix. ended Extra matrix.0 matrix.1) ≡ Ok m
+          → IsSparseWithin most_rows most_columns binary (texts_of text.words) m
+      go a b d ha hb hd h =
+          let height = size_found most_rows TooManyRows text a ha in
+          let width = size_found most_columns TooManyColumns a.1 b hb in
+          let n = count_found b.1 d hd in
+          let all = list_found binary a.0 b.0 d.0 d.1 m h in
+          record {
+            height = a.0;
+            width = b.0;
+            triples = all.triples;
+            height_word = height.0.1;
+            width_word = width.0.1;
+            count_word = n.0.1;
+            triple_words = texts_of (d.1).words;
+            words_are = three_words height.0 width.0 n.0 text.words (a.1).words (b.1).words (d.1).words height.1 width.1 n.1;
+            height_is = height.2;
+            width_is = width.2;
+            height_in = height.3;
+            width_in = width.3;
+            count_is = n.2 ∙ ap Ok (sym all.count);
+            triples_are = all.spell;
+            placed = all.placed;
+            once = all.once;
+            matrix = all.matrix;
+          }
 
--- a sparse text is read
-pub sparse_only : (binary : Bool) (size : ℕ) (words : List (ℕ × List ℕ)) (m : Matrix) → IsSparse binary (texts_of words) m → sparse binary (record { size = size; words = words }) ≡ Ok m
-sparse_only binary size [] m is = absurd (let e = is.words_are in cc)
-sparse_only binary size (h ∷ []) m is = absurd (let e = is.words_are in cc)
-sparse_only binary size (h ∷ w ∷ []) m is = absurd (let e = is.words_are in cc)
-sparse_only binary size (h ∷ w ∷ n ∷ words) m is =
-    let e = is.words_are in
-    let hw : h.1 ≡ is.height_word = cc in
-    let ww : w.1 ≡ is.width_word = cc in
-    let nw : n.1 ≡ is.count_word = cc in
-    let tw : texts_of words ≡ is.triple_words = cc in
-    let height : limited MAX_ROWS TooManyRows h.1 ≡ Ok is.height = limited_again (limit_kind TooManyRows) MAX_ROWS h.1 is.height (ap count_in hw ∙ is.height_is) is.height_in in
-    let width : limited MAX_COLUMNS TooManyColumns w.1 ≡ Ok is.width = limited_again (limit_kind TooManyColumns) MAX_COLUMNS w.1 is.width (ap count_in ww ∙ is.width_is) is.width_in in
-    let number : count n.1 ≡ Ok (length is.triples) = ap (renamed text_kind) (ap count_in nw ∙ is.count_is) in
-    let all : times (another_triple binary is.height is.width) (length is.triples) [] (record { size = size; words = words }) ≡ Ok (is.triples, record { size = size; words = [] }) =
-    ap (λ ws. times (another_triple binary is.height is.width) (length is.triples) [] (record { size = size; words = ws })) (sym (append-nil words))
-    ∙ triples_again binary is.height is.width size words [] [] is.triples (subst (λ ws. SpellTriples binary ws is.triples) (sym tw) is.triples_are) is.placed is.once in
-    rw (height, width, number, all) (ap Ok (sym is.matrix))
+  -- a sparse text is read
+  pub sparse_only : (size : ℕ) (words : List (ℕ × List ℕ)) (m : Matrix) → IsSparseWithin most_rows most_columns binary (texts_of words) m
+      → sparse_within most_rows most_columns binary (record { size = size; words = words }) ≡ Ok m
+  sparse_only size [] m is = absurd (let e = is.words_are in cc)
+  sparse_only size (h ∷ []) m is = absurd (let e = is.words_are in cc)
+  sparse_only size (h ∷ w ∷ []) m is = absurd (let e = is.words_are in cc)
+  sparse_only size (h ∷ w ∷ n ∷ words) m is =
+      let e = is.words_are in
+      let hw : h.1 ≡ is.height_word = cc in
+      let ww : w.1 ≡ is.width_word = cc in
+      let nw : n.1 ≡ is.count_word = cc in
+      let tw : texts_of words ≡ is.triple_words = cc in
+      let height : limited most_rows TooManyRows h.1 ≡ Ok is.height = limited_again (limit_kind TooManyRows) most_rows h.1 is.height (ap count_in hw ∙ is.height_is) is.height_in in
+      let width : limited most_columns TooManyColumns w.1 ≡ Ok is.width = limited_again (limit_kind TooManyColumns) most_columns w.1 is.width (ap count_in ww ∙ is.width_is) is.width_in in
+      let number : count n.1 ≡ Ok (length is.triples) = ap (renamed text_kind) (ap count_in nw ∙ is.count_is) in
+      let all : times (another_triple binary is.height is.width) (length is.triples) [] (record { size = size; words = words }) ≡ Ok (is.triples, record { size = size; words = [] }) =
+      ap (λ ws. times (another_triple binary is.height is.width) (length is.triples) [] (record { size = size; words = ws })) (sym (append-nil words))
+      ∙ triples_again binary is.height is.width size words [] [] is.triples (subst (λ ws. SpellTriples binary ws is.triples) (sym tw) is.triples_are) is.placed is.once in
+      rw (height, width, number, all) (ap Ok (sym is.matrix))
 
--- the same for the result of a function
-pub found : (binary : Bool) (text : Text) (r : Result Matrix (FieldError TextKind)) → Gives (λ m. m) r (sparse binary text) → IfOk r (IsSparse binary (texts_of text.words))
-found binary text (Ok m) gives = sparse_found binary text m gives
-found binary text (Err e) gives = tt
+  -- the same for the result of a function
+  pub found : (text : Text) (r : Result Matrix (FieldError TextKind))
+      → Gives (λ m. m) r (sparse_within most_rows most_columns binary text) → IfOk r (IsSparseWithin most_rows most_columns binary (texts_of text.words))
+  found text (Ok m) gives = sparse_found text m gives
+  found text (Err e) gives = tt
 
-pub only : (binary : Bool) (text : Text) (r : Result Matrix (FieldError TextKind)) → Gives (λ m. m) r (sparse binary text) → (m : Matrix)
-    → IsSparse binary (texts_of text.words) m → Gives (λ m. m) r (Ok m)
-only binary text r gives m is = subst (Gives (λ m. m) r) (sparse_only binary text.size text.words m is) gives
+  pub only : (text : Text) (r : Result Matrix (FieldError TextKind)) → Gives (λ m. m) r (sparse_within most_rows most_columns binary text) → (m : Matrix)
+      → IsSparseWithin most_rows most_columns binary (texts_of text.words) m → Gives (λ m. m) r (Ok m)
+  only text r gives m is = subst (Gives (λ m. m) r) (sparse_only text.size text.words m is) gives

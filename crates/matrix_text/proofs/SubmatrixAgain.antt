@@ -1,10 +1,9 @@
 -- A submatrix text that was written is read back as the same lines.
-use Rattle.std.proofs.Common.{◌≡◌, ◌≤◌, ◌+◌, ◌∙◌, ℕ, suc, List, [], ◌∷◌, ◌++◌, length, map, Ok, ap, arith}
+use Rattle.std.proofs.Common.{◌≡◌, ◌<◌, ◌+◌, ◌^◌, ◌∙◌, ℕ, suc, List, [], ◌∷◌, ◌++◌, length, map, Ok, ap, arith}
 use Rattle.std.specs.Fmt.{decimal}
 use Rattle.std.specs.List.{AllByRecursion}
 use Rattle.std.specs.List.Sorted.{IsStrictlyIncreasing}
 use Rattle.std.proofs.lemmas.List.{append-nil}
-use Rattle.cmr_base.specs.declared.limits.TheConstants.{MAX_COLUMNS, MAX_ROWS}
 use Rattle.cmr_base.specs.LineSets.{AllBelow}
 use Rattle.cmr_base.specs.declared.line_set.LineSet.{LineSet}
 use Rattle.cmr_base.proofs.IncreasingLists.{increasing_count}
@@ -18,15 +17,15 @@ use Rattle.matrix_text.specs.CanonicalMatrices.{submatrix_lines, submatrix_text}
 use Rattle.matrix_text.proofs.SubmatrixTexts.{submatrix_only}
 use Rattle.text_fields.specs.LineNumbers.{number_of_line}
 
-line_words : (bound : ℕ) (lines : List ℕ) → bound ≤ MAX_ROWS → AllBelow bound lines → AllByRecursion IsWord (map number_of_line lines)
+line_words : (bound : ℕ) (lines : List ℕ) → bound < 2 ^ 31 → AllBelow bound lines → AllByRecursion IsWord (map number_of_line lines)
 line_words bound [] few below = tt
 line_words bound (line ∷ lines) few below = (decimal_word (line + 1) (let h = below 0 (omega arith) in omega (arith, h)), line_words bound lines few (λ k h. below (suc k) (omega arith)))
 
-lines_spelled : (bound : ℕ) (lines : List ℕ) → bound ≤ MAX_ROWS → AllBelow bound lines → Spell count_in (map number_of_line lines) (numbers_of lines)
+lines_spelled : (bound : ℕ) (lines : List ℕ) → bound < 2 ^ 31 → AllBelow bound lines → Spell count_in (map number_of_line lines) (numbers_of lines)
 lines_spelled bound [] few below = tt
 lines_spelled bound (line ∷ lines) few below = (count_of_decimal (line + 1) (let h = below 0 (omega arith) in omega (arith, h)), lines_spelled bound lines few (λ k h. below (suc k) (omega arith)))
 
-pub submatrix_again : (height width : ℕ) (lines : LineSet) → height ≤ MAX_ROWS → width ≤ MAX_COLUMNS → IsStrictlyIncreasing lines.rows
+pub submatrix_again : (height width : ℕ) (lines : LineSet) → height < 2 ^ 31 → width < 2 ^ 31 → IsStrictlyIncreasing lines.rows
     → IsStrictlyIncreasing lines.columns → AllBelow height lines.rows → AllBelow width lines.columns
     → named_lines height width (text_of (submatrix_text height width lines)) ≡ Ok lines
 submatrix_again height width lines few_rows few_columns rows_increase columns_increase rows_in columns_in =

@@ -35,8 +35,8 @@ own_size_found size text n rest h =
 abbrev lines_after : ℕ → ℕ → ℕ → ℕ → Text → Result LineSet (Fault TextKind)
 lines_after height width p q text = increasing_lines height RowOutOfRange p text >>= λ rows. increasing_lines width ColumnOutOfRange q rows.1 >>= λ columns. ended Extra (record { rows = rows.0; columns = columns.0 }) columns.1
 
-abbrev counts_after : ℕ → ℕ → Text → Result LineSet (Fault TextKind)
-counts_after height width text = field Short (limited height RowOutOfRange) text >>= λ p. field Short (limited width ColumnOutOfRange) p.1 >>= λ q. lines_after height width p.0 q.0 q.1
+abbrev counts_after : Text → ℕ → ℕ → Result LineSet (Fault TextKind)
+counts_after text height width = field Short (limited height RowOutOfRange) text >>= λ p. field Short (limited width ColumnOutOfRange) p.1 >>= λ q. lines_after height width p.0 q.0 q.1
 
 record AreLists (height width p q : ℕ) (words : List (List ℕ)) (lines : LineSet) : Type 0 where
   row_words : List (List ℕ)
@@ -58,7 +58,8 @@ lists_found height width p q text lines h =
     both : (prefix next words later rest : List (ℕ × List ℕ)) → words ≡ prefix ++ later → later ≡ next ++ rest → rest ≡ [] → texts_of words ≡ texts_of prefix ++ texts_of next
     both prefix next words later rest e g none = ap texts_of (e ∙ ap (λ ws. prefix ++ ws) (g ∙ ap (λ ws. next ++ ws) none ∙ append-nil next)) ∙ map-append (λ (word : ℕ × List ℕ). word.1) prefix next
 
-    go : (a b : List ℕ × Text) → increasing_lines height RowOutOfRange p text ≡ Ok a → increasing_lines width ColumnOutOfRange q a.1 ≡ Ok b → ended Extra (record { rows = a.0; columns = b.0 }) b.1 ≡ Ok lines → AreLists height width p q (texts_of text.words) lines
+    go : (a b : List ℕ × Text) → increasing_lines height RowOutOfRange p text ≡ Ok a → increasing_lines width ColumnOutOfRange q a.1 ≡ Ok b
+        → ended Extra (record { rows = a.0; columns = b.0 }) b.1 ≡ Ok lines → AreLists height width p q (texts_of text.words) lines
     go a b ha hb he =
         let rows = lines_ok height RowOutOfRange p [] text a.0 a.1 ha in
         let columns = lines_ok width ColumnOutOfRange q [] a.1 b.0 b.1 hb in
@@ -83,8 +84,8 @@ four_words a b c d words x y z rest e f g h = rw (e, f, g, h) refl
 -- a text that is read is a submatrix text
 submatrix_found : (height width : ℕ) (text : Text) (lines : LineSet) → named_lines height width text ≡ Ok lines → IsSubmatrix height width (texts_of text.words) lines
 submatrix_found height width text lines h =
-    let a = bind_ok (field Short (own_size height) text) (λ (same : ℕ × Text). field Short (own_size width) same.1 >>= λ same. counts_after height width same.1) lines h in
-    let b = bind_ok (field Short (own_size width) a.0.1) (λ (same : ℕ × Text). counts_after height width same.1) lines a.2 in
+    let a = bind_ok (field Short (own_size height) text) (λ (same : ℕ × Text). field Short (own_size width) same.1 >>= λ same. counts_after same.1 height width) lines h in
+    let b = bind_ok (field Short (own_size width) a.0.1) (λ (same : ℕ × Text). counts_after same.1 height width) lines a.2 in
     let d = bind_ok (field Short (limited height RowOutOfRange) b.0.1) (λ (p : ℕ × Text). field Short (limited width ColumnOutOfRange) p.1 >>= λ q. lines_after height width p.0 q.0 q.1) lines b.2 in
     let e = bind_ok (field Short (limited width ColumnOutOfRange) d.0.1) (λ (q : ℕ × Text). lines_after height width d.0.0 q.0 q.1) lines d.2 in
     go a.0 b.0 d.0 e.0 a.1 b.1 d.1 e.1 e.2
@@ -134,7 +135,8 @@ lists_again height width size words lines are =
     rw (rows, columns) refl
 
 -- a submatrix text is read
-pub submatrix_only : (height width size : ℕ) (words : List (ℕ × List ℕ)) (lines : LineSet) → IsSubmatrix height width (texts_of words) lines → named_lines height width (record { size = size; words = words }) ≡ Ok lines
+pub submatrix_only : (height width size : ℕ) (words : List (ℕ × List ℕ)) (lines : LineSet) → IsSubmatrix height width (texts_of words) lines
+    → named_lines height width (record { size = size; words = words }) ≡ Ok lines
 submatrix_only height width size [] lines is = absurd (let e = is.words_are in cc)
 submatrix_only height width size (h ∷ []) lines is = absurd (let e = is.words_are in cc)
 submatrix_only height width size (h ∷ w ∷ []) lines is = absurd (let e = is.words_are in cc)

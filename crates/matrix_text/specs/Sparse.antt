@@ -55,8 +55,8 @@ abbrev pub NameOnce : List Triple → Type 0
 NameOnce [] = Unit {0}
 NameOnce (triple ∷ triples) = (is_place_named triples triple.row triple.column ≡ false) × NameOnce triples
 
--- these words are a sparse text of the matrix
-pub record IsSparse (binary : Bool) (words : List (List ℕ)) (m : Matrix) : Type 0 where
+-- these words are a sparse text of the matrix, with sizes within limits
+pub record IsSparseWithin (most_rows most_columns : ℕ) (binary : Bool) (words : List (List ℕ)) (m : Matrix) : Type 0 where
   pub height : ℕ
   pub width : ℕ
   pub triples : List Triple
@@ -67,8 +67,8 @@ pub record IsSparse (binary : Bool) (words : List (List ℕ)) (m : Matrix) : Typ
   pub words_are : words ≡ height_word ∷ width_word ∷ count_word ∷ triple_words
   pub height_is : count_in height_word ≡ Ok height
   pub width_is : count_in width_word ≡ Ok width
-  pub height_in : height ≤ MAX_ROWS
-  pub width_in : width ≤ MAX_COLUMNS
+  pub height_in : height ≤ most_rows
+  pub width_in : width ≤ most_columns
   pub count_is : count_in count_word ≡ Ok (length triples)
   pub triples_are : SpellTriples binary triple_words triples
   pub placed : AllByRecursion (IsPlaced height width) triples
@@ -95,11 +95,20 @@ matrix_by_triples binary height width n text = do
   triples ← times (another_triple binary height width) n [] text
   Ok (matrix_of_triples height width triples.0, triples.1)
 
--- reading: the matrix that a sparse text represents, or its first fault
-abbrev pub sparse : Bool → Text → Result Matrix (Fault TextKind)
-sparse binary text = do
-  height ← field Short (limited MAX_ROWS TooManyRows) text
-  width ← field Short (limited MAX_COLUMNS TooManyColumns) height.1
-  n ← field Short count width.1
-  matrix ← matrix_by_triples binary height.0 width.0 n.0 n.1
-  ended Extra matrix.0 matrix.1
+module _ (most_rows most_columns : ℕ) (binary : Bool) where
+  -- reading: the matrix that a sparse text represents, or its first fault
+  abbrev pub sparse_within : Text → Result Matrix (Fault TextKind)
+  sparse_within text = do
+    height ← field Short (limited most_rows TooManyRows) text
+    width ← field Short (limited most_columns TooManyColumns) height.1
+    n ← field Short count width.1
+    matrix ← matrix_by_triples binary height.0 width.0 n.0 n.1
+    ended Extra matrix.0 matrix.1
+
+-- the same within the limits of `Matrix`
+module _ (binary : Bool) where
+  abbrev pub IsSparse : List (List ℕ) → Matrix → Type 0
+  IsSparse words m = IsSparseWithin MAX_ROWS MAX_COLUMNS binary words m
+
+  abbrev pub sparse : Text → Result Matrix (Fault TextKind)
+  sparse text = sparse_within MAX_ROWS MAX_COLUMNS binary text

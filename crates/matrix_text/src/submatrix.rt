@@ -1,4 +1,4 @@
-ghost use Rattle.std.specs.Prelude.{◌≡◌, ◌≤◌, false, map, Ok, IfOk, OnOk};
+ghost use Rattle.std.specs.Prelude.{◌≡◌, ◌<◌, ◌^◌, false, map, Ok, IfOk, OnOk};
 ghost use Rattle.cmr_base.specs.declared.line_set.LineSet.{LineSet};
 ghost use Rattle.cmr_base.specs.LineSets.{AllBelow};
 ghost use Rattle.text_fields.specs.TextWords.{text_of};
@@ -11,7 +11,7 @@ ghost use Rattle.text_fields.specs.LineNumbers.{number_of_line};
 
 use crate::error::{TextError, TextKind};
 use crate::field;
-use cmr_base::{Indices, LineSet, MAX_COLUMNS, MAX_ROWS, Memory};
+use cmr_base::{Indices, LineSet, Memory};
 use std::alloc::Global;
 use text_fields::{Words, Writer};
 
@@ -82,8 +82,8 @@ pub fn write_submatrix(
     rows: u32,
     columns: u32,
 ) -> Result<Vec<u8>, Memory>
-    requires rows { rows ≤ MAX_ROWS }
-    requires columns { columns ≤ MAX_COLUMNS }
+    requires rows { rows < 2 ^ 31 }
+    requires columns { columns < 2 ^ 31 }
     requires rows_in { AllBelow rows lines.now.rows }
     requires columns_in { AllBelow columns lines.now.columns }
     ensures text { IfOk result (λ v. v.items ≡ submatrix_text rows columns lines.now) }
@@ -101,7 +101,7 @@ pub fn write_submatrix(
 
 // Writes a line with the numbers of rows or columns.
 fn write_lines(text: &mut Writer, lines: &Indices) -> Result<(), Memory>
-    requires within { AllBelow MAX_ROWS lines.now }
+    requires within { AllBelow (2 ^ 31) lines.now }
     requires at_start { text.old.is_begun ≡ false }
     ensures { OnOk result (text.new ≡ with_line text.old (map number_of_line lines.now)) }
 {

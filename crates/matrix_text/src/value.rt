@@ -1,3 +1,4 @@
+//! The values of the words of matrix texts.
 ghost use Rattle.std.specs.Prelude.{◌≡◌, ◌≤◌, ◌<◌, ◌-◌, IfOk, length, slice_index_or, false};
 ghost use Rattle.cmr_base.specs.Matrix.{IsEntry};
 ghost use Rattle.text_fields.specs.Result.{renamed};

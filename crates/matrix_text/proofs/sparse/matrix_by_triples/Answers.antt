@@ -1,4 +1,4 @@
-use Rattle.std.proofs.Common.{◌≡◌, ◌<◌, ◌*◌, ◌+◌, ◌-◌, ◌∷◌, [], ◌++◌, ◌∙◌, ℕ, ℤ, pos, Bool, false, List, Ok, refl, ap, sym, subst, rules, set, arith, SFits, w8}
+use Rattle.std.proofs.Common.{◌≡◌, ◌<◌, ◌*◌, ◌+◌, ◌-◌, ◌∷◌, [], ◌++◌, ◌∙◌, ℕ, ℤ, pos, Bool, false, List, Ok, get_or, refl, ap, sym, subst, rules, set, arith, SFits, w8}
 use Rattle.std.proofs.lemmas.Int.{to_z-of_z}
 use Rattle.std.specs.Prelude.{replicate}
 use Rattle.std.proofs.lemmas.Result.{err_from_is_err_and}
@@ -9,7 +9,7 @@ use Rattle.text_fields.specs.Reading.{times}
 use Rattle.text_fields.proofs.Times.{all_to_come, goes_on, ends, is_done}
 use Rattle.text_fields.proofs.Fields.{bind_fails}
 use Rattle.matrix_text.specs.Sparse.{Triple, another_triple, matrix_of_triples}
-use Rattle.matrix_text.proofs.Places.{none_held, one_more, held_matrix, AreHeld}
+use Rattle.matrix_text.proofs.Places.{none_held, held_marks, one_more, held_matrix, AreHeld}
 use Rattle.matrix_text.proofs.Triples.{place_new, triple_made, place_fails, value_fails}
 use Rattle.matrix_text.proofs.sparse.matrix_by_triples.Goals as goal
 
@@ -36,10 +36,12 @@ returns-in_err-row c =
     let step = another_triple c.args.binary c.args.rows c.args.columns in
     let total = times step c.args.count [] c.args.words.now in
     let now = c.loop.invariant in
+    let is_taken : ℕ → ℕ → Bool = λ row column. get_or c.deref.result.now ((row - 1) * c.args.columns + (column - 1)) false in
     let held = subst (λ (taken : List Bool). AreHeld c.args.rows c.args.columns taken now.2 now.0) (sym c.deref.ensures.value) now.3 in
+    let marks = held_marks c.args.rows c.args.columns c.deref.result.now now.2 now.0 held in
     let p = err_from_is_err_and c.from_residual-in_err-row.result c.from_residual-in_err-row.ensures.1 in
     let e = c.in_err-row.field-0.0 in
-    let failed = place_fails c.args.binary c.args.rows c.args.columns c.deref.result.now now.2 now.0 held c.loop.words e c.in_err-row.ensures.read in
+    let failed = place_fails c.args.binary c.args.rows c.args.columns is_taken now.0 marks c.loop.words e c.in_err-row.ensures.read in
     rw (p.1, p.2) (bind_fails e total (λ (triples : List Triple × Text). Ok (matrix_of_triples c.args.rows c.args.columns triples.0, triples.1)) (ends step c.args.count c.loop.counter now.0 c.loop.words total c.loop-test.true e failed now.1))
 
 pub returns-in_err-value : goal.returns-in_err-value
@@ -47,10 +49,13 @@ returns-in_err-value c =
     let step = another_triple c.args.binary c.args.rows c.args.columns in
     let total = times step c.args.count [] c.args.words.now in
     let now = c.loop.invariant in
+    let is_taken : ℕ → ℕ → Bool = λ row column. get_or c.deref.result.now ((row - 1) * c.args.columns + (column - 1)) false in
     let held = subst (λ (taken : List Bool). AreHeld c.args.rows c.args.columns taken now.2 now.0) (sym c.deref.ensures.value) now.3 in
+    let marks = held_marks c.args.rows c.args.columns c.deref.result.now now.2 now.0 held in
     let p = err_from_is_err_and c.from_residual-in_err-value.result c.from_residual-in_err-value.ensures.1 in
     let e = c.in_err-value.field-0.0 in
-    let failed = value_fails c.args.binary c.args.rows c.args.columns c.deref.result.now now.2 now.0 held c.loop.words e c.in_ok-row.row c.in_ok-row.column c.free_place.new.words c.in_ok-row.ensures.read c.in_err-value.ensures.read in
+    let fails = value_fails c.args.binary c.args.rows c.args.columns is_taken now.0 marks c.loop.words e in
+    let failed = fails c.in_ok-row.row c.in_ok-row.column c.free_place.new.words c.in_ok-row.ensures.read c.in_err-value.ensures.read in
     rw (p.1, p.2) (bind_fails e total (λ (triples : List Triple × Text). Ok (matrix_of_triples c.args.rows c.args.columns triples.0, triples.1)) (ends step c.args.count c.loop.counter now.0 c.loop.words total c.loop-test.true e failed now.1))
 
 pub set-requires-clause-row : goal.set-requires-clause-row
@@ -66,12 +71,15 @@ loop-preserved c =
     let step = another_triple c.args.binary c.args.rows c.args.columns in
     let total = times step c.args.count [] c.args.words.now in
     let now = c.loop.invariant in
+    let is_taken : ℕ → ℕ → Bool = λ row column. get_or c.deref.result.now ((row - 1) * c.args.columns + (column - 1)) false in
     let held = subst (λ (taken : List Bool). AreHeld c.args.rows c.args.columns taken now.2 now.0) (sym c.deref.ensures.value) now.3 in
+    let marks = held_marks c.args.rows c.args.columns c.deref.result.now now.2 now.0 held in
     let row = c.in_ok-row.row in
     let column = c.in_ok-row.column in
     let z = c.in_ok-value.value in
-    let made = triple_made c.args.binary c.args.rows c.args.columns c.deref.result.now now.2 now.0 held c.loop.words row column c.free_place.new.words c.entry.new.words z c.in_ok-row.ensures.read c.in_ok-value.ensures.read in
-    let new = place_new c.args.binary c.args.rows c.args.columns c.deref.result.now now.2 now.0 held c.loop.words row column c.free_place.new.words c.in_ok-row.ensures.read in
+    let makes = triple_made c.args.binary c.args.rows c.args.columns is_taken now.0 marks c.loop.words row column in
+    let made = makes c.free_place.new.words c.entry.new.words z c.in_ok-row.ensures.read c.in_ok-value.ensures.read in
+    let new = place_new c.args.binary c.args.rows c.args.columns is_taken now.0 marks c.loop.words row column c.free_place.new.words c.in_ok-row.ensures.read in
     let t : Triple = record { row = row; column = column; value = z } in
     let more = one_more c.args.rows c.args.columns c.loop.taken.items now.2 now.0 t c.in_ok-row.ensures.row_above c.in_ok-row.ensures.row_within c.in_ok-row.ensures.column_above c.in_ok-row.ensures.column_within now.3 c.in_ok-value.ensures.small new in
     let fits : SFits w8 z = search rules in
