@@ -1,0 +1,9 @@
+pub mod PlaceNumbers
+pub mod WrittenEntries
+pub mod ScannedRows
+pub mod NamedPositions
+pub mod DenseEntries
+pub mod PushedTriples
+pub mod SparseTriples
+pub mod LargeTexts
+pub mod LargerLimits
