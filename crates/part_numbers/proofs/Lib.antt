@@ -1,2 +1,8 @@
 pub mod NumberedParts
-mod PartRuns
+mod InseparableLines
+mod MarkedSearch
+mod ReachedLines
+pub mod FollowedLines
+mod RowsInOrder
+pub mod FoundParts
+mod WholeParts

@@ -2,7 +2,9 @@
 use Rattle.std.proofs.Common.{◌≡◌, ◌≢◌, ◌<◌, ◌∙◌, inl, inr, ℕ, ℤ, pos, Bool, true, List, length, nat_eq, refl, sym, subst, arith}
 use Rattle.std.specs.Prelude.{◌↔◌}
 use Rattle.std.specs.List.{Contains}
+use Rattle.std.specs.List.Sorted.{IsStrictlyIncreasing}
 use Rattle.std.proofs.lemmas.List.{length-map}
+use Rattle.std.proofs.lemmas.List.Kept.{IsStrictlyIncreasing-filter}
 use Rattle.std.proofs.lemmas.List.FromFn.{get_or-map-range_with_len, length-range_with_len}
 use Rattle.cmr_base.specs.declared.line_set.LineSet.{LineSet}
 use Rattle.cmr_base.specs.Matrix.{Matrix, entry, is_nonzero}
@@ -10,11 +12,13 @@ use Rattle.cmr_base.specs.LineSets.{first_lines, submatrix}
 use Rattle.cmr_base.specs.Violator.{HasNoViolator}
 use Rattle.cmr_base.specs.Components.{no_lines, part_at, ArePartsOf}
 use Rattle.cmr_base.proofs.Booleans.{two_cases, eq_of, is_eq, nonzero_is, zero_is}
+use Rattle.cmr_base.proofs.IncreasingLists.{increases_along}
 use Rattle.cmr_base.proofs.ListsWithout.{in_from_contains, contains_from_in}
 use Rattle.cmr_base.proofs.RowLists.{filter_in, in_filter}
 use Rattle.ghouila.specs.Found.{marked}
 use Rattle.ghouila.proofs.ConnectedParts.{parts_decide}
 use Rattle.ghouila.proofs.MarkedMembers.{in_marked}
+use Rattle.ghouila.proofs.Marks.{marked_increases}
 use Rattle.sparse_matrix.specs.LineMarks.{is_marked}
 use Rattle.sparse_matrix.proofs.MarkedLines.{contains_marked, marked_contains}
 use Rattle.part_numbers.specs.PartNumbering.{part_number, lines_of_part, parts_of, ArePartsBy}
@@ -28,6 +32,10 @@ line_is marks numbers part line h =
 pub is_line : (marks : List Bool) (numbers : List ℕ) (part line : ℕ) → is_marked marks line ≡ true → part_number numbers line ≡ part → Contains (lines_of_part marks numbers part) line
 is_line marks numbers part line mark e = contains_from_in (lines_of_part marks numbers part) line
     (filter_in (λ x. nat_eq (part_number numbers x) part) line (marked marks) ((in_marked marks line).1 mark) (is_eq (part_number numbers line) part e))
+
+pub part_increases : (marks : List Bool) (numbers : List ℕ) (part : ℕ) → IsStrictlyIncreasing (lines_of_part marks numbers part)
+part_increases marks numbers part = IsStrictlyIncreasing-filter (λ line. nat_eq (part_number numbers line) part) (marked marks)
+    (increases_along 0 (length marks) (marked marks) (marked_increases 0 (length marks) marks (omega arith)))
 
 module _ (M : ℕ → ℕ → ℤ) (row_marks column_marks : List Bool) (of_rows of_columns : List ℕ) (count : ℕ) (is : ArePartsBy M row_marks column_marks of_rows of_columns count) where
   abbrev parts : List LineSet

@@ -1,3 +1,4 @@
 pub mod PartNumbering
+pub mod ConnectedParts
 pub mod PartSearches
 pub mod NumberLaws

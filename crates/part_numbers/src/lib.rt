@@ -1,8 +1,8 @@
-//! Parts of a sparse matrix by a number for each line: no nonzero is in lines of two parts.
+//! The connected parts of a core, by a number for each line.
 #![tactic(auto)]
 
 pub mod laws;
-mod numbers;
+mod reached;
 mod search;
 
 pub use search::{Parts, find_parts};

@@ -1,18 +1,20 @@
-// The connected parts of the lines that remain.
-ghost use Rattle.std.specs.Prelude.{◌≡◌, ◌<◌, ◌≤◌, ◌+◌, IfOk, OnOk, length};
-ghost use Rattle.std.specs.List.{AllByRecursion};
+// The search for the connected parts of a core: each line that is reached is followed to the lines with a nonzero in it.
+ghost use Rattle.std.specs.Prelude.{◌≡◌, ◌<◌, ◌≤◌, ◌+◌, IfOk, OnOk, length, true};
 ghost use Rattle.cmr_base.specs.Matrix.{entry};
-ghost use Rattle.sparse_matrix.specs.SparseRows.{AreCrossed, IsNonzeroWithin, matrix_of_runs};
+ghost use Rattle.ghouila.specs.Found.{marked};
+ghost use Rattle.sparse_matrix.specs.SparseRows.{AreCrossed, matrix_of_runs};
+ghost use Rattle.sparse_core.specs.TwoCores.{HaveTwo, IsSparseLine};
+ghost use Rattle.part_numbers.specs.ConnectedParts.{AreConnectedParts, AreInOrder};
 ghost use Rattle.part_numbers.specs.PartNumbering.{ArePartsBy};
-ghost use Rattle.part_numbers.specs.PartSearches.{IsSized, AreMarksOf};
+ghost use Rattle.part_numbers.specs.PartSearches.{AreAdjacent, AreFollowedTo, AreMarksOf, GrowsPart, FollowsAll, HasRowsBefore, IsFirstSearch, IsFollowed, IsReachedWith, ReachesLines, is_in_core, is_reached};
 
-use crate::numbers::are_parts;
-use cmr_base::Memory;
+use crate::reached::{Search, crossing, first_search, is_free, nonzeros_of, reach_line};
+use cmr_base::{Line, Memory};
 use sparse_core::TwoCore;
-use sparse_matrix::{Nonzero, SparseMatrix};
+use sparse_matrix::SparseMatrix;
 use std::alloc::Global;
 
-/// A number for each row and each column, below the count. Only those of lines that remain have a meaning.
+/// A number for each row and each column, below the count. Only those of lines of the core have a meaning.
 #[derive(Debug, Drop)]
 pub struct Parts {
     pub of_rows: Vec<u32>,
@@ -20,97 +22,57 @@ pub struct Parts {
     pub count: u32,
 }
 
-// The numbers so far, the lines that have one, and the rows in the order in which they are reached.
-#[derive(Debug, Drop)]
-struct Search {
-    of_rows: Vec<u32>,
-    of_columns: Vec<u32>,
-    rows: Vec<bool>,
-    columns: Vec<bool>,
-    queue: Vec<u32>,
-}
-
-fn reach_row(
+// Reaches a line with a nonzero in a line that is reached, if it is a line of the core.
+fn reach_from(
     search: &mut Search,
     core: &TwoCore,
-    _rows: &SparseMatrix,
-    row: u32,
+    rows: &SparseMatrix,
+    _from: Line,
+    line: Line,
     part: u32,
 ) -> Result<(), Memory>
-    requires marks { AreMarksOf _rows.now core.now }
-    requires row { row < length _rows.now.runs }
-    requires sized { IsSized _rows.now search.old }
-    ensures { OnOk result (IsSized _rows.now search.new) }
+    requires marks { AreMarksOf rows.now core.now }
+    requires line { IsSparseLine rows.now line }
+    requires grows { GrowsPart rows.now core.now part search.old }
+    requires from { is_reached search.old _from ≡ true }
+    requires adjacent { AreAdjacent (entry (matrix_of_runs rows.now)) _from line }
+    ensures grows { OnOk result (GrowsPart rows.now core.now part search.new) }
+    ensures reaches { OnOk result (ReachesLines part search.old search.new) }
+    ensures line { OnOk result (is_in_core core.now line ≡ true
+        → IsReachedWith search.new line _from) }
 {
-    if core.rows[row as usize] && !search.rows[row as usize] {
-        search.rows[row as usize] = true;
-        search.of_rows[row as usize] = part;
-        search.queue.push(row)?;
+    if !is_free(search, core, rows, line) {
+        return Ok(());
     }
+    reach_line(search, rows, line, part)?;
     Ok(())
 }
 
-fn reach_rows(
+// Follows a line: reaches the lines of the core with a nonzero in it.
+fn follow(
     search: &mut Search,
     core: &TwoCore,
-    _rows: &SparseMatrix,
-    run: &[Nonzero],
-    part: u32,
-) -> Result<(), Memory>
-    requires marks { AreMarksOf _rows.now core.now }
-    requires run { AllByRecursion (IsNonzeroWithin (length _rows.now.runs)) run.now }
-    requires sized { IsSized _rows.now search.old }
-    ensures { OnOk result (IsSized _rows.now search.new) }
-{
-    for nonzero in run {
-        reach_row(search, core, _rows, nonzero.line, part)?;
-    }
-    Ok(())
-}
-
-fn reach_column(
-    search: &mut Search,
-    core: &TwoCore,
-    _rows: &SparseMatrix,
+    rows: &SparseMatrix,
     columns: &SparseMatrix,
-    column: u32,
+    line: Line,
     part: u32,
 ) -> Result<(), Memory>
-    requires crossed { AreCrossed _rows.now columns.now }
-    requires marks { AreMarksOf _rows.now core.now }
-    requires column { column < length columns.now.runs }
-    requires sized { IsSized _rows.now search.old }
-    ensures { OnOk result (IsSized _rows.now search.new) }
+    requires crossed { AreCrossed rows.now columns.now }
+    requires marks { AreMarksOf rows.now core.now }
+    requires grows { GrowsPart rows.now core.now part search.old }
+    requires line { is_reached search.old line ≡ true }
+    ensures grows { OnOk result (GrowsPart rows.now core.now part search.new) }
+    ensures reaches { OnOk result (ReachesLines part search.old search.new) }
+    ensures followed { OnOk result (IsFollowed rows.now core.now search.new line) }
 {
-    if core.columns[column as usize] && !search.columns[column as usize] {
-        search.columns[column as usize] = true;
-        search.of_columns[column as usize] = part;
-        reach_rows(search, core, _rows, columns.row(column), part)?;
-    }
-    Ok(())
-}
-
-fn reach_columns(
-    search: &mut Search,
-    core: &TwoCore,
-    _rows: &SparseMatrix,
-    columns: &SparseMatrix,
-    run: &[Nonzero],
-    part: u32,
-) -> Result<(), Memory>
-    requires crossed { AreCrossed _rows.now columns.now }
-    requires marks { AreMarksOf _rows.now core.now }
-    requires run { AllByRecursion (IsNonzeroWithin (length columns.now.runs)) run.now }
-    requires sized { IsSized _rows.now search.old }
-    ensures { OnOk result (IsSized _rows.now search.new) }
-{
+    let run = nonzeros_of(rows, columns, line);
     for nonzero in run {
-        reach_column(search, core, _rows, columns, nonzero.line, part)?;
+        reach_from(search, core, rows, line, crossing(line, nonzero.line), part)?;
     }
     Ok(())
 }
 
-// Goes through the rows that are reached, from a place on. There are no more places than rows.
+// Follows the lines of the queue from a place on, also those that it reaches.
 fn walk(
     search: &mut Search,
     core: &TwoCore,
@@ -121,21 +83,22 @@ fn walk(
 ) -> Result<(), Memory>
     requires crossed { AreCrossed rows.now columns.now }
     requires marks { AreMarksOf rows.now core.now }
-    requires sized { IsSized rows.now search.old }
-    ensures { OnOk result (IsSized rows.now search.new) }
+    requires grows { GrowsPart rows.now core.now part search.old }
+    requires followed { AreFollowedTo rows.now core.now search.old from }
+    ensures followed { OnOk result (FollowsAll rows.now core.now (part + 1) search.new) }
+    ensures reaches { OnOk result (ReachesLines part search.old search.new) }
 {
-    for place in from..rows.rows() as usize {
-        if place >= search.queue.len() {
-            return Ok(());
-        }
-        let row = search.queue[place];
-        reach_columns(search, core, rows, columns, rows.row(row), part)?;
+    let mut place = from;
+    'lines: while place < search.queue.len() {
+        let line = search.queue[place];
+        place += 1;
+        follow(search, core, rows, columns, line, part)?;
     }
     Ok(())
 }
 
-// Numbers the lines of the part of a row, if it is reached first. Returns the number of parts.
-fn number_part(
+// Reaches the lines of the part of a row, if it is a row of the core that is not reached. Returns the number of parts.
+fn find_part(
     search: &mut Search,
     core: &TwoCore,
     rows: &SparseMatrix,
@@ -147,23 +110,26 @@ fn number_part(
     requires marks { AreMarksOf rows.now core.now }
     requires row { row < length rows.now.runs }
     requires part { part ≤ row }
-    requires sized { IsSized rows.now search.old }
-    ensures sized { OnOk result (IsSized rows.now search.new) }
-    ensures next { IfOk result (λ count. count ≤ row + 1) }
+    requires followed { FollowsAll rows.now core.now part search.old }
+    requires before { HasRowsBefore core.now search.old row part }
+    ensures followed { IfOk result (λ count. FollowsAll rows.now core.now count search.new) }
+    ensures before { IfOk result (HasRowsBefore core.now search.new (row + 1)) }
+    ensures count { IfOk result (λ count. count ≤ row + 1) }
 {
     let height = rows.rows();
     prove!(part < height);
-    let from = search.queue.len();
-    reach_row(search, core, rows, row, part)?;
-    if search.queue.len() == from {
+    let line = Line::Row(row);
+    if !is_free(search, core, rows, line) {
         return Ok(part);
     }
+    let from = search.queue.len();
+    reach_line(search, rows, line, part)?;
     walk(search, core, rows, columns, from, part)?;
     Ok(part + 1)
 }
 
-// Numbers the parts in the order of their first rows. Returns how many there are.
-fn number_parts(
+// Reaches the lines of all parts, in the order of their first rows. Returns how many there are.
+fn find_all(
     search: &mut Search,
     core: &TwoCore,
     rows: &SparseMatrix,
@@ -171,47 +137,18 @@ fn number_parts(
 ) -> Result<u32, Memory>
     requires crossed { AreCrossed rows.now columns.now }
     requires marks { AreMarksOf rows.now core.now }
-    requires sized { IsSized rows.now search.old }
-    ensures { OnOk result (IsSized rows.now search.new) }
+    requires first { IsFirstSearch rows.now search.old }
+    ensures followed { IfOk result (λ count. FollowsAll rows.now core.now count search.new) }
+    ensures before { IfOk result (HasRowsBefore core.now search.new (length rows.now.runs)) }
 {
     let mut part = 0;
     for row in 0..rows.rows() {
-        part = number_part(search, core, rows, columns, row, part)?;
+        part = find_part(search, core, rows, columns, row, part)?;
     }
     Ok(part)
 }
 
-fn first_search(alloc: Global, rows: &SparseMatrix) -> Result<Search, Memory>
-    ensures { IfOk result (IsSized rows.now) }
-{
-    let height = rows.rows() as usize;
-    let width = rows.columns() as usize;
-    Ok(Search {
-        of_rows: vec![in alloc; 0; height]?,
-        of_columns: vec![in alloc; 0; width]?,
-        rows: vec![in alloc; false; height]?,
-        columns: vec![in alloc; false; width]?,
-        queue: Vec::new(alloc),
-    })
-}
-
-// One part.
-fn whole(alloc: Global, core: &TwoCore, rows: &SparseMatrix) -> Result<Parts, Memory>
-    requires marks { AreMarksOf rows.now core.now }
-    ensures of_rows { IfOk result (λ parts. length parts.of_rows.items ≡ length rows.now.runs) }
-    ensures of_columns { IfOk result (λ parts. length parts.of_columns.items ≡ rows.now.width) }
-    ensures parts { IfOk result (λ parts. ArePartsBy (entry (matrix_of_runs rows.now))
-        core.now.rows.items core.now.columns.items parts.of_rows.items parts.of_columns.items
-        parts.count) }
-{
-    Ok(Parts {
-        of_rows: vec![in alloc; 0; rows.rows() as usize]?,
-        of_columns: vec![in alloc; 0; rows.columns() as usize]?,
-        count: 1,
-    })
-}
-
-/// The parts of the lines that remain. The numbers that the search finds are tested; if they were not parts, all lines would be one.
+/// The connected parts of a core, numbered in the order of their first rows, in linear time. `columns` is the transposed matrix.
 pub fn find_parts(
     alloc: Global,
     core: &TwoCore,
@@ -220,27 +157,24 @@ pub fn find_parts(
 ) -> Result<Parts, Memory>
     requires crossed { AreCrossed rows.now columns.now }
     requires marks { AreMarksOf rows.now core.now }
+    requires two { HaveTwo (entry (matrix_of_runs rows.now)) (marked core.now.rows.items)
+        (marked core.now.columns.items) }
     ensures of_rows { IfOk result (λ parts. length parts.of_rows.items ≡ length rows.now.runs) }
     ensures of_columns { IfOk result (λ parts. length parts.of_columns.items ≡ rows.now.width) }
     ensures parts { IfOk result (λ parts. ArePartsBy (entry (matrix_of_runs rows.now))
         core.now.rows.items core.now.columns.items parts.of_rows.items parts.of_columns.items
         parts.count) }
+    ensures connected { IfOk result (λ parts. AreConnectedParts (entry (matrix_of_runs rows.now))
+        core.now.rows.items core.now.columns.items parts.of_rows.items parts.of_columns.items
+        parts.count) }
+    ensures ordered { IfOk result (λ parts. AreInOrder core.now.rows.items parts.of_rows.items
+        parts.count) }
 {
     let mut search = first_search(alloc, rows)?;
-    let count = number_parts(&mut search, core, rows, columns)?;
-    if are_parts(
-        &core.rows,
-        &core.columns,
-        &search.of_rows,
-        &search.of_columns,
+    let count = find_all(&mut search, core, rows, columns)?;
+    Ok(Parts {
+        of_rows: search.of_rows,
+        of_columns: search.of_columns,
         count,
-        rows,
-    ) {
-        return Ok(Parts {
-            of_rows: search.of_rows,
-            of_columns: search.of_columns,
-            count,
-        });
-    }
-    whole(alloc, core, rows)
+    })
 }
