@@ -1,6 +1,8 @@
-mod Restriction
-mod Freeness
+pub mod Restriction
+pub mod Freeness
 mod Thickness
 mod Openness
-mod PartLines
+mod ThinLines
+pub mod PartLines
 mod Results
+pub mod OneOpenPart

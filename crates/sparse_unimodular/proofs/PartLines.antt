@@ -2,13 +2,10 @@
 use Rattle.std.proofs.Common.{◌≡◌, ◌≢◌, ◌<◌, ◌+◌, ◌++◌, ◌∙◌, cond, filter, nat_eq, take, ℕ, Bool, true, false, List, [], ◌∷◌, length, get_or, ap, subst, arith}
 use Rattle.std.proofs.lemmas.List.{append-nil, get_or_default, length-take}
 use Rattle.std.proofs.lemmas.List.Elements.{filter-append}
-use Rattle.std.proofs.lemmas.List.Kept.{IsStrictlyIncreasing-filter}
 use Rattle.std.specs.List.{Contains}
-use Rattle.std.specs.List.Sorted.{IsStrictlyIncreasing}
-use Rattle.cmr_base.proofs.IncreasingLists.{increases_along}
 use Rattle.cmr_base.proofs.Booleans.{is_eq, is_ne}
 use Rattle.ghouila.specs.Found.{marked}
-use Rattle.ghouila.proofs.Marks.{marked_increases, marked_there, unmarked_there}
+use Rattle.ghouila.proofs.Marks.{marked_there, unmarked_there}
 use Rattle.sparse_matrix.specs.LineMarks.{is_marked}
 use Rattle.sparse_matrix.proofs.MarkedLines.{mark_inside}
 use Rattle.part_numbers.specs.PartNumbering.{lines_of_part, part_number}
@@ -19,10 +16,6 @@ part_inside marks numbers part k l =
     let lines = lines_of_part marks numbers part in
     let here : Contains lines (get_or lines k 0) = (k, l, get_or_default lines k (get_or lines k 0) 0 l) in
     mark_inside marks (get_or lines k 0) (line_is marks numbers part (get_or lines k 0) here).0
-
-pub part_increases : (marks : List Bool) (numbers : List ℕ) (part : ℕ) → IsStrictlyIncreasing (lines_of_part marks numbers part)
-part_increases marks numbers part = IsStrictlyIncreasing-filter (λ line. nat_eq (part_number numbers line) part) (marked marks)
-    (increases_along 0 (length marks) (marked marks) (marked_increases 0 (length marks) marks (omega arith)))
 
 pub part_below : (marks : List Bool) (numbers : List ℕ) (part line : ℕ) (lines : List ℕ) → lines ≡ lines_of_part (take line marks) numbers part → (k : ℕ) → k < length lines → get_or lines k 0 < line
 part_below marks numbers part line lines e k l =

@@ -1,29 +1,24 @@
 -- Answers about a violator, from one statement to another.
 use Rattle.std.proofs.Common.{◌≡◌, ◌<◌, ◌≤◌, ℕ, Bool, true, List, Option, Some, None, subst, arith}
 use Rattle.std.specs.Prelude.{MatchOption}
-use Rattle.cmr_base.specs.Matrix.{Matrix}
+use Rattle.cmr_base.specs.declared.line_set.LineSet.{LineSet}
 use Rattle.sparse_matrix.specs.LineMarks.{is_marked}
 use Rattle.sparse_matrix.specs.SparseRows.{SparseRows, run_of}
 use Rattle.sparse_unimodular.specs.ThickLines.{nonzeros_left, AreThick}
-use Rattle.sparse_unimodular.specs.Divisions.{ArePartsFree, AreThin, IsThickPart, IsThinPart}
+use Rattle.sparse_unimodular.specs.Divisions.{AreThin, IsThickPart, IsThinPart}
 use Rattle.sparse_unimodular.proofs.Restriction.{fewer_kept}
 
-pub match_weaker : {A : Type 0} (o : Option A) (P P' : Type 0) (Q Q' : A → Type 0) → (P → P') → ((x : A) → Q x → Q' x) → MatchOption o P Q → MatchOption o P' Q'
-match_weaker None P P' Q Q' f g h = f h
-match_weaker (Some x) P P' Q Q' f g h = g x h
+pub match_weaker : (found : Option LineSet) (P P' : Type 0) (Q Q' : LineSet → Type 0) → (P → P') → ((lines : LineSet) → Q lines → Q' lines) → MatchOption found P Q → MatchOption found P' Q'
+match_weaker None P P' Q Q' weaker weaker_some h = weaker h
+match_weaker (Some lines) P P' Q Q' weaker weaker_some h = weaker_some lines h
 
-pub match_none : {A : Type 0} (o : Option A) (P : Type 0) (Q : A → Type 0) → o ≡ None → MatchOption o P Q → P
-match_none {A = A} o P Q e h = subst (λ (p : Option A). MatchOption p P Q) e h
-
-pub match_some : {A : Type 0} (o : Option A) (x : A) (P : Type 0) (Q : A → Type 0) → o ≡ Some x → MatchOption o P Q → Q x
-match_some {A = A} o x P Q e h = subst (λ (p : Option A). MatchOption p P Q) e h
-
-pub parts_of_lists : (m : Matrix) (r r' c c' : List Bool) (a a' b b' : List ℕ) (t t' : List (Option ℕ)) → r ≡ r' → c ≡ c' → a ≡ a' → b ≡ b' → t ≡ t'
-    → ArePartsFree m r c a b t → ArePartsFree m r' c' a' b' t'
-parts_of_lists m r r' c c' a a' b b' t t' er ec ea eb et h =
-    subst (λ (x : List Bool). ArePartsFree m x c' a' b' t') er (subst (λ (x : List Bool). ArePartsFree m r x a' b' t') ec
-    (subst (λ (x : List ℕ). ArePartsFree m r c x b' t') ea (subst (λ (x : List ℕ). ArePartsFree m r c a x t') eb
-    (subst (λ (x : List (Option ℕ)). ArePartsFree m r c a b x) et h))))
+-- the same statement for equal lists
+pub of_lists : (P : List Bool → List Bool → List ℕ → List ℕ → List (Option ℕ) → Type 0) (r r' c c' : List Bool) (a a' b b' : List ℕ) (t t' : List (Option ℕ))
+    → r ≡ r' → c ≡ c' → a ≡ a' → b ≡ b' → t ≡ t' → P r c a b t → P r' c' a' b' t'
+of_lists P r r' c c' a a' b b' t t' er ec ea eb et h =
+    subst (λ (x : List Bool). P x c' a' b' t') er (subst (λ (x : List Bool). P r x a' b' t') ec
+    (subst (λ (x : List ℕ). P r c x b' t') ea (subst (λ (x : List ℕ). P r c a x t') eb
+    (subst (λ (x : List (Option ℕ)). P r c a b x) et h))))
 
 -- a thin column has at most two nonzeros in the rows of thin parts
 pub thin_columns_left : (t : SparseRows) (row_marks column_marks thin_rows thin_columns : List Bool) (of_rows of_columns : List ℕ) (count : ℕ) (thick : List (Option ℕ))

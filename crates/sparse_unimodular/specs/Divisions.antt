@@ -1,13 +1,16 @@
 -- The core of a matrix, its parts, and which of them have lines with more than two nonzeros.
 use Rattle.std.specs.Prelude.{◌≡◌, ◌↔◌, ◌⊎◌, ℕ, Bool, true, List, length, Some, None, Option}
+use Rattle.std.specs.List.{AllByRecursion}
 use Rattle.cmr_base.specs.Matrix.{Matrix, entry}
-use Rattle.cmr_base.specs.LineSets.{first_lines, submatrix}
-use Rattle.cmr_base.specs.Violator.{HasNoViolator}
+use Rattle.cmr_base.specs.LineSets.{first_lines}
+use Rattle.cmr_base.specs.Violator.{IsViolator}
 use Rattle.ghouila.specs.Found.{marked}
 use Rattle.sparse_matrix.specs.LineMarks.{is_marked}
 use Rattle.sparse_matrix.specs.SparseRows.{SparseRows, matrix_of_runs}
 use Rattle.sparse_core.specs.TwoCores.{IsTwoCore, IsThinRemoval}
+use Rattle.part_numbers.specs.ConnectedParts.{AreConnectedParts, AreInOrder}
 use Rattle.part_numbers.specs.PartNumbering.{ArePartsBy, lines_of_part, part_number}
+use Rattle.split_search.specs.Decisions.{AreViolating}
 use Rattle.sparse_unimodular.specs.declared.division.Division.{Division}
 use Rattle.sparse_unimodular.specs.ThickLines.{AreThick, thick_at}
 
@@ -19,6 +22,8 @@ pub record Divides (m t : SparseRows) (d : Division) : Type 0 where
   pub core : IsTwoCore (entry (matrix_of_runs m)) (marked d.core.rows.items) (marked d.core.columns.items)
   pub removal : IsThinRemoval (entry (matrix_of_runs m)) (first_lines (length m.runs)) (first_lines m.width) d.core.steps.items (marked d.core.rows.items) (marked d.core.columns.items)
   pub parts : ArePartsBy (entry (matrix_of_runs m)) d.core.rows.items d.core.columns.items d.parts.of_rows.items d.parts.of_columns.items d.parts.count
+  pub connected : AreConnectedParts (entry (matrix_of_runs m)) d.core.rows.items d.core.columns.items d.parts.of_rows.items d.parts.of_columns.items d.parts.count
+  pub ordered : AreInOrder d.core.rows.items d.parts.of_rows.items d.parts.count
   pub thick_rows : AreThick m d.core.rows.items d.core.columns.items d.parts.of_rows.items d.parts.count d.thick_rows.items
   pub thick_columns : AreThick t d.core.columns.items d.core.rows.items d.parts.of_columns.items d.parts.count d.thick_columns.items
 
@@ -39,10 +44,26 @@ pub record AreThin (marks : List Bool) (numbers : List ℕ) (thick : List (Optio
   pub size : length found ≡ length marks
   pub each : (line : ℕ) → (is_marked found line ≡ true) ↔ IsThinAt marks numbers thick line
 
--- no part without a thick line has a violator
+-- these rows and columns are in parts without a thick line
+pub record AreInThinParts (row_marks column_marks : List Bool) (of_rows of_columns : List ℕ) (thick : List (Option ℕ)) (rows columns : List ℕ) : Type 0 where
+  pub rows_thin : AllByRecursion (IsThinAt row_marks of_rows thick) rows
+  pub columns_thin : AllByRecursion (IsThinAt column_marks of_columns thick) columns
+
+-- a violator on marked lines
+pub record IsViolatorOnMarks (m : Matrix) (row_marks column_marks : List Bool) (rows columns : List ℕ) : Type 0 where
+  pub violating : AreViolating m rows columns
+  pub rows_marked : AllByRecursion (λ row. is_marked row_marks row ≡ true) rows
+  pub columns_marked : AllByRecursion (λ column. is_marked column_marks column ≡ true) columns
+
+-- no violator is in parts without a thick line
 abbrev pub ArePartsFree : Matrix → (row_marks column_marks : List Bool) (of_rows of_columns : List ℕ) (thick : List (Option ℕ)) → Type 0
 ArePartsFree m row_marks column_marks of_rows of_columns thick =
-    (part : ℕ) → thick_at thick part ≡ None → HasNoViolator (submatrix m (lines_of_part row_marks of_rows part) (lines_of_part column_marks of_columns part))
+    (rows columns : List ℕ) → AreInThinParts row_marks column_marks of_rows of_columns thick rows columns → ¬ (IsViolator (entry m) rows columns)
+
+-- a violator in parts without a thick line
+pub record IsViolatorOfParts (m : Matrix) (row_marks column_marks : List Bool) (of_rows of_columns : List ℕ) (thick : List (Option ℕ)) (rows columns : List ℕ) : Type 0 where
+  pub violating : AreViolating m rows columns
+  pub inside : AreInThinParts row_marks column_marks of_rows of_columns thick rows columns
 
 -- the part has a thick row and a thick column
 pub record IsThickPart (thick_rows thick_columns : List (Option ℕ)) (part : ℕ) : Type 0 where

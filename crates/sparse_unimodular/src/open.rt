@@ -19,6 +19,8 @@ pub fn open_part(
         ((part : ℕ) → part < count → IsThinPart thick_rows.now thick_columns.now part)
         (IsThickPart thick_rows.now thick_columns.now) }
     ensures within { IfSome result (λ part. part < count) }
+    ensures before { IfSome result (λ part. (other : ℕ) → other < part
+        → IsThinPart thick_rows.now thick_columns.now other) }
 {
     for part in 0..count {
         if thick_rows[part as usize].is_some() && thick_columns[part as usize].is_some() {

@@ -6,9 +6,8 @@ ghost use Rattle.ghouila.specs.Found.{marked};
 ghost use Rattle.sparse_matrix.specs.LineMarks.{is_marked};
 ghost use Rattle.sparse_matrix.specs.SparseRows.{AreCrossed, matrix_of_runs};
 ghost use Rattle.part_numbers.specs.PartNumbering.{AreBelow};
-ghost use Rattle.split_search.specs.Decisions.{AreViolating};
 ghost use Rattle.sparse_unimodular.specs.ThickLines.{AreThick, nonzeros_left};
-ghost use Rattle.sparse_unimodular.specs.Divisions.{ArePartsFree, AreSizesOf, AreThin, IsThinAt};
+ghost use Rattle.sparse_unimodular.specs.Divisions.{ArePartsFree, AreSizesOf, AreThin, IsThinAt, IsViolatorOfParts, IsViolatorOnMarks};
 
 use crate::restricted::restricted;
 use cmr_base::{LineSet, Memory};
@@ -62,7 +61,8 @@ fn decide_marked(
     ensures { IfOk result (λ found. MatchOption found
         (HasNoViolator (submatrix (matrix_of_runs rows.now) (marked row_marks.now)
         (marked column_marks.now)))
-        (λ lines. AreViolating (matrix_of_runs rows.now) lines.rows lines.columns)) }
+        (λ lines. IsViolatorOnMarks (matrix_of_runs rows.now) row_marks.now column_marks.now
+        lines.rows lines.columns)) }
 {
     let _height = rows.rows();
     let _width = columns.rows();
@@ -94,7 +94,8 @@ pub fn violator_in_parts(
     ensures { IfOk result (λ found. MatchOption found
         (ArePartsFree (matrix_of_runs rows.now) row_marks.now column_marks.now of_rows.now
         of_columns.now thick_columns.now)
-        (λ lines. AreViolating (matrix_of_runs rows.now) lines.rows lines.columns)) }
+        (λ lines. IsViolatorOfParts (matrix_of_runs rows.now) row_marks.now column_marks.now
+        of_rows.now of_columns.now thick_columns.now lines.rows lines.columns)) }
 {
     let thin_rows = thin_lines(alloc, row_marks, of_rows, thick_columns)?;
     let thin_columns = thin_lines(alloc, column_marks, of_columns, thick_columns)?;

@@ -1,9 +1,8 @@
 // Whether a matrix is totally unimodular.
 ghost use Rattle.std.specs.Prelude.{IfOk, MatchOption};
 ghost use Rattle.sparse_matrix.specs.SparseRows.{AreCrossed, matrix_of_runs};
-ghost use Rattle.split_search.specs.Decisions.{AreViolating};
 ghost use Rattle.sparse_unimodular.specs.Divisions.{ArePartsFree, AreThinPartsFree, Divides, IsPartSet};
-ghost use Rattle.sparse_unimodular.specs.Unimodularities.{IsUnimodularity};
+ghost use Rattle.sparse_unimodular.specs.Unimodularities.{IsThinViolator, IsUnimodularity};
 
 use crate::division::{Division, divide};
 use crate::open::{open_part, part_lines};
@@ -18,7 +17,7 @@ pub enum Unimodularity {
     Yes,
     /// It is not: these lines are a violator.
     No(LineSet),
-    /// Undecided: no nonzero joins these lines of the core with its other lines, and a row and a column of them have three nonzeros.
+    /// Undecided: these lines are the first connected part of the core in which a row and a column have three nonzeros.
     Open(LineSet),
 }
 
@@ -34,8 +33,10 @@ fn violator_by_columns(
         (ArePartsFree (matrix_of_runs rows.now) division.now.core.rows.items
         division.now.core.columns.items division.now.parts.of_rows.items
         division.now.parts.of_columns.items division.now.thick_columns.items)
-        (λ lines. AreViolating (matrix_of_runs rows.now) lines.rows lines.columns)) }
+        (λ lines. IsThinViolator (matrix_of_runs rows.now) lines.rows lines.columns)) }
 {
+    let _height = rows.rows();
+    let _width = columns.rows();
     violator_in_parts(
         alloc,
         rows,
@@ -60,7 +61,7 @@ fn violator_by_rows(
         (ArePartsFree (matrix_of_runs rows.now) division.now.core.rows.items
         division.now.core.columns.items division.now.parts.of_rows.items
         division.now.parts.of_columns.items division.now.thick_rows.items)
-        (λ lines. AreViolating (matrix_of_runs rows.now) lines.rows lines.columns)) }
+        (λ lines. IsThinViolator (matrix_of_runs rows.now) lines.rows lines.columns)) }
 {
     let _height = rows.rows();
     let _width = columns.rows();
@@ -94,7 +95,7 @@ fn thin_violator(
     requires divides { Divides rows.now columns.now division.now }
     ensures { IfOk result (λ found. MatchOption found
         (AreThinPartsFree (matrix_of_runs rows.now) division.now)
-        (λ lines. AreViolating (matrix_of_runs rows.now) lines.rows lines.columns)) }
+        (λ lines. IsThinViolator (matrix_of_runs rows.now) lines.rows lines.columns)) }
 {
     match violator_by_columns(alloc, division, rows, columns)? {
         Some(lines) => Ok(Some(lines)),
@@ -134,7 +135,7 @@ fn without_thin_violator(
     requires crossed { AreCrossed rows.now columns.now }
     requires divides { Divides rows.now columns.now division.now }
     requires free { AreThinPartsFree (matrix_of_runs rows.now) division.now }
-    ensures { IfOk result (IsUnimodularity rows.now) }
+    ensures { IfOk result (IsUnimodularity (matrix_of_runs rows.now)) }
 {
     let _height = rows.rows();
     let _width = columns.rows();
@@ -156,7 +157,7 @@ pub fn decide_unimodularity(
     columns: &SparseMatrix,
 ) -> Result<Unimodularity, Memory>
     requires crossed { AreCrossed rows.now columns.now }
-    ensures { IfOk result (IsUnimodularity rows.now) }
+    ensures { IfOk result (IsUnimodularity (matrix_of_runs rows.now)) }
 {
     let _height = rows.rows();
     let _width = columns.rows();
