@@ -1,0 +1,6 @@
+mod SetsOfParts
+mod PartMatrices
+mod DenseValues
+mod CoreSets
+pub mod CoreLines
+pub mod OneListOfParts

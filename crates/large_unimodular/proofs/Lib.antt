@@ -1,0 +1,4 @@
+mod ThinParts
+mod PartMeaning
+mod LargeMeaning
+mod PartsSoFar

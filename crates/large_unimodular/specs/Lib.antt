@@ -1,0 +1,3 @@
+pub mod PartVerdicts
+pub mod LargeVerdicts
+pub mod LargeLaws

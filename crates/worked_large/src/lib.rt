@@ -1,0 +1,5 @@
+//! Tests of verdicts on large matrices.
+#![tactic(auto)]
+
+#[cfg(test)]
+mod verdicts;
