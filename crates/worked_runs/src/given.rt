@@ -1,7 +1,6 @@
 // The values of the tables. In all texts of the tables `/` represents a line feed.
 use cmr_base::{Word, WordList};
 use cmr_io::{MemoryShelf, MemorySink, Shelf, Sink};
-use cmr_tools::run;
 use std::alloc::{AllocGlobal, Global};
 use std::process::Abort;
 use std::test::Fail;
@@ -111,6 +110,15 @@ pub fn run_on<R: Threads + Sync + AllocGlobal>(rt: &R, words: &WordList, on: &mu
     run_over(rt, words, &mut on.shelf, &mut on.out, &mut on.err)
 }
 
+/// Runs the program under its name for large matrices, and returns its status.
+pub fn run_large_on<R: Threads + Sync + AllocGlobal>(
+    rt: &R,
+    words: &WordList,
+    on: &mut Devices,
+) -> u8 {
+    run_large_over(rt, words, &mut on.shelf, &mut on.out, &mut on.err)
+}
+
 // Has no clauses, so that the tests depend only on what they see of the call.
 fn run_over<R: Threads + Sync + AllocGlobal, S: Shelf, O: Sink, E: Sink>(
     rt: &R,
@@ -119,7 +127,18 @@ fn run_over<R: Threads + Sync + AllocGlobal, S: Shelf, O: Sink, E: Sink>(
     out: &mut O,
     err: &mut E,
 ) -> u8 {
-    run(rt, rt.alloc(), words, shelf, out, err)
+    cmr_tools::run(rt, rt.alloc(), words, shelf, out, err)
+}
+
+// Has no clauses either.
+fn run_large_over<R: Threads + Sync + AllocGlobal, S: Shelf, O: Sink, E: Sink>(
+    rt: &R,
+    words: &WordList,
+    shelf: &mut S,
+    out: &mut O,
+    err: &mut E,
+) -> u8 {
+    cmr_large::run(rt, rt.alloc(), words, shelf, out, err)
 }
 
 // The room of standard output.

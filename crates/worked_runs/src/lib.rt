@@ -9,6 +9,8 @@ mod failing_devices;
 #[cfg(test)]
 mod given;
 #[cfg(test)]
+mod large_runs;
+#[cfg(test)]
 mod pivoted_runs;
 #[cfg(test)]
 mod runs;

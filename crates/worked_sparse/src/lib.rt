@@ -3,3 +3,5 @@
 
 #[cfg(test)]
 mod matrices;
+#[cfg(test)]
+mod texts;

@@ -1,0 +1,5 @@
+mod RunSums
+mod ShownLines
+pub mod LargeAnswers
+mod OneLargeReport
+mod LargeRuns

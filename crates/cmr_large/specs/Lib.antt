@@ -1,0 +1,4 @@
+pub mod LargeInputs
+pub mod LargeReports
+pub mod LargeTu
+pub mod LargeReportLaws
