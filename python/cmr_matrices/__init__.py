@@ -8,10 +8,6 @@ from 1 in the program's texts.
     True
 """
 
-from .answers import Answer, Checked, Parts
-from .chains import Chain, ChainStep
-from .constraints import Scaling
-from .edge_lists import graph_of_edges, graph_of_networkx
 from .errors import (
     BadCoefficients,
     BadCommandLine,
@@ -34,21 +30,38 @@ from .errors import (
     UnprovedProgram,
     Unreadable,
 )
-from .excluded import ExcludedMinor
-from .graphs import Edge, Graph
-from .lines import Line, LineSet, Names
-from .matrix import Matrix
-from .mappings import Automorphisms
-from .matroid_trees import Decomposition
-from .matroids import named
-from .minor_values import Minor
-from .minors import excluded_minor
-from .modellers import from_linopy, from_model, from_model_scaled, from_pulp, from_pyomo, from_scipy, reduced_parts
-from .model_objects import scipy_model
-from .models import Model
-from .nodes import Node
-from .program import find_program
-from .questions import (
+from .evidence.chains import Chain, ChainStep
+from .evidence.edge_lists import graph_of_edges, graph_of_networkx
+from .evidence.graphs import Edge, Graph
+from .evidence.nodes import Node
+from .evidence.reductions import Reduction, Reductions
+from .evidence.separations import Separation
+from .evidence.signings import Signing, SigningStep
+from .evidence.trees import Tree
+from .matrices.lines import Line, LineSet, Names
+from .matrices.matrix import Matrix
+from .matrices.sources import MatrixLike
+from .matrices.submatrices import Submatrix
+from .matroids.named_matroids import named
+from .models.constraints import Scaling
+from .models.linear_models import Model
+from .models.model_objects import scipy_model
+from .models.modellers import (
+    from_linopy,
+    from_model,
+    from_model_scaled,
+    from_pulp,
+    from_pyomo,
+    from_scipy,
+    reduced_parts,
+)
+from .questions.answers import Answer, Checked, Parts
+from .questions.excluded import ExcludedMinor
+from .questions.mappings import Automorphisms
+from .questions.matroid_trees import Decomposition
+from .questions.minor_values import Minor
+from .questions.minors import excluded_minor
+from .questions.properties import (
     has_no_cycle_fault,
     is_balanced,
     is_cographic,
@@ -59,15 +72,10 @@ from .questions import (
     is_series_parallel,
     is_totally_unimodular,
 )
-from .reductions import Reduction, Reductions
-from .represented import Matroid
+from .questions.represented import Matroid
+from .questions.tools import check, compose, generate, matrix_of, parts, sign
 from .reporting.report import FamilyLine, ModelReport, model_report
-from .separations import Separation
-from .signings import Signing, SigningStep
-from .sources import MatrixLike
-from .submatrices import Submatrix
-from .tools import check, compose, generate, matrix_of, parts, sign
-from .trees import Tree
+from .running.program import find_program
 from .version import __version__
 
 __all__ = [

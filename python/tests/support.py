@@ -14,12 +14,12 @@ from pathlib import Path
 from typing import Any, TypeVar
 
 from cmr_matrices import Answer, Matrix, ProgramMissing, UnprovedProgram, find_program
-from cmr_matrices.batch.kept import batch_of
-from cmr_matrices.clock import Clock
-from cmr_matrices.options import budget_words
-from cmr_matrices.reading import Question
-from cmr_matrices.sources import MatrixLike
-from cmr_matrices.tries import Tries
+from cmr_matrices.matrices.sources import MatrixLike
+from cmr_matrices.questions.options import budget_words
+from cmr_matrices.questions.reading import Question
+from cmr_matrices.questions.tries import Tries
+from cmr_matrices.running.batch.kept import batch_of
+from cmr_matrices.running.clock import Clock
 
 TOP = Path(__file__).resolve().parents[2]
 EXAMPLES = TOP / "examples"

@@ -11,15 +11,15 @@ from functools import cached_property
 from pathlib import Path
 from typing import NamedTuple, Protocol
 
-from ..batch.frames import Reply, Request, file_part, words_part
-from ..batch.kept import replies_at_once
 from ..errors import CmrError
-from ..held_texts import held_text
-from .asking import ask, verdict_of
+from ..running.batch.frames import Reply, Request, file_part, words_part
+from ..running.batch.kept import replies_at_once
+from ..running.held_texts import held_text
 from .classes import MatrixClass
 from .streams import Format
+from .verdicts import ask, verdict_of
 
-__all__ = ["Asker", "OneByOne", "Question", "Said", "Together", "Wording"]
+__all__ = ["Asker", "OneByOne", "ClassQuestion", "Said", "Together", "Wording"]
 
 
 @dataclass(frozen=True)
@@ -43,7 +43,7 @@ class Wording:
         return words_part((*self.words(), "-"))
 
 
-class Question(NamedTuple):
+class ClassQuestion(NamedTuple):
     """Whether the matrix of a text is in a class."""
 
     wording: Wording
@@ -65,7 +65,7 @@ class Asker(Protocol):
     most: int
     """Of how many matrices it is asked at once."""
 
-    def said(self, questions: Sequence[Question]) -> Iterator[list[Said]]:
+    def said(self, questions: Sequence[ClassQuestion]) -> Iterator[list[Said]]:
         """What the program says of each question, in their order, in lists of what comes at once.
 
         Raises what `run` of the package raises, if the questions after the fault have to be asked again.
@@ -94,7 +94,7 @@ class OneByOne:
     def __exit__(self, *_: object) -> None:
         self._stack.close()
 
-    def said(self, questions: Sequence[Question]) -> Iterator[list[Said]]:
+    def said(self, questions: Sequence[ClassQuestion]) -> Iterator[list[Said]]:
         """What the program says of each question. It is asked for one when the one before is taken."""
         for question in questions:
             begun = time.monotonic()
@@ -140,7 +140,7 @@ class Together:
     def __exit__(self, *_: object) -> None:
         pass
 
-    def said(self, questions: Sequence[Question]) -> Iterator[list[Said]]:
+    def said(self, questions: Sequence[ClassQuestion]) -> Iterator[list[Said]]:
         """What the program says of each question. The time of a list is divided among its verdicts."""
         begun, at = time.monotonic(), 0
         requests = [Request.of_parts(wording.part, file_part("-", text)) for wording, text in questions]
@@ -151,7 +151,7 @@ class Together:
             begun, at = now, at + len(found)
 
 
-def _said(question: Question, reply: Reply, seconds: float) -> Said:
+def _said(question: ClassQuestion, reply: Reply, seconds: float) -> Said:
     try:
         verdict = verdict_of(reply.status, reply.output or reply.error, question.wording.kind.said)
     except CmrError as fault:

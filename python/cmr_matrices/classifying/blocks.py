@@ -7,7 +7,7 @@ from collections import deque
 from collections.abc import Iterator, Sequence
 
 from ..errors import CmrError
-from .askers import Asker, Question, Said
+from .askers import Asker, ClassQuestion, Said
 from .streams import Item
 from .work import Row, Settings, Talk, talk
 
@@ -53,7 +53,7 @@ class _Open:
     def __init__(self, item: Item, settings: Settings) -> None:
         self._talk: Talk = talk(item, settings)
         self._settings = settings
-        self.questions: Sequence[Question] = ()
+        self.questions: Sequence[ClassQuestion] = ()
         self.said: list[Said] = []
         self.is_over = False
 
@@ -107,7 +107,7 @@ def _answered(talks: Sequence[_Open], asker: Asker) -> Iterator[list[_Open]]:
             yield _failed(asked, Said("", time.monotonic() - begun, {}, fault))
 
 
-def _taken(asked: deque[tuple[_Open, Question]], found: Sequence[Said]) -> list[_Open]:
+def _taken(asked: deque[tuple[_Open, ClassQuestion]], found: Sequence[Said]) -> list[_Open]:
     """Takes answers to the first questions, and gives the talks of which they are the last ones."""
     answered = []
     for said in found:
@@ -118,7 +118,7 @@ def _taken(asked: deque[tuple[_Open, Question]], found: Sequence[Said]) -> list[
     return answered
 
 
-def _failed(asked: deque[tuple[_Open, Question]], said: Said) -> list[_Open]:
+def _failed(asked: deque[tuple[_Open, ClassQuestion]], said: Said) -> list[_Open]:
     """Takes the fault of the first question. Except after a limit of time, no more is asked in its talk."""
     one = asked[0][0]
     left = 1 if isinstance(said.fault, TimeoutError) else len(one.questions) - len(one.said)

@@ -18,9 +18,9 @@ from dataclasses import replace
 from pathlib import Path
 from typing import Any
 
-from ..batch.kept import batch_of
 from ..errors import BadInput, ProgramMissing
-from ..program import find_program
+from ..running.batch.kept import batch_of
+from ..running.program import find_program
 from .blocks import classify_block
 from .pools import Block, died
 from .streams import Item

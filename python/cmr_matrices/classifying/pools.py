@@ -15,7 +15,7 @@ from collections.abc import Iterator
 from multiprocessing.connection import Connection
 from typing import Any
 
-from ..batch.kept import end_all
+from ..running.batch.kept import end_all
 from .blocks import rows_at_once
 from .streams import Item
 from .work import Row, Settings

@@ -16,7 +16,7 @@ from itertools import islice
 from pathlib import Path
 from typing import BinaryIO, Literal
 
-from ..model_texts import FORMATS
+from ..models.model_texts import FORMATS
 
 __all__ = ["Format", "Item", "Source", "items_of", "part_of", "sources_of", "texts_of"]
 

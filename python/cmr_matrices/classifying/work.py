@@ -12,19 +12,19 @@ from contextlib import suppress
 from dataclasses import dataclass, field, replace
 from functools import cached_property
 
-from ..answers import Answer
-from ..batch.kept import batch_of
 from ..errors import BadInput, BadText, CmrError, ProgramFault, TimeLimitReached, Undecided
-from ..excluded import CLASSES as MINOR_CLASSES
-from ..matrix import Matrix
-from ..minors import excluded_minor
-from ..modellers import from_model
-from ..questions import is_balanced, is_regular, is_totally_unimodular
-from .askers import Asker, OneByOne, Question, Said, Together, Wording
-from .asking import fault_words
+from ..matrices.matrix import Matrix
+from ..models.modellers import from_model
+from ..questions.answers import Answer
+from ..questions.excluded import CLASSES as MINOR_CLASSES
+from ..questions.minors import excluded_minor
+from ..questions.properties import is_balanced, is_regular, is_totally_unimodular
+from ..running.batch.kept import batch_of
+from .askers import Asker, ClassQuestion, OneByOne, Said, Together, Wording
 from .classes import CLASSES, MatrixClass, asking_order, contradictions, settle
 from .shapes import Shape, shape_of
 from .streams import Format, Item
+from .verdicts import fault_words
 
 __all__ = ["CONTRADICTION", "Row", "Settings", "Talk", "talk", "with_texts"]
 
@@ -128,11 +128,11 @@ class Row:
     """The bytes of the text or model."""
 
 
-Talk = Generator[Sequence[Question], Sequence[Said], Row]
+Talk = Generator[Sequence[ClassQuestion], Sequence[Said], Row]
 """What is asked about a matrix: it gives questions, takes what is said of each, and returns the row."""
 
-_Talked = Generator[Sequence[Question], Sequence[Said], Sequence[Said]]
-_Asking = Generator[Sequence[Question], Sequence[Said], None]
+_Talked = Generator[Sequence[ClassQuestion], Sequence[Said], Sequence[Said]]
+_Asking = Generator[Sequence[ClassQuestion], Sequence[Said], None]
 
 
 class _Watch:
@@ -142,7 +142,7 @@ class _Watch:
         self._spent = 0.0
         self._begun = time.perf_counter()
 
-    def said(self, questions: Sequence[Question]) -> _Talked:
+    def said(self, questions: Sequence[ClassQuestion]) -> _Talked:
         """What is said of questions. Raises the first fault, except a limit of time, which may have passed for each question."""
         self._spent += time.perf_counter() - self._begun
         found = yield questions
@@ -298,10 +298,10 @@ class _Asked:
         if broken:
             self.fault = CONTRADICTION, "; ".join(broken)
 
-    def _question(self, kind: MatrixClass, source: _Source, has_evidence: bool) -> Question:
-        return Question(self.settings.wording(kind, source.form, has_evidence), source.text)
+    def _question(self, kind: MatrixClass, source: _Source, has_evidence: bool) -> ClassQuestion:
+        return ClassQuestion(self.settings.wording(kind, source.form, has_evidence), source.text)
 
-    def _verdict(self, kind: MatrixClass, source: _Source) -> Generator[Sequence[Question], Sequence[Said], str]:
+    def _verdict(self, kind: MatrixClass, source: _Source) -> Generator[Sequence[ClassQuestion], Sequence[Said], str]:
         (said,) = yield from self._watch.said([self._question(kind, source, has_evidence=False)])
         if said.fault is not None:
             raise said.fault

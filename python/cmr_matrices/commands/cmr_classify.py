@@ -27,8 +27,8 @@ from ..classifying.summary import Summary
 from ..classifying.tables import Done, Table, files_of, open_table, read_table
 from ..classifying.work import CONTRADICTION, Row, Settings
 from ..errors import BadInput, ProgramMissing
-from ..program import find_program
-from .command import command_parser, end, integer_between, write_text
+from ..running.program import find_program
+from .command import command_parser, end, integer_between, numbers_of, write_text
 
 if TYPE_CHECKING:
     from ..classifying.cluster import Cluster
@@ -83,11 +83,11 @@ def arguments() -> argparse.Namespace:
     add("--part", metavar="K/N", type=part, default=(1, 1), help="take every N-th matrix, starting with the K-th")
     add("--evidence", metavar="DIR", help="keep evidence in DIR/CLASS/FILE/NUMBER.KIND")
     add("--minors", action="store_true", help="also keep an excluded minor for each no, if the class has any")
-    add("--lines", metavar="L", type=integer_between(0, 24), help="the budget of the searches (14)")
+    add("--lines", metavar="L", type=numbers_of("--lines"), help="the budget of the searches (14)")
     add(
         "--pivots",
         metavar="K",
-        type=integer_between(0, 100),
+        type=numbers_of("--pivots"),
         default=20,
         help="make up to K pivots of an open part (20)",
     )
@@ -210,7 +210,7 @@ class _Run:
         )
         if chosen.dask:
             # What it needs of Python's library takes a while to load.
-            from ..classifying.cluster import Cluster  # pylint: disable=import-outside-toplevel
+            from ..classifying.cluster import Cluster
 
             return Cluster(chosen.dask, settings, chosen.worker_program)
         return Processes(chosen.jobs, settings)

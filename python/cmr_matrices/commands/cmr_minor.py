@@ -19,13 +19,13 @@ from collections.abc import Callable, Iterator
 from dataclasses import replace
 
 from ..errors import CmrError, TimeLimitReached, Undecided, Unreadable
-from ..excluded import CLASSES, ExcludedMinor, minor_class
-from ..lines import Line, LineSet, Names
-from ..matrix import Matrix
-from ..minors import excluded_minor
-from ..program import NO, REFUSED, UNDECIDED, YES
-from ..represented import Matroid
-from .command import command_parser, integer_between, named_faults, read_as, status_of, write_text
+from ..matrices.lines import Line, LineSet, Names
+from ..matrices.matrix import Matrix
+from ..questions.excluded import CLASSES, ExcludedMinor, minor_class
+from ..questions.minors import excluded_minor
+from ..questions.represented import Matroid
+from ..running.program import NO, REFUSED, UNDECIDED, YES
+from .command import command_parser, integer_between, named_faults, numbers_of, read_as, status_of, write_text
 
 __all__ = ["main"]
 
@@ -40,11 +40,11 @@ def arguments() -> argparse.Namespace:
     add("-M", metavar="MINOR", dest="minor", help="write the minor to this file, to be checked")
     add("--names", metavar="NAMES", help="print the names in this file, which model_to_matrix or named wrote")
     add("--sage", action="store_true", help="print a last line with the minor, which Sage reads")
-    add("--lines", metavar="L", type=integer_between(0, 24), help="the budget of the searches (14)")
+    add("--lines", metavar="L", type=numbers_of("--lines"), help="the budget of the searches (14)")
     add(
         "--pivots",
         metavar="K",
-        type=integer_between(0, 100),
+        type=numbers_of("--pivots"),
         default=20,
         help="make up to K pivots of an open part (20)",
     )

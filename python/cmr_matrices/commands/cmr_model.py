@@ -18,9 +18,19 @@ from pathlib import Path
 from typing import Any
 
 from ..errors import BadInput, CmrError
-from ..program import NO, UNDECIDED, YES
 from ..reporting.report import PIVOTS, QUESTIONS, ModelReport, model_report
-from .command import BAD_FILE, NO_MEMORY, command_parser, end, integer_between, status_of, write_text, write_whole
+from ..running.program import NO, UNDECIDED, YES
+from .command import (
+    BAD_FILE,
+    NO_MEMORY,
+    command_parser,
+    end,
+    integer_between,
+    numbers_of,
+    status_of,
+    write_text,
+    write_whole,
+)
 from .signals import end_if_told, end_on_signals
 
 __all__ = ["main"]
@@ -44,11 +54,11 @@ def arguments() -> argparse.Namespace:
         help="the model's format (by default .mod is mathprog, .lp is lp, .mps is mps, and otherwise the content decides)",
     )
     add("--data", metavar="DATA", help="the file with the data of a MathProg model, if it has one")
-    add("--lines", metavar="L", type=integer_between(0, 24), help="the budget of the searches, 0 to 24 (14)")
+    add("--lines", metavar="L", type=numbers_of("--lines"), help="the budget of the searches, 0 to 24 (14)")
     add(
         "--pivots",
         metavar="K",
-        type=integer_between(0, 100),
+        type=numbers_of("--pivots"),
         default=PIVOTS,
         help="make up to K pivots of an open part, 0 to 100 (20)",
     )

@@ -27,6 +27,7 @@ from ..errors import (
     OutOfMemory,
     Unreadable,
 )
+from ..explained.arguments import RANGES
 from ..version import __version__
 
 __all__ = [
@@ -39,6 +40,7 @@ __all__ = [
     "end",
     "integer_between",
     "named_faults",
+    "numbers_of",
     "read_as",
     "read_text",
     "status_of",
@@ -81,6 +83,11 @@ def integer_between(least: int, greatest: int) -> Callable[[str], int]:
         return int(text)
 
     return taken
+
+
+def numbers_of(option: str) -> Callable[[str], int]:
+    """The type of an option that is passed on to the same option of `cmr`."""
+    return integer_between(*RANGES[option])
 
 
 def end(work: Callable[[], None]) -> int:

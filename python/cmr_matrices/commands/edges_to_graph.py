@@ -9,10 +9,10 @@ from __future__ import annotations
 import argparse
 import io
 
-from ..edge_lists import edges_of_text, graph_of_edges, graph_of_networkx
 from ..errors import BadInput
-from ..graphs import Graph
-from ..lines import Names
+from ..evidence.edge_lists import edges_of_text, graph_of_edges, graph_of_networkx
+from ..evidence.graphs import Graph
+from ..matrices.lines import Names
 from .command import command_parser, end, read_as, write_text
 
 

@@ -9,18 +9,20 @@ Files: why they cannot be read or written. A run that would overwrite a file tha
 from __future__ import annotations
 
 import os
-import subprocess
 import sys
 import warnings
 from collections.abc import Iterable, Iterator
 from pathlib import Path
 
 from ..errors import ProgramMissing, UnprovedProgram
-from ..explained.answers import refused, undecided
+from ..explained.advice import refused, undecided
+from ..explained.arguments import TOOLS, Tool
+from ..explained.command_line import Order, WordFault, asks_for_help, asks_for_version, read_words
 from ..explained.faults import text_fault
 from ..explained.files import before_the_run, cannot_read, cannot_write, written_inputs
-from ..explained.words import TOOLS, Order, Tool, WordFault, asks_for_help, asks_for_version, read_words
-from ..program import REFUSED, TEXT_FAULT, UNDECIDED, find_program, unproved
+from ..running.clock import Clock
+from ..running.program import REFUSED, TEXT_FAULT, UNDECIDED, find_program, unproved
+from ..running.single_run import single_run
 from ..version import __version__
 from .command import BAD_FILE, BAD_TEXT, BAD_WORDS, NO_MEMORY, NO_PROGRAM
 
@@ -50,8 +52,8 @@ def _answered(words: list[str]) -> Iterator[str]:
 
 def _usage(tool: Tool) -> Iterator[str]:
     yield f"usage: cmr {tool.name} {tool.usage}"
-    if "-c" in tool.flags:
-        yield f"   or: cmr {tool.name} -c [FILE]"
+    if tool.other_usage:
+        yield f"   or: cmr {tool.name} {tool.other_usage}"
 
 
 def _tools() -> Iterator[str]:
@@ -77,20 +79,19 @@ def _run(words: list[str]) -> int:
         program = find_program()
     if program == unproved():
         _say(["nothing is proved of this run; ./cmr proves and builds the program"])
-    command = [str(program), *words]
-    ran = subprocess.run(command, input=data, capture_output=True, check=False)
-    sys.stderr.buffer.write(ran.stderr)
+    ran = single_run(program, words, data, {}, (), Clock(None))
+    sys.stderr.buffer.write(ran.error)
     sys.stderr.flush()
-    status = ran.returncode if ran.returncode >= 0 else 128 - ran.returncode
+    status = ran.status if ran.status >= 0 else 128 - ran.status
     try:
-        sys.stdout.buffer.write(ran.stdout)
+        sys.stdout.buffer.write(ran.output)
         sys.stdout.flush()
     except OSError as fault:
         _say([f"standard output cannot be written: {fault.strerror}"])
         os.dup2(os.open(os.devnull, os.O_WRONLY), sys.stdout.fileno())
         return BAD_FILE
-    line = ran.stderr.decode("utf-8", "surrogateescape").rstrip("\n")
-    _say(_explained(order, status, line, ran.stdout.decode("ascii", "replace").splitlines(), data))
+    line = ran.error.decode("utf-8", "surrogateescape").rstrip("\n")
+    _say(_explained(order, status, line, ran.output.decode("ascii", "replace").splitlines(), data))
     return status
 
 

@@ -10,9 +10,9 @@ from __future__ import annotations
 
 import argparse
 
-from ..graphs import Graph
-from ..lines import Names
-from ..network_picture import DRAWN
+from ..evidence.graphs import Graph
+from ..evidence.network_picture import DRAWN
+from ..matrices.lines import Names
 from .command import command_parser, end, read_as, write_text
 
 

@@ -12,13 +12,13 @@ import re
 from collections.abc import Callable, Iterator
 from pathlib import Path
 
-from ..constraints import Choice, Constraints
 from ..errors import BadCoefficients, BadInput, Family
-from ..lines import Names
-from ..matrix import Matrix
-from ..model_reductions import connected_parts, counted, reduced
-from ..modellers import constraints_of_file, matrix_of_part
-from ..words import LIMIT
+from ..matrices.lines import Names
+from ..matrices.matrix import Matrix
+from ..matrices.words import LIMIT
+from ..models.constraints import Choice, Constraints
+from ..models.model_reductions import connected_parts, counted, reduced
+from ..models.modellers import constraints_of_file, matrix_of_part
 from .command import command_parser, end, read_text, write_text
 
 FAMILIES = 20

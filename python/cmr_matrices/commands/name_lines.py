@@ -8,9 +8,9 @@ from __future__ import annotations
 
 import argparse
 
-from ..lines import Names
-from ..named_text import named_text
-from ..trees import Tree
+from ..evidence.named_text import named_text
+from ..evidence.trees import Tree
+from ..matrices.lines import Names
 from .command import command_parser, end, read_as, write_text
 
 

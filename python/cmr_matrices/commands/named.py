@@ -14,8 +14,8 @@ from __future__ import annotations
 
 import argparse
 
-from ..lines import Names
-from ..matroids import named
+from ..matrices.lines import Names
+from ..matroids.named_matroids import named
 from .command import command_parser, end, write_text
 
 

@@ -8,8 +8,8 @@ from __future__ import annotations
 
 import argparse
 
-from ..lines import Names
-from ..trees import Tree
+from ..evidence.trees import Tree
+from ..matrices.lines import Names
 from .command import command_parser, end, read_as, write_text
 
 

@@ -1,1 +1,1 @@
-"""What `scripts/explain` says beside the program's own lines: of words, of texts and of files."""
+"""The arguments of `cmr`, and what `scripts/explain` says beside the program's own lines: of words, of texts and of files."""

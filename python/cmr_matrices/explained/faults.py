@@ -6,9 +6,9 @@ import re
 from collections.abc import Iterator, Mapping
 
 from ..errors import TextPlace
-from ..words import LIMIT
-from .texts import Guess, guess, has_size
-from .words import Order
+from ..matrices.words import LIMIT
+from .command_line import Order
+from .guesses import Guess, guess, has_size
 
 __all__ = ["text_fault"]
 

@@ -8,8 +8,9 @@ from collections.abc import Iterator
 from difflib import get_close_matches
 from pathlib import Path
 
-from .texts import guess
-from .words import OUTPUTS, Order
+from .arguments import OPTIONS
+from .command_line import Order
+from .guesses import guess
 
 __all__ = ["before_the_run", "cannot_read", "cannot_write", "written_inputs"]
 
@@ -17,7 +18,7 @@ __all__ = ["before_the_run", "cannot_read", "cannot_write", "written_inputs"]
 def written_inputs(order: Order) -> list[str]:
     """A line for each file that would be written and is also read, by its name or as standard input."""
     return [
-        f"{name} is read and would be written over: `{option}` names the file that gets {OUTPUTS[option]}"
+        f"{name} is read and would be written over: `{option}` names the file that gets {OPTIONS[option].gets}"
         for option, name in order.outputs.items()
         if any(_is_input(name) if file == "-" else _is_same(name, file) for file in order.inputs.values())
     ]
@@ -35,7 +36,7 @@ def before_the_run(order: Order, *, at_terminal: bool) -> Iterator[str]:
         for option, name in outputs:
             kind = guess(_front(name)).kind
             if kind in ("dense", "sparse"):
-                yield f"`{option} {name}` names the file that gets {OUTPUTS[option]}, and {name} is a matrix text"
+                yield f"`{option} {name}` names the file that gets {OPTIONS[option].gets}, and {name} is a matrix text"
 
 
 def cannot_read(name: str) -> list[str]:

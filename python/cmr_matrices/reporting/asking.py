@@ -13,29 +13,29 @@ from functools import partial
 from math import inf
 from typing import Literal
 
-from ..answers import Answer
-from ..clock import ProcessorClock, processor_seconds
-from ..constraints import Constraints, matrix_of_constraints
 from ..errors import ProgramFault, TimeLimitReached
-from ..lines import Names
-from ..matrix import Matrix
-from ..model_reductions import connected_parts
-from ..program import REFUSED, StrPath
-from ..reductions import Reductions
+from ..evidence.reductions import Reductions
+from ..matrices.lines import Names
+from ..matrices.matrix import Matrix
+from ..matrices.submatrices import Submatrix
+from ..matrices.words import LIMIT
+from ..models.constraints import Constraints, matrix_of_constraints
+from ..models.model_reductions import connected_parts
+from ..questions.answers import Answer
+from ..running.clock import ProcessorClock, processor_seconds
+from ..running.program import REFUSED, StrPath
 from ..structures.fitting import fitted
 from ..structures.halves import OddCycle
 from ..structures.paths import Arcs
 from ..structures.sieve import Sieve
 from ..structures.structure import Structure, structure_of
-from ..submatrices import Submatrix
-from ..words import LIMIT
 from .cycles import Crossings, faulty_cycles
 from .deciding import Decider
 from .pieces import Asked, Cells, Piece
 from .reducing import reduced_and_checked
 from .rows import Axis, ModelRows
 
-__all__ = ["OVER", "Asker", "Limit", "Tell"]
+__all__ = ["OVER", "ModelAsker", "Limit", "Tell"]
 
 Tell = Callable[[str, int, int], None]
 """Is told the step of the work, how many questions it has put, and how many it may put, 0 for a step without questions."""
@@ -57,7 +57,7 @@ _CYCLES = 5
 """How many cycles through a row are asked for a violator."""
 
 
-class Asker:
+class ModelAsker:
     """Puts questions to the program, and has each evidence checked. It counts both.
 
     The work has steps. `seconds` of processor time are for all of them, counted from `start`, so that other work of the machine ends no

@@ -5,22 +5,22 @@ from __future__ import annotations
 from collections.abc import Iterator
 from dataclasses import dataclass, replace
 
-from ..answers import Answer
-from ..clock import Clock
 from ..errors import ProgramFault, TimeLimitReached
-from ..line_orders import drawn_orders
-from ..lines import LineSet
-from ..matrix import Matrix
-from ..narrowing import Narrowing
-from ..nodes import Node
-from ..options import budget_words
-from ..program import REFUSED, StrPath
-from ..questions import has_no_cycle_fault, is_network, is_totally_unimodular
-from ..reading import Question
+from ..evidence.nodes import Node
+from ..evidence.trees import Tree
+from ..matrices.lines import LineSet
+from ..matrices.matrix import Matrix
+from ..matrices.submatrices import Submatrix
+from ..questions.answers import Answer
+from ..questions.line_orders import drawn_orders
+from ..questions.narrowing import Narrowing
+from ..questions.options import budget_words
+from ..questions.properties import has_no_cycle_fault, is_network, is_totally_unimodular
+from ..questions.reading import Question
+from ..questions.tools import check
+from ..running.clock import Clock
+from ..running.program import REFUSED, StrPath
 from ..structures.paths import Arcs
-from ..submatrices import Submatrix
-from ..tools import check
-from ..trees import Tree
 
 __all__ = ["Decider"]
 

@@ -17,9 +17,9 @@ from __future__ import annotations
 from collections.abc import Sequence
 from dataclasses import dataclass, field, replace
 
-from ..families import families_of
-from ..models import Model
-from .asking import Asker
+from ..matrices.families import families_of
+from ..models.linear_models import Model
+from .asking import ModelAsker
 from .keeping import Budget, Kept, keep_blocks
 from .pieces import Asked, Cells
 from .reasons import Reason
@@ -82,7 +82,7 @@ class Integers:
         return self.kept.is_largest if self.kept is not None else self.blocked is None
 
 
-def integers_of(asker: Asker, rows: ModelRows, questions: int, part: float, known: Sequence[Cells]) -> Integers:
+def integers_of(asker: ModelAsker, rows: ModelRows, questions: int, part: float, known: Sequence[Cells]) -> Integers:
     """The families of variables that have to stay integer. `known` are violators of some rows and columns."""
     is_declared = any(rows.model.whole)
     candidates, continuous = _candidates(rows.model)
@@ -127,7 +127,7 @@ def _family(
     return ColumnFamily(name, said, columns, coefficients if is_kept else columns, coefficients, violator)
 
 
-def _of_continuous(asker: Asker, found: Integers, questions: int, part: float) -> Asked | None:
+def _of_continuous(asker: ModelAsker, found: Integers, questions: int, part: float) -> Asked | None:
     """The answer on the columns of the continuous variables, if there are some and if they are totally unimodular."""
     is_excluded = found.kept is not None and any(not blocks for blocks, _ in found.kept.violators)
     asker.begin("the columns of the continuous variables", questions, part)

@@ -11,8 +11,8 @@ from dataclasses import dataclass, field, replace
 from functools import cached_property
 from itertools import combinations
 
-from ..words import LIMIT
-from .asking import Asker
+from ..matrices.words import LIMIT
+from .asking import ModelAsker
 from .pieces import Asked, Cells
 from .rows import Axis
 
@@ -72,7 +72,7 @@ class Kept:
 
 
 def keep_blocks(
-    asker: Asker,
+    asker: ModelAsker,
     base: Sequence[int],
     blocks: Sequence[Block],
     budget: Budget,
@@ -102,7 +102,7 @@ class _Work:
     """The violators that are known, as sets of blocks: no set that has all blocks of one can be kept."""
 
     def __init__(
-        self, asker: Asker, base: Block, blocks: tuple[Block, ...], known: Iterable[Cells], axis: Axis
+        self, asker: ModelAsker, base: Block, blocks: tuple[Block, ...], known: Iterable[Cells], axis: Axis
     ) -> None:
         self._asker = asker
         self._base = base

@@ -7,7 +7,7 @@ from dataclasses import dataclass, field
 from ..errors import TimeLimitReached
 from ..structures.halves import OddCycle, cycle_determinant
 from ..structures.sparse import columns_of
-from .asking import Asker
+from .asking import ModelAsker
 from .pieces import Cells
 
 __all__ = ["Minimal", "minimal_violator"]
@@ -32,7 +32,7 @@ class Minimal:
     determinant: int | None
 
 
-def minimal_violator(asker: Asker, violator: Cells, part: float) -> Minimal:
+def minimal_violator(asker: ModelAsker, violator: Cells, part: float) -> Minimal:
     """What is left of a violator when one line after another is removed, as long as a violator remains.
 
     A violator that is too large for the program is an odd cycle, which has no smaller one.
@@ -62,7 +62,7 @@ def minimal_violator(asker: Asker, violator: Cells, part: float) -> Minimal:
     return Minimal(found, names.rows, names.columns, entries, is_minimal, matrix.determinant() if is_square else None)
 
 
-def _cycle(asker: Asker, cells: Cells) -> Minimal:
+def _cycle(asker: ModelAsker, cells: Cells) -> Minimal:
     """An odd cycle of any length, without its entries."""
     model = asker.rows.model
     names = tuple(model.rows[row] for row in cells.rows), tuple(model.columns[column] for column in cells.columns)
@@ -79,7 +79,7 @@ def _cycle(asker: Asker, cells: Cells) -> Minimal:
     return Minimal(cells, *names, (), found is not None, found)
 
 
-def _without(asker: Asker, found: Cells, kind: str, line: int) -> tuple[Cells | None, bool]:
+def _without(asker: ModelAsker, found: Cells, kind: str, line: int) -> tuple[Cells | None, bool]:
     """A violator without a line, if there is one, and whether the question is open."""
     rows = tuple(row for row in found.rows if kind != "row" or row != line)
     columns = tuple(column for column in found.columns if kind != "column" or column != line)

@@ -8,8 +8,8 @@ from dataclasses import dataclass
 from fractions import Fraction
 from math import isfinite
 
-from ..families import families_of, family_of
-from ..models import Ends, Model
+from ..matrices.families import families_of, family_of
+from ..models.linear_models import Ends, Model
 
 __all__ = ["RowGroup", "row_groups"]
 

@@ -4,13 +4,13 @@ from __future__ import annotations
 
 from dataclasses import dataclass, field
 
-from ..answers import Answer, Verdict
-from ..constraints import Constraints
-from ..matrix import Matrix
+from ..evidence.trees import Tree
+from ..matrices.matrix import Matrix
+from ..matrices.submatrices import Submatrix
+from ..matrices.words import LIMIT
+from ..models.constraints import Constraints
+from ..questions.answers import Answer, Verdict
 from ..structures.structure import Structure
-from ..submatrices import Submatrix
-from ..trees import Tree
-from ..words import LIMIT
 
 __all__ = ["Asked", "Cells", "Piece"]
 

@@ -7,18 +7,18 @@ from collections.abc import Sequence
 from dataclasses import dataclass, replace
 from typing import Literal
 
-from ..clock import Clock
-from ..constraints import Constraints
 from ..errors import ProgramFault
-from ..families import family_of
-from ..lines import Line, Names
-from ..matrix import Matrix
-from ..program import REFUSED, StrPath
-from ..questions import is_conetwork, is_network
+from ..evidence.trees import Tree
+from ..evidence.walks import arcs_of_walks
+from ..matrices.families import family_of
+from ..matrices.lines import Line, Names
+from ..matrices.matrix import Matrix
+from ..models.constraints import Constraints
+from ..questions.properties import is_conetwork, is_network
+from ..running.clock import Clock
+from ..running.program import REFUSED, StrPath
 from ..structures.sparse import columns_of, rows_of
 from ..structures.structure import Structure
-from ..trees import Tree
-from ..walks import arcs_of_walks
 
 __all__ = ["Reason", "reason_of", "reason_of_structure", "reason_of_tree"]
 

@@ -5,12 +5,12 @@ from __future__ import annotations
 from collections import Counter
 from dataclasses import dataclass
 
-from ..constraints import Constraints
 from ..errors import ProgramFault
-from ..lines import Line
-from ..model_reductions import connected_parts, reduced
-from ..program import REFUSED
-from ..reductions import Reason, Reductions
+from ..evidence.reductions import Reason, Reductions
+from ..matrices.lines import Line
+from ..models.constraints import Constraints
+from ..models.model_reductions import connected_parts, reduced
+from ..running.program import REFUSED
 
 __all__ = ["Reduced", "reduced_and_checked", "reduced_model"]
 

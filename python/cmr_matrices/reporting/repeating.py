@@ -8,9 +8,9 @@ from collections.abc import Iterable, Sequence
 from dataclasses import dataclass
 from pathlib import Path
 
-from ..families import family_of
-from ..submatrices import Submatrix
-from ..words import LIMIT
+from ..matrices.families import family_of
+from ..matrices.submatrices import Submatrix
+from ..matrices.words import LIMIT
 from .integers import Integers
 from .pieces import Asked, Cells, Piece
 from .report import PIVOTS, QUESTIONS, ModelReport

@@ -9,19 +9,19 @@ from collections.abc import Iterable, Mapping, Sequence
 from dataclasses import dataclass, field, replace
 from typing import Any, Literal, get_args
 
-from ..answers import Verdict
-from ..clock import Clock, processor_seconds
 from ..errors import BadInput, TimeLimitReached, shown
+from ..evidence.trees import Tree
 from ..given import one_of
 from ..given import whole as whole_number
-from ..matrix import Matrix
-from ..modellers import Format
-from ..model_objects import model_of
-from ..models import Model, read_model
-from ..mps import rows_text
-from ..program import StrPath, find_program, unproved
-from ..trees import Tree
-from .asking import Asker, Limit, Tell
+from ..matrices.matrix import Matrix
+from ..models.linear_models import Model, read_model
+from ..models.model_objects import model_of
+from ..models.modellers import Format
+from ..models.mps import rows_text
+from ..questions.answers import Verdict
+from ..running.clock import Clock, processor_seconds
+from ..running.program import StrPath, find_program, unproved
+from .asking import Limit, ModelAsker, Tell
 from .integers import Integers, integers_of
 from .keeping import Budget, Kept, keep_blocks
 from .minimal import Minimal, minimal_violator
@@ -153,19 +153,19 @@ class ModelReport:
 
     def to_text(self) -> str:
         """The report as text."""
-        from .texts import report_text  # pylint: disable=import-outside-toplevel
+        from .texts import report_text
 
         return report_text(self)
 
     def to_html(self) -> str:
         """The report as one page of HTML that needs no other file."""
-        from .page import report_page  # pylint: disable=import-outside-toplevel
+        from .page import report_page
 
         return report_page(self)
 
     def to_json(self) -> str:
         """The report as one object of JSON."""
-        from .texts import report_json  # pylint: disable=import-outside-toplevel
+        from .texts import report_json
 
         return report_json(self)
 
@@ -217,7 +217,7 @@ def model_report(
         tell("reading the model", 0, 0)
     source = _source(model, form, data, limit)
     rows = source.rows
-    asker = Asker(
+    asker = ModelAsker(
         rows,
         lines=lines,
         pivots=pivots,
@@ -252,7 +252,7 @@ def model_report(
     )
 
 
-def _solution(asker: Asker, model: Model) -> Solved | None:
+def _solution(asker: ModelAsker, model: Model) -> Solved | None:
     """What GLPK finds in the time that is left."""
     step = "the linear program with its objective"
     asker.begin(step, 1, _ALL)
@@ -321,7 +321,7 @@ def _violators(kept: Kept | None, within: Mapping[str, Kept]) -> list[Cells]:
 class _Work:
     """The steps of a report, one after another."""
 
-    def __init__(self, asker: Asker, rows: ModelRows, questions: int) -> None:
+    def __init__(self, asker: ModelAsker, rows: ModelRows, questions: int) -> None:
         self._asker = asker
         self._rows = rows
         self._questions = questions

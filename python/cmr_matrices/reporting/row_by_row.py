@@ -4,7 +4,7 @@ from __future__ import annotations
 
 from collections.abc import Mapping, Sequence
 
-from .asking import Asker
+from .asking import ModelAsker
 from .keeping import Budget, Kept, keep_blocks
 from .rows import RowFamily
 
@@ -12,7 +12,7 @@ __all__ = ["kept_row_by_row"]
 
 
 def kept_row_by_row(
-    asker: Asker, families: Mapping[int, RowFamily], kept: Sequence[int], questions: int, parts: tuple[float, float]
+    asker: ModelAsker, families: Mapping[int, RowFamily], kept: Sequence[int], questions: int, parts: tuple[float, float]
 ) -> dict[int, Kept]:
     """Of each family that is not kept and has several rows what is kept of it, the smallest family first.
 

@@ -9,10 +9,10 @@ from functools import cached_property
 from math import ceil, floor
 from typing import Literal
 
-from ..constraints import Constraints, Scaling, rows_divided
 from ..errors import BadInput
-from ..lines import Names
-from ..models import Ends, Model
+from ..matrices.lines import Names
+from ..models.constraints import Constraints, Scaling, rows_divided
+from ..models.linear_models import Ends, Model
 from .patterns import row_groups
 
 __all__ = ["Axis", "ModelRows", "NotWhole", "RowFamily", "said_rows"]

@@ -2,7 +2,7 @@
 
 from __future__ import annotations
 
-from ..constraints import Constraints
+from ..models.constraints import Constraints
 
 __all__ = ["near_lines"]
 

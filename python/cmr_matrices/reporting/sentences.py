@@ -4,8 +4,8 @@ from __future__ import annotations
 
 from collections.abc import Sequence
 
-from ..model_texts import NONLINEAR_OBJECTIVE, ORDERED_SETS, SEMICONTINUOUS
-from ..words import LIMIT
+from ..matrices.words import LIMIT
+from ..models.model_texts import NONLINEAR_OBJECTIVE, ORDERED_SETS, SEMICONTINUOUS
 from .integers import ColumnFamily
 from .pieces import Asked
 from .report import FamilyLine, ModelReport

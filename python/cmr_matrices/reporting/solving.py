@@ -12,7 +12,7 @@ from typing import Any, Literal
 
 from ..errors import LibraryMissing, TimeLimitReached
 from ..libraries import library
-from ..models import Ends, Model
+from ..models.linear_models import Ends, Model
 
 __all__ = ["Solved", "solved"]
 

@@ -6,7 +6,7 @@ from collections.abc import Iterable, Iterator, Mapping, Sequence
 from dataclasses import dataclass
 from html import escape
 
-from ..families import families_of
+from ..matrices.families import families_of
 from .report import ModelReport
 
 __all__ = ["COLOURS", "is_titled", "spy"]

@@ -7,9 +7,9 @@ from collections.abc import Iterable, Iterator
 from typing import Any
 
 from . import sentences
-from .pieces import Asked, Cells
 from .integers import ColumnFamily, Integers
 from .minimal import Minimal
+from .pieces import Asked, Cells
 from .repeating import repeated
 from .report import FamilyLine, ModelReport
 from .rows import NotWhole

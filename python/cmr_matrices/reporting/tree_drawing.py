@@ -6,9 +6,9 @@ from collections.abc import Iterator
 from dataclasses import dataclass, field
 from html import escape
 
-from ..lines import Names
-from ..tree_picture import COLOURS, Box, Style, label_of, look_of, tree_boxes
-from ..trees import Tree
+from ..evidence.tree_picture import COLOURS, Box, Style, label_of, look_of, tree_boxes
+from ..evidence.trees import Tree
+from ..matrices.lines import Names
 
 __all__ = ["drawn_tree"]
 

@@ -8,8 +8,8 @@ from __future__ import annotations
 
 from collections.abc import Callable, Sequence
 
-from ..constraints import Constraints
-from ..words import LIMIT
+from ..matrices.words import LIMIT
+from ..models.constraints import Constraints
 from .paths import Arcs
 from .structure import Structure, paths_structure
 

@@ -11,7 +11,7 @@ from typing import Any
 
 from ..errors import LibraryMissing
 from ..libraries import library
-from ..words import LIMIT
+from ..matrices.words import LIMIT
 
 __all__ = ["Sieve"]
 

@@ -8,9 +8,9 @@ from __future__ import annotations
 from dataclasses import dataclass, field
 from typing import Literal
 
-from ..constraints import Constraints
 from ..errors import ProgramFault
-from ..program import REFUSED
+from ..models.constraints import Constraints
+from ..running.program import REFUSED
 from .halves import OddCycle, are_halves, has_two_at_most, is_odd_cycle, signs_or_cycle
 from .intervals import are_intervals, interval_signs
 from .paths import Arcs, are_forest, is_path

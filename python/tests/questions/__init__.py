@@ -1,0 +1,1 @@
+"""Tests of questions and their answers, and plain slow programs for the same rules."""
