@@ -183,14 +183,15 @@ class TimeLimitReached(CmrError, TimeoutError):
 class ProgramMissing(CmrError, FileNotFoundError):
     """There is no program at any of the places that were looked at."""
 
-    def __init__(self, places: Sequence[str]) -> None:
-        super().__init__(tuple(places))
+    def __init__(self, places: Sequence[str], name: str = "cmr") -> None:
+        super().__init__(tuple(places), name)
         self.places = tuple(places)
+        self.name = name
 
     def __str__(self) -> str:
         looked = "; ".join(self.places)
         return (
-            f"the program cmr is not there (looked at: {looked}). In a clone of the repository `./cmr` proves and builds it, "
+            f"the program {self.name} is not there (looked at: {looked}). In a clone of the repository `./cmr` proves and builds it, "
             "and `./try-cmr` compiles it without proofs in two minutes; a package of scripts/package contains it"
         )
 

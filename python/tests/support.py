@@ -20,6 +20,7 @@ from cmr_matrices.questions.reading import Question
 from cmr_matrices.questions.tries import Tries
 from cmr_matrices.running.batch.kept import batch_of
 from cmr_matrices.running.clock import Clock
+from cmr_matrices.running.large_run import large_of
 
 TOP = Path(__file__).resolve().parents[2]
 EXAMPLES = TOP / "examples"
@@ -110,3 +111,10 @@ def _has_batch() -> bool:
 
 
 needs_batch = _needs("the program cmr-batch", _has_batch())
+
+
+def _has_large() -> bool:
+    return _is_built() and large_of(find_program()) is not None
+
+
+needs_large = _needs("the program cmr-large", _has_large())

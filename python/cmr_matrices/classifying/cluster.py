@@ -51,7 +51,7 @@ class Cluster:
             raise BadInput(f"there is no Dask scheduler at {address}: {fault}") from fault
         with tempfile.TemporaryDirectory() as folder:
             self._client.upload_file(_zipped(Path(folder, "cmr_matrices.zip")))
-            self._settings = replace(settings, program=program or self._sent(settings, folder))
+            self.settings = replace(settings, program=program or self._sent(settings, folder))
 
     def _sent(self, settings: Settings, folder: str) -> str:
         """Sends the program under both names, and returns that of `cmr` on the workers. Another program has other names and processes."""
@@ -96,8 +96,8 @@ class Cluster:
             block = again.popleft() if again else next(blocks, [])
             if not block:
                 return
-            taken = [with_texts(item) for item in block]
-            future = self._client.submit(on_worker, taken, self._settings, pure=False)
+            taken = [with_texts(item, self.settings) for item in block]
+            future = self._client.submit(on_worker, taken, self.settings, pure=False)
             running[future] = block
             finished.add(future)
 

@@ -55,7 +55,7 @@ class Processes:
     """Processes of this machine, each with a pipe: a block goes in, and its rows come out as they are found."""
 
     def __init__(self, jobs: int, settings: Settings) -> None:
-        self._settings = settings
+        self.settings = settings
         self._workers: dict[Connection, Any] = {}
         self._given: dict[Connection, dict[_Key, Item]] = {}
         self._again: deque[Block] = deque()
@@ -100,7 +100,7 @@ class Processes:
 
     def _start(self) -> Connection:
         ours, theirs = multiprocessing.Pipe()
-        process = multiprocessing.Process(target=_serve, args=(theirs, ours, self._settings), daemon=True)
+        process = multiprocessing.Process(target=_serve, args=(theirs, ours, self.settings), daemon=True)
         process.start()
         theirs.close()
         self._workers[ours] = process

@@ -12,11 +12,11 @@ from __future__ import annotations
 from collections.abc import Sequence
 from typing import NamedTuple
 
+from ..matrices.words import LIMIT
 from .streams import Format
 
 __all__ = ["Shape", "shape_of"]
 
-_MOST = 1000
 _USUAL = frozenset((b"0", b"1", b"-1"))
 
 
@@ -29,31 +29,34 @@ class Shape(NamedTuple):
     is_binary: bool
 
 
-def shape_of(text: bytes, form: Format) -> Shape | None:
-    """The sizes of a matrix and what its entries are, or None if the text may have a fault, which the program then names."""
+def shape_of(text: bytes, form: Format, most: int = LIMIT) -> Shape | None:
+    """The sizes of a matrix and what its entries are, or None if the text may have a fault, which the program then names.
+
+    `most` is the greatest number of rows, and of columns.
+    """
     try:
-        return (_of_usual(text.split()) if form == "dense" else None) or _of_numbers(text, form)
+        return (_of_usual(text.split(), most) if form == "dense" else None) or _of_numbers(text, form, most)
     except ValueError:
         return None
 
 
-def _of_usual(words: Sequence[bytes]) -> Shape | None:
+def _of_usual(words: Sequence[bytes], most: int) -> Shape | None:
     """The sizes in a dense text that writes its entries as nearly all texts do, so that none of them has to be made a number."""
     entries = words[2:]
     kinds = set(entries)
     if not kinds <= _USUAL or len(words) < 2 or not b"".join(words[:2]).isdigit():
         return None
     rows, columns = map(int, words[:2])
-    if max(rows, columns) > _MOST or len(entries) != rows * columns:
+    if max(rows, columns) > most or len(entries) != rows * columns:
         return None
     return Shape(rows, columns, len(entries) - entries.count(b"0"), b"-1" not in kinds)
 
 
-def _of_numbers(text: bytes, form: Format) -> Shape | None:
+def _of_numbers(text: bytes, form: Format, most: int) -> Shape | None:
     numbers = [int(word) for word in text.decode("ascii").split()]
     length = 3 if form == "sparse" else 2
     head, entries = numbers[:length], numbers[5::3] if form == "sparse" else numbers[2:]
-    if b"_" in text or len(head) < length or min(head) < 0 or max(head[:2]) > _MOST:
+    if b"_" in text or len(head) < length or min(head) < 0 or max(head[:2]) > most:
         return None
     is_whole = len(numbers) == length + (3 * head[2] if form == "sparse" else head[0] * head[1])
     values = set(entries)

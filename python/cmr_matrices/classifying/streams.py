@@ -14,23 +14,36 @@ from contextlib import ExitStack
 from dataclasses import dataclass
 from itertools import islice
 from pathlib import Path
-from typing import BinaryIO, Literal
+from typing import BinaryIO, Literal, NamedTuple
 
+from ..matrices.words import LARGE_LIMIT, LIMIT
 from ..models.model_texts import FORMATS
 
-__all__ = ["Format", "Item", "Source", "items_of", "part_of", "sources_of", "texts_of"]
+__all__ = ["LARGE", "USUAL", "Format", "Item", "Limits", "Source", "items_of", "part_of", "sources_of", "texts_of"]
 
 Format = Literal["dense", "sparse"]
 
-TEXT_LIMIT = 16 * 2**20
-"""How many bytes a text may have. Of a longer one no more than one byte beyond is kept, by which the program sees it."""
+
+class Limits(NamedTuple):
+    """The most rows or columns of a matrix, of whose text the entries are kept, and the most bytes that a text may have.
+
+    Of a longer text no more than one byte beyond is kept, by which the program sees it.
+    """
+
+    lines: int
+    size: int
+
+
+USUAL = Limits(LIMIT, 16 * 2**20)
+"""The limits of `cmr`."""
+LARGE = Limits(LARGE_LIMIT, 256 * 2**20)
+"""The limits of `cmr-large`."""
 
 _COUNT = re.compile(rb"\+?0*([0-9]{1,10})")
 _WORD = re.compile(rb"[^\t-\r ]+")
 _PIECE = 2**16
 _WIDTH = 4
 """The bytes in which most entries are written, with the white space after them."""
-_LINES = 1000
 _MODELS = frozenset(FORMATS)
 
 
@@ -80,7 +93,7 @@ def sources_of(names: Iterable[str], leave_out: Iterable[str] = ()) -> list[Sour
     return list(found.values())
 
 
-def items_of(sources: Iterable[Source], form: Format) -> Iterator[Item]:
+def items_of(sources: Iterable[Source], form: Format, limits: Limits = USUAL) -> Iterator[Item]:
     """The matrices of all sources in their order. A file that cannot be read is one item, with its fault."""
     for source in sources:
         if source.is_model:
@@ -90,7 +103,7 @@ def items_of(sources: Iterable[Source], form: Format) -> Iterator[Item]:
         try:
             with ExitStack() as stack:
                 stream = sys.stdin.buffer if source.name == "-" else stack.enter_context(open(source.name, "rb"))
-                for number, (start, text, is_last) in enumerate(texts_of(stream, form), 1):
+                for number, (start, text, is_last) in enumerate(texts_of(stream, form, limits), 1):
                     yield Item(source.name, number, text, form, start, len(text), is_last=is_last)
         except OSError as fault:
             yield Item(source.name, number + 1, b"", form, fault=("CannotRead", fault.strerror or str(fault)))
@@ -103,9 +116,9 @@ def part_of(items: Iterable[Item], part: int, parts: int) -> Iterator[Item]:
             yield item
 
 
-def texts_of(stream: BinaryIO, form: Format) -> Iterator[tuple[int, bytes, bool]]:
+def texts_of(stream: BinaryIO, form: Format, limits: Limits = USUAL) -> Iterator[tuple[int, bytes, bool]]:
     """The texts of a stream, each with the position of its first byte, and whether its end is unknown, so that it is the last one read."""
-    words = _Words(stream)
+    words = _Words(stream, limits.size)
     head = 3 if form == "sparse" else 2
     while words.next() is not None:
         words.begin()
@@ -115,12 +128,12 @@ def texts_of(stream: BinaryIO, form: Format) -> Iterator[tuple[int, bytes, bool]
             yield start, words.text(words.has_ended), not words.has_ended
             return
         rows, columns = counts[:2]
-        if max(rows, columns) > _LINES:
+        if max(rows, columns) > limits.lines:
             yield start, words.text(False), False
             words.begin()
         entries = 3 * counts[2] if form == "sparse" else rows * columns
         is_short = not words.take(entries)
-        if max(rows, columns) <= _LINES:
+        if max(rows, columns) <= limits.lines:
             yield start, words.text(is_short), words.is_cut
         if words.is_cut:
             return
@@ -143,8 +156,9 @@ def _head(words: _Words, length: int) -> list[int] | None:
 class _Words:
     """The words of a stream, and the bytes from the beginning of a text to the last word that was taken."""
 
-    def __init__(self, stream: BinaryIO) -> None:
+    def __init__(self, stream: BinaryIO, limit: int) -> None:
         self._stream = stream
+        self._limit = limit
         self._piece = b""
         """It ends at white space, or at the end of the stream."""
         self._base = 0
@@ -206,7 +220,7 @@ class _Words:
     def text(self, to_the_end: bool) -> bytes:
         """The text up to the last word, or up to the end of the stream."""
         end = len(self._piece) if to_the_end else self.end - self._base
-        return b"".join([*self._kept, self._piece[self._from : max(end, self._from)]])[: TEXT_LIMIT + 1]
+        return b"".join([*self._kept, self._piece[self._from : max(end, self._from)]])[: self._limit + 1]
 
     def _stand_at(self, found: re.Match[bytes]) -> None:
         self.start, self.end = self._base + found.start(), self._base + found.end()
@@ -221,7 +235,7 @@ class _Words:
             cut = _cut(read)
             pieces.append(read[:cut] if cut else read)
             size += len(read)
-            self.is_cut = not cut and size > TEXT_LIMIT
+            self.is_cut = not cut and size > self._limit
             if cut or not read or self.is_cut:
                 break
         piece = b"".join(pieces)
@@ -235,7 +249,7 @@ class _Words:
         return True
 
     def _keep(self, piece: bytes) -> None:
-        if self._kept_size <= TEXT_LIMIT:
+        if self._kept_size <= self._limit:
             self._kept.append(piece)
             self._kept_size += len(piece)
 

@@ -11,19 +11,26 @@ from collections.abc import Callable, Generator, Mapping, Sequence
 from contextlib import suppress
 from dataclasses import dataclass, field, replace
 from functools import cached_property
+from pathlib import Path
 
 from ..errors import BadInput, BadText, CmrError, ProgramFault, TimeLimitReached, Undecided
+from ..matrices.large_matrix import LargeMatrix
 from ..matrices.matrix import Matrix
-from ..models.modellers import from_model
+from ..matrices.words import LIMIT
+from ..models.modellers import from_model, text_of_model
 from ..questions.answers import Answer
 from ..questions.excluded import CLASSES as MINOR_CLASSES
+from ..questions.large_questions import ask_large_text
 from ..questions.minors import excluded_minor
 from ..questions.properties import is_balanced, is_regular, is_totally_unimodular
 from ..running.batch.kept import batch_of
+from ..running.calls import Call
+from ..running.clock import TimeLimit
+from ..running.large_run import large_of
 from .askers import Asker, ClassQuestion, OneByOne, Said, Together, Wording
 from .classes import CLASSES, MatrixClass, asking_order, contradictions, settle
 from .shapes import Shape, shape_of
-from .streams import Format, Item
+from .streams import LARGE, USUAL, Format, Item, Limits
 from .verdicts import fault_words
 
 __all__ = ["CONTRADICTION", "Row", "Settings", "Talk", "talk", "with_texts"]
@@ -32,6 +39,7 @@ CONTRADICTION = "Contradiction"
 
 _CAMION = next(kind for kind in CLASSES if kind.name == "camion")
 _REGULAR = next(kind for kind in CLASSES if kind.name == "regular")
+_TU = next(kind for kind in CLASSES if kind.name == "tu")
 _QUESTIONS: Mapping[str, Callable[..., Answer]] = {
     "tu": is_totally_unimodular,
     "regular": is_regular,
@@ -68,6 +76,11 @@ class Settings:
         if batch is None:
             return OneByOne(self.program, self.time_limit)
         return Together(batch, self.time_limit)
+
+    @cached_property
+    def limits(self) -> Limits:
+        """The limits of the matrices: if `tu` is asked and if there is `cmr-large`, its limits."""
+        return LARGE if _TU in self.classes and large_of(Path(self.program)) is not None else USUAL
 
     @property
     def asks_again(self) -> bool:
@@ -171,12 +184,12 @@ def talk(item: Item, settings: Settings) -> Talk:
         return _faulty(item, watch, _kind(fault), str(fault))
 
 
-def with_texts(item: Item) -> Item:
+def with_texts(item: Item, settings: Settings) -> Item:
     """The item, with its text if it is a model, for a machine that does not have the file."""
     if item.text is not None or item.fault:
         return item
     try:
-        return replace(item, text=_model_text(item))
+        return replace(item, text=_model_text(item, settings))
     except BadInput as fault:
         return replace(item, fault=(_kind(fault), str(fault)))
 
@@ -184,9 +197,13 @@ def with_texts(item: Item) -> Item:
 def _read_and_asked(item: Item, settings: Settings, watch: _Watch) -> Talk:
     if item.fault is not None:
         return _faulty(item, watch, *item.fault)
-    text = _model_text(item) if item.text is None else item.text
+    text = _model_text(item, settings) if item.text is None else item.text
     asked = _Asked(settings, _Source(text, item.form), watch)
-    shape = shape_of(text, item.form)
+    shape = shape_of(text, item.form, settings.limits.lines)
+    if settings.limits == LARGE and _has_many_lines(text):
+        asked.ask_large()
+        if shape is not None:
+            return _row(item, shape, asked, watch)
     if shape is None:
         yield from asked.must_be_read()
         raise ProgramFault(0, "the program reads a text whose counts and entries do not fit")
@@ -263,6 +280,23 @@ class _Asked:
             if kind.name not in self.verdicts:
                 yield from self._ask([kind])
                 settle(self.verdicts, names)
+
+    def ask_large(self) -> None:
+        """Asks whether a matrix that is too large for `cmr` is totally unimodular. It has no verdicts on other classes."""
+        settings, source = self.settings, self.source
+        self.verdicts.update({kind.name: "-" for kind in settings.classes})
+        try:
+            call = Call.begin(settings.program, settings.time_limit)
+            answer = ask_large_text(source.text, source.form, call)
+            if answer.is_undecided and settings.asks_again:
+                matrix = LargeMatrix.from_text(source.text.decode("ascii"), sparse=source.form == "sparse")
+                answer = self._answer(_TU, matrix, call.clock)
+        except TimeLimitReached as fault:
+            self._late(_TU, fault)
+            return
+        self.verdicts[_TU.name] = answer.verdict
+        if settings.evidence and answer.violator is not None:
+            self.evidence[f"{_TU.name}/violator"] = answer.violator.to_text().encode("ascii")
 
     def add_minors(self) -> None:
         """Finds the excluded minor of each no. There is none if finding it takes longer than the limit of time, or is undecided."""
@@ -341,15 +375,7 @@ class _Asked:
         left = None if settings.time_limit is None else settings.time_limit - seconds
         if left is not None and left <= 0:
             raise TimeLimitReached(settings.time_limit or 0)
-        answer = _QUESTIONS[kind.name](
-            source.matrix,
-            **({} if kind.name == "balanced" else {"certificate": settings.evidence}),
-            lines=settings.lines,
-            pivots=settings.pivots,
-            tries=settings.tries,
-            time_limit=left,
-            program=settings.program,
-        )
+        answer = self._answer(kind, source.matrix, left)
         if settings.evidence and not answer.is_undecided:
             for _, ending in kind.evidence:
                 self.evidence.pop(f"{kind.name}/{ending}", None)
@@ -359,6 +385,19 @@ class _Asked:
                     self.evidence[f"{kind.name}/{ending}"] = text.encode("ascii")
         return answer.verdict
 
+    def _answer(self, kind: MatrixClass, matrix: Matrix | LargeMatrix, time_limit: TimeLimit) -> Answer:
+        """The answer of the package, with parts, pivots and other orders of the lines."""
+        settings = self.settings
+        return _QUESTIONS[kind.name](
+            matrix,
+            **({} if kind.name == "balanced" else {"certificate": settings.evidence}),
+            lines=settings.lines,
+            pivots=settings.pivots,
+            tries=settings.tries,
+            time_limit=time_limit,
+            program=settings.program,
+        )
+
 
 def _dense_text(matrix: Matrix) -> str:
     """The dense text of a matrix, as the program writes a signed matrix."""
@@ -366,8 +405,15 @@ def _dense_text(matrix: Matrix) -> str:
     return "\n".join(["{} {}".format(*matrix.shape), *rows, ""])
 
 
-def _model_text(item: Item) -> bytes:
-    return from_model(item.file).to_text().encode("ascii")
+def _model_text(item: Item, settings: Settings) -> bytes:
+    is_any = settings.limits == LARGE
+    return (text_of_model(item.file) if is_any else from_model(item.file).to_text()).encode("ascii")
+
+
+def _has_many_lines(text: bytes) -> bool:
+    """Whether a text begins with a number of rows or columns that is above the limit of `cmr`."""
+    counts = text.split(None, 2)[:2]
+    return any(count.isdigit() and int(count[:20]) > LIMIT for count in counts)
 
 
 def _faulty(item: Item, watch: _Watch, kind: str, message: str | None, byte: int | None = None) -> Row:

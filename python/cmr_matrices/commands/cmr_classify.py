@@ -1,7 +1,8 @@
 """Writes a table of the classes of many matrices: a row for each, with a verdict for each class.
 
 INPUT is a file or `-` with texts of matrices one after another, or a model (.mps, .lp, .mod), or a folder of such files. The verdicts
-are `yes`, `no`, `undecided`, and `-` if the class requires a 0/1 matrix and the matrix has an entry -1.
+are `yes`, `no`, `undecided`, and `-` if the class requires a 0/1 matrix and the matrix has an entry -1. A matrix with more than 1,000 rows
+or columns has a verdict only on `tu`, by `cmr-large`.
 
 Status: 0 if all matrices have their verdicts, 1 if an input is refused, 3 if some rows have a fault, 8 if verdicts contradict each
 other, which would be a defect of cmr.
@@ -156,7 +157,7 @@ class _Run:
             )
             progress = Progress(sources, chosen.part[1])
             with closing(progress):
-                items = self._left(part_of(items_of(sources, chosen.format), *chosen.part), progress)
+                items = self._left(part_of(items_of(sources, chosen.format, pool.settings.limits), *chosen.part), progress)
                 for rows in pool.rows(blocks_of(items, chosen.block)):
                     self._write(table, rows, progress)
             table.finish()

@@ -1,4 +1,4 @@
-"""The arguments of `cmr` in one table: its manual page, its completions and the explanations of its words are made of it.
+"""The arguments of `cmr` and `cmr-large` in one table: manual pages, completions and the explanations of words are made of it.
 
 docs/FORMATS.md has the rules; a test compares its rows with the table. In the texts for the manual page, a word in capitals is the name of
 an argument, and one between backquotes is written as it is.
@@ -9,7 +9,21 @@ from __future__ import annotations
 import re
 from dataclasses import dataclass
 
-__all__ = ["FORMATS", "KINDS", "NUMBERS", "OPTIONS", "RANGES", "SUMS", "TOOLS", "Option", "Tool", "options_in", "usage_parts"]
+__all__ = [
+    "FORMATS",
+    "KINDS",
+    "LARGE",
+    "LARGE_OPTIONS",
+    "NUMBERS",
+    "OPTIONS",
+    "RANGES",
+    "SUMS",
+    "TOOLS",
+    "Option",
+    "Tool",
+    "options_in",
+    "usage_parts",
+]
 
 FORMATS = ("dense", "sparse")
 KINDS = {"network": 1000, "twosum": 249}
@@ -262,3 +276,24 @@ TOOLS = {
     )
 }
 """The tools by name."""
+
+LARGE = Tool(
+    "tu",
+    "[-i dense|sparse] [-E FILE] [FILE]",
+    "whether a matrix is totally unimodular",
+    "Whether the matrix, which may be large, is totally unimodular. The evidence of a no is a violator.",
+)
+"""The only tool of `cmr-large`."""
+
+LARGE_OPTIONS = {
+    option.name: option
+    for option in (
+        OPTIONS["-i"],
+        Option.written(
+            "-E",
+            "the violator of a no, or the open part",
+            "For a no, write the violator to FILE, as a submatrix text. If the answer is undecided, write the part that remains open.",
+        ),
+    )
+}
+"""The options of `cmr-large` by name."""

@@ -20,7 +20,7 @@ from .pages import matrix_table
 from .sources import Entries, MatrixLike, entries_of
 from .words import LIMIT
 
-__all__ = ["Matrix"]
+__all__ = ["Matrix", "entry_of"]
 
 _NUMBERS = re.compile(r"[0-9+\-\t-\r ]*")
 
@@ -121,7 +121,7 @@ class Matrix:
                 )
             if (row, column) in entries:
                 raise BadInput(f"row {row}, column {column}: the place is named twice")
-            entries[row, column] = _entry(row, column, value)
+            entries[row, column] = entry_of(row, column, value)
         nonzeros = tuple((row, column, value) for (row, column), value in sorted(entries.items()) if value)
         return cls((rows, columns), nonzeros)
 
@@ -345,7 +345,7 @@ def _places(lines: tuple[int, ...], count: int, kind: str) -> dict[int, int]:
     return places
 
 
-def _entry(row: int, column: int, value: Any) -> int:
+def entry_of(row: int, column: int, value: Any) -> int:
     """The entry as an integer. 1 is tried before -1, since the two are equal in a field of characteristic 2."""
     with suppress(TypeError, ValueError):
         for entry in (0, 1, -1):

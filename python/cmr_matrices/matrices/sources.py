@@ -13,7 +13,7 @@ from ..errors import BadInput
 from .dense import is_plain
 from .words import LIMIT
 
-__all__ = ["Entries", "MatrixLike", "SageLike", "ScipyLike", "ArrayLike", "entries_of"]
+__all__ = ["Entries", "MatrixLike", "SageLike", "ScipyLike", "ArrayLike", "entries_of", "has_many_lines"]
 
 
 class ArrayLike(Protocol):
@@ -53,7 +53,8 @@ MatrixLike = ArrayLike | ScipyLike | SageLike | Sequence[Any]
 class Entries:
     """Entries at places (row, column, value) counted from 0, no place twice, all others 0.
 
-    `array` is the array of numbers of numpy, and `rows` the list of rows, from which they come, if there is one.
+    `array` is the array of numbers of numpy, and `rows` the list of rows, from which they come, if there is one. `coordinates` are the rows,
+    the columns and the values as arrays of numbers, row by row, if they come from many of scipy.
     """
 
     shape: tuple[int, int]
@@ -62,6 +63,19 @@ class Entries:
     column_names: Iterable[object] | None = None
     array: Any = None
     rows: Sequence[Sequence[Any]] | None = None
+    coordinates: tuple[Any, Any, Any] | None = None
+
+
+def has_many_lines(source: Any) -> bool:
+    """Whether an object says that it has more rows or columns than a matrix for `cmr` may have. Its entries are not looked at."""
+    if callable(getattr(source, "nrows", None)) and callable(getattr(source, "ncols", None)):
+        return bool(max(source.nrows(), source.ncols()) > LIMIT)
+    shape = getattr(source, "shape", None)
+    if isinstance(shape, tuple):
+        return len(shape) == 2 and max(shape) > LIMIT
+    if isinstance(source, Sequence) and not isinstance(source, (str, bytes)):
+        return max(len(source), *(len(row) for row in source[:1] if hasattr(row, "__len__")), 0) > LIMIT
+    return False
 
 
 def entries_of(source: Any) -> Entries:
@@ -87,6 +101,9 @@ def _of_scipy(source: Any) -> Entries:
     array = _array_of_coordinates(coordinates, shape)
     if array is not None:
         return Entries(shape, _nonzeros_of_array(array), array=array)
+    many = _sorted_coordinates(coordinates)
+    if many is not None:
+        return Entries(shape, _triples(*many), coordinates=many)
     values: dict[tuple[int, int], Any] = {}
     for row, column, value in zip(coordinates.row.tolist(), coordinates.col.tolist(), coordinates.data.tolist()):
         place = row, column
@@ -108,6 +125,23 @@ def _array_of_coordinates(coordinates: Any, shape: tuple[int, int]) -> Any:
     return array
 
 
+def _sorted_coordinates(coordinates: Any) -> tuple[Any, Any, Any] | None:
+    """The rows, columns and values of coordinates, row by row, if they are numbers and name no place twice."""
+    import numpy  # pylint: disable=import-outside-toplevel
+
+    if coordinates.data.dtype.kind not in "biuf":
+        return None
+    order = numpy.lexsort((coordinates.col, coordinates.row))
+    rows, columns = coordinates.row[order], coordinates.col[order]
+    if ((rows[1:] == rows[:-1]) & (columns[1:] == columns[:-1])).any():
+        return None
+    return rows, columns, coordinates.data[order]
+
+
+def _triples(rows: Any, columns: Any, values: Any) -> Iterator[tuple[int, int, Any]]:
+    yield from zip(rows.tolist(), columns.tolist(), values.tolist())
+
+
 def _of_sage(source: Any) -> Entries:
     rows, columns = int(source.nrows()), int(source.ncols())
     if callable(getattr(source, "dict", None)):
@@ -126,7 +160,7 @@ def _of_array(source: Any) -> Entries:
 
 def _nonzeros_of_array(array: Any) -> Iterator[tuple[int, int, Any]]:
     rows, columns = (array != 0).nonzero()
-    yield from zip(rows.tolist(), columns.tolist(), array[rows, columns].tolist())
+    yield from _triples(rows, columns, array[rows, columns])
 
 
 def _of_rows(source: Sequence[Any]) -> Entries:

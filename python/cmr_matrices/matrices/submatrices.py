@@ -5,11 +5,12 @@ from __future__ import annotations
 from dataclasses import dataclass, field
 
 from ..errors import BadInput
+from .large_matrix import LargeMatrix, is_large
 from .lines import LineSet, Names
 from .matrix import Matrix
 from .pages import SHOWN, line_list, matrix_table, paragraph
 from .sources import MatrixLike
-from .words import Words
+from .words import LARGE_LIMIT, Words
 
 __all__ = ["Submatrix"]
 
@@ -37,21 +38,25 @@ class Submatrix:
     @property
     def row_names(self) -> tuple[str, ...]:
         """The names of the rows, `r0`, `r1`, .. if the matrix has none."""
-        names = self.names or Names.numbered(*self.shape)
-        return tuple(names.rows[row] for row in self.rows)
+        return tuple(f"r{row}" if self.names is None else self.names.rows[row] for row in self.rows)
 
     @property
     def column_names(self) -> tuple[str, ...]:
         """The names of the columns, `c0`, `c1`, .. if the matrix has none."""
-        names = self.names or Names.numbered(*self.shape)
-        return tuple(names.columns[column] for column in self.columns)
+        return tuple(f"c{column}" if self.names is None else self.names.columns[column] for column in self.columns)
 
-    def submatrix(self, matrix: MatrixLike) -> Matrix:
+    def submatrix(self, matrix: MatrixLike | LargeMatrix) -> Matrix:
         """The submatrix of a matrix on these lines. Raises `BadInput` if the matrix has another shape."""
-        whole = Matrix.of(matrix)
+        whole: Matrix | LargeMatrix
+        whole = LargeMatrix.of(matrix) if isinstance(matrix, LargeMatrix) or is_large(matrix) else Matrix.of(matrix)
         if whole.shape != self.shape:
             raise BadInput(f"the submatrix is one of a matrix of shape {self.shape}, and here it is {whole.shape}")
         return whole.submatrix(self.rows, self.columns)
+
+    def part(self, part: Submatrix) -> Submatrix:
+        """The submatrix of the whole matrix on the lines that a submatrix of this one has."""
+        rows, columns = tuple(self.rows[row] for row in part.rows), tuple(self.columns[column] for column in part.columns)
+        return Submatrix(self.shape, rows, columns, self.names, part.entries)
 
     def to_text(self) -> str:
         """The canonical submatrix text, with lines counted from 1."""
@@ -64,7 +69,7 @@ class Submatrix:
         """The submatrix that a text names. Raises `BadInput` if the text is not a submatrix."""
         words = Words(text)
         try:
-            shape = words.shape()
+            shape = words.shape(LARGE_LIMIT)
             lines = words.line_set(shape)
             words.end("words follow the last list")
         except BadInput as fault:

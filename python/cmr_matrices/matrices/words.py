@@ -9,10 +9,12 @@ from ..errors import BadInput
 from ..given import text_given
 from .lines import Line, LineSet
 
-__all__ = ["LIMIT", "Words"]
+__all__ = ["LARGE_LIMIT", "LIMIT", "Words"]
 
 LIMIT = 1000
 """The most rows, and the most columns, that a matrix may have."""
+LARGE_LIMIT = 2**24
+"""The same of a matrix for `cmr-large`."""
 
 _WORD = re.compile(r"[^\t-\r ]+")
 _COUNT = re.compile(r"\+?[0-9]+")
@@ -39,9 +41,9 @@ class Words:
         """The next word as a number from 0 to a limit."""
         return self._value(self.word(), limit)
 
-    def shape(self) -> tuple[int, int]:
+    def shape(self, limit: int = LIMIT) -> tuple[int, int]:
         """The next two words as the sizes of a matrix."""
-        return self.count(LIMIT), self.count(LIMIT)
+        return self.count(limit), self.count(limit)
 
     def row(self, shape: tuple[int, int]) -> Line:
         """The next word as the number of a row."""

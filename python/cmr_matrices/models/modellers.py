@@ -16,6 +16,7 @@ from typing import Any, Literal, get_args
 from ..errors import BadCoefficients, BadInput, shown
 from ..evidence.reductions import Reductions
 from ..given import one_of
+from ..matrices.large_matrix import LargeMatrix
 from ..matrices.matrix import Matrix
 from ..matrices.sources import MatrixLike
 from ..running.program import StrPath
@@ -34,6 +35,7 @@ __all__ = [
     "from_scipy",
     "matrix_of_part",
     "reduced_parts",
+    "text_of_model",
 ]
 
 Format = Literal["mps", "lp", "mathprog"]
@@ -114,6 +116,12 @@ def constraints_of_file(path: StrPath, form: Format | None, choice: Choice, data
         raise BadCoefficients(f"{name}: {fault.place}", fault.families) from fault
     except BadInput as fault:
         raise BadInput(f"{name}: {fault}") from fault
+
+
+def text_of_model(path: StrPath) -> str:
+    """The sparse text of the constraint matrix of a model in a file, with any number of rows and columns."""
+    constraints = constraints_of_file(path, None, Choice(), None)
+    return LargeMatrix.of_entries(constraints.entries, constraints.names).to_text()
 
 
 def matrix_of_part(path: StrPath, constraints: Constraints) -> Matrix:

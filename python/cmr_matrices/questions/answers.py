@@ -15,6 +15,7 @@ from ..evidence.trees import Tree
 from ..matrices.matrix import Matrix
 from ..matrices.pages import paragraph
 from ..matrices.submatrices import Submatrix
+from ..matrices.words import LIMIT
 from ..matroids.matroid_values import Label
 
 __all__ = ["Answer", "Checked", "Parts", "Verdict"]
@@ -38,7 +39,7 @@ class Answer:
     violator: Submatrix | None = field(default=None, repr=False)
     """Of a no: a submatrix whose rows and columns have even sums and whose entries sum to 2 modulo 4."""
     open: Submatrix | None = field(default=None, repr=False)
-    """Of an undecided answer: the submatrix that is too large for the budget."""
+    """Of an undecided answer: the submatrix that is too large for the budget, or for `cmr`."""
     minimal: Submatrix | None = field(default=None, repr=False)
     """Of a no: a submatrix without the property that has it when any one of its lines is removed."""
     rest: Submatrix | None = field(default=None, repr=False)
@@ -84,6 +85,8 @@ class Answer:
         return self.verdict == "undecided"
 
     def __bool__(self) -> bool:
+        if self.open is not None and max(len(self.open.rows), len(self.open.columns)) > LIMIT:
+            raise Undecided(f"{self.asked}: undecided, the open part of {self.open.lines.size} is too large for `cmr`")
         if self.is_undecided:
             raise Undecided(
                 f"{self.asked}: undecided, the open part is larger than the budget; `pivots=100` makes more pivots of it, "

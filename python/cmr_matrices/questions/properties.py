@@ -25,6 +25,7 @@ from dataclasses import dataclass, replace
 
 from ..errors import TimeLimitReached
 from ..given import whole
+from ..matrices.large_matrix import LargeMatrix, is_large
 from ..matrices.matrix import Matrix
 from ..matrices.sources import MatrixLike
 from ..matroids.matroid_values import MatroidValue
@@ -33,6 +34,7 @@ from ..running.clock import TimeLimit
 from ..running.program import StrPath
 from .answers import Answer
 from .asked import MatroidLike, asked_property, matrix_given, matroid_property
+from .large_questions import LargeQuestion
 from .narrowing import Narrowing
 from .options import budget_words
 from .reading import GRAPH_QUESTIONS, Question
@@ -69,6 +71,9 @@ def is_totally_unimodular(
     A no has a `violator`, and an undecided answer the part that is `open`. With `certificate` there is also the `tree`. Without `parts`
     and `tries` the answer and its tree are those of one run of the program with as many pivots.
 
+    A matrix with more than 1,000 rows or columns needs the program `cmr-large`, which is beside `cmr`, and its answer has no `tree`. The
+    options apply to each part that `cmr-large` leaves open.
+
     `lines` is the budget of the search, 0 to 24 lines (14); `workers` the threads that share it, 1 to 64 (1); `pivots` how many pivots
     may be made on the path to a part that is left open, 0 to 100 (20); `tries` in how many other orders an undecided matrix is asked again,
     0 to 1000 (0), which `seed`, any integer (0), determines. `time_limit` is in seconds, 0 to 2,000,000, for the whole call. `program` is
@@ -78,7 +83,10 @@ def is_totally_unimodular(
     """
     name = asked_property("totally unimodular", matrix)
     search = _Search(name, lines, workers, pivots, tries, seed, parts=parts)
-    return search.answer(matrix, certificate, Call.begin(program, time_limit))
+    call = Call.begin(program, time_limit)
+    if is_large(matrix):
+        return LargeQuestion(call, lambda part: search.answer(part, False, call)).answer(LargeMatrix.of(matrix))
+    return search.answer(matrix, certificate, call)
 
 
 def is_regular(

@@ -18,10 +18,12 @@ from ..evidence.printed import line_sets
 from ..evidence.signings import Signing
 from ..evidence.trees import Tree
 from ..given import listed, one_of, whole
+from ..matrices.large_matrix import LargeMatrix, is_large
 from ..matrices.lines import LineSet
 from ..matrices.matrix import Matrix
 from ..matrices.sources import MatrixLike
 from ..matrices.submatrices import Submatrix
+from ..matrices.words import LIMIT
 from ..matroids.matroid_values import MatroidValue
 from ..running.calls import Call
 from ..running.clock import TimeLimit
@@ -87,9 +89,13 @@ def check(
 
     `time_limit` is in seconds, 0 to 2,000,000, for the whole call, and `program` the program's path.
 
+    Of a matrix with more than 1,000 rows or columns it checks a violator with no more of them.
+
     Raises `BadInput` if an answer has none of these, and `BadText` if a text is not evidence, with the byte at fault.
     """
     call = Call.begin(program, time_limit)
+    if is_large(matrix):
+        return _check_large(LargeMatrix.of(matrix), evidence, call)
     taken = matrix_given(matrix)
     if isinstance(evidence, Answer):
         wanted = asked_property(evidence.property_name, matrix)
@@ -100,6 +106,17 @@ def check(
     if isinstance(matrix, MatroidValue) and matrix.field == 2 and checked.says == "no":
         return Checked(accepted=False, rule="it is evidence on the 0/1 matrix, whose matroid over GF(2) may be regular")
     return checked if checked.accepted else replace(checked, hint=_hint(taken, evidence))
+
+
+def _check_large(matrix: LargeMatrix, evidence: Evidence | Answer, call: Call) -> Checked:
+    """Checks a violator of a large matrix on its own lines."""
+    violator = evidence.violator if isinstance(evidence, Answer) else evidence
+    if not isinstance(violator, Submatrix):
+        raise BadInput(f"evidence on a matrix with more than {LIMIT} rows or columns is a violator, and here it is {shown(evidence)}")
+    part = violator.submatrix(matrix)
+    rows, columns = part.shape
+    checked = _check(part, Submatrix(part.shape, tuple(range(rows)), tuple(range(columns))), call)
+    return replace(checked, violator=violator) if checked.accepted else checked
 
 
 def _check(taken: Matrix, evidence: Evidence, call: Call) -> Checked:

@@ -1,7 +1,7 @@
 """Questions on some rows or columns of a model, whose answers count only with evidence that was checked.
 
-`cmr check` accepts the evidence of the program's answers. Parts that are too large for the program may have a structure, whose evidence is
-checked by plain arithmetic.
+`cmr check` accepts the evidence of the program's answers. `cmr-large` is asked about parts that are too large for the program. If it leaves
+them open, they may have a structure, whose evidence is checked by plain arithmetic.
 """
 
 from __future__ import annotations
@@ -9,12 +9,13 @@ from __future__ import annotations
 import time
 from collections.abc import Callable, Collection, Iterable, Sequence
 from dataclasses import replace
-from functools import partial
+from functools import cached_property, partial
 from math import inf
 from typing import Literal
 
 from ..errors import ProgramFault, TimeLimitReached
 from ..evidence.reductions import Reductions
+from ..matrices.large_matrix import LargeMatrix
 from ..matrices.lines import Names
 from ..matrices.matrix import Matrix
 from ..matrices.submatrices import Submatrix
@@ -23,7 +24,8 @@ from ..models.constraints import Constraints, matrix_of_constraints
 from ..models.model_reductions import connected_parts
 from ..questions.answers import Answer
 from ..running.clock import ProcessorClock, processor_seconds
-from ..running.program import REFUSED, StrPath
+from ..running.large_run import large_of
+from ..running.program import REFUSED, StrPath, find_program
 from ..structures.fitting import fitted
 from ..structures.halves import OddCycle
 from ..structures.paths import Arcs
@@ -62,7 +64,7 @@ class ModelAsker:
 
     The work has steps. `seconds` of processor time are for all of them, counted from `start`, so that other work of the machine ends no
     step. `clock_seconds` are the same by the clock. Each step ends at a part of them or at a number of questions. `ended` has the steps
-    that such a limit has ended, with the limit.
+    that such a limit has ended, with the limit, and `cycles` the violators that only arithmetic has checked.
     """
 
     def __init__(
@@ -85,6 +87,7 @@ class ModelAsker:
         self.asked = 0
         self.checked = 0
         self.ended: dict[str, Limit] = {}
+        self.cycles: set[Cells] = set()
         self._seconds = seconds
         self._start = self._end = processor_seconds() if start is None else start
         self._clock_seconds = clock_seconds
@@ -176,7 +179,7 @@ class ModelAsker:
         """The answer of the cheap questions on a matrix, whose evidence is checked: the violator of a no, and otherwise the tree."""
         return self._told(lambda: self._decider(share).cheap(matrix))
 
-    def _told(self, ask: Callable[[], Answer]) -> Answer:
+    def _told(self, ask: Callable[[], Answer], *, is_checked: bool = True) -> Answer:
         self.asked += 1
         if self._tell:
             self._tell(self._what, self.asked - self._begun, self._most)
@@ -185,7 +188,7 @@ class ModelAsker:
         except TimeLimitReached:
             self.ended[self._what] = "time"
             raise
-        self.checked += 1
+        self.checked += is_checked
         return answer
 
     def _decider(self, share: float) -> Decider:
@@ -196,10 +199,11 @@ class ModelAsker:
         constraints = self.rows.lines(*key)
         if max(constraints.names.shape) <= LIMIT:
             return [self._piece(constraints, cheap)]
-        found = self._structure(constraints)
+        is_many = len(constraints.entries) > _MANY
+        found = self._structure(constraints, asks=is_many)
         if isinstance(found, Piece):
             return [found]
-        if found is not None and len(constraints.entries) > _MANY:
+        if found is not None and is_many:
             return [Piece(constraints, None, None, found)]
         # The program answers the parts that are not too large.
         pieces: list[Piece] = []
@@ -235,7 +239,7 @@ class ModelAsker:
     def _piece(self, constraints: Constraints, cheap: float = _CHEAP) -> Piece:
         """The cheap answer on a part, or its structure if it is too large for the program or if the time is over."""
         if max(constraints.names.shape) > LIMIT:
-            found = self._structure(constraints)
+            found = self._structure(constraints, asks=True)
             if isinstance(found, Piece):
                 return found
             try:
@@ -274,23 +278,52 @@ class ModelAsker:
             return replace(piece, is_over=True)
         return replace(piece, answer=answer, is_over=False)
 
-    def _structure(self, constraints: Constraints) -> Structure | Piece | None:
-        """The structure of a part of any size, or the part with the odd cycle that excludes it.
+    def _structure(self, constraints: Constraints, *, asks: bool) -> Structure | Piece | None:
+        """The structure of a part of any size, or the part with its answer. `cmr-large` is asked if `asks` says so, or about a large cycle.
 
-        The cycle counts only if the program accepts it as a violator, or if it is too large for the program.
+        An odd cycle that excludes a structure counts if `cmr check` accepts it as a violator, or if it is too large for `cmr check`.
         """
         found = structure_of(constraints)
-        if not isinstance(found, OddCycle):
-            return found
-        cycle = Submatrix(constraints.names.shape, found.rows, found.columns, constraints.names)
-        cells = self.cells(constraints, cycle)
-        if cells.is_too_large:
-            return Piece(constraints, None, None, cycle=cycle)
+        cycle = None
+        if isinstance(found, OddCycle):
+            cycle = Submatrix(constraints.names.shape, found.rows, found.columns, constraints.names)
+            if not self.cells(constraints, cycle).is_too_large:
+                return self._violated(constraints, cycle)
+        answer = self._large(constraints) if asks or cycle is not None else None
+        if answer is not None and answer.verdict == "yes" and not isinstance(found, OddCycle):
+            return Piece(constraints, None, answer, found)
+        if answer is not None and answer.violator is not None and not isinstance(found, Structure):
+            is_large = self.cells(constraints, answer.violator).is_too_large
+            return Piece(constraints, None, answer) if is_large else self._violated(constraints, answer.violator)
+        if answer is not None and not answer.is_undecided:
+            raise ProgramFault(REFUSED, f"cmr-large says {answer.verdict}, and the arithmetic of the package the opposite")
+        if cycle is None:
+            return None if isinstance(found, OddCycle) else found
+        self.cycles.add(self.cells(constraints, cycle))
+        return Piece(constraints, None, None, cycle=cycle)
+
+    def _violated(self, constraints: Constraints, violator: Submatrix) -> Piece | None:
+        """A part with a violator that `cmr check` accepts, or None if the time is over."""
+        cells = self.cells(constraints, violator)
         try:
             self._told(lambda: self._decider(_CHEAP).violator(self.matrix_of(cells)))
         except TimeLimitReached:
             return None
-        return Piece(constraints, None, Answer("totally unimodular", "no", violator=cycle))
+        return Piece(constraints, None, Answer("totally unimodular", "no", violator=violator))
+
+    def _large(self, constraints: Constraints) -> Answer | None:
+        """What `cmr-large` says of a part, or None if there is no such program or if the time is over."""
+        if not self._has_large:
+            return None
+        matrix = LargeMatrix.of_entries(constraints.entries, constraints.names)
+        try:
+            return self._told(lambda: self._decider(_CHEAP).large(matrix), is_checked=False)
+        except TimeLimitReached:
+            return None
+
+    @cached_property
+    def _has_large(self) -> bool:
+        return large_of(find_program(self.program)) is not None
 
     def _fitted(self, constraints: Constraints) -> Structure | None:
         """The structure of a tree, if one kind of lines has at most 1,000."""

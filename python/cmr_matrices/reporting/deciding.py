@@ -8,16 +8,19 @@ from dataclasses import dataclass, replace
 from ..errors import ProgramFault, TimeLimitReached
 from ..evidence.nodes import Node
 from ..evidence.trees import Tree
+from ..matrices.large_matrix import LargeMatrix
 from ..matrices.lines import LineSet
 from ..matrices.matrix import Matrix
 from ..matrices.submatrices import Submatrix
 from ..questions.answers import Answer
+from ..questions.large_questions import ask_large
 from ..questions.line_orders import drawn_orders
 from ..questions.narrowing import Narrowing
 from ..questions.options import budget_words
 from ..questions.properties import has_no_cycle_fault, is_network, is_totally_unimodular
 from ..questions.reading import Question
 from ..questions.tools import check
+from ..running.calls import Call
 from ..running.clock import Clock
 from ..running.program import REFUSED, StrPath
 from ..structures.paths import Arcs
@@ -55,6 +58,10 @@ class Decider:
     def violator(self, matrix: Matrix) -> Answer:
         """The no of a matrix that is itself a violator. Raises `ProgramFault` if `cmr check` does not accept that it is one."""
         return self._held(matrix, _no(matrix, _all_lines(matrix)))
+
+    def large(self, matrix: LargeMatrix) -> Answer:
+        """The answer of `cmr-large`, which is proved and has no evidence for `cmr check`."""
+        return ask_large(matrix, Call.begin(self.program, self.clock))
 
     def arcs(self, matrix: Matrix) -> Arcs | None:
         """The arcs of the rows in a tree in which all columns are paths, or None if the matrix is no network matrix."""

@@ -36,8 +36,8 @@ class Cells:
 class Piece:
     """A connected part of a model, and the matrix that was asked, with its answer. Both are None if it was not asked.
 
-    A part that is too large for the program, or for which it has no time, may have a structure instead, or an odd cycle that is too large
-    for `cmr check`. Only the arithmetic of this package has checked these.
+    A part that is too large for `cmr` has no matrix, and the answer is that of `cmr-large`. A part that neither answers in its time may have
+    a structure instead, or an odd cycle that is too large for `cmr check`. Only the arithmetic of this package has checked these.
     """
 
     constraints: Constraints = field(repr=False)
@@ -89,8 +89,8 @@ class Asked:
 
     @property
     def arithmetic(self) -> tuple[Piece, ...]:
-        """The parts that have a structure: no proved program has answered them."""
-        return tuple(piece for piece in self.pieces if piece.structure is not None)
+        """The parts that only have a structure: no proved program has answered them."""
+        return tuple(piece for piece in self.pieces if piece.structure is not None and piece.answer is None)
 
     @property
     def is_hasty(self) -> bool:

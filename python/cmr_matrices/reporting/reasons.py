@@ -20,7 +20,7 @@ from ..running.program import REFUSED, StrPath
 from ..structures.sparse import columns_of, rows_of
 from ..structures.structure import Structure
 
-__all__ = ["Reason", "reason_of", "reason_of_structure", "reason_of_tree"]
+__all__ = ["REASON_OF_LARGE", "Reason", "reason_of", "reason_of_structure", "reason_of_tree"]
 
 _LEAVES = {
     "network": ("network matrix", "network matrices"),
@@ -54,6 +54,14 @@ class Reason:
     word: Literal["network", "conetwork", "sums"]
     sentence: str
     words: tuple[str, ...] = ()
+
+
+REASON_OF_LARGE = Reason(
+    "sums",
+    "Rows of one variable and variables of one row are removed one by one. Each connected part of the rest is a network matrix or the "
+    "transpose of one: it has at most two nonzeros in each column, or in each row.",
+)
+"""Why a matrix is totally unimodular of which only `cmr-large` says so."""
 
 
 def reason_of(matrix: Matrix, tree: Tree, program: StrPath | None, clock: Clock) -> Reason:

@@ -26,7 +26,7 @@ from .integers import Integers, integers_of
 from .keeping import Budget, Kept, keep_blocks
 from .minimal import Minimal, minimal_violator
 from .pieces import Asked, Cells
-from .reasons import Reason, reason_of, reason_of_structure, reason_of_tree
+from .reasons import REASON_OF_LARGE, Reason, reason_of, reason_of_structure, reason_of_tree
 from .reducing import Reduced, reduced_model
 from .row_by_row import kept_row_by_row
 from .rows import ModelRows, NotWhole, RowFamily, said_rows
@@ -73,7 +73,7 @@ class FamilyLine:
 class ModelReport:
     """What was found of a model. `verdict` is that on its whole matrix.
 
-    `cmr check` accepted the evidence of each answer of the program. The report says which parts only arithmetic of the package decided.
+    `cmr check` accepted the evidence of each answer of `cmr`. The report says which parts only arithmetic of the package decided.
     """
 
     model: str
@@ -109,6 +109,8 @@ class ModelReport:
     checked: int = field(repr=False)
     ended: Mapping[str, Limit] = field(repr=False)
     """The steps that a limit has ended. What `time` has ended may depend on the speed of the machine."""
+    cycles: frozenset[Cells] = field(repr=False)
+    """The violators that only arithmetic of the package has checked."""
     time_limit: float | None = field(repr=False)
     clock_limit: float | None = field(repr=False)
     questions: int = field(repr=False)
@@ -246,6 +248,7 @@ def model_report(
         asked=asker.asked,
         checked=asker.checked,
         ended=dict(asker.ended),
+        cycles=frozenset(asker.cycles),
         time_limit=limit,
         clock_limit=clock_seconds,
         questions=questions,
@@ -429,6 +432,7 @@ class _Work:
             for piece in asked.pieces
             if piece.matrix is not None and piece.tree is not None and piece.structure is None
         ]
+        found += [REASON_OF_LARGE for it in asked.pieces if it.is_yes and it.tree is None and it.structure is None]
         if not found:
             return Reason("network", "It is a network matrix: the reductions remove its rows and columns one by one.")
         words = {reason.word for reason in found}

@@ -283,7 +283,7 @@ def _of_cycles(report: ModelReport) -> str:
     cells = [family.violator for family in report.families] + ([report.minimal.cells] if report.minimal else [])
     searches = [report.kept, *report.within.values(), report.integers and report.integers.kept]
     cells += [violator for search in searches if search for _, violator in search.violators]
-    large = {it for it in cells if it is not None and it.is_too_large}
+    large = {it for it in cells if it is not None and it in report.cycles}
     if not large:
         return ""
     sizes = listed([f"{len(it.rows)} rows" for it in sorted(large, key=lambda it: len(it.rows))], _SOME)

@@ -39,6 +39,7 @@ __all__ = [
     "YES",
     "Ran",
     "StrPath",
+    "answered",
     "fault_of",
     "find_program",
     "run",
@@ -168,11 +169,16 @@ def run(
     texts = {"-": text} | dict(inputs or {})
     # A call that has begun its clock has found its program.
     path = program if clock is time_limit and isinstance(program, Path) else find_program(program)
-    ran = _reply(path, words, {name: _encoded(content) for name, content in texts.items()}, outputs, clock)
-    if ran.status not in (YES, NO, UNDECIDED, REFUSED):
-        raise fault_of(ran.status, ran.error.decode("utf-8", "surrogateescape").rstrip("\n"), texts)
-    files = {name: ran.files[name].decode("ascii") for name in outputs if name in ran.files}
-    return Ran(ran.status, tuple(ran.output.decode("ascii").splitlines()), files)
+    reply = _reply(path, words, {name: _encoded(content) for name, content in texts.items()}, outputs, clock)
+    return answered(reply, outputs, texts)
+
+
+def answered(reply: Reply, outputs: Sequence[str], texts: Mapping[str, str] | None = None) -> Ran:
+    """The answer in a reply. Raises the fault of a status that is no answer. `texts` are those that the program was given, by name."""
+    if reply.status not in (YES, NO, UNDECIDED, REFUSED):
+        raise fault_of(reply.status, reply.error.decode("utf-8", "surrogateescape").rstrip("\n"), texts)
+    files = {name: reply.files[name].decode("ascii") for name in outputs if name in reply.files}
+    return Ran(reply.status, tuple(reply.output.decode("ascii").splitlines()), files)
 
 
 def _reply(

@@ -12,7 +12,7 @@ from pathlib import Path
 from cmr_matrices import Matrix, find_program
 from cmr_matrices.classifying.blocks import classify
 from cmr_matrices.classifying.classes import CLASSES
-from cmr_matrices.classifying.streams import TEXT_LIMIT, Format, Item, items_of, part_of, sources_of, texts_of
+from cmr_matrices.classifying.streams import USUAL, Format, Item, items_of, part_of, sources_of, texts_of
 from cmr_matrices.classifying.work import Row, Settings
 from tests.support import needs_program
 
@@ -61,10 +61,10 @@ class Texts(unittest.TestCase):
         self.assertEqual(texts(b"1 1 1 1 1 1 2 2 0", "sparse"), [b"1 1 1 1 1 1", b"2 2 0"])
 
     def test_long_texts_are_not_held(self) -> None:
-        found = texts(b"1 1" + b" " * (TEXT_LIMIT + 5) + b"1 1 1 0")
-        self.assertEqual([len(text) for text in found], [TEXT_LIMIT + 1, 5])
-        found = texts(b"1 1 " + b"0" * (TEXT_LIMIT + 70_000))
-        self.assertEqual([len(text) for text in found], [TEXT_LIMIT + 1])
+        found = texts(b"1 1" + b" " * (USUAL.size + 5) + b"1 1 1 0")
+        self.assertEqual([len(text) for text in found], [USUAL.size + 1, 5])
+        found = texts(b"1 1 " + b"0" * (USUAL.size + 70_000))
+        self.assertEqual([len(text) for text in found], [USUAL.size + 1])
 
     def test_parts(self) -> None:
         items = [Item("file", number, b"") for number in range(1, 12)]
@@ -96,10 +96,11 @@ class Faults(unittest.TestCase):
         with tempfile.NamedTemporaryFile() as file:
             Path(file.name).write_bytes(stream)
             settings = Settings(classes, str(find_program()))
-            return [classify(item, settings) for item in items_of(sources_of([file.name]), form)]
+            return [classify(item, settings) for item in items_of(sources_of([file.name]), form, settings.limits)]
 
     def test_kinds_and_bytes(self) -> None:
-        rows = self.rows(b"1 1 1\n 1 1 2\n1 1 x 2000 1 " + b"1 " * 2000 + b"1 1 -1 1 2 3")
+        stream = b"1 1 1\n 1 1 2\n1 1 x 2000 1 " + b"1 " * 2000 + b"1 1 -1 1 2 3"
+        rows = self.rows(stream, names="graphic")
         found = [(row.number, row.fault, row.byte) for row in rows]
         self.assertEqual(
             found[:4], [(1, None, None), (2, "BadEntry", 11), (3, "NotNumber", 17), (4, "TooManyRows", 19)]

@@ -11,7 +11,7 @@ from itertools import combinations
 from types import SimpleNamespace
 from unittest import mock
 
-from cmr_matrices import ModelReport, model_report
+from cmr_matrices import Answer, ModelReport, Submatrix, model_report
 from cmr_matrices.errors import ProgramFault, TimeLimitReached
 from cmr_matrices.matrices.families import family_of
 from cmr_matrices.reporting.asking import ModelAsker
@@ -19,7 +19,7 @@ from cmr_matrices.reporting.deciding import Decider
 from tests.independent import is_unimodular
 from tests.reporting.test_model_report import ReportTest, lp_text
 from tests.structures.test_structures import tree_paths
-from tests.support import needs_command, needs_module, needs_program
+from tests.support import needs_command, needs_large, needs_module, needs_program
 
 ASSIGNMENT = """
 set W := 1..32; set J := 1..32;
@@ -60,6 +60,10 @@ end;
 """
 
 
+without_large = mock.patch("cmr_matrices.reporting.asking.large_of", return_value=None)
+"""Lets the package find no program `cmr-large`."""
+
+
 def mps_text(entries: Iterable[tuple[str, str, int]]) -> str:
     """A model in free MPS with these entries, each with its row and its column, one column after another."""
     found = list(entries)
@@ -79,11 +83,33 @@ class Scale(ReportTest):
             self.assertIn(f"Not proved: the matrix of {size} is decided by arithmetic of this package", text)
 
     def test_an_assignment_with_1024_columns(self) -> None:
-        report = model_report(self.write("assign.mod", ASSIGNMENT))
+        with without_large:
+            report = model_report(self.write("assign.mod", ASSIGNMENT))
         self.by_arithmetic(report, "64x1024")
+        self.of_an_assignment(report)
+
+    @needs_large
+    def test_the_assignment_is_proved(self) -> None:
+        report = model_report(self.write("assign.mod", ASSIGNMENT))
+        self.assertEqual((report.verdict, report.asked, report.checked), ("yes", 1, 0))
+        self.assertNotIn("Not proved", report.to_text() + report.to_html())
+        self.of_an_assignment(report)
+
+    def of_an_assignment(self, report: ModelReport) -> None:
         said = "each variable is in at most one row of worker[..] and one of job[..], as in a transport or an assignment"
         self.assertIn(said, report.to_text())
         self.assertEqual(json.loads(report.to_json())["why"]["class"], "network")
+
+    @needs_large
+    def test_parts_of_two_kinds_are_proved(self) -> None:
+        """Some parts have two nonzeros in each column and others in each row, so that all together have no structure."""
+        pairs = [(f"{kind}{at % count}", at) for at in range(1100) for kind, count in (("a", 3), ("b", 4))]
+        entries = [(line, f"x{at}", 1) for line, at in pairs] + [(f"r{at}", line, 1) for line, at in pairs]
+        with mock.patch("cmr_matrices.reporting.asking._MANY", 0):
+            report = model_report(self.write("kinds.mps", mps_text(entries)), time_limit=100)
+        self.assertEqual((report.verdict, report.whole.arithmetic), ("yes", ()))
+        self.assertIn("Each connected part of the rest is a network matrix or the transpose of one", report.to_text())
+        self.assertNotIn("Not proved", report.to_text())
 
     def test_intervals_in_rows_or_columns(self) -> None:
         places = [(f"x{at:04}", range(at % 160, at % 160 + 3 + at // 160)) for at in range(1100)]
@@ -113,15 +139,35 @@ class Scale(ReportTest):
 
     def test_an_odd_cycle_of_any_length(self) -> None:
         for length in (1203, 1204):
-            report = model_report(self.write("long.mps", self.odd(length)), time_limit=100)
-            assert report.minimal is not None
-            found = len(report.minimal.row_names), report.minimal.is_minimal, abs(report.minimal.determinant or 0)
-            self.assertEqual((report.verdict, found), ("no", (length, True, 2)))
+            path = self.write("long.mps", self.odd(length))
+            with without_large:
+                report = model_report(path, time_limit=100)
+            self.of_a_cycle(report, length)
             for text in (report.to_text(), report.to_html()):
                 self.assertIn(f"Not proved: an odd cycle of {length} rows, larger than the 1000 rows that the program reads", text)
             told = json.loads(report.to_json())
             self.assertEqual((told["violator"]["entries"], len(told["arithmetic"])), ([], 1))
             self.assertEqual([it for it in told["commands"] if "violator" in it["what"] and it["commands"]], [])
+
+    @needs_large
+    def test_an_odd_cycle_of_any_length_is_proved(self) -> None:
+        report = model_report(self.write("long.mps", self.odd(1203)), time_limit=100)
+        self.of_a_cycle(report, 1203)
+        self.assertNotIn("Not proved", report.to_text() + report.to_html())
+
+    def of_a_cycle(self, report: ModelReport, length: int) -> None:
+        assert report.minimal is not None
+        found = len(report.minimal.row_names), report.minimal.is_minimal, abs(report.minimal.determinant or 0)
+        self.assertEqual((report.verdict, found), ("no", (length, True, 2)))
+
+    @needs_large
+    def test_arithmetic_has_to_agree_with_the_program(self) -> None:
+        """Arithmetic finds a structure, or a long odd cycle, and the program says the opposite."""
+        wrong = Answer("totally unimodular", "no", violator=Submatrix((64, 1024), (0,), (0,)))
+        with mock.patch.object(Decider, "large", return_value=wrong), self.assertRaises(ProgramFault):
+            model_report(self.write("assign.mod", ASSIGNMENT))
+        with mock.patch.object(Decider, "large", return_value=Answer("totally unimodular", "yes")), self.assertRaises(ProgramFault):
+            model_report(self.write("long.mps", self.odd(1203)), time_limit=100)
 
     def test_an_odd_cycle_counts_only_after_its_check(self) -> None:
         path = self.write("short.mps", mps_text([(f"r{row}", f"x{row // 2}", 1) for row in range(2100)] + [
@@ -198,7 +244,7 @@ class Scale(ReportTest):
     def test_undecided_gives_no_advice(self) -> None:
         with mock.patch("cmr_matrices.reporting.asking.structure_of", return_value=None), mock.patch(
             "cmr_matrices.reporting.asking.fitted", return_value=None
-        ):
+        ), without_large:
             report = model_report(self.write("assign.mod", ASSIGNMENT), questions=20)
         self.assertEqual(report.verdict, "undecided")
         self.assertNotIn("Relax ", report.to_text())

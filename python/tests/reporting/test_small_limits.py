@@ -14,7 +14,7 @@ from cmr_matrices.matrices.families import family_of
 from cmr_matrices.structures.sieve import Sieve
 from tests.independent import is_unimodular
 from tests.reporting.test_model_report import ReportTest
-from tests.support import needs_command, needs_module, needs_program
+from tests.support import needs_command, needs_large, needs_module, needs_program
 
 COUNT = 40
 """How many models are drawn for each limit."""
@@ -23,8 +23,11 @@ _MODULES = ("reporting.asking", "reporting.keeping", "reporting.pieces", "report
 
 
 @contextmanager
-def limited(limit: int, reduces: bool) -> Iterator[None]:
-    """The package as if the program read at most `limit` rows and columns, and as if all matrices were too large to be reduced."""
+def limited(limit: int, reduces: bool, has_large: bool) -> Iterator[None]:
+    """The package as if the program read at most `limit` rows and columns, and as if all matrices were too large to be reduced.
+
+    Without `has_large` it has no `cmr-large`.
+    """
     hopeless = Sieve.is_hopeless
     with ExitStack() as stack:
         for module in _MODULES:
@@ -32,6 +35,8 @@ def limited(limit: int, reduces: bool) -> Iterator[None]:
         patch = mock.patch.object(Sieve, "is_hopeless", lambda self, rows, most=limit: hopeless(self, rows, most))
         stack.enter_context(patch)
         stack.enter_context(mock.patch("cmr_matrices.reporting.asking._MANY", 20_000 if reduces else 0))
+        if not has_large:
+            stack.enter_context(mock.patch("cmr_matrices.reporting.asking.large_of", return_value=None))
         yield
 
 
@@ -61,10 +66,16 @@ def drawn(chance: random.Random) -> str:
 class SmallLimits(ReportTest):
     def test_random_models(self) -> None:
         for limit, reduces in ((1000, True), (4, True), (3, False)):
-            counts = self.run_models(limit, reduces, COUNT, limit)
+            counts = self.run_models(limit, reduces, COUNT, limit, has_large=False)
             self.assertGreater(counts["arithmetic"], -1 if reduces else COUNT // 2)
 
-    def run_models(self, limit: int, reduces: bool, count: int, seed: int) -> dict[str, int]:
+    @needs_large
+    def test_random_models_of_which_most_are_proved(self) -> None:
+        for limit, reduces in ((4, True), (3, False)):
+            counts = self.run_models(limit, reduces, COUNT, limit, has_large=True)
+            self.assertLess(counts["arithmetic"], COUNT // 4)
+
+    def run_models(self, limit: int, reduces: bool, count: int, seed: int, *, has_large: bool) -> dict[str, int]:
         """The numbers of the verdicts and of the parts that arithmetic has decided. At most a few may be undecided at small limits."""
         chance = random.Random(seed)
         counts = {"yes": 0, "no": 0, "undecided": 0, "arithmetic": 0, "integers": 0, "suffices": 0}
@@ -73,7 +84,7 @@ class SmallLimits(ReportTest):
             if not text:
                 continue
             path = self.write(f"m{number}.lp", text)
-            with limited(limit, reduces), self.subTest(limit=limit, number=number, text=text):
+            with limited(limit, reduces, has_large), self.subTest(limit=limit, number=number, text=text):
                 report = model_report(path)
                 counts[report.verdict] += 1
                 counts["arithmetic"] += bool(report.whole.arithmetic or (report.rest and report.rest.arithmetic))

@@ -11,11 +11,11 @@ import os
 import threading
 from collections.abc import Iterator, Sequence
 from contextlib import closing
-from functools import lru_cache
 from pathlib import Path
 from weakref import WeakSet
 
 from ..clock import TimeLimit
+from ..other_names import other_name
 from .frames import Reply, Request
 from .process import Ended, Process
 
@@ -38,31 +38,12 @@ _ALL: WeakSet[Process] = WeakSet()
 def batch_of(program: str | os.PathLike[str]) -> Path | None:
     """The path of `cmr-batch` that belongs to a program `cmr`, or None if there is none or if none is to be used.
 
-    `CMR_BATCH` names it, or is empty if none is to be used. Otherwise it is beside `cmr`, with `-batch` after its name, or is the link
-    at the top of a clone to the program that was built there.
+    `CMR_BATCH` names it, or is empty if none is to be used.
     """
     named = os.environ.get("CMR_BATCH")
     if named is not None:
         return Path(named).absolute() if named else None
-    beside, link = _places(os.fspath(program))
-    if os.access(beside, os.X_OK):
-        return beside
-    return link if link is not None and _is_same(link, program) else None
-
-
-@lru_cache(maxsize=16)
-def _places(path: str) -> tuple[Path, Path | None]:
-    """The places beside a program and at the top of its clone. They are asked for at each call."""
-    program = Path(path)
-    link = program.parents[3] / f"{program.name}-batch" if len(program.parents) > 3 else None
-    return Path(f"{path}-batch"), link
-
-
-def _is_same(link: Path, program: str | os.PathLike[str]) -> bool:
-    try:
-        return os.path.samefile(link, program)
-    except OSError:
-        return False
+    return other_name(program, "-batch")
 
 
 def replies(program: Path, requests: Sequence[Request], time_limit: TimeLimit = None) -> Iterator[Reply]:
