@@ -13,8 +13,8 @@ from pathlib import Path
 
 TOP = Path(__file__).resolve().parents[2]
 PROGRAM = "cmr"
-# The second name of the program.
-BATCH = f"{PROGRAM}-batch"
+# The other names of the program.
+BATCH, LARGE = OTHER_NAMES = (f"{PROGRAM}-batch", f"{PROGRAM}-large")
 BUILT = TOP / "crates" / PROGRAM / "out" / PROGRAM
 UNPROVED = TOP / "out" / "unproved" / PROGRAM
 NO_KIT = 'there is no rt of the Rattle kit on the PATH to {task}: see "Run it" in README.md. A package needs no kit: see docs/INSTALLING.md'

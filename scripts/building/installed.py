@@ -10,7 +10,7 @@ from contextlib import suppress
 from dataclasses import dataclass, field
 from pathlib import Path
 
-from building.clone import BATCH, BUILT, PROGRAM, TOP, UNPROVED
+from building.clone import BUILT, LARGE, OTHER_NAMES, PROGRAM, TOP, UNPROVED
 from cmr_matrices.commands.signals import ignore_signals
 from cmr_matrices.errors import BadInput
 
@@ -55,15 +55,15 @@ class Item:
 
 
 def _of_program(folder: str, *, proved: bool) -> Iterator[Item]:
-    """The program and its second name. Without proofs both are in a folder of their own, and scripts that say so run them.
+    """The program and its other names. Without proofs they are in a folder of their own, and scripts that say so run them.
 
     `folder` leads from `bin` to the folder of this installation.
     """
     place = "bin" if proved else UNPROVED_FOLDER
     yield Item(f"{place}/{PROGRAM}", BUILT if proved else UNPROVED)
-    yield Item(f"{place}/{BATCH}", leads_to=PROGRAM)
+    yield from (Item(f"{place}/{it}", leads_to=PROGRAM) for it in OTHER_NAMES)
     if not proved:
-        for name in (PROGRAM, BATCH):
+        for name in (PROGRAM, *OTHER_NAMES):
             yield Item(f"{UNPROVED_SCRIPTS}/{name}", TOP / "scripts" / "building" / "unproved.sh")
             yield Item(f"bin/{name}", leads_to=f"{folder}/unproved/{name}")
 
@@ -79,12 +79,12 @@ def items(prefix: Path, *, proved: bool = True) -> list[Item]:
         *(Item(f"bin/{name}", leads_to=f"{folder}/scripts/{script}") for name, script in SCRIPTS.items()),
         *(Item(f"{FOLDER}/scripts/{it}", scripts / it) for it in SCRIPTS.values()),
         *(Item(f"{FOLDER}/python/{it.relative_to(python)}", it) for it in package),
-        *(Item(f"share/man/man1/{it}.1", TOP / "docs" / f"{it}.1") for it in (PROGRAM, BATCH)),
+        *(Item(f"share/man/man1/{it}.1", TOP / "docs" / f"{it}.1") for it in (PROGRAM, *OTHER_NAMES)),
         *(Item(f"share/man/man1/{it.name}", it) for it in sorted((TOP / "docs" / "commands").glob("*.1"))),
         Item(f"{_BASH}/cmr", scripts / "completions" / "cmr.bash"),
         Item(f"{_BASH}/cmr-commands", scripts / "completions" / "cmr-commands.bash"),
         # bash loads the file that has the name of the command.
-        *(Item(f"{_BASH}/{it}", leads_to="cmr" if it == "cmr-explain" else "cmr-commands") for it in SCRIPTS),
+        *(Item(f"{_BASH}/{it}", leads_to="cmr" if it in ("cmr-explain", LARGE) else "cmr-commands") for it in (*SCRIPTS, LARGE)),
         *(Item(f"share/zsh/site-functions/{it}", scripts / "completions" / it) for it in ("_cmr", "_cmr-commands")),
     ]
 

@@ -21,6 +21,13 @@ def _options(words):
 # For each tool its options, with the names of their values.
 OPTIONS = {tool: _options(words) for tools, words in _rows() for tool in tools}
 
+# For each tool its usages, as the package has them.
+USAGES = {tool: re.findall(r"`(.*?)`", words) for tools, words in _rows() for tool in tools}
+
+# The same of `cmr-large tu`.
+LARGE_USAGE = re.search(r"`cmr-large tu (.*?)`", SECTION)[1]
+LARGE_OPTIONS = _options(LARGE_USAGE)
+
 # The words that a tool takes in one position: KIND of `generate` and SUM of `compose`.
 KINDS = re.findall(r"`(\w+)`", re.search(r"KIND is (.*?),", SECTION)[1])
 SUMS = re.findall(r"`(\w+)`", re.search(r"SUM is (.*?)\.", SECTION, re.S)[1])

@@ -1,4 +1,4 @@
-"""Manual pages and completions of the commands of the package, made of their parsers.
+"""Manual pages and completions of the commands of the package, made of their parsers, and those of `cmr`.
 
 `python3 -m tests.command_pages` in `scripts` writes them, and a test asks that they are written.
 """
@@ -10,8 +10,10 @@ from unittest import mock
 
 from building.clone import TOP
 from building.installed import SCRIPTS
-from cmr_matrices.explained.words import TOOLS
+from cmr_matrices.explained.arguments import TOOLS
 from cmr_matrices.version import __version__
+from tests import program_pages
+from tests.program_pages import plain
 
 PAGES = TOP / "docs" / "commands"
 BASH = TOP / "scripts" / "completions" / "cmr-commands.bash"
@@ -70,12 +72,6 @@ def value_of(action):
     return action.metavar or ("|".join(action.choices) if action.choices else action.dest.upper())
 
 
-def _plain(text):
-    """A line of text in a manual page."""
-    text = text.replace("\\", "\\e").replace("-", "\\-")
-    return f"\\&{text}" if text[:1] in (".", "'") else text
-
-
 def _paragraphs(doc):
     """The lines of the description: paragraphs, and indented lines as they are."""
     first, _, rest = doc.strip().partition("\n\n")
@@ -85,9 +81,9 @@ def _paragraphs(doc):
             continue
         yield ".Pp"
         if all(line.startswith("    ") for line in lines):
-            yield from (".Bd -literal -compact", *(_plain(line[4:]) for line in lines), ".Ed")
+            yield from (".Bd -literal -compact", *(plain(line[4:]) for line in lines), ".Ed")
         else:
-            yield from (_plain(line.strip()) for line in lines)
+            yield from (plain(line.strip()) for line in lines)
 
 
 def page(command):
@@ -102,7 +98,7 @@ def page(command):
         f".Os cmr {__version__}",
         ".Sh NAME",
         f".Nm {command}",
-        f".Nd {_plain(summary[0].lower() + summary[1:])}",
+        f".Nd {plain(summary[0].lower() + summary[1:])}",
         ".Sh SYNOPSIS",
         ".Nm",
     ]
@@ -110,18 +106,18 @@ def page(command):
         name = action.option_strings[-1].lstrip("-")
         dashes = "\\-" if action.option_strings[-1].startswith("--") else ""
         value = value_of(action)
-        lines.append(f".Op Fl {dashes}{_plain(name)}" + (f" Ar {value}" if value else ""))
+        lines.append(f".Op Fl {dashes}{plain(name)}" + (f" Ar {value}" if value else ""))
     for action in others:
         dots = " ..." if action.nargs in ("*", "+") else ""
         name = f"Ar {action.metavar or action.dest.upper()}{dots}"
         lines.append(f".Op {name}" if action.nargs in ("?", "*") else f".{name}")
     lines += [".Sh DESCRIPTION", *list(_paragraphs(doc))[1:], ".Bl -tag -width Ds"]
     for action in others:
-        lines += [f".It Ar {action.metavar or action.dest.upper()}", _plain(help_of(command, action))]
+        lines += [f".It Ar {action.metavar or action.dest.upper()}", plain(help_of(command, action))]
     for action in options:
         value = f" Ar {value_of(action)}" if value_of(action) else ""
-        names = [f"Fl {_plain(it[1:])}" for it in action.option_strings]
-        lines += [f".It {' , '.join(names)}{value}", _plain(help_of(command, action))]
+        names = [f"Fl {plain(it[1:])}" for it in action.option_strings]
+        lines += [f".It {' , '.join(names)}{value}", plain(help_of(command, action))]
     return "\n".join([*lines, ".El", ".Sh SEE ALSO", ".Xr cmr 1", ""])
 
 
@@ -213,7 +209,7 @@ def zsh():
 
 def files():
     """All files that are made, with their texts."""
-    return {**{PAGES / f"{it}.1": page(it) for it in SCRIPTS}, BASH: bash(), ZSH: zsh()}
+    return {**{PAGES / f"{it}.1": page(it) for it in SCRIPTS}, BASH: bash(), ZSH: zsh(), **program_pages.files()}
 
 
 if __name__ == "__main__":

@@ -61,22 +61,6 @@ class ScriptTest(unittest.TestCase):
         self.assertEqual((run.returncode, run.stderr), (0, ""))
         return run.stdout
 
-    def refusal(self, script, *words, text="", **settings):
-        """The line on standard error of the script, which must refuse its input and print nothing else."""
-        run = self.run_script(script, *words, text=text, **settings)
-        self.assertEqual((run.returncode, run.stdout, run.stderr.count("\n")), (1, "", 1), run.stderr)
-        name = f"{script}: "
-        self.assertTrue(run.stderr.startswith(name), run.stderr)
-        return run.stderr[len(name) :].rstrip("\n")
-
-    def refused_with_families(self, script, *words):
-        """The line of a refusal, and the table of families of rows below it, without its heading."""
-        run = self.run_script(script, *words)
-        self.assertEqual((run.returncode, run.stdout), (1, ""), run.stderr)
-        line, head, *rows = run.stderr.splitlines()
-        self.assertEqual(head.split(), ["rows", "refused", "entries", "family"])
-        return line.removeprefix(f"{script}: "), [tuple(row.split(maxsplit=3)) for row in rows]
-
     def write(self, name, text):
         (self.folder / name).write_text(text, encoding="utf-8")
         return name

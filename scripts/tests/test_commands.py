@@ -19,7 +19,7 @@ needs_setuptools = unittest.skipUnless(
 
 
 class MadeFiles(unittest.TestCase):
-    def test_they_are_made_of_the_parsers(self):
+    def test_they_are_made_of_the_parsers_and_the_table_of_arguments(self):
         """`python3 -m tests.command_pages` in `scripts` writes them."""
         for path, text in command_pages.files().items():
             with self.subTest(path=path.name):

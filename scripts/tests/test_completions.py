@@ -3,25 +3,25 @@
 import re
 import subprocess
 
-from tests.command_line import KINDS, NUMBERS, OPTIONS, SUMS
+from tests.command_line import KINDS, LARGE_OPTIONS, NUMBERS, OPTIONS, SUMS
 from tests.support import TOP, ScriptTest, needs_zsh
 from tests.terminal import Terminal
 
 BASH = TOP / "scripts" / "completions" / "cmr.bash"
 ZSH = TOP / "scripts" / "completions" / "_cmr"
 
-# Prints what bash offers for the arguments of the command.
-OFFER = 'source "$0"; COMP_WORDS=(cmr "$@"); COMP_CWORD=$#; COMPREPLY=(); _cmr; printf "%s\\n" "${COMPREPLY[@]}"'
+# Prints what bash offers for a command with its arguments.
+OFFER = 'source "$0"; COMP_WORDS=("$@"); COMP_CWORD=$(($# - 1)); COMPREPLY=(); _cmr; printf "%s\\n" "${COMPREPLY[@]}"'
 
-# Prints what zsh offers for the arguments of the command.
+# Prints what zsh offers for a command with its arguments.
 HAND_OVER = """_arguments() { print -l -- "$@" }; _describe() { print -l -- "${(@P)2}" }
-file=$1; shift; words=(cmr "$@"); CURRENT=$#words; source $file"""
+file=$1; shift; words=("$@"); CURRENT=$#words; source $file"""
 OF_ZSH = re.compile(r"^(?:\(.*?\))?(--?\w+)\[.*?\](?::\w+:(.*))?$")
 
 
 class BashTest(ScriptTest):
-    def offered(self, *words):
-        run = subprocess.run(["bash", "-c", OFFER, BASH, *words], capture_output=True, text=True, check=False)
+    def offered(self, *words, of="cmr"):
+        run = subprocess.run(["bash", "-c", OFFER, BASH, of, *words], capture_output=True, text=True, check=False)
         self.assertEqual(run.stderr, "")
         return run.stdout.split()
 
@@ -60,6 +60,12 @@ class BashTest(ScriptTest):
         self.assertEqual(self.offered("compose", ""), SUMS)
         self.assertEqual(self.offered("check", ""), [])
 
+    def test_of_the_program_for_large_matrices(self):
+        self.assertEqual(self.offered("", of="cmr-large"), ["tu"])
+        self.assertEqual(self.offered("tu", "-", of="/usr/bin/cmr-large"), list(LARGE_OPTIONS))
+        self.assertEqual(self.offered("tu", "-E", "f", "-", of="cmr-large"), ["-i"])
+        self.assertEqual(self.offered("tu", "-i", "", of="cmr-large"), ["dense", "sparse"])
+
     def test_at_a_terminal(self):
         self.write("a_matrix.txt", "")
         shell = Terminal(["bash", "--norc", "--noprofile", "-i"], self.folder)
@@ -72,8 +78,8 @@ class BashTest(ScriptTest):
 
 @needs_zsh
 class ZshTest(ScriptTest):
-    def handed(self, *words):
-        run = subprocess.run(["zsh", "-fc", HAND_OVER, "zsh", ZSH, *words], capture_output=True, text=True, check=False)
+    def handed(self, *words, of="cmr"):
+        run = subprocess.run(["zsh", "-fc", HAND_OVER, "zsh", ZSH, of, *words], capture_output=True, text=True, check=False)
         self.assertEqual(run.stderr, "")
         return run.stdout.splitlines()
 
@@ -92,6 +98,11 @@ class ZshTest(ScriptTest):
     def test_kinds_and_sums(self):
         self.assertIn(f":kind:({' '.join(KINDS)})", self.handed("generate", ""))
         self.assertIn(f":sum:({' '.join(SUMS)})", self.handed("compose", ""))
+
+    def test_of_the_program_for_large_matrices(self):
+        self.assertEqual([it.partition(":")[0] for it in self.handed("", of="cmr-large")], ["tu"])
+        found = [OF_ZSH.match(it) for it in self.handed("tu", "", of="cmr-large")]
+        self.assertEqual([it[1] for it in found if it], list(LARGE_OPTIONS))
 
     def test_at_a_terminal(self):
         self.write("a_matrix.txt", "")

@@ -13,7 +13,7 @@ import unittest
 from pathlib import Path
 from unittest import mock
 
-from building.clone import BUILT, NO_KIT
+from building.clone import BUILT, NO_KIT, OTHER_NAMES
 from building.installed import SCRIPTS, Installation, refuse_what_is_there, take_away
 from cmr_matrices.commands.signals import ENDING
 from tests.stand_in import SmallClone
@@ -21,7 +21,7 @@ from tests.support import TOP, needs_man, needs_program, needs_python
 
 FILES = [
     "bin/cmr",
-    "bin/cmr-batch",
+    *(f"bin/{it}" for it in OTHER_NAMES),
     *(f"bin/{it}" for it in SCRIPTS),
     "lib/cmr/installed",
     *(f"lib/cmr/scripts/{it}" for it in SCRIPTS.values()),
@@ -29,9 +29,10 @@ FILES = [
     "lib/cmr/python/cmr_matrices/py.typed",
     "share/bash-completion/completions/cmr",
     "share/bash-completion/completions/cmr-commands",
+    "share/bash-completion/completions/cmr-large",
     *(f"share/bash-completion/completions/{it}" for it in SCRIPTS),
     "share/man/man1/cmr.1",
-    "share/man/man1/cmr-batch.1",
+    *(f"share/man/man1/{it}.1" for it in OTHER_NAMES),
     *(f"share/man/man1/{it}.1" for it in SCRIPTS),
     "share/zsh/site-functions/_cmr",
     "share/zsh/site-functions/_cmr-commands",
@@ -80,7 +81,8 @@ class InstallTest(Prefix):
         self.assertEqual(run.stdout, f"cmr is installed in {self.prefix}\n{hint}")
         program = subprocess.run([self.prefix / "bin" / "cmr"], capture_output=True, text=True, check=False)
         self.assertEqual((program.returncode, program.stdout), (2, "proved\n"))
-        self.assertEqual(os.readlink(self.prefix / "bin" / "cmr-batch"), "cmr")
+        for name in OTHER_NAMES:
+            self.assertEqual(os.readlink(self.prefix / "bin" / name), "cmr")
         again = self.install("--uninstall")
         self.assertEqual((again.stdout, again.stderr), ("", ""))
         self.is_empty()
@@ -272,10 +274,11 @@ class UnprovedTest(Prefix):
         for path in (self.prefix / "bin" / "cmr", "bin/cmr", self.prefix.parent / "other"):
             run = self.run_program(path, "tu", "a b")
             self.assertEqual((run.returncode, run.stdout, run.stderr), (6, "optimised tu a b\n", f"cmr: {self.NOTE}\n"))
-        run = self.run_program("bin/cmr-batch", "a b")
-        self.assertEqual((run.returncode, run.stdout, run.stderr), (6, "optimised a b\n", f"cmr-batch: {self.NOTE}\n"))
-        self.assertEqual(os.readlink(self.prefix / "lib" / "cmr" / "out" / "unproved" / "cmr-batch"), "cmr")
-        added = [f"lib/cmr/{folder}/{name}" for folder in ("out/unproved", "unproved") for name in ("cmr", "cmr-batch")]
+        for name in OTHER_NAMES:
+            run = self.run_program(f"bin/{name}", "a b")
+            self.assertEqual((run.returncode, run.stdout, run.stderr), (6, "optimised a b\n", f"{name}: {self.NOTE}\n"))
+            self.assertEqual(os.readlink(self.prefix / "lib" / "cmr" / "out" / "unproved" / name), "cmr")
+        added = [f"lib/cmr/{folder}/{name}" for folder in ("out/unproved", "unproved") for name in ("cmr", *OTHER_NAMES)]
         self.assertEqual(self.files(), sorted([*FILES, *added]))
         self.install("--uninstall")
         self.is_empty()
@@ -357,7 +360,7 @@ class KilledTest(unittest.TestCase):
         while self.is_killed(self.put, number):
             with self.subTest(number=number):
                 self.put()
-                self.assertEqual(set(os.listdir(self.prefix / "bin")), {"cmr", "cmr-batch", *SCRIPTS})
+                self.assertEqual(set(os.listdir(self.prefix / "bin")), {"cmr", *OTHER_NAMES, *SCRIPTS})
                 self.take_away()
                 self.assertEqual([it for it in self.prefix.rglob("*") if not it.is_dir()], [])
                 shutil.rmtree(self.prefix, ignore_errors=True)

@@ -4,7 +4,8 @@ import re
 import subprocess
 
 from building.clone import BUILT
-from tests.command_line import KINDS, NUMBERS, OPTIONS, RANGES, SECTION, STATUSES, SUMS
+from cmr_matrices.explained.arguments import LARGE, TOOLS
+from tests.command_line import KINDS, LARGE_OPTIONS, LARGE_USAGE, NUMBERS, OPTIONS, RANGES, SECTION, STATUSES, SUMS, USAGES
 from tests.support import TOP, ScriptTest, needs_man, needs_mandoc, needs_program
 
 FILE = TOP / "docs" / "cmr.1"
@@ -28,6 +29,10 @@ def items(part, head):
 
 
 class ManualTest(ScriptTest):
+    def test_the_table_of_which_it_is_made_has_the_usages(self):
+        self.assertEqual({it.name: list(filter(None, (it.usage, it.other_usage))) for it in TOOLS.values()}, USAGES)
+        self.assertEqual(LARGE.usage, LARGE_USAGE)
+
     def test_each_tool_has_its_options(self):
         shown = synopsis()
         self.assertEqual(list(shown), list(OPTIONS))
@@ -67,6 +72,12 @@ class ManualTest(ScriptTest):
                 words = ["bash", "-c", command]
                 run = subprocess.run(words, cwd=self.folder, capture_output=True, text=True, check=False)
                 self.assertEqual(run.stdout + run.stderr, printed, command)
+
+    def test_the_page_of_large_matrices(self):
+        page = (TOP / "docs" / "cmr-large.1").read_text(encoding="utf-8")
+        for head in ("Op", "It"):
+            self.assertEqual([f"-{it}" for it in re.findall(rf"^\.{head} Fl (\w+) Ar", page, re.M)], list(LARGE_OPTIONS))
+        self.assertEqual([int(it) for it in re.findall(r"^\.It (\d)$", page, re.M)], STATUSES[:-1])
 
     @needs_mandoc
     def test_mandoc_finds_nothing(self):

@@ -14,7 +14,7 @@ import zipfile
 from pathlib import Path
 from unittest import mock
 
-from building.clone import NO_KIT
+from building.clone import NO_KIT, OTHER_NAMES
 from building.installed import SCRIPTS
 from building.packing.linked import Linked
 from cmr_matrices.errors import BadInput
@@ -25,8 +25,9 @@ from tests.support import PYTHON, TOP, needs_packers
 # It prints its arguments.
 PROGRAM = shutil.which("echo")
 MODULES = sorted(str(it.relative_to(TOP / "python")) for it in (TOP / "python" / "cmr_matrices").rglob("*.py"))
-PAGES = ["cmr.1", "cmr-batch.1", *(f"{it}.1" for it in SCRIPTS)]
-BASH = ["cmr", "cmr-commands", *SCRIPTS]
+NAMES = ["cmr", *OTHER_NAMES]
+PAGES = [f"{it}.1" for it in (*NAMES, *SCRIPTS)]
+BASH = ["cmr", "cmr-commands", "cmr-large", *SCRIPTS]
 GIT = {
     "GIT_AUTHOR_DATE": "2026-01-02T03:04:05+0000",
     "GIT_COMMITTER_DATE": "2026-01-02T03:04:05+0000",
@@ -162,7 +163,7 @@ class PackageTest(unittest.TestCase):
         self.assertEqual(lines[:3], [f"Version: {__version__}", f"Commit: {commit}", "Date: 2026-01-02 03:04:05 UTC"])
         record = (self.clone.crate("cmr") / "out" / "cmr.sources").read_text(encoding="ascii").split()
         digests = [f"SHA-256: {program}", f"Sources: {record[0]}", f"Proofs: {record[2]}"]
-        self.assertEqual(lines[3:], ["Program: cmr, also named cmr-batch", *digests, "Kit: stand-in-kit logic 0"])
+        self.assertEqual(lines[3:], ["Program: cmr, also named cmr-batch and cmr-large", *digests, "Kit: stand-in-kit logic 0"])
         self.assertIn(f"git checkout {commit}\n    scripts/package\n", first)
 
     def test_the_wheel(self):
@@ -172,7 +173,7 @@ class PackageTest(unittest.TestCase):
         names = [
             *MODULES,
             "cmr_matrices/py.typed",
-            *(f"{data}/scripts/{it}" for it in ("cmr", "cmr-batch")),
+            *(f"{data}/scripts/{it}" for it in NAMES),
             *(f"{data}/data/share/man/man1/{it}" for it in PAGES),
             *(f"{data}/data/share/bash-completion/completions/{it}" for it in BASH),
             *(f"{data}/data/share/zsh/site-functions/{it}" for it in ("_cmr", "_cmr-commands")),
@@ -187,7 +188,7 @@ class PackageTest(unittest.TestCase):
         self.assertIn(f"Root-Is-Purelib: false\nTag: {tag}\n", files[f"{info}/WHEEL"][1].decode())
         self.assertIn(f"Name: cmr-matrices\nVersion: {__version__}\n", files[f"{info}/METADATA"][1].decode())
         # The files that the links of scripts/install lead to.
-        for name in ("cmr", "cmr-batch"):
+        for name in NAMES:
             self.assertEqual(files[f"{data}/scripts/{name}"][1], Path(PROGRAM).read_bytes())
         path = f"{data}/data/share/bash-completion/completions"
         self.assertEqual(files[f"{path}/cmr-model"][1], files[f"{path}/cmr-commands"][1])
@@ -195,7 +196,7 @@ class PackageTest(unittest.TestCase):
     def test_the_debian_package(self):
         entries = self.deb_entries()
         files = [
-            *(f"usr/bin/{it}" for it in ("cmr", "cmr-batch", *SCRIPTS)),
+            *(f"usr/bin/{it}" for it in (*NAMES, *SCRIPTS)),
             *(f"usr/lib/cmr/scripts/{it}" for it in SCRIPTS.values()),
             *(f"usr/lib/python3/dist-packages/{it}" for it in (*MODULES, "cmr_matrices/py.typed")),
             *(f"usr/share/man/man1/{it}.gz" for it in PAGES),
@@ -206,7 +207,8 @@ class PackageTest(unittest.TestCase):
         ]
         self.assertEqual(sorted(name for name, (it, _) in entries.items() if not it.isdir()), sorted(files))
         self.are_settled(entries)
-        self.assertEqual(entries["usr/bin/cmr-batch"][0].linkname, "cmr")
+        for name in OTHER_NAMES:
+            self.assertEqual(entries[f"usr/bin/{name}"][0].linkname, "cmr")
         page = gzip.decompress(entries["usr/share/man/man1/cmr.1.gz"][1])
         self.assertEqual(page, (TOP / "docs" / "cmr.1").read_bytes())
         fields = ("Package", "Version", "Maintainer", "Depends", "Recommends")
@@ -230,7 +232,7 @@ class PackageTest(unittest.TestCase):
         files = [
             "INSTALL",
             "PROVENANCE",
-            *(f"bin/{it}" for it in ("cmr", "cmr-batch", *SCRIPTS)),
+            *(f"bin/{it}" for it in (*NAMES, *SCRIPTS)),
             *(f"lib/cmr/scripts/{it}" for it in SCRIPTS.values()),
             *(f"lib/cmr/python/{it}" for it in (*MODULES, "cmr_matrices/py.typed")),
             *(f"share/man/man1/{it}" for it in PAGES),
@@ -248,7 +250,8 @@ class PackageTest(unittest.TestCase):
             self.output("tar", "-xzf", self.tar, "-C", name)
             folder = next(Path(name).iterdir())
             self.assertEqual(self.output(folder / "bin" / "cmr", "tu", "x"), "tu x\n")
-            self.assertEqual(os.readlink(folder / "bin" / "cmr-batch"), "cmr")
+            for it in OTHER_NAMES:
+                self.assertEqual(os.readlink(folder / "bin" / it), "cmr")
             for it in SCRIPTS:
                 self.assertEqual(self.output(folder / "bin" / it, "--version"), f"{it} {__version__}\n")
             code = "import cmr_matrices; print(cmr_matrices.find_program())"
@@ -262,7 +265,8 @@ class PackageTest(unittest.TestCase):
             before = {it for it in Path(name).rglob("*") if it.is_file()}
             self.output(*pip, "install", "--no-index", self.wheel)
             self.assertEqual(self.output(f"{name}/bin/cmr", "tu", "x"), "tu x\n")
-            self.assertEqual(self.output(f"{name}/bin/cmr-batch", "x"), "x\n")
+            for it in OTHER_NAMES:
+                self.assertEqual(self.output(f"{name}/bin/{it}", "x"), "x\n")
             for it in SCRIPTS:
                 self.assertEqual(self.output(f"{name}/bin/{it}", "--version"), f"{it} {__version__}\n")
             self.assertTrue((Path(name) / "share" / "man" / "man1" / "cmr-model.1").exists())

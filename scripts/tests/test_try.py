@@ -9,7 +9,7 @@ import time
 import unittest
 from pathlib import Path
 
-from building.clone import NO_KIT
+from building.clone import NO_KIT, OTHER_NAMES
 from tests.stand_in import SmallClone
 
 NOTE = "try-cmr: nothing is proved of this run; ./cmr runs the proved program\n"
@@ -37,9 +37,10 @@ class TryTest(unittest.TestCase):
         self.holds_the_program_only()
 
     def holds_the_program_only(self):
-        """The program, also under its second name."""
-        self.assertEqual(sorted(os.listdir(self.kept.parent)), ["cmr", "cmr-batch", "cmr.sources"])
-        self.assertEqual(os.readlink(self.kept.with_name("cmr-batch")), "cmr")
+        """The program, also under its other names."""
+        self.assertEqual(sorted(os.listdir(self.kept.parent)), ["cmr", *OTHER_NAMES, "cmr.sources"])
+        for name in OTHER_NAMES:
+            self.assertEqual(os.readlink(self.kept.with_name(name)), "cmr")
 
     def test_a_program_with_the_second_name_is_replaced(self):
         self.kept.parent.mkdir(parents=True)

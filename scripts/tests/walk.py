@@ -25,7 +25,7 @@ PROGRESS = re.compile(r"^cmr-classify: [0-9]+ rows?, [0-9.]+ a second.*\n", re.M
 
 def walked(text, folder):
     """The text with the lines that its commands print when they run in a folder one after another."""
-    for name in ("cmr", "crates", "examples", "scripts"):
+    for name in ("cmr", "cmr-large", "crates", "examples", "scripts"):
         (folder / name).symlink_to(TOP / name)
     return re.sub(r"(?<=^```\n)\$ .*?(?=^```)", lambda block: _run(block[0], folder), text, flags=re.M | re.S)
 

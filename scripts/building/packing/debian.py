@@ -29,9 +29,10 @@ Priority: optional
 Description: {title}
  cmr decides whether a matrix is totally unimodular, regular, graphic, network
  or balanced, and gives evidence for each answer that can be checked
- independently. The package also contains cmr-batch for many runs in one
- process, and the Python package cmr_matrices with its commands for models
- of integer programs and for matroids.
+ independently. The package also contains cmr-large for larger matrices,
+ cmr-batch for many runs in one process, and the Python package
+ cmr_matrices with its commands for models of integer programs and for
+ matroids.
 {note}"""
 NOTE = """\
  .

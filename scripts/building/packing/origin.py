@@ -7,7 +7,7 @@ from dataclasses import dataclass
 from datetime import datetime, timezone
 from pathlib import Path
 
-from building.clone import BATCH, BUILT, PROGRAM, TOP, UNPROVED, Record, Sources
+from building.clone import BUILT, OTHER_NAMES, PROGRAM, TOP, UNPROVED, Record, Sources
 from building.packing.tools import output
 from cmr_matrices.errors import BadInput
 from cmr_matrices.version import __version__
@@ -86,7 +86,7 @@ class Origin:
         yield f"Version: {self.version}"
         yield f"Commit: {self.commit}{'' if self.is_clean else ', with changes that are not committed'}"
         yield f"Date: {self.date:%Y-%m-%d %H:%M:%S} UTC"
-        yield f"Program: {PROGRAM}, also named {BATCH}"
+        yield f"Program: {PROGRAM}, also named {' and '.join(OTHER_NAMES)}"
         yield f"SHA-256: {self.record.program}"
         yield f"Sources: {self.record.sources}"
         if self.proved:
