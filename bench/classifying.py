@@ -28,15 +28,15 @@ TOP = Path(__file__).resolve().parents[1]
 sys.path.insert(0, str(TOP / "python"))
 
 from cmr_matrices import CmrError  # noqa: E402
-from cmr_matrices.batch.kept import batch_of  # noqa: E402
-from cmr_matrices.classifying.asking import ask  # noqa: E402
 from cmr_matrices.classifying.blocks import classify_block  # noqa: E402
 from cmr_matrices.classifying.classes import CLASSES  # noqa: E402
 from cmr_matrices.classifying.pools import blocks_of  # noqa: E402
 from cmr_matrices.classifying.streams import Item  # noqa: E402
+from cmr_matrices.classifying.verdicts import ask  # noqa: E402
 from cmr_matrices.classifying.work import Settings  # noqa: E402
-from cmr_matrices.clock import KEPT  # noqa: E402
-from cmr_matrices.held_texts import held_text  # noqa: E402
+from cmr_matrices.running.batch.kept import batch_of  # noqa: E402
+from cmr_matrices.running.clock import KEPT  # noqa: E402
+from cmr_matrices.running.held_texts import held_text  # noqa: E402
 
 COMMAND = TOP / "scripts" / "cmr-classify"
 

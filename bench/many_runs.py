@@ -20,9 +20,9 @@ from pathlib import Path
 sys.path.insert(0, str(Path(__file__).resolve().parents[1] / "python"))
 
 from cmr_matrices import Matrix, is_network  # noqa: E402
-from cmr_matrices.batch.frames import Request  # noqa: E402
-from cmr_matrices.batch.kept import batch_of  # noqa: E402
-from cmr_matrices.clock import KEPT  # noqa: E402
+from cmr_matrices.running.batch.frames import Request  # noqa: E402
+from cmr_matrices.running.batch.kept import batch_of  # noqa: E402
+from cmr_matrices.running.clock import KEPT  # noqa: E402
 
 CALLS = 100
 

@@ -18,8 +18,9 @@ sys.path.insert(0, str(Path(__file__).resolve().parents[1] / "python"))
 
 from networks import KINDS, mixed, with_entry  # noqa: E402
 
-from cmr_matrices import CmrError, Matrix, excluded_minor, narrowing, reading  # noqa: E402
-from cmr_matrices.excluded import minor_class  # noqa: E402
+from cmr_matrices import CmrError, Matrix, excluded_minor  # noqa: E402
+from cmr_matrices.questions import narrowing, reading  # noqa: E402
+from cmr_matrices.questions.excluded import minor_class  # noqa: E402
 
 
 class Counted:
