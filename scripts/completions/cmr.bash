@@ -4,7 +4,7 @@
 _cmr_options()
 {
     case $1 in
-        large) printf '%s\n' -i -E ;;
+        large) printf '%s\n' -i --lines --pivots -w -E ;;
         tu) printf '%s\n' -i --lines --pivots -w -D -E ;;
         regular) printf '%s\n' -i --lines --pivots -w -D -E -M -C ;;
         series-parallel) printf '%s\n' -i -b -N -S -R ;;

@@ -10,6 +10,9 @@ from tests.support import TOP, ScriptTest, needs_program
 # What `cmr` and `cmr-large` say without arguments.
 NO_TOOL = (2, "", "cmr: bad command line\n")
 
+# Options of runs that may be undecided.
+OPTIONS = ((), ("-w", "3"), ("--lines", "2"), ("--lines", "0", "--pivots", "2"))
+
 
 def entries(draw):
     """A random matrix of at most seven rows and columns."""
@@ -54,20 +57,31 @@ class LargeTest(ScriptTest):
         statuses = set()
         for number in range(200):
             matrix, columns = entries(draw)
-            text = " ".join(words(matrix, columns))
-            status, output, error = self.ran(large, "tu", "-E", "lines", text=text)
+            text, options = " ".join(words(matrix, columns)), draw.choice(OPTIONS)
+            status, output, error = self.ran(large, "tu", *options, "-E", "lines", text=text)
             statuses.add(status)
             self.assertEqual(error, "")
             with self.subTest(number=number, text=text):
                 shuffled = " ".join(sparse_words(matrix, columns, draw))
-                self.assertEqual(self.ran(large, "tu", "-i", "sparse", text=shuffled)[0], status)
+                self.assertEqual(self.ran(large, "tu", *options, "-i", "sparse", text=shuffled)[0], status)
                 if status != 6:
                     self.assertEqual(self.ran(BUILT, "tu", text=text)[0], status)
                 if status == 1:
                     self.write("matrix", text)
                     checked = self.ran(BUILT, "check", "matrix", "lines")
                     self.assertEqual(checked, (1, output.replace("totally unimodular", "accepted"), ""))
-        self.assertEqual(statuses, {0, 1, 6})
+        self.assertEqual(statuses - {6}, {0, 1})
+
+    def test_options_of_the_decomposition(self):
+        large, text = self.link("cmr-large"), "4 4\n1 1 0 0\n1 0 1 0\n1 0 0 1\n1 1 1 1\n"
+        undecided = (6, "totally unimodular: undecided\nopen 4x4\n", "")
+        for options in (("--lines", "3"), ("--lines=0", "--pivots", "0", "-w", "64")):
+            self.assertEqual(self.ran(large, "tu", *options, text=text), undecided, options)
+        no = (1, "totally unimodular: no\nviolator rows 1 2 3 4 columns 1 2 3 4 sum 10\n", "")
+        self.assertEqual(self.ran(large, "tu", text=text), no)
+        for options in (("--lines", "25"), ("--lines", "-1"), ("--pivots", "101"), ("-w", "0"), ("-w", "65"), ("-w", "2", "-w", "2")):
+            for name in (large, BUILT):
+                self.assertEqual(self.ran(name, "tu", *options, text=text), NO_TOOL, options)
 
     def test_faults_are_those_of_cmr(self):
         draw, large = random.Random(2), self.link("cmr-large")

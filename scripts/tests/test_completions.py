@@ -63,7 +63,7 @@ class BashTest(ScriptTest):
     def test_of_the_program_for_large_matrices(self):
         self.assertEqual(self.offered("", of="cmr-large"), ["tu"])
         self.assertEqual(self.offered("tu", "-", of="/usr/bin/cmr-large"), list(LARGE_OPTIONS))
-        self.assertEqual(self.offered("tu", "-E", "f", "-", of="cmr-large"), ["-i"])
+        self.assertEqual(self.offered("tu", "-E", "f", "-", of="cmr-large"), ["-i", "--lines", "--pivots", "-w"])
         self.assertEqual(self.offered("tu", "-i", "", of="cmr-large"), ["dense", "sparse"])
 
     def test_at_a_terminal(self):

@@ -6,8 +6,7 @@ ghost use Rattle.cmr_front.specs.Outcome.{file_of, outcome_report};
 ghost use Rattle.cmr_front.specs.Printed.{violator_line};
 ghost use Rattle.cmr_front.specs.Report.{asked_file};
 ghost use Rattle.matrix_text.specs.CanonicalMatrices.{submatrix_text};
-ghost use Rattle.sparse_unimodular.specs.Unimodularities.{IsUnimodularity};
-ghost use Rattle.cmr_large.specs.LargeReports.{answer_for, answer_line, open_size_line, large_report, shown_file, shown_line};
+ghost use Rattle.cmr_large.specs.LargeReports.{NamesLines, answer_for, answer_line, open_size_line, large_report, shown_file, shown_line};
 
 use crate::sums::sum_of;
 use cmr_base::{LineSet, Memory};
@@ -15,9 +14,9 @@ use cmr_front::outcome::{Outcome, OutputFile};
 use cmr_front::printed::push_line_set;
 use cmr_front::status::Answer;
 use itoa::Buffer;
+use large_unimodular::LargeVerdict;
 use matrix_text::write_submatrix;
 use sparse_matrix::SparseMatrix;
-use sparse_unimodular::Unimodularity;
 use std::alloc::Global;
 
 /// The report of a verdict on a matrix, with the file of the lines that it names.
@@ -25,9 +24,9 @@ pub fn report_verdict<'a>(
     alloc: Global,
     name: Option<&'a str>,
     matrix: &SparseMatrix,
-    verdict: &Unimodularity,
+    verdict: &LargeVerdict,
 ) -> Result<Outcome<'a>, Memory>
-    requires { IsUnimodularity (matrix_of_runs matrix.now) verdict.now }
+    requires { NamesLines (matrix_of_runs matrix.now) verdict.now }
     ensures { IfOk result (λ outcome. outcome_report outcome
         ≡ large_report (option_map (λ name. name.now) name.entry) (matrix_of_runs matrix.now)
         verdict.now) }
@@ -42,32 +41,32 @@ pub fn report_verdict<'a>(
     })
 }
 
-fn answer_for(verdict: &Unimodularity) -> Answer
+fn answer_for(verdict: &LargeVerdict) -> Answer
     ensures { result ≡ answer_for verdict.now }
 {
     match verdict {
-        Unimodularity::Yes => Answer::Yes,
-        Unimodularity::No(_) => Answer::No,
-        Unimodularity::Open(_) => Answer::Undecided,
+        LargeVerdict::Yes => Answer::Yes,
+        LargeVerdict::No(_) => Answer::No,
+        LargeVerdict::Open(_) => Answer::Undecided,
     }
 }
 
-fn answer_line(verdict: &Unimodularity) -> &'static [u8]
+fn answer_line(verdict: &LargeVerdict) -> &'static [u8]
     ensures { result.now ≡ answer_line verdict.now }
 {
     match verdict {
-        Unimodularity::Yes => b"totally unimodular: yes\n",
-        Unimodularity::No(_) => b"totally unimodular: no\n",
-        Unimodularity::Open(_) => b"totally unimodular: undecided\n",
+        LargeVerdict::Yes => b"totally unimodular: yes\n",
+        LargeVerdict::No(_) => b"totally unimodular: no\n",
+        LargeVerdict::Open(_) => b"totally unimodular: undecided\n",
     }
 }
 
 fn verdict_text(
     alloc: Global,
     matrix: &SparseMatrix,
-    verdict: &Unimodularity,
+    verdict: &LargeVerdict,
 ) -> Result<Vec<u8>, Memory>
-    requires { IsUnimodularity (matrix_of_runs matrix.now) verdict.now }
+    requires { NamesLines (matrix_of_runs matrix.now) verdict.now }
     ensures { IfOk result (λ text. text.items
         ≡ answer_line verdict.now ++ shown_line (matrix_of_runs matrix.now) verdict.now) }
 {
@@ -79,16 +78,16 @@ fn verdict_text(
 fn push_shown(
     text: &mut Vec<u8>,
     matrix: &SparseMatrix,
-    verdict: &Unimodularity,
+    verdict: &LargeVerdict,
 ) -> Result<(), Memory>
-    requires { IsUnimodularity (matrix_of_runs matrix.now) verdict.now }
+    requires { NamesLines (matrix_of_runs matrix.now) verdict.now }
     ensures { OnOk result (text.new.items
         ≡ text.old.items ++ shown_line (matrix_of_runs matrix.now) verdict.now) }
 {
     match verdict {
-        Unimodularity::Yes => Ok(()),
-        Unimodularity::No(lines) => push_violator(text, lines, sum_of(matrix, lines)),
-        Unimodularity::Open(lines) => push_open_size(text, lines),
+        LargeVerdict::Yes => Ok(()),
+        LargeVerdict::No(lines) => push_violator(text, lines, sum_of(matrix, lines)),
+        LargeVerdict::Open(lines) => push_open_size(text, lines),
     }
 }
 
@@ -122,18 +121,18 @@ fn push_shown_file<'a>(
     files: &mut Vec<OutputFile<'a>>,
     name: Option<&'a str>,
     matrix: &SparseMatrix,
-    verdict: &Unimodularity,
+    verdict: &LargeVerdict,
 ) -> Result<(), Memory>
-    requires { IsUnimodularity (matrix_of_runs matrix.now) verdict.now }
+    requires { NamesLines (matrix_of_runs matrix.now) verdict.now }
     ensures { OnOk result (map file_of files.new.items
         ≡ map file_of files.old.items
         ++ shown_file (option_map (λ name. name.now) name.entry) (matrix_of_runs matrix.now)
         verdict.now) }
 {
     match verdict {
-        Unimodularity::Yes => Ok(()),
-        Unimodularity::No(lines) => push_lines(alloc, files, name, matrix, lines),
-        Unimodularity::Open(lines) => push_lines(alloc, files, name, matrix, lines),
+        LargeVerdict::Yes => Ok(()),
+        LargeVerdict::No(lines) => push_lines(alloc, files, name, matrix, lines),
+        LargeVerdict::Open(lines) => push_lines(alloc, files, name, matrix, lines),
     }
 }
 

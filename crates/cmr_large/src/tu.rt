@@ -1,27 +1,30 @@
 //! The arguments of `cmr-large tu`, and its decision.
 ghost use Rattle.clap.specs.Words.{app_of, found_of, rows_of};
-ghost use Rattle.std.specs.Prelude.{◌≡◌, IfOk, option_map};
+ghost use Rattle.std.specs.Prelude.{◌≡◌, ◌≤◌, IfOk, option_map};
+ghost use Rattle.cmr_base.specs.declared.limits.TheConstants.{MAX_LINES};
 ghost use Rattle.sparse_matrix.specs.SparseRows.{matrix_of_runs};
 ghost use Rattle.cmr_front.specs.Outcome.{outcome_report};
 ghost use Rattle.cmr_front.specs.Tool.{IsDecision};
 ghost use Rattle.cmr_front.specs.Words.ReadWords.{Gives};
 ghost use Rattle.cmr_large.specs.LargeReports.{LargeDecides};
-ghost use Rattle.cmr_large.specs.LargeInputs.{ReportsLarge};
-ghost use Rattle.cmr_large.specs.LargeTu.{large_app, large_order_in, large_order_of, large_tool, large_tu_order};
+ghost use Rattle.cmr_large.specs.LargeTu.{LargeReportsOf, large_app, large_order_in, large_order_of, large_tool, large_tu_order};
 
 use crate::large_file::read_large;
 use crate::report::report_verdict;
 use clap::{ArgMatches, Command};
-use cmr_base::{Memory, Word};
+use cmr_base::{MAX_LINES, Memory, Word};
 use cmr_front::evidence_file::evidence_input;
 use cmr_front::input::{Input, Text};
 use cmr_front::matrix_file::MatrixForm;
 use cmr_front::outcome::{Outcome, Stop};
 use cmr_front::tool::Tool;
-use cmr_front::words::parsing::{fault_in, file_in, form_in, matches_with_input};
+use cmr_front::words::parsing::{
+    fault_in, file_in, form_in, lines_in, matches_with_input, pivots_in, workers_in,
+};
 use cmr_front::words::{WordsError, arguments};
+use first_hit::Workers;
+use large_unimodular::decide_large;
 use sparse_matrix::SparseMatrix;
-use sparse_unimodular::decide_unimodularity;
 use std::alloc::{AllocError, Global};
 use std::thread::Threads;
 
@@ -30,6 +33,12 @@ use std::thread::Threads;
 pub struct LargeOptions<'a> {
     /// The form of the matrix text.
     pub form: MatrixForm,
+    /// The maximum number of lines on the shorter side of a part for an exhaustive search, 0 to 24.
+    pub budget: u32,
+    /// The maximum number of pivots on the path to a part that nothing else decides, 0 to 100.
+    pub pivots: u32,
+    /// The number of workers that share the searches, 1 to 64. The answer does not depend on it.
+    pub workers: u32,
     /// The file that gets the violator or the open part, if there is one.
     pub fault: Option<&'a str>,
     /// The file that holds the matrix text. It may be as long as evidence.
@@ -41,6 +50,9 @@ fn large_command<'a>(alloc: Global) -> Result<Command<'a>, AllocError>
 {
     let args = vec![in alloc;
         arguments::form_option(alloc),
+        arguments::lines_option(alloc),
+        arguments::pivots_option(alloc),
+        arguments::workers_option(alloc),
         arguments::fault_option(alloc),
         arguments::file_operand(alloc),
     ]?;
@@ -52,14 +64,20 @@ fn options_in<'a>(matches: &ArgMatches<'a>) -> Result<LargeOptions<'a>, WordsErr
 {
     Ok(LargeOptions {
         form: form_in(matches)?,
+        budget: lines_in(matches)?,
+        pivots: pivots_in(matches)?,
+        workers: workers_in(matches)?,
         fault: fault_in(matches),
         file: file_in(matches),
     })
 }
 
-/// The options that the arguments after `tu` give: `[-i FORMAT] [-E FILE] [FILE]`.
+/// The options that the arguments after `tu` give:
+/// `[-i FORMAT] [--lines L] [--pivots K] [-w N] [-E FILE] [FILE]`.
 pub fn read_large_tu<'a>(alloc: Global, words: &'a [Word]) -> Result<LargeOptions<'a>, WordsError>
-    ensures { Gives large_order_of result (large_tu_order words.now) }
+    ensures value { Gives large_order_of result (large_tu_order words.now) }
+    ensures ranges { IfOk result (λ options. (large_tool (large_order_of options)).InRanges) }
+    ensures pivots { IfOk result (λ options. options.pivots ≤ 100) }
 {
     let matches = matches_with_input(large_command(alloc)?, words)?;
     options_in(&matches)
@@ -74,49 +92,58 @@ impl<'a> Tool<'a> for LargeOptions<'a> {
 
     fn decide<R: Threads + Sync>(
         &self,
-        _rt: &R,
+        rt: &R,
         alloc: Global,
         texts: &[Text],
     ) -> Result<Outcome<'a>, Stop<'a>> {
-        decide_text(alloc, self, &texts[0].bytes)
+        decide_text(rt, alloc, self, &texts[0].bytes)
     }
 
     fn lawful(&self) {}
 }
 
-fn decide_text<'a>(
+fn decide_text<'a, R: Threads + Sync>(
+    rt: &R,
     alloc: Global,
     options: &LargeOptions<'a>,
     bytes: &[u8],
 ) -> Result<Outcome<'a>, Stop<'a>>
-    ensures { IsDecision (ReportsLarge options.now.form options.now.file.now
-        (LargeDecides (large_order_of options.now).fault) bytes.now) result }
+    requires budget { options.now.budget ≤ MAX_LINES }
+    requires workers { (1 ≤ options.now.workers) × (options.now.workers ≤ 64) }
+    ensures { IsDecision (LargeReportsOf (large_order_of options.now) bytes.now) result }
 {
     let matrix = read_large(alloc, options.file, options.form, bytes)?;
-    decide_matrix(alloc, options.fault, &matrix)
+    decide_matrix(rt, alloc, options, &matrix)
 }
 
-fn decide_matrix<'a>(
+fn decide_matrix<'a, R: Threads + Sync>(
+    rt: &R,
     alloc: Global,
-    name: Option<&'a str>,
+    options: &LargeOptions<'a>,
     matrix: &SparseMatrix,
 ) -> Result<Outcome<'a>, Stop<'a>>
-    ensures { IsDecision (LargeDecides (option_map (λ name. name.now) name.entry)
-        (matrix_of_runs matrix.now)) result }
+    requires budget { options.now.budget ≤ MAX_LINES }
+    requires workers { (1 ≤ options.now.workers) × (options.now.workers ≤ 64) }
+    ensures { IsDecision (LargeDecides options.now.budget options.now.pivots
+        (option_map (λ name. name.now) options.now.fault) (matrix_of_runs matrix.now)) result }
 {
-    Ok(outcome_of(alloc, name, matrix)?)
+    Ok(outcome_of(rt, alloc, options, matrix)?)
 }
 
-fn outcome_of<'a>(
+fn outcome_of<'a, R: Threads + Sync>(
+    rt: &R,
     alloc: Global,
-    name: Option<&'a str>,
+    options: &LargeOptions<'a>,
     matrix: &SparseMatrix,
 ) -> Result<Outcome<'a>, Memory>
-    ensures { IfOk result (λ outcome. LargeDecides (option_map (λ name. name.now) name.entry)
-        (matrix_of_runs matrix.now) (outcome_report outcome)) }
+    requires budget { options.now.budget ≤ MAX_LINES }
+    requires workers { (1 ≤ options.now.workers) × (options.now.workers ≤ 64) }
+    ensures { IfOk result (λ outcome. LargeDecides options.now.budget options.now.pivots
+        (option_map (λ name. name.now) options.now.fault) (matrix_of_runs matrix.now)
+        (outcome_report outcome)) }
 {
     let _height = matrix.rows();
-    let columns = matrix.transposed(alloc)?;
-    let verdict = decide_unimodularity(alloc, matrix, &columns)?;
-    report_verdict(alloc, name, matrix, &verdict)
+    let workers = Workers::new(options.workers);
+    let verdict = decide_large(rt, alloc, matrix, options.budget, options.pivots, workers)?;
+    report_verdict(alloc, options.fault, matrix, &verdict)
 }

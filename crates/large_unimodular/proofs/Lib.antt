@@ -1,4 +1,4 @@
 mod ThinParts
 mod PartMeaning
-mod LargeMeaning
+pub mod LargeMeaning
 mod PartsSoFar

@@ -111,13 +111,14 @@ class Settings:
     def _wordings(self) -> Mapping[tuple[str, Format, bool], Wording]:
         forms: tuple[Format, Format] = "dense", "sparse"
         return {
-            (kind.name, form, has_evidence): Wording(kind, form, self._budget(kind), has_evidence)
+            (kind.name, form, has_evidence): Wording(kind, form, self.budget(kind), has_evidence)
             for kind in CLASSES
             for form in forms
             for has_evidence in (False, True)
         }
 
-    def _budget(self, kind: MatrixClass) -> tuple[str, ...]:
+    def budget(self, kind: MatrixClass) -> tuple[str, ...]:
+        """The words of the budget for a class."""
         return ("--lines", str(self.lines)) if kind.has_budget and self.lines is not None else ()
 
 
@@ -287,7 +288,7 @@ class _Asked:
         self.verdicts.update({kind.name: "-" for kind in settings.classes})
         try:
             call = Call.begin(settings.program, settings.time_limit)
-            answer = ask_large_text(source.text, source.form, call)
+            answer = ask_large_text(source.text, source.form, call, settings.budget(_TU))
             if answer.is_undecided and settings.asks_again:
                 matrix = LargeMatrix.from_text(source.text.decode("ascii"), sparse=source.form == "sparse")
                 answer = self._answer(_TU, matrix, call.clock)

@@ -279,7 +279,7 @@ TOOLS = {
 
 LARGE = Tool(
     "tu",
-    "[-i dense|sparse] [-E FILE] [FILE]",
+    f"[-i dense|sparse] {_SEARCH} [-E FILE] [FILE]",
     "whether a matrix is totally unimodular",
     "Whether the matrix, which may be large, is totally unimodular. The evidence of a no is a violator.",
 )
@@ -289,6 +289,15 @@ LARGE_OPTIONS = {
     option.name: option
     for option in (
         OPTIONS["-i"],
+        OPTIONS["--lines"],
+        Option.number(
+            "--pivots",
+            "K",
+            "most pivots on the way to what nothing else decides",
+            "Make at most K pivots on the path to a part of the matrix that nothing else decides. K is {}.",
+            0,
+        ),
+        OPTIONS["-w"],
         Option.written(
             "-E",
             "the violator of a no, or the open part",

@@ -1,13 +1,13 @@
 """Total unimodularity of a matrix that is too large for `cmr`: `cmr-large` decides it, and `cmr` the parts that it leaves open.
 
 `cmr-large` removes lines with at most one nonzero, and decides the connected parts of the rest. If it leaves a part open, `cmr tu` is asked
-about the part, and `cmr-large` about the matrix without the lines of the part. A violator of either is one of the matrix. The matrix is
+about the part, with pivots and in other orders, and `cmr-large` about the matrix without the lines of the part. A violator of either is one of the matrix. The matrix is
 totally unimodular if and only if the part and the other parts are.
 """
 
 from __future__ import annotations
 
-from collections.abc import Callable
+from collections.abc import Callable, Sequence
 from dataclasses import dataclass, replace
 from typing import Literal
 
@@ -27,16 +27,16 @@ __all__ = ["LargeQuestion", "ask_large", "ask_large_text"]
 _NAME = "totally unimodular"
 
 
-def ask_large(matrix: LargeMatrix, call: Call) -> Answer:
-    """What one run of `cmr-large` says of a matrix: a no has a violator, and an undecided answer the part that is open."""
-    answer = ask_large_text(matrix.to_text().encode("ascii"), "sparse", call)
+def ask_large(matrix: LargeMatrix, call: Call, budget: Sequence[str] = ()) -> Answer:
+    """What one run of `cmr-large` with the words of a budget says of a matrix: a no has a violator, an undecided answer the open part."""
+    answer = ask_large_text(matrix.to_text().encode("ascii"), "sparse", call, budget)
     named = [part and replace(part, names=matrix.names) for part in (answer.violator, answer.open)]
     return replace(answer, violator=named[0] and _shown(matrix, named[0]), open=named[1])
 
 
-def ask_large_text(text: bytes, form: Literal["dense", "sparse"], call: Call) -> Answer:
+def ask_large_text(text: bytes, form: Literal["dense", "sparse"], call: Call, budget: Sequence[str] = ()) -> Answer:
     """The same of the matrix of a text."""
-    ran = run_large(find_large(call.program), text, form, call.clock)
+    ran = run_large(find_large(call.program), text, form, budget, call.clock)
     verdict: Verdict = "yes" if ran.status == YES else "no" if ran.status == NO else "undecided"
     if ran.said(_NAME) != verdict:
         raise ProgramFault(ran.status, f"the program is not cmr-large: it says {ran.lines[0]!r}")
@@ -46,10 +46,11 @@ def ask_large_text(text: bytes, form: Literal["dense", "sparse"], call: Call) ->
 
 @dataclass(frozen=True)
 class LargeQuestion:
-    """The program with its time, and what asks it about a part that is small enough for `cmr`."""
+    """The program with its time, what asks it about a part that is small enough for `cmr`, and the budget of `cmr-large`."""
 
     call: Call
     ask: Callable[[Matrix], Answer]
+    budget: Sequence[str] = ()
 
     def answer(self, matrix: LargeMatrix) -> Answer:
         """The answer. An undecided one has the first part that no question decides.
@@ -58,7 +59,7 @@ class LargeQuestion:
         """
         rest, undecided = matrix, Answer(_NAME, "yes")
         try:
-            while (found := ask_large(rest, self.call)).open is not None:
+            while (found := ask_large(rest, self.call, self.budget)).open is not None:
                 answer = self._of_part(matrix, found)
                 if answer.verdict == "no":
                     return answer

@@ -72,7 +72,7 @@ def is_totally_unimodular(
     and `tries` the answer and its tree are those of one run of the program with as many pivots.
 
     A matrix with more than 1,000 rows or columns needs the program `cmr-large`, which is beside `cmr`, and its answer has no `tree`. The
-    options apply to each part that `cmr-large` leaves open.
+    budget and the workers apply to `cmr-large`, and all options to each part that it leaves open.
 
     `lines` is the budget of the search, 0 to 24 lines (14); `workers` the threads that share it, 1 to 64 (1); `pivots` how many pivots
     may be made on the path to a part that is left open, 0 to 100 (20); `tries` in how many other orders an undecided matrix is asked again,
@@ -85,7 +85,8 @@ def is_totally_unimodular(
     search = _Search(name, lines, workers, pivots, tries, seed, parts=parts)
     call = Call.begin(program, time_limit)
     if is_large(matrix):
-        return LargeQuestion(call, lambda part: search.answer(part, False, call)).answer(LargeMatrix.of(matrix))
+        budget = budget_words(lines, 0, workers)
+        return LargeQuestion(call, lambda part: search.answer(part, False, call), budget).answer(LargeMatrix.of(matrix))
     return search.answer(matrix, certificate, call)
 
 

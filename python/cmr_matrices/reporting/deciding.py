@@ -61,7 +61,7 @@ class Decider:
 
     def large(self, matrix: LargeMatrix) -> Answer:
         """The answer of `cmr-large`, which is proved and has no evidence for `cmr check`."""
-        return ask_large(matrix, Call.begin(self.program, self.clock))
+        return ask_large(matrix, Call.begin(self.program, self.clock), budget_words(self.lines, 0, None))
 
     def arcs(self, matrix: Matrix) -> Arcs | None:
         """The arcs of the rows in a tree in which all columns are paths, or None if the matrix is no network matrix."""

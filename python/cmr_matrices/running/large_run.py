@@ -2,6 +2,7 @@
 
 from __future__ import annotations
 
+from collections.abc import Sequence
 from pathlib import Path
 from typing import Literal
 
@@ -30,6 +31,6 @@ def find_large(program: Path) -> Path:
     return found
 
 
-def run_large(large: Path, text: bytes, form: Literal["dense", "sparse"], clock: Clock) -> Ran:
-    """What `cmr-large tu` answers about a text. Raises what `run` raises."""
-    return answered(single_run(large, ("tu", "-i", form, "-E", LINES), text, {}, (LINES,), clock), (LINES,))
+def run_large(large: Path, text: bytes, form: Literal["dense", "sparse"], budget: Sequence[str], clock: Clock) -> Ran:
+    """What `cmr-large tu` answers about a text, with the words of a budget. Raises what `run` raises."""
+    return answered(single_run(large, ("tu", "-i", form, *budget, "-E", LINES), text, {}, (LINES,), clock), (LINES,))

@@ -27,6 +27,9 @@ from tests.support import R10, TRIANGLE, needs_large, needs_module
 
 SIGNED_R10 = [[1, 0, 0, 1, -1], [-1, 1, 0, 0, 1], [1, -1, 1, 0, 0], [0, 1, -1, 1, 0], [0, 0, 1, -1, 1]]
 
+FOUR = [[1, 1, 0, 0], [1, 0, 1, 0], [1, 0, 0, 1], [1, 1, 1, 1]]
+"""A violator, which the program leaves undecided if it may search three lines."""
+
 
 def blocks(*parts: list[list[int]]) -> list[list[int]]:
     """The matrix with these parts beside one another, after 1,000 columns of zeros."""
@@ -39,9 +42,9 @@ def blocks(*parts: list[list[int]]) -> list[list[int]]:
     return rows
 
 
-def staircase(size: int) -> list[list[int]]:
-    """Columns with three nonzeros one after another: an interval matrix, which is too large a part for `cmr`."""
-    return [[int(column <= row < column + 3) for column in range(size)] for row in range(size + 2)]
+def ring(size: int) -> list[list[int]]:
+    """Columns with three nonzeros one after another around a circle, which are too large a part for `cmr`."""
+    return [[int((row - column) % size < 3) for column in range(size)] for row in range(size)]
 
 
 @needs_large
@@ -59,10 +62,10 @@ class LargeQuestions(unittest.TestCase):
                 verdicts.add(first.verdict)
                 answer = LargeQuestion(call, is_totally_unimodular).answer(matrix)
                 self.assertEqual(answer.verdict, is_totally_unimodular(rows).verdict)
-                self.assertIn(first.verdict, (answer.verdict, "undecided"))
+                self.assertEqual(first.verdict, answer.verdict)
                 if answer.violator is not None:
                     self.assertEqual(check(rows, answer.violator).says, "no")
-        self.assertEqual(verdicts, {"yes", "no", "undecided"})
+        self.assertEqual(verdicts, {"yes", "no"})
 
     def test_a_no_keeps_names(self) -> None:
         matrix = blocks(SIGNED_R10, TRIANGLE)
@@ -86,17 +89,17 @@ class LargeQuestions(unittest.TestCase):
             self.assertEqual(check(blocks(*parts), answer).says, "no")
 
     def test_what_stays_open(self) -> None:
-        matrix = blocks(SIGNED_R10, staircase(1001))
+        matrix = blocks(SIGNED_R10, ring(1001))
         answer = is_totally_unimodular(matrix)
         assert answer.open is not None
-        self.assertEqual((answer.verdict, answer.open.lines.size, answer.open.rows[0]), ("undecided", "1001x1001", 6))
+        self.assertEqual((answer.verdict, answer.open.lines.size, answer.open.rows[0]), ("undecided", "1001x1001", 5))
         with self.assertRaises(Undecided) as undecided:
             bool(answer)
         self.assertEqual(str(undecided.exception), "totally unimodular: undecided, the open part of 1001x1001 is too large for `cmr`")
         with self.assertRaises(BadInput):
             check(matrix, answer)
         # A later part decides.
-        self.assertEqual(is_totally_unimodular(blocks(staircase(1001), R10)).verdict, "no")
+        self.assertEqual(is_totally_unimodular(blocks(ring(1001), R10)).verdict, "no")
 
     def test_what_cmr_leaves_open(self) -> None:
         call = Call.begin(find_program(), None)
@@ -104,15 +107,17 @@ class LargeQuestions(unittest.TestCase):
 
         def ask(part: Matrix) -> Answer:
             asked.append(part)
-            return Answer("totally unimodular", "undecided", open=Submatrix(part.shape, (3, 4), (0, 1)))
+            return Answer("totally unimodular", "undecided", open=Submatrix(part.shape, (2, 3), (0, 1)))
 
-        answer = LargeQuestion(call, ask).answer(LargeMatrix.of(blocks([[1]], SIGNED_R10, SIGNED_R10)))
+        matrix = LargeMatrix.of(blocks([[1]], FOUR, FOUR))
+        self.assertEqual(LargeQuestion(call, ask).answer(matrix).verdict, "no")
+        answer = LargeQuestion(call, ask, ("--lines", "3")).answer(matrix)
         assert answer.open is not None
-        self.assertEqual((answer.verdict, answer.open.rows, answer.open.columns), ("undecided", (4, 5), (1001, 1002)))
-        self.assertEqual(asked, [Matrix.of(SIGNED_R10)] * 2)
+        self.assertEqual((answer.verdict, answer.open.rows, answer.open.columns), ("undecided", (3, 4), (1001, 1002)))
+        self.assertEqual(asked, [Matrix.of(FOUR)] * 2)
 
     def test_a_limit_of_time(self) -> None:
-        matrix = blocks(SIGNED_R10, staircase(1001))
+        matrix = blocks(SIGNED_R10, ring(1001))
         with self.assertRaises(TimeLimitReached):
             is_totally_unimodular(matrix, time_limit=0)
         found = large_questions.ask_large
@@ -120,7 +125,7 @@ class LargeQuestions(unittest.TestCase):
 
         def later(*given: object) -> Answer:
             runs.append(given)
-            if len(runs) > 2:
+            if len(runs) > 1:
                 raise TimeLimitReached(1.0)
             return found(*given)  # type: ignore[arg-type]
 

@@ -52,10 +52,10 @@ class Finding(unittest.TestCase):
 class Runs(unittest.TestCase):
     def test_answers_and_faults(self) -> None:
         large = find_large(Path(find_program()))
-        ran = run_large(large, b"2 2 1 1 1 -1", "dense", Clock(None))
+        ran = run_large(large, b"2 2 1 1 1 -1", "dense", ("--lines", "3"), Clock(None))
         self.assertEqual((ran.status, ran.lines[0], ran.file("lines")), (1, "totally unimodular: no", "2 2 2 2\n1 2\n1 2\n"))
         with self.assertRaises(BadText) as fault:
-            run_large(large, b"2000 1 1 2000 2 1", "sparse", Clock(None))
+            run_large(large, b"2000 1 1 2000 2 1", "sparse", (), Clock(None))
         self.assertEqual((fault.exception.kind, fault.exception.byte), ("ColumnOutOfRange", 14))
         self.assertFalse([name for name in os.listdir() if name == "lines"])
 
