@@ -8,7 +8,7 @@ use Rattle.cmr_base.specs.declared.line_set.LineSet.{LineSet}
 use Rattle.cmr_base.specs.LineSets.{AllBelow}
 use Rattle.cmr_base.specs.Matrix.{IsTernary, Matrix}
 use Rattle.sparse_matrix.specs.SparseRows.{SparseRows, matrix_of_runs}
-use Rattle.sparse_unimodular.proofs.Freeness.{height_of_runs}
+use Rattle.core_parts.proofs.MarkedRuns.{height_of_runs}
 use Rattle.large_unimodular.specs.declared.verdict.LargeVerdict.{LargeVerdict}
 use Rattle.large_unimodular.specs.declared.verdict.LargeVerdict.TheVariants.{Yes, No, Open}
 use Rattle.large_unimodular.specs.LargeVerdicts.{IsFirstOpen, IsLargeVerdict}

@@ -21,10 +21,10 @@ use Rattle.part_numbers.specs.declared.search.Parts.{Parts}
 use Rattle.part_numbers.specs.ConnectedParts.{AreConnectedParts, AreInOrder, IsConnectedPart, first_line}
 use Rattle.part_numbers.specs.PartNumbering.{ArePartsBy, lines_of_part, part_number, parts_of}
 use Rattle.part_numbers.proofs.NumberedParts.{line_is, length-parts, numbered_lines_are_parts, part_is}
-use Rattle.sparse_unimodular.proofs.Freeness.{height_of_runs}
 use Rattle.core_parts.specs.declared.sets.CoreParts.{CoreParts}
 use Rattle.core_parts.specs.CoreParts.{AreCoreParts, AreDivided, HasColumnsAtPlaces, IsAtPlace, IsCoreOf, place_at}
 use Rattle.core_parts.specs.SetsOfParts.{AreSetsOf, HaveColumns, HaveRows}
+use Rattle.core_parts.proofs.MarkedRuns.{height_of_runs}
 
 -- ---- the sets
 

@@ -1,3 +1,5 @@
+mod PartLines
+pub mod MarkedRuns
 mod SetsOfParts
 mod PartMatrices
 mod DenseValues

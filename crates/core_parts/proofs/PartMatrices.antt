@@ -19,10 +19,9 @@ use Rattle.sparse_matrix.specs.SparseRows.{SparseRows, AreInDistinctLines, AreSp
 use Rattle.sparse_matrix.proofs.MarkedLines.{no_nonzero, value_there}
 use Rattle.sparse_matrix.proofs.Matrices.{matrix_entry, matrix_is_ternary}
 use Rattle.sparse_matrix.proofs.Runs.{byte_sign, free_line}
-use Rattle.sparse_unimodular.specs.Restrictions.{HasRun, marked_run}
-use Rattle.sparse_unimodular.proofs.Restriction.{run_with, run_without}
 use Rattle.core_parts.specs.CoreParts.{HasColumnsAtPlaces, IsAtPlace, place_at}
-use Rattle.core_parts.specs.PartRuns.{AreAtPlaces, at_place, placed_run}
+use Rattle.core_parts.specs.PartRuns.{AreAtPlaces, HasRun, at_place, marked_run, placed_run}
+use Rattle.core_parts.proofs.MarkedRuns.{run_with, run_without}
 
 -- ---- a run at places
 

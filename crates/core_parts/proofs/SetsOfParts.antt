@@ -10,9 +10,9 @@ use Rattle.cmr_base.proofs.Booleans.{same_or_not, true_is_false, two_cases}
 use Rattle.sparse_matrix.specs.LineMarks.{is_marked}
 use Rattle.sparse_matrix.proofs.MarkedLines.{mark_inside}
 use Rattle.part_numbers.specs.PartNumbering.{lines_of_part, part_number}
-use Rattle.sparse_unimodular.proofs.PartLines.{part_below, part_other, part_unmarked, part_with}
 use Rattle.core_parts.specs.CoreParts.{IsAtPlace, place_at}
 use Rattle.core_parts.specs.SetsOfParts.{ArePlacesBy, HaveColumns, HaveRows}
+use Rattle.core_parts.proofs.PartLines.{part_below, part_other, part_unmarked, part_with}
 
 -- the lists are those of the first marks
 abbrev HaveLines : ℕ → (ℕ → List ℕ) → List Bool → List ℕ → Type 0

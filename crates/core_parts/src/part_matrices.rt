@@ -5,9 +5,8 @@ ghost use Rattle.std.specs.List.Sorted.{IsStrictlyIncreasing};
 ghost use Rattle.cmr_base.specs.LineSets.{AllBelow, submatrix};
 ghost use Rattle.cmr_base.specs.Matrix.{entry};
 ghost use Rattle.sparse_matrix.specs.SparseRows.{AreInDistinctLines, IsNonzeroWithin, matrix_of_runs, run_of};
-ghost use Rattle.sparse_unimodular.specs.Restrictions.{HasRun};
 ghost use Rattle.core_parts.specs.CoreParts.{HasColumnsAtPlaces};
-ghost use Rattle.core_parts.specs.PartRuns.{AreAtPlaces, placed_run};
+ghost use Rattle.core_parts.specs.PartRuns.{AreAtPlaces, HasRun, placed_run};
 
 use cmr_base::{LineSet, Memory};
 use sparse_matrix::{Nonzero, SparseMatrix};

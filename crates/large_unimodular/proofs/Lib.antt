@@ -1,3 +1,4 @@
+mod Across
 mod ThinParts
 mod PartMeaning
 pub mod LargeMeaning

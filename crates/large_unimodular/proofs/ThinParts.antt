@@ -12,8 +12,9 @@ use Rattle.sparse_matrix.specs.SparseRows.{SparseRows, AreCrossed, AreInDistinct
 use Rattle.sparse_matrix.proofs.MarkedLines.{value_there}
 use Rattle.sparse_matrix.proofs.Matrices.{matrix_entry}
 use Rattle.split_search.specs.Decisions.{AreViolating, HaveAtMostTwo}
-use Rattle.sparse_unimodular.proofs.Freeness.{back_across, height_of_runs}
+use Rattle.core_parts.proofs.MarkedRuns.{height_of_runs}
 use Rattle.large_unimodular.specs.PartVerdicts.{HasThreeNonzeros, IsFaultIn, IsThin}
+use Rattle.large_unimodular.proofs.Across.{back_across}
 
 -- ---- runs with at most two nonzeros
 

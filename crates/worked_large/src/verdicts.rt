@@ -204,3 +204,50 @@ fn a_no_after_an_open_part_is_a_no(rt: HostRuntime) -> Result<(), Fail> {
     write_block(&mut matrix, 1_005, 0, &SQUARE)?;
     is_no(&rt, &matrix, &[1_005, 1_006], &[0, 1])
 }
+
+fn is_sparse_yes<R: Abort + AllocGlobal + Threads + Sync>(
+    rt: &R,
+    rows: u32,
+    columns: u32,
+    triples: &[Triple],
+) -> Result<(), Fail> {
+    let mut matrix = zero(rt.alloc(), rows, columns)?;
+    write_block(&mut matrix, 0, 0, triples)?;
+    is_yes(rt, &matrix)
+}
+
+#[test]
+fn matrices_without_a_core_are_totally_unimodular(rt: HostRuntime) -> Result<(), Fail> {
+    is_sparse_yes(&rt, 0, 0, &[])?;
+    is_sparse_yes(&rt, 0, 3, &[])?;
+    is_sparse_yes(&rt, 3, 0, &[])?;
+    is_sparse_yes(&rt, 2, 2, &[(0, 0, 1), (1, 1, -1)])?;
+    is_sparse_yes(
+        &rt,
+        3,
+        3,
+        &[(0, 0, 1), (0, 1, 1), (0, 2, 1), (1, 1, -1), (2, 2, 1)],
+    )
+}
+
+// Rows 0 to 5 have two nonzeros, and columns 0 to 3 three: the edges and the nodes of the complete graph with four nodes.
+#[test]
+fn an_odd_cycle_of_rows_is_a_violator(rt: HostRuntime) -> Result<(), Fail> {
+    let mut matrix = zero(rt.alloc(), 6, 4)?;
+    let triples = [
+        (0, 0, 1),
+        (0, 1, 1),
+        (1, 0, 1),
+        (1, 2, 1),
+        (2, 0, 1),
+        (2, 3, 1),
+        (3, 1, 1),
+        (3, 2, 1),
+        (4, 1, 1),
+        (4, 3, 1),
+        (5, 2, 1),
+        (5, 3, 1),
+    ];
+    write_block(&mut matrix, 0, 0, &triples)?;
+    is_no(&rt, &matrix, &[0, 1, 3], &[0, 1, 2])
+}

@@ -1,6 +1,5 @@
 use Rattle.std.proofs.Common.{take}
-use Rattle.sparse_unimodular.specs.Restrictions.{HasRun}
-use Rattle.core_parts.specs.PartRuns.{placed_run}
+use Rattle.core_parts.specs.PartRuns.{HasRun, placed_run}
 use Rattle.core_parts.proofs.part_matrices.copy_run.Given as goal
 
 abbrev pub invariant-loop-nonzero : goal.invariant-loop-nonzero

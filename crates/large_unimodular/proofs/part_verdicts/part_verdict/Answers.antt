@@ -2,7 +2,7 @@ use Rattle.std.proofs.Common.{◌∙◌, inl, inr, refl, sym, subst, arith}
 use Rattle.std.proofs.lemmas.Result.{IfOk-weaker}
 use Rattle.cmr_base.proofs.Booleans.{true_is_false}
 use Rattle.sparse_matrix.specs.SparseRows.{AreSparseRows, matrix_of_runs}
-use Rattle.sparse_unimodular.proofs.Freeness.{height_of_runs}
+use Rattle.core_parts.proofs.MarkedRuns.{height_of_runs}
 use Rattle.large_unimodular.specs.PartVerdicts.{IsSmall}
 use Rattle.large_unimodular.proofs.ThinParts.{thick, thin_by_columns, thin_by_rows}
 use Rattle.large_unimodular.proofs.part_verdicts.part_verdict.Goals as goal

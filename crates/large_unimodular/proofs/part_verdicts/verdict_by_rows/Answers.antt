@@ -1,6 +1,6 @@
 use Rattle.std.proofs.Common.{subst}
 use Rattle.split_search.specs.Decisions.{IsDecidedBy}
-use Rattle.sparse_unimodular.proofs.Freeness.{violating_across}
+use Rattle.large_unimodular.proofs.Across.{violating_across}
 use Rattle.large_unimodular.proofs.ThinParts.{fault_of_violating, none_across}
 use Rattle.large_unimodular.proofs.part_verdicts.verdict_by_rows.Goals as goal
 

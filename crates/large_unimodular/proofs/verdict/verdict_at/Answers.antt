@@ -1,7 +1,7 @@
 use Rattle.std.proofs.Common.{◌<◌, ℕ, length, get_or, subst}
 use Rattle.sparse_matrix.specs.SparseRows.{matrix_of_runs}
 use Rattle.sparse_matrix.proofs.Matrices.{matrix_is_ternary}
-use Rattle.sparse_unimodular.proofs.Freeness.{height_of_runs}
+use Rattle.core_parts.proofs.MarkedRuns.{height_of_runs}
 use Rattle.large_unimodular.proofs.LargeMeaning.{contained_lines}
 use Rattle.large_unimodular.proofs.verdict.verdict_at.Goals as goal
 

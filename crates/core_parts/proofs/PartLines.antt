@@ -11,7 +11,7 @@ use Rattle.sparse_matrix.proofs.MarkedLines.{mark_inside}
 use Rattle.part_numbers.specs.PartNumbering.{lines_of_part, part_number}
 use Rattle.part_numbers.proofs.NumberedParts.{line_is}
 
-pub part_inside : (marks : List Bool) (numbers : List ℕ) (part k : ℕ) → k < length (lines_of_part marks numbers part) → get_or (lines_of_part marks numbers part) k 0 < length marks
+part_inside : (marks : List Bool) (numbers : List ℕ) (part k : ℕ) → k < length (lines_of_part marks numbers part) → get_or (lines_of_part marks numbers part) k 0 < length marks
 part_inside marks numbers part k l =
     let lines = lines_of_part marks numbers part in
     let here : Contains lines (get_or lines k 0) = (k, l, get_or_default lines k (get_or lines k 0) 0 l) in

@@ -1,5 +1,0 @@
-pub mod Restrictions
-pub mod ThickLines
-pub mod Divisions
-pub mod Unimodularities
-pub mod UnimodularityLaws
