@@ -116,6 +116,11 @@ class LargeQuestions(unittest.TestCase):
         self.assertEqual((answer.verdict, answer.open.rows, answer.open.columns), ("undecided", (3, 4), (1001, 1002)))
         self.assertEqual(asked, [Matrix.of(FOUR)] * 2)
 
+    def test_the_budget_is_passed_on(self) -> None:
+        matrix = blocks(FOUR)
+        self.assertEqual(is_totally_unimodular(matrix, lines=3, pivots=0, parts=False).verdict, "undecided")
+        self.assertEqual(is_totally_unimodular(matrix, lines=4, workers=2).verdict, "no")
+
     def test_a_limit_of_time(self) -> None:
         matrix = blocks(SIGNED_R10, ring(1001))
         with self.assertRaises(TimeLimitReached):
