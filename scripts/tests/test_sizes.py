@@ -30,6 +30,7 @@ SHARED = 19
 LONG_LINES = 2168
 SHORT_NAMES = 3941
 TWICE = 218
+PROVED_TWICE = 11
 PRIVATE = 0
 # The limits of the words of each kind of texts: of "where" in a thousand, and of the house words.
 WORDINGS = {"documents": (1, 0), "comments of .rt": (1, 3), "comments of .antt": (1, 2), "comments of .py": (1, 0)}
@@ -53,6 +54,7 @@ WITHIN = f"""\
      0 of at most {LONG_LINES:4} lines of proofs above 200 characters
      0 of at most {SHORT_NAMES:4} names of one letter in proofs
      0 of at most {TWICE:4} statements that stand more than once
+     0 of at most {PROVED_TWICE:4} lemmas that stand more than once
      0 of at most {PRIVATE:4} edits of private functions
 {WORDED}"""
 
@@ -132,14 +134,31 @@ class SizesTest(ScriptTest):
     def test_statements_that_stand_twice(self):
         """The names of bound variables make no difference. Short types and other words do not count."""
         for number in range(TWICE + 1):
-            self.put(f"crates/low/proofs/L{number}.antt", f"pub one : (m : M{number}) (k : ℕ)\n    → Is{number} m k\none m k = go m\n")
-            self.put(f"crates/high/proofs/H{number}.antt", f"other : (n : M{number}) (j : ℕ) → Is{number} n j -- again\nshort : ℕ → ℕ\n")
-        self.put("crates/high/proofs/H0.antt", "other : (n : M0) (j : ℕ) → Is0 j n\nshort : ℕ → ℕ\n")
+            self.put(f"crates/low/specs/L{number}.antt", f"pub one : (m : M{number}) (k : ℕ)\n    → Is{number} m k\none m k = go m\n")
+            self.put(f"crates/high/specs/H{number}.antt", f"other : (n : M{number}) (j : ℕ) → Is{number} n j -- again\nshort : ℕ → ℕ\n")
+        self.put("crates/high/specs/H0.antt", "other : (n : M0) (j : ℕ) → Is0 j n\nshort : ℕ → ℕ\n")
         self.assertEqual(self.run_script("sizes", self.folder).returncode, 0)
         self.put("crates/high/specs/High.antt", "abbrev pub third : (n : M0) (j : ℕ) → Is0 n j\n")
         run = self.run_script("sizes", self.folder)
         self.assertEqual(run.returncode, 1)
-        self.assertIn("    crates/high/specs/High.antt third, crates/low/proofs/L0.antt one\n", run.stdout)
+        self.assertIn("    crates/high/specs/High.antt third, crates/low/specs/L0.antt one\n", run.stdout)
+
+    def test_lemmas_that_stand_twice(self):
+        """What has other types than lemmas and the proofs of single functions do not count."""
+        for number in range(PROVED_TWICE):
+            for crate in ("low", "high"):
+                self.put(f"crates/{crate}/proofs/L{number}.antt", f"pub one : (m : M{number}) (k : ℕ) → Is{number} m k\n")
+        for crate in ("low", "high"):
+            self.put(f"crates/{crate}/proofs/Value.antt", "value : (m : M) → ℕ → List ℕ\n")
+            self.put(f"crates/{crate}/proofs/one/Proof.antt", "meets : (m : M) (k : ℕ) → Is m k\n")
+        self.put("crates/low/specs/Low.antt", "two : (m : N) (k : ℕ) → Is m k\n")
+        self.put("crates/low/proofs/Low.antt", "two : (m : N) (k : ℕ) → Is m k\n")
+        self.assertEqual(self.run_script("sizes", self.folder).returncode, 0)
+        self.put("crates/high/proofs/High.antt", "three : (n : N) (j : ℕ) → Is n j\n")
+        run = self.run_script("sizes", self.folder)
+        self.assertEqual(run.returncode, 1)
+        self.assertIn(f"    {PROVED_TWICE + 1} of at most   {PROVED_TWICE} lemmas that stand more than once\n", run.stdout)
+        self.assertIn("    crates/high/proofs/High.antt three, crates/low/proofs/Low.antt two\n", run.stdout)
 
     def test_words_of_documents(self):
         """House words count also if they continue on the next line. Code, links and plain English are left."""
