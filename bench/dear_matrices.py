@@ -206,14 +206,30 @@ def middle_of_arc(size: int, draw: Draw) -> tuple[Matrix, list[int], list[int]]:
     return block, last, [int(start <= arc < start + length) for start, length in zip(starts, lengths)]
 
 
-def mixed_sum(size: int, draw: Draw) -> Matrix:
-    """The mixed sum of a dense network and of a dense transposed one."""
-    half = size // 2
-    first, column, row = middle_of_arc(half, draw)
-    second, other_row, other_column = middle_of_arc(size - half, draw)
-    upper = [left + [entry * other for other in other_row] for left, entry in zip(first, column)]
-    lower = [[entry * other for other in row] + right for right, entry in zip(transposed(second), other_column)]
-    return scrambled(upper + lower, draw)
+def middle_of_tree_arc(size: int, draw: Draw) -> tuple[Matrix, list[int], list[int]]:
+    """The same in a random tree, with paths between random nodes. The arc is in the most paths, and the last column is as long as possible."""
+    parents = [0] + [draw.randrange(node) for node in range(1, size + 2)]
+    paths = random_paths(parents, size, draw)
+    arc = max(range(size + 1), key=lambda it: sum(it in path for path in paths))
+    arcs = [other for other in range(size + 1) if other != arc]
+    to_arc = [path_between(parents, node, parents[arc + 1]) for node in range(size + 2)]
+    last = max((path for path in to_arc if arc not in path), key=len)
+    block = [[path.get(other, 0) for path in paths] for other in arcs]
+    return block, [last.get(other, 0) for other in arcs], [path.get(arc, 0) for path in paths]
+
+
+def mixed_sum(middle: Callable[[int, Draw], tuple[Matrix, list[int], list[int]]]) -> Callable[[int, Draw], Matrix]:
+    """The mixed sums of networks that are made in this way, and of such networks transposed."""
+
+    def made(size: int, draw: Draw) -> Matrix:
+        half = size // 2
+        first, column, row = middle(half, draw)
+        second, other_row, other_column = middle(size - half, draw)
+        upper = [left + [entry * other for other in other_row] for left, entry in zip(first, column)]
+        lower = [[entry * other for other in row] + right for right, entry in zip(transposed(second), other_column)]
+        return scrambled(upper + lower, draw)
+
+    return made
 
 
 INPUTS = (
@@ -241,7 +257,8 @@ INPUTS = (
     Input("long path, one more", one_more(long_path)),
     Input("long path, transposed", transposed_long_path),
     Input("network and transposed", network_and_transposed),
-    Input("mixed sum", mixed_sum),
+    Input("mixed sum", mixed_sum(middle_of_arc)),
+    Input("dense mixed sum", mixed_sum(middle_of_tree_arc)),
     Input("many parts", many_parts),
     Input("many cycles", many_cycles),
     Input("many sums", many_sums),

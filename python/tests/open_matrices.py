@@ -96,6 +96,7 @@ def models() -> Iterator[tuple[str, str, Rows]]:
             arcs = drawn_arcs(places, count, seed)
             yield f"two commodities, {places} places, {count} arcs, drawn {seed}", "no", shared_flows(2, places, arcs)
     yield "three commodities, 15 places, 40 arcs", "no", shared_flows(3, 15, drawn_arcs(15, 40, 1))
-    yield "all rectangles in 4x4 cells", "no", rectangles(4)
+    for side in (4, 5):
+        yield f"all rectangles in {side}x{side} cells", "no", rectangles(side)
     yield "Sudoku of 4x4 cells", "no", sudoku(2)
     yield "Sudoku of 9x9 cells, sudoku.mod of GLPK", "no", sudoku(3, GIVENS)

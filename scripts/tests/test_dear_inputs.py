@@ -149,7 +149,7 @@ class DearInputsTest(ScriptTest):
     @needs_program
     def test_answers(self) -> None:
         statuses = {"mixed sum": 0, "many sums": 0, "many parts": 0, "many cycles": 0, "equal lines": 0, "ten rows": 0, "long path": 0}
-        statuses |= {"network and transposed": 0, "deep tree, transposed": 0, "cycle": 0, "turned cycle": 1, "all but the diagonal": 1}
+        statuses |= {"dense mixed sum": 0, "network and transposed": 0, "deep tree, transposed": 0, "cycle": 0, "turned cycle": 1, "all but the diagonal": 1}
         for name, status in statuses.items():
             for size in (10, 30):
                 with self.subTest(matrix=name, size=size):

@@ -9,12 +9,13 @@ import subprocess
 import sys
 import tempfile
 import tomllib
+import traceback
 import unittest
 from pathlib import Path
 from unittest import mock
 
 from building.clone import BUILT, NO_KIT, OTHER_NAMES
-from building.installed import SCRIPTS, Installation, refuse_what_is_there, take_away
+from building.installed import LIST, SCRIPTS, Installation, items, refuse_what_is_there, take_away
 from cmr_matrices.commands.signals import ENDING
 from tests.stand_in import SmallClone
 from tests.support import TOP, needs_man, needs_program, needs_python
@@ -311,31 +312,60 @@ class UnprovedTest(Prefix):
         self.is_empty()
 
 
+# A file system in memory, if there is one: the tests below write and remove files thousands of times, and no test runs one of them.
+MEMORY = next((it for it in ("/dev/shm",) if os.access(it, os.W_OK)), None)
+
+
+def first_and_last(prefix, *, proved=True):
+    """The first and the last file and the first and the last link of each folder, so that a test can end at each change."""
+    groups = {}
+    for it in items(prefix, proved=proved):
+        groups.setdefault((os.path.dirname(it.path), it.source is None), []).append(it)
+    return list(dict.fromkeys(it for group in groups.values() for it in (group[0], group[-1])))
+
+
 class KilledTest(unittest.TestCase):
     """An installation or its removal that is killed before its first change, its second change, and so on."""
 
     CHANGES = {"os.mkdir", "os.rename", "os.symlink", "os.remove", "os.rmdir", "shutil.copyfile"}
+    KILLED = 9
 
     def setUp(self):
-        folder = tempfile.TemporaryDirectory()
+        folder = tempfile.TemporaryDirectory(dir=MEMORY)
         self.addCleanup(folder.cleanup)
         self.prefix = Path(folder.name) / "prefix"
         program = Path(folder.name) / "cmr"
         program.write_text("#!/bin/sh\n", encoding="utf-8")
         self.enterContext(mock.patch("building.installed.BUILT", program))
+        self.enterContext(mock.patch("building.installed.items", first_and_last))
         # An installation ignores these in the process of the tests too.
         for it in ENDING:
             self.addCleanup(signal.signal, it, signal.getsignal(it))
 
     def is_killed(self, work, number):
-        """Whether the task, in a process of its own, is killed before the change of that number."""
+        """Whether the task, in a process of its own, is killed before the change of that number. Otherwise it must end by itself."""
         child = os.fork()
         if not child:
-            left = iter(range(number, -1, -1))
-            sys.addaudithook(lambda event, _: event in self.CHANGES and next(left) == 0 and os._exit(9))
+            self.work_until(work, number)
+        status = os.waitstatus_to_exitcode(os.waitpid(child, 0)[1])
+        self.assertIn(status, (0, self.KILLED), f"the task that is killed before change {number}")
+        return status == self.KILLED
+
+    def work_until(self, work, number):
+        """Ends this process, at the latest before the change of that number."""
+        left = iter(range(number, -1, -1))
+        sys.addaudithook(lambda event, _: event in self.CHANGES and next(left) == 0 and os._exit(self.KILLED))
+        status = 1
+        try:
             work()
-            os._exit(0)
-        return os.waitstatus_to_exitcode(os.waitpid(child, 0)[1]) == 9
+            status = 0
+        except BaseException:
+            traceback.print_exc()
+        finally:
+            os._exit(status)
+
+    def files(self):
+        return sorted(str(it.relative_to(self.prefix)) for it in self.prefix.rglob("*") if it.is_symlink() or not it.is_dir())
 
     def put(self):
         refuse_what_is_there(self.prefix)
@@ -356,16 +386,17 @@ class KilledTest(unittest.TestCase):
 
     def kill_installations(self, before):
         number = 0
+        expected = sorted([LIST, *(it.path for it in first_and_last(self.prefix))])
         before()
         while self.is_killed(self.put, number):
             with self.subTest(number=number):
                 self.put()
-                self.assertEqual(set(os.listdir(self.prefix / "bin")), {"cmr", *OTHER_NAMES, *SCRIPTS})
+                self.assertEqual(self.files(), expected)
                 self.take_away()
-                self.assertEqual([it for it in self.prefix.rglob("*") if not it.is_dir()], [])
-                shutil.rmtree(self.prefix, ignore_errors=True)
-                before()
-            number += 12 if number < 100 else 3
+                self.assertEqual(self.files(), [])
+            shutil.rmtree(self.prefix, ignore_errors=True)
+            before()
+            number += 1
         return number
 
     def test_a_removal_that_is_killed(self):
@@ -373,11 +404,12 @@ class KilledTest(unittest.TestCase):
         self.put()
         while self.is_killed(self.take_away, number):
             with self.subTest(number=number):
-                if (self.prefix / "lib" / "cmr" / "installed").exists():
+                if (self.prefix / LIST).exists():
                     self.take_away()
-                self.assertEqual([it for it in self.prefix.rglob("*") if it.is_file()], [])
-                self.put()
-            number += 8
+                self.assertEqual(self.files(), [])
+            shutil.rmtree(self.prefix, ignore_errors=True)
+            self.put()
+            number += 1
         self.assertGreater(number, 50)
 
 

@@ -81,11 +81,15 @@ class Blocks(unittest.TestCase):
         self.assertEqual([dict(row.verdicts) for row in rows], [YES, {}, YES, {}, YES])
 
     def test_a_limit_of_time(self) -> None:
-        rows = self.rows(replace(self.settings, time_limit=4.0), 1, 3, 5)
+        """The limit is longer if the other questions reach it too, which they do only on a busy machine."""
+        for limit in (4.0, 20.0, 100.0):
+            rows = self.rows(replace(self.settings, time_limit=limit), 1, 3, 5)
+            if [row.fault for row in rows] == [None, "TimeLimitReached", None]:
+                break
         self.assertEqual([row.fault for row in rows], [None, "TimeLimitReached", None])
-        self.assertEqual(dict(rows[1].verdicts), {**YES, "graphic": "undecided"})
+        self.assertEqual([dict(row.verdicts) for row in rows], [YES, {**YES, "graphic": "undecided"}, YES])
         self.assertEqual((rows[1].message or "").split(":")[0], "graphic")
-        self.assertGreater(rows[1].milliseconds, 3900)
+        self.assertGreater(rows[1].milliseconds, 1000 * limit - 100)
 
     def test_a_fault_of_a_text(self) -> None:
         rows = self.rows(self.settings, 1, 4, 5)

@@ -14,7 +14,7 @@ from pathlib import Path
 
 from cmr_matrices import find_program
 from tests.scripts import ScriptTest, needs_glpsol, needs_python, needs_swiglpk
-from tests.support import TOP, needs_program
+from tests.support import PATIENCE, TOP, needs_program
 
 EXAMPLES = TOP / "examples"
 
@@ -26,6 +26,17 @@ minimize cost: sum{p in parts, h in hours} x[p,h];
 two{p in parts, h in hours: h < 130}: x[p,h] + x[p,h+1] >= 1;
 three{p in parts, h in hours: h < 129}: x[p,h] + x[p,h+1] + x[p,h+2] >= 1;
 end;
+"""
+
+# A module that Python loads first: it tells, by a byte in a pipe, when the package is loaded.
+TELLS = """
+import os, sys
+
+def tell(event, words, told=[]):
+    if event == "import" and words[0].startswith("cmr_matrices") and not told:
+        told.append(os.write(int(os.environ["TELLS"]), b"."))
+
+sys.addaudithook(tell)
 """
 
 needs_prlimit = unittest.skipUnless(shutil.which("prlimit"), "there is no prlimit")
@@ -121,14 +132,21 @@ class ModelTest(ScriptTest):
         self.assertEqual(statuses, {0, 5})
 
     def test_an_early_interrupt_is_quiet(self) -> None:
-        for after in (0.0, 0.05, 0.1, 0.2):
+        """Interrupts from when the command begins to load its modules. Before that only Python itself has run."""
+        self.write("sitecustomize.py", TELLS)
+        words = [TOP / "scripts" / "cmr-model", EXAMPLES / "assignment.mps"]
+        pipes = {"stdout": subprocess.PIPE, "stderr": subprocess.PIPE}
+        for after in (0.0, 0.05, 0.1, 0.2, 0.4):
             with self.subTest(after=after):
-                words = [TOP / "scripts" / "cmr-model", EXAMPLES / "assignment.mps"]
-                pipes = {"stdout": subprocess.PIPE, "stderr": subprocess.PIPE}
-                with subprocess.Popen(words, preexec_fn=_take_signals, **pipes) as run:
-                    time.sleep(0.15 + after)
+                begun, told = os.pipe()
+                env = os.environ | {"PYTHONPATH": str(self.folder), "TELLS": str(told)}
+                with subprocess.Popen(words, env=env, pass_fds=[told], preexec_fn=_take_signals, **pipes) as run:
+                    os.close(told)
+                    with os.fdopen(begun, "rb") as pipe:
+                        self.assertEqual(pipe.read(1), b".")
+                    time.sleep(after)
                     run.send_signal(signal.SIGINT)
-                    _, said = run.communicate(timeout=120)
+                    _, said = run.communicate(timeout=PATIENCE)
                 self.assertIn(run.returncode, (0, 130, -signal.SIGINT))
                 self.assertEqual(said, b"")
 
