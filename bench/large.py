@@ -15,7 +15,8 @@ The kinds, each with about the given number of nonzeros:
 
 All times are processor times, the least of some runs. Reading is the time of a run on the text with one more word at its end, which ends
 with status 3 after the whole text was read. The time grows with the power P if twice the nonzeros take 2^P times as long; the table has P
-from half of the nonzeros to all. Memory is the peak of the run. If scipy is installed, the table has the time of the same test of `arcs` and
+from half of the nonzeros to all. Memory is the peak of the run, or that of this script (about 16 MB), which makes the texts in other
+processes, if that is more: the system counts the memory of the process that begins a run. If scipy is installed, the table has the time of the same test of `arcs` and
 `turned`, by the connected components of a graph with two nodes for each row, after numpy has read the text. The status is 1 if a run ends
 with an unexpected status.
 """
@@ -31,6 +32,7 @@ import sys
 import tempfile
 import time
 from collections.abc import Callable, Sequence
+from concurrent.futures import Executor, ProcessPoolExecutor
 from dataclasses import dataclass
 from pathlib import Path
 
@@ -167,14 +169,17 @@ def by_scipy(text: Path, has_violator: bool) -> float:
     return seconds
 
 
-def measured(program: str, kind: str, nonzeros: int, runs: int, folder: Path) -> Cell:
-    text = folder / "matrix"
+def write_matrix(text: Path, kind: str, nonzeros: int) -> None:
     text.write_text(sparse_text(KINDS[kind].make(nonzeros, random.Random(f"{kind} {nonzeros}"))), encoding="ascii")
+
+
+def measured(program: str, kind: str, nonzeros: int, runs: int, text: Path, elsewhere: Executor) -> Cell:
+    elsewhere.submit(write_matrix, text, kind, nonzeros).result()
     words = [program, "tu", "-i", "sparse", str(text)]
     decided = best(words, runs)
     seconds = None
     if kind in ("arcs", "turned") and importlib.util.find_spec("scipy") is not None:
-        seconds = by_scipy(text, kind == "turned")
+        seconds = elsewhere.submit(by_scipy, text, kind == "turned").result()
     with text.open("a", encoding="ascii") as longer:
         longer.write("end\n")
     return Cell(decided, best(words, runs), seconds)
@@ -201,9 +206,10 @@ def main() -> int:
         parser.error("there are at least a hundred nonzeros and one run")
     program, bad = os.path.abspath(options.program), False
     print(f"{'kind':10} {'time':>10} {'multiple':>8} {'growth':>6} {'bytes each':>10} {'scipy':>10}")
-    with tempfile.TemporaryDirectory() as folder:
+    with tempfile.TemporaryDirectory() as folder, ProcessPoolExecutor(1) as elsewhere:
+        text = Path(folder, "matrix")
         for kind in options.kinds:
-            cells = [measured(program, kind, it, options.runs, Path(folder)) for it in (options.nonzeros // 2, options.nonzeros)]
+            cells = [measured(program, kind, it, options.runs, text, elsewhere) for it in (options.nonzeros // 2, options.nonzeros)]
             print(row(kind, cells, options.nonzeros), flush=True)
             bad |= any((it.decided.status, it.reading.status) != (KINDS[kind].status, READ) for it in cells)
     return int(bad)
