@@ -62,11 +62,11 @@ module _ (limit pivots : ℕ) where
 pub large_lawful : (o : LargeOrder) → IsLawful (large_tool o)
 large_lawful o =
     let law =
-        text_lawful (LargeReportsOf o) (LargeSaysOf o)
-        (λ bytes. one_of_text faults.Matrix o.file (LargeDecides o.budget o.pivots o.fault) (one_status o.budget o.pivots o.fault) (large_in o.form bytes))
-        (λ bytes r answer a is. let found = answered faults.Matrix o.file (LargeDecides o.budget o.pivots o.fault) (large_in o.form bytes) r answer a is in
-        (found.0, found.1, says o.budget o.pivots o.fault found.0 r answer found.2 is))
-        (evidence_file o.file)
-        (λ bytes. fault_of_last faults.Matrix o.file (LargeDecides o.budget o.pivots o.fault) (evidence_file o.file ∷ []) (0, omega arith, refl)
-        (λ m r d. (answer_for d.verdict, status_of r _ d.report_is)) (large_in o.form bytes)) in
+    text_lawful (LargeReportsOf o) (LargeSaysOf o)
+    (λ bytes. one_of_text faults.Matrix o.file (LargeDecides o.budget o.pivots o.fault) (one_status o.budget o.pivots o.fault) (large_in o.form bytes))
+    (λ bytes r answer a is. let found = answered faults.Matrix o.file (LargeDecides o.budget o.pivots o.fault) (large_in o.form bytes) r answer a is in
+    (found.0, found.1, says o.budget o.pivots o.fault found.0 r answer found.2 is))
+    (evidence_file o.file)
+    (λ bytes. fault_of_last faults.Matrix o.file (LargeDecides o.budget o.pivots o.fault) (evidence_file o.file ∷ []) (0, omega arith, refl)
+    (λ m r d. (answer_for d.verdict, status_of r _ d.report_is)) (large_in o.form bytes)) in
     record { one_status = law.one_status; means = law.means; at_fault = law.at_fault }
