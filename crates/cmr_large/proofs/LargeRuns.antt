@@ -1,10 +1,10 @@
 -- A run for the order of the arguments.
-use Rattle.std.proofs.Common.{◌≡◌, ℕ, Option, Some, None, sym, subst}
+use Rattle.std.proofs.Common.{◌≡◌, ◌∙◌, ℕ, Option, Some, None, sym, subst}
 use Rattle.cmr_front.specs.Ending.{Devices, Standing}
 use Rattle.cmr_front.specs.Report.{Held}
 use Rattle.cmr_front.specs.Run.{Means, MeansRead, Runs, work}
 use Rattle.cmr_front.specs.Status.{answer_status}
-use Rattle.cmr_front.specs.Unread.{between}
+use Rattle.cmr_front.specs.Unread.{Between, between}
 use Rattle.cmr_front.specs.declared.status.Answer.{Answer}
 use Rattle.cmr_large.specs.LargeTu.{LargeOrder, large_ordered, large_tool}
 
@@ -13,6 +13,10 @@ pub large_read_of : (words : Option LargeOrder) (standing : Standing) (before af
     → (o : LargeOrder) → words ≡ Some o → (answer : Answer) → status ≡ answer_status answer → MeansRead (work (large_tool o)) (between before.reads after.reads) answer
 large_read_of words standing before after status runs o is answer answered =
     subst (λ (it : Option LargeOrder). MeansRead (large_ordered it) (between before.reads after.reads) answer) is (runs.means answer answered)
+
+pub large_read_for : (words : Option LargeOrder) (named : LargeOrder) (reads : Between) (answer : Answer) → words ≡ Some named → MeansRead (work (large_tool named)) reads answer
+    → (o : LargeOrder) → words ≡ Some o → MeansRead (work (large_tool o)) reads answer
+large_read_for words named reads answer given means o is = subst (λ (it : Option LargeOrder). MeansRead (large_ordered it) reads answer) (sym given ∙ is) means
 
 -- the meaning of an answer for the order of the arguments, if there is one
 abbrev LargeMeansFor : Option LargeOrder → Held → Answer → Type 0

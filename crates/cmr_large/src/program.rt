@@ -1,5 +1,5 @@
 // The call that the program makes under its third name.
-ghost use Rattle.std.specs.Prelude.{◌≡◌, None, Some, IsTrue};
+ghost use Rattle.std.specs.Prelude.{◌≡◌, None, Some, IfOk, IsTrue};
 ghost use Rattle.cmr_front.specs.Run.{Means, MeansRead, RunsOver, work};
 ghost use Rattle.cmr_front.specs.Status.{answer_status};
 ghost use Rattle.cmr_front.specs.Unread.{between};
@@ -68,7 +68,8 @@ fn refuse<S: Shelf, O: Sink, E: Sink>(
 
 // The options that the arguments give, of which the first is `tu`.
 fn read_words<'a>(alloc: Global, words: &'a WordList) -> Result<LargeOptions<'a>, WordsError>
-    ensures { Gives large_order_of result (large_order words.now) }
+    ensures value { Gives large_order_of result (large_order words.now) }
+    ensures ranges { IfOk result (λ options. (large_tool (large_order_of options)).InRanges) }
 {
     let Some((tool, rest)) = words.as_slice().split_first() else {
         return Err(WordsError::Refused);
