@@ -1,0 +1,3 @@
+pub mod CutEnds
+pub mod FitForms
+pub mod PivotedSides

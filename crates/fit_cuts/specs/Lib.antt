@@ -1,0 +1,2 @@
+pub mod FitForms
+pub mod PivotedSides

@@ -1,0 +1,15 @@
+//! Laws over definitions only. Each is a function that does nothing: its contract is the law.
+ghost use Rattle.fit_cuts.specs.FitForms.{CutsHaveForms, FitCutsSeparate};
+ghost use Rattle.fit_cuts.specs.PivotedSides.{PivotsKeepFitSides};
+
+/// A cut has one of the forms delta, Y and mixed, perhaps with its sides exchanged, if and only if both sides are fit. So a matrix that has
+/// no three-separation has no cut with two fit sides.
+pub fn fit_cuts_have_forms()
+    ensures forms { CutsHaveForms }
+    ensures separate { FitCutsSeparate }
+{}
+
+/// A pivot inside one side of a cut keeps the cut, and keeps the other side fit or not fit.
+pub fn pivots_keep_fit_sides()
+    ensures { PivotsKeepFitSides }
+{}

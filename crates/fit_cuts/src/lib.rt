@@ -1,0 +1,4 @@
+//! Laws of cuts and of the shortest paths of their sides.
+#![tactic(auto)]
+
+pub mod laws;
