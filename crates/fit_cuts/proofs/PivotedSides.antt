@@ -21,22 +21,22 @@ use Rattle.fit_cuts.proofs.CutEnds.{far_column_sign, far_row_sign, lower_entry, 
 
 -- ---- entries after a pivot
 
-pub negative_nonzero : (z : ℤ) → IsSign z → neg_ℤ z ≢ pos 0
+negative_nonzero : (z : ℤ) → IsSign z → neg_ℤ z ≢ pos 0
 negative_nonzero z (inl e) f = omega (arith, sums)
 negative_nonzero z (inr e) f = omega (arith, sums)
 
-unchanged_first : (x b u y : ℤ) → u ≡ pos 0 → x -ℤ b *ℤ (u *ℤ y) ≡ x
+pub unchanged_first : (x b u y : ℤ) → u ≡ pos 0 → x -ℤ b *ℤ (u *ℤ y) ≡ x
 unchanged_first x b u y e = rw e (simp products (omega (arith, sums)))
 
-unchanged_second : (x b u y : ℤ) → y ≡ pos 0 → x -ℤ b *ℤ (u *ℤ y) ≡ x
+pub unchanged_second : (x b u y : ℤ) → y ≡ pos 0 → x -ℤ b *ℤ (u *ℤ y) ≡ x
 unchanged_second x b u y e = rw e (simp products (omega (arith, sums)))
 
 -- a zero less a sign, and a sign less a sign
-zero_less : (x w : ℤ) → IsSign w → x ≡ pos 0 → x -ℤ w ≢ pos 0
+pub zero_less : (x w : ℤ) → IsSign w → x ≡ pos 0 → x -ℤ w ≢ pos 0
 zero_less x w (inl e) h f = omega (arith, sums)
 zero_less x w (inr e) h f = omega (arith, sums)
 
-sign_less : (x w : ℤ) → IsSign x → IsSign w → IsEntry (x -ℤ w) → x -ℤ w ≡ pos 0
+pub sign_less : (x w : ℤ) → IsSign x → IsSign w → IsEntry (x -ℤ w) → x -ℤ w ≡ pos 0
 sign_less x w (inl e) (inl f) h = omega (arith, sums)
 sign_less x w (inl e) (inr f) h = absurd (let high = h.high in omega (arith, sums))
 sign_less x w (inr e) (inl f) h = absurd (let low = h.low in omega (arith, sums))

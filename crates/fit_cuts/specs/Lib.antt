@@ -1,2 +1,4 @@
 pub mod FitForms
 pub mod PivotedSides
+pub mod UnfitPaths
+pub mod ShorterPaths

@@ -1,6 +1,8 @@
 //! Laws over definitions only. Each is a function that does nothing: its contract is the law.
 ghost use Rattle.fit_cuts.specs.FitForms.{CutsHaveForms, FitCutsSeparate};
 ghost use Rattle.fit_cuts.specs.PivotedSides.{PivotsKeepFitSides};
+ghost use Rattle.fit_cuts.specs.ShorterPaths.{PivotsShortenPaths};
+ghost use Rattle.fit_cuts.specs.UnfitPaths.{UnfitSidesHavePaths};
 
 /// A cut has one of the forms delta, Y and mixed, perhaps with its sides exchanged, if and only if both sides are fit. So a matrix that has
 /// no three-separation has no cut with two fit sides.
@@ -12,4 +14,15 @@ pub fn fit_cuts_have_forms()
 /// A pivot inside one side of a cut keeps the cut, and keeps the other side fit or not fit.
 pub fn pivots_keep_fit_sides()
     ensures { PivotsKeepFitSides }
+{}
+
+/// If a matrix has no two-separation, then a side of a cut that is not fit has a path.
+pub fn unfit_sides_have_paths()
+    ensures { UnfitSidesHavePaths }
+{}
+
+/// A pivot at the first edge of a shortest path of a side makes the shortest paths shorter by two edges. After a path of three edges the
+/// side is fit.
+pub fn pivots_shorten_paths()
+    ensures { PivotsShortenPaths }
 {}
