@@ -1,25 +1,22 @@
 -- The ends of the two sides of a cut: an end of one side and an end of the other side that cross between the sides cross in a nonzero.
-use Rattle.std.proofs.Common.{◌≡◌, ◌≢◌, ◌<◌, ◌∙◌, ℕ, ℤ, pos, ◌*ℤ◌, Bool, true, false, not, ap, sym, subst}
+use Rattle.std.proofs.Common.{◌≡◌, ◌<◌, ◌∙◌, ℕ, ℤ, ◌*ℤ◌, Bool, true, false, not, ap, sym, subst}
 use Rattle.cmr_base.specs.declared.line.Line.{Line}
 use Rattle.cmr_base.specs.declared.line.Line.TheVariants.{Column, Row}
 use Rattle.cmr_base.specs.Matrix.{Matrix, height, entry, HasTernaryEntries}
 use Rattle.cmr_base.specs.Separations.{Lines, opposite, product_at}
 use Rattle.cmr_base.specs.Signing.{IsSign}
 use Rattle.cmr_base.proofs.Booleans.{not_false, not_is}
-use Rattle.cmr_base.proofs.Integers.{products}
 use Rattle.cmr_base.proofs.SignEntries.{sign-mul, sign_of_entry}
 use Rattle.cmr_base.proofs.SignedProducts.{same_product}
 use Rattle.cuts.specs.LineCuts.{IsCut}
+use Rattle.cuts.proofs.WordLemmas.{first_zero, second_zero}
 use Rattle.cuts.proofs.CutLemmas.{lower_at, upper_at}
 use Rattle.path_places.specs.PathPlaces.{IsEndColumn, IsEndRow, IsFit}
 
--- ---- products of three factors
-
-pub none_first : (x y z : ℤ) → x ≡ pos 0 → x *ℤ (y *ℤ z) ≡ pos 0
-none_first x y z e = rw e (simp products)
-
-pub none_second : (x y z : ℤ) → y ≡ pos 0 → x *ℤ (y *ℤ z) ≡ pos 0
-none_second x y z e = rw e (simp products)
+-- an entry of a product by the entries at another position of it
+moved_product : (w u v z a b e f g : ℤ) → IsSign e → IsSign f → IsSign g
+    → w ≡ a *ℤ (b *ℤ e) → u ≡ a *ℤ (f *ℤ e) → v ≡ g *ℤ (b *ℤ e) → z ≡ g *ℤ (f *ℤ e) → w ≡ u *ℤ (v *ℤ z)
+moved_product w u v z a b e f g se sf sg hw hu hv hz = rw (hw, hu, hv, hz) (same_product a b e f g se sf sg)
 
 -- ---- the other side of the other side
 
@@ -59,33 +56,33 @@ module _ (m : Matrix) (T : Lines) (small : HasTernaryEntries m) (cut : IsCut m T
   pub lower_entry : (r c : ℕ) → r < height m → c < m.width → T (Row r) ≡ false → T (Column c) ≡ true → M r c ≡ product_at M cut.corners.two.row cut.corners.one.column r c
   lower_entry r c lr lc er ec = lower_at m cut.cut.closed r c lr lc er ec
 
-  upper_corner : IsSign (M cut.corners.one.row cut.corners.two.column)
+  pub upper_corner : IsSign (M cut.corners.one.row cut.corners.two.column)
   upper_corner = sign_of_entry (M cut.corners.one.row cut.corners.two.column) (small cut.corners.one.row cut.corners.two.column) cut.upper
 
-  lower_corner : IsSign (M cut.corners.two.row cut.corners.one.column)
+  pub lower_corner : IsSign (M cut.corners.two.row cut.corners.one.column)
   lower_corner = sign_of_entry (M cut.corners.two.row cut.corners.one.column) (small cut.corners.two.row cut.corners.one.column) cut.lower
 
   -- the ends of side one cross the lines of the corner of side two in nonzeros
   pub row_sign : (r : ℕ) → IsEndRow m T r → IsSign (M r cut.corners.two.column)
   row_sign r end = sign_of_entry (M r cut.corners.two.column) (small r cut.corners.two.column)
       (λ e. end.nonzero (upper_entry r end.across end.on.0 end.far.0 end.on.1 (not_is (T (Column end.across)) end.far.1)
-      ∙ none_first (M r cut.corners.two.column) (M cut.corners.one.row end.across) (M cut.corners.one.row cut.corners.two.column) e))
+      ∙ first_zero (M r cut.corners.two.column) (M cut.corners.one.row end.across) (M cut.corners.one.row cut.corners.two.column) e))
 
   pub column_sign : (c : ℕ) → IsEndColumn m T c → IsSign (M cut.corners.two.row c)
   column_sign c end = sign_of_entry (M cut.corners.two.row c) (small cut.corners.two.row c)
       (λ e. end.nonzero (lower_entry end.across c end.far.0 end.on.0 (not_is (T (Row end.across)) end.far.1) end.on.1
-      ∙ none_second (M end.across cut.corners.one.column) (M cut.corners.two.row c) (M cut.corners.two.row cut.corners.one.column) e))
+      ∙ second_zero (M end.across cut.corners.one.column) (M cut.corners.two.row c) (M cut.corners.two.row cut.corners.one.column) e))
 
   -- the ends of side two cross the lines of the corner of side one in nonzeros
   pub far_row_sign : (r : ℕ) → IsEndRow m (opposite T) r → IsSign (M r cut.corners.one.column)
   far_row_sign r end = sign_of_entry (M r cut.corners.one.column) (small r cut.corners.one.column)
       (λ e. end.nonzero (lower_entry r end.across end.on.0 end.far.0 (not_is (T (Row r)) end.on.1) (twice_other (T (Column end.across)) end.far.1)
-      ∙ none_first (M r cut.corners.one.column) (M cut.corners.two.row end.across) (M cut.corners.two.row cut.corners.one.column) e))
+      ∙ first_zero (M r cut.corners.one.column) (M cut.corners.two.row end.across) (M cut.corners.two.row cut.corners.one.column) e))
 
   pub far_column_sign : (c : ℕ) → IsEndColumn m (opposite T) c → IsSign (M cut.corners.one.row c)
   far_column_sign c end = sign_of_entry (M cut.corners.one.row c) (small cut.corners.one.row c)
       (λ e. end.nonzero (upper_entry end.across c end.far.0 end.on.0 (twice_other (T (Row end.across)) end.far.1) (not_is (T (Column c)) end.on.1)
-      ∙ none_second (M end.across cut.corners.two.column) (M cut.corners.one.row c) (M cut.corners.one.row cut.corners.two.column) e))
+      ∙ second_zero (M end.across cut.corners.two.column) (M cut.corners.one.row c) (M cut.corners.one.row cut.corners.two.column) e))
 
   module _ (r c : ℕ) (er : IsEndRow m T r) (ec : IsEndColumn m (opposite T) c) where
     -- an end row of side one and an end column of side two
@@ -97,13 +94,10 @@ module _ (m : Matrix) (T : Lines) (small : HasTernaryEntries m) (cut : IsCut m T
     -- they make the upper block
     pub upper_product : (x y : ℕ) → x < height m → y < m.width → T (Row x) ≡ true → T (Column y) ≡ false → M x y ≡ product_at M r c x y
     upper_product x y lx ly ex ey =
-        let f : T (Column c) ≡ false = not_is (T (Column c)) ec.on.1 in
-        let here : M x y ≡ M x cut.corners.two.column *ℤ (M cut.corners.one.row y *ℤ M cut.corners.one.row cut.corners.two.column) = upper_entry x y lx ly ex ey in
-        moved (M x y) (M x c) (M r y) (M r c) (M x cut.corners.two.column) (M cut.corners.one.row y) (M cut.corners.one.row cut.corners.two.column) (M cut.corners.one.row c) (M r cut.corners.two.column)
-        upper_corner (far_column_sign c ec) (row_sign r er) here (upper_entry x c lx ec.on.0 ex f) (upper_entry r y er.on.0 ly er.on.1 ey) (upper_entry r c er.on.0 ec.on.0 er.on.1 f)
-      where
-        moved : (w u v z a b e f g : ℤ) → IsSign e → IsSign f → IsSign g → w ≡ a *ℤ (b *ℤ e) → u ≡ a *ℤ (f *ℤ e) → v ≡ g *ℤ (b *ℤ e) → z ≡ g *ℤ (f *ℤ e) → w ≡ u *ℤ (v *ℤ z)
-        moved w u v z a b e f g se sf sg hw hu hv hz = rw (hw, hu, hv, hz) (same_product a b e f g se sf sg)
+        let off : T (Column c) ≡ false = not_is (T (Column c)) ec.on.1 in
+        moved_product (M x y) (M x c) (M r y) (M r c) (M x cut.corners.two.column) (M cut.corners.one.row y) (M cut.corners.one.row cut.corners.two.column)
+        (M cut.corners.one.row c) (M r cut.corners.two.column) upper_corner (far_column_sign c ec) (row_sign r er)
+        (upper_entry x y lx ly ex ey) (upper_entry x c lx ec.on.0 ex off) (upper_entry r y er.on.0 ly er.on.1 ey) (upper_entry r c er.on.0 ec.on.0 er.on.1 off)
 
   module _ (r c : ℕ) (er : IsEndRow m (opposite T) r) (ec : IsEndColumn m T c) where
     -- an end row of side two and an end column of side one
@@ -115,10 +109,7 @@ module _ (m : Matrix) (T : Lines) (small : HasTernaryEntries m) (cut : IsCut m T
     -- they make the lower block
     pub lower_product : (x y : ℕ) → x < height m → y < m.width → T (Row x) ≡ false → T (Column y) ≡ true → M x y ≡ product_at M r c x y
     lower_product x y lx ly ex ey =
-        let f : T (Row r) ≡ false = not_is (T (Row r)) er.on.1 in
-        let here : M x y ≡ M x cut.corners.one.column *ℤ (M cut.corners.two.row y *ℤ M cut.corners.two.row cut.corners.one.column) = lower_entry x y lx ly ex ey in
-        moved (M x y) (M x c) (M r y) (M r c) (M x cut.corners.one.column) (M cut.corners.two.row y) (M cut.corners.two.row cut.corners.one.column) (M cut.corners.two.row c) (M r cut.corners.one.column)
-        lower_corner (column_sign c ec) (far_row_sign r er) here (lower_entry x c lx ec.on.0 ex ec.on.1) (lower_entry r y er.on.0 ly f ey) (lower_entry r c er.on.0 ec.on.0 f ec.on.1)
-      where
-        moved : (w u v z a b e f g : ℤ) → IsSign e → IsSign f → IsSign g → w ≡ a *ℤ (b *ℤ e) → u ≡ a *ℤ (f *ℤ e) → v ≡ g *ℤ (b *ℤ e) → z ≡ g *ℤ (f *ℤ e) → w ≡ u *ℤ (v *ℤ z)
-        moved w u v z a b e f g se sf sg hw hu hv hz = rw (hw, hu, hv, hz) (same_product a b e f g se sf sg)
+        let off : T (Row r) ≡ false = not_is (T (Row r)) er.on.1 in
+        moved_product (M x y) (M x c) (M r y) (M r c) (M x cut.corners.one.column) (M cut.corners.two.row y) (M cut.corners.two.row cut.corners.one.column)
+        (M cut.corners.two.row c) (M r cut.corners.one.column) lower_corner (column_sign c ec) (far_row_sign r er)
+        (lower_entry x y lx ly ex ey) (lower_entry x c lx ec.on.0 ex ec.on.1) (lower_entry r y er.on.0 ly off ey) (lower_entry r c er.on.0 ec.on.0 off ec.on.1)

@@ -68,9 +68,9 @@ count_parts p q (suc k) = go (p k) (q k) (count_parts p q k)
 pub lines_of_parts : (m n : ℕ) (T S : Lines)
     → count_lines_in T (first_lines m) (first_lines n) ≤ count_lines_in S (first_lines m) (first_lines n) + count_lines_in (apart_from T S) (first_lines m) (first_lines n)
 lines_of_parts m n T S =
-    let a = inside_is m n T in
-    let b = inside_is m n S in
-    let c = inside_is m n (apart_from T S) in
-    let d = count_parts (λ x. T (Row x)) (λ x. S (Row x)) m in
-    let e = count_parts (λ x. T (Column x)) (λ x. S (Column x)) n in
+    let whole = inside_is m n T in
+    let part = inside_is m n S in
+    let others = inside_is m n (apart_from T S) in
+    let rows = count_parts (λ x. T (Row x)) (λ x. S (Row x)) m in
+    let columns = count_parts (λ x. T (Column x)) (λ x. S (Column x)) n in
     omega arith

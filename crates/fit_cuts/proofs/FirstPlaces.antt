@@ -1,11 +1,10 @@
 -- A side with a path has a first shortest one. So a cut has a position, or both sides are fit and the cut has a form.
-use Rattle.std.proofs.Common.{◌≡◌, ◌<◌, ◌⊎◌, inl, inr, ℕ, zero, suc, [], ◌∷◌, subst, arith}
-use Rattle.cmr_base.specs.Matrix.{Matrix, HasTernaryEntries}
-use Rattle.cmr_base.specs.Separations.{HasNoThreeSeparation, HasNoTwoSeparation, Lines, opposite}
+use Rattle.std.proofs.Common.{◌<◌, ◌⊎◌, inl, inr, ℕ, zero, suc, [], ◌∷◌, subst, arith}
+use Rattle.cmr_base.specs.Matrix.{Matrix}
+use Rattle.cmr_base.specs.Separations.{Lines, opposite}
 use Rattle.cmr_base.specs.Seeds.{IsBefore}
-use Rattle.cuts.specs.LineCuts.{IsCut}
 use Rattle.cuts.proofs.CutLemmas.{other_is_cut}
-use Rattle.path_places.specs.PathPlaces.{HasNoCutPlace, HasNoPath, IsFirstEdge, IsFit, IsPathPlace}
+use Rattle.path_places.specs.PathPlaces.{HasNoPath, IsFirstEdge, IsFit, IsPathPlace}
 use Rattle.fit_cuts.specs.UnfitPaths.{CutsHavePlaces}
 use Rattle.fit_cuts.proofs.DecidedLines.{either}
 use Rattle.fit_cuts.proofs.FitForms.{fit_cuts_separate}
@@ -28,7 +27,8 @@ module _ (m : Matrix) (T : Lines) (none : (row column : ℕ) → ¬ (IsPathPlace
     first = before i j no_row no_column;
   })))
     where
-      before : (i j : ℕ) → ((a : ℕ) → a < i → (b : ℕ) → ¬ (IsFirstEdge m T n a b)) → ((b : ℕ) → b < j → ¬ (IsFirstEdge m T n i b)) → (a b : ℕ) → IsFirstEdge m T n a b → ¬ (IsBefore (a ∷ b ∷ []) (i ∷ j ∷ []))
+      before : (i j : ℕ) → ((a : ℕ) → a < i → (b : ℕ) → ¬ (IsFirstEdge m T n a b)) → ((b : ℕ) → b < j → ¬ (IsFirstEdge m T n i b))
+          → (a b : ℕ) → IsFirstEdge m T n a b → ¬ (IsBefore (a ∷ b ∷ []) (i ∷ j ∷ []))
       before i j no_row no_column a b other (inl less) = no_row a less b other
       before i j no_row no_column a b other (inr (same, inl less)) = no_column b less (subst (λ (x : ℕ). IsFirstEdge m T n x b) same other)
       before i j no_row no_column a b other (inr (same, inr h)) = h.1

@@ -4,7 +4,7 @@ use Rattle.cmr_base.specs.declared.line.Line.{Line}
 use Rattle.cmr_base.specs.declared.line.Line.TheVariants.{Column, Row}
 use Rattle.cmr_base.specs.declared.separation.Connector.{Connector}
 use Rattle.cmr_base.specs.declared.separation.Form.{Form}
-use Rattle.cmr_base.specs.declared.separation.Form.TheVariants.{Concentrated, Delta, Mixed, YForm}
+use Rattle.cmr_base.specs.declared.separation.Form.TheVariants.{Delta, Mixed, YForm}
 use Rattle.cmr_base.specs.LineSets.{first_lines}
 use Rattle.cmr_base.specs.Matrix.{Matrix, height, entry, HasTernaryEntries}
 use Rattle.cmr_base.specs.Separations.{AreCrossing, AreOn, HasBlocks, IsTied, Lines, ThreeSeparates, connector_lines, first_is_flat, opposite, product_at, second_is_flat}
@@ -43,11 +43,14 @@ connector_of m T small ((r, c, er, ec, zero), (k, d, ek, ed, nonzero)) = elim (z
   | inl e ↦ (record { row = k; column = d; other = r }, inr (record { row = ek; column = ed; other = er; nonzero = nonzero; zero = e }))
 ]
 
-flat_same : (m : Matrix) (S T : Lines) (a : Connector) → ((x : Line) → S x ≡ T x) → IsFlatIn m S a → IsFlatIn m T a
-flat_same m S T a same f = record { row = end_row_same m S T same a.row f.row; column = end_column_same m S T same a.column f.column; other = end_column_same m S T same a.other f.other; nonzero = f.nonzero; zero = f.zero }
-
 tall_same : (m : Matrix) (S T : Lines) (a : Connector) → ((x : Line) → S x ≡ T x) → IsTallIn m S a → IsTallIn m T a
-tall_same m S T a same f = record { row = end_row_same m S T same a.row f.row; column = end_column_same m S T same a.column f.column; other = end_row_same m S T same a.other f.other; nonzero = f.nonzero; zero = f.zero }
+tall_same m S T a same f = record {
+  row = end_row_same m S T same a.row f.row;
+  column = end_column_same m S T same a.column f.column;
+  other = end_row_same m S T same a.other f.other;
+  nonzero = f.nonzero;
+  zero = f.zero;
+}
 
 -- the other side of the other side
 twice_opposite : (T : Lines) (x : Line) → T x ≡ opposite (opposite T) x
@@ -194,14 +197,15 @@ module _ (m : Matrix) (T : Lines) where
   turned value true a on = ((on.0.0, ap not on.0.1), ((on.1.0.0, ap not on.1.0.1), ((on.1.1.0.0, ap not on.1.1.0.1), tt)))
   turned value false a on = ((on.0.0, ap not on.0.1), ((on.1.0.0, ap not on.1.0.1), ((on.1.1.0.0, ap not on.1.1.0.1), tt)))
 
-  first_fit : (flat other_flat : Bool) (a b : Connector) → HasOn true flat a → HasOn false other_flat b → AreCrossing (entry m) flat other_flat a b → entry m a.row a.column ≢ pos 0 → IsFit m T
+  first_fit : (flat other_flat : Bool) (a b : Connector) → HasOn true flat a → HasOn false other_flat b → AreCrossing (entry m) flat other_flat a b
+      → entry m a.row a.column ≢ pos 0 → IsFit m T
   first_fit flat other_flat a b one two crossing corner = go flat one crossing.first_tied
     where
       far_row : (b.row < height m) × (opposite T (Row b.row) ≡ true)
-      far_row = let h = row_on false other_flat b two in (h.0, ap not h.1)
+      far_row = let far = row_on false other_flat b two in (far.0, ap not far.1)
 
       far_column : (b.column < m.width) × (opposite T (Column b.column) ≡ true)
-      far_column = let h = column_on false other_flat b two in (h.0, ap not h.1)
+      far_column = let far = column_on false other_flat b two in (far.0, ap not far.1)
 
       row : IsEndRow m T a.row
       row = record { on = row_on true flat a one; across = b.column; far = far_column; nonzero = crossing.upper }
@@ -220,10 +224,12 @@ module _ (m : Matrix) (T : Lines) where
 fit_from : (m : Matrix) (T : Lines) (form : Form) (a b : Connector) → IsCrossing form → ThreeSeparates m T form a b → AreBothFit m T
 fit_from m T form a b is t =
     let crossing = crossing_from (entry m) a b form is t.connectors.tied in
-    let other : AreCrossing (entry m) (second_is_flat form) (first_is_flat form) b a = record { upper = crossing.lower; lower = crossing.upper; first_tied = crossing.second_tied; second_tied = crossing.first_tied } in
+    let other : AreCrossing (entry m) (second_is_flat form) (first_is_flat form) b a =
+    record { upper = crossing.lower; lower = crossing.upper; first_tied = crossing.second_tied; second_tied = crossing.first_tied } in
     record {
       one = first_fit m T (first_is_flat form) (second_is_flat form) a b t.one t.two crossing t.connectors.first_corner;
-      two = first_fit m (opposite T) (second_is_flat form) (first_is_flat form) b a (turned m T false (second_is_flat form) b t.two) (turned m T true (first_is_flat form) a t.one) other t.connectors.second_corner;
+      two = first_fit m (opposite T) (second_is_flat form) (first_is_flat form) b a (turned m T false (second_is_flat form) b t.two)
+          (turned m T true (first_is_flat form) a t.one) other t.connectors.second_corner;
     }
 
 fit_of : (m : Matrix) (T : Lines) → HasCrossingForm m T → AreBothFit m T

@@ -4,3 +4,5 @@ pub mod PivotedSides
 pub mod DecidedLines
 pub mod UnfitPaths
 pub mod ShorterPaths
+pub mod BoundedPivots
+pub mod FirstPlaces

@@ -1,23 +1,24 @@
 -- A pivot inside one side of a cut keeps the other side fit, and keeps it not fit.
-use Rattle.std.proofs.Common.{◌≡◌, ◌≢◌, ◌<◌, ◌≤ℤ◌, ◌⊎◌, inl, inr, ◌∙◌, ℕ, ℤ, pos, neg_ℤ, ◌*ℤ◌, ◌-ℤ◌, true, false, not, ap, sym, subst, arith}
+use Rattle.std.proofs.Common.{◌≡◌, ◌≢◌, ◌<◌, ◌⊎◌, inl, inr, ◌∙◌, ℕ, ℤ, pos, neg_ℤ, ◌*ℤ◌, ◌-ℤ◌, false, not, ap, sym, subst, arith}
 use Rattle.std.proofs.lemmas.Bool.{false≢true}
 use Rattle.cmr_base.specs.declared.line.Line.TheVariants.{Column, Row}
-use Rattle.cmr_base.specs.Matrix.{Matrix, height, entry, HasTernaryEntries, IsEntry, IsMatrix}
+use Rattle.cmr_base.specs.Matrix.{Matrix, height, entry, HasTernaryEntries, IsEntry}
 use Rattle.cmr_base.specs.PlacedPivots.{reduced}
 use Rattle.cmr_base.specs.Separations.{Lines, opposite}
 use Rattle.cmr_base.specs.Signing.{IsSign}
 use Rattle.cmr_base.proofs.Booleans.{not_is}
 use Rattle.cmr_base.proofs.Integers.{sums, products}
 use Rattle.cmr_base.proofs.SignEntries.{sign-mul, sign_nonzero, sign_of_entry, zero_or_sign}
-use Rattle.ghouila.specs.PivotLaws.{IsPivotPlace, pivot_at}
+use Rattle.ghouila.specs.PivotLaws.{pivot_at}
 use Rattle.ghouila.proofs.PivotLaws.{entry_after, pivots_undo_themselves, same_height}
 use Rattle.ghouila.proofs.PivotSums.{pivoted_apart, pivoted_at}
 use Rattle.ghouila.proofs.WholePivots.{entry_elsewhere, entry_in_row, entry_there}
 use Rattle.cuts.specs.LineCuts.{IsCut}
+use Rattle.cuts.proofs.WordLemmas.{first_zero, second_zero}
 use Rattle.block_ranks.proofs.KeptCuts.{kept}
 use Rattle.path_places.specs.PathPlaces.{IsEndColumn, IsEndRow, IsFit}
-use Rattle.fit_cuts.specs.PivotedSides.{IsPivotOn, KeepsOtherSide, PivotsKeepFitSides}
-use Rattle.fit_cuts.proofs.CutEnds.{far_column_sign, far_row_sign, lower_entry, none_first, none_second, twice_other, upper_entry}
+use Rattle.fit_cuts.specs.PivotedSides.{IsPivotOn, PivotsKeepFitSides}
+use Rattle.fit_cuts.proofs.CutEnds.{far_column_sign, far_row_sign, lower_corner, lower_entry, upper_corner, upper_entry}
 
 -- ---- entries after a pivot
 
@@ -69,7 +70,7 @@ module _ (m : Matrix) (T : Lines) (small : HasTernaryEntries m) (cut : IsCut m T
   other_column c ec e = false≢true (sym ec ∙ (ap (λ (x : ℕ). T (Column x)) e ∙ on.column_on))
 
   row_after : (r : ℕ) → r < height m → r < height n
-  row_after r l = let e = same_height m s t on.at in omega arith
+  row_after r l = let heights = same_height m s t on.at in omega arith
 
   -- ---- the ends of side two are still ends
 
@@ -127,10 +128,12 @@ module _ (m : Matrix) (T : Lines) (small : HasTernaryEntries m) (cut : IsCut m T
 
     -- the entry is kept if the row of the pivot is no end of side one, or the column is none
     kept_by_column : M cut.corners.two.row t ≡ pos 0 → E r c ≡ M r c
-    kept_by_column e = here ∙ unchanged_first (M r c) (M s t) (M r t) (M s c) (in_column ∙ none_second (M r cut.corners.one.column) (M cut.corners.two.row t) (M cut.corners.two.row cut.corners.one.column) e)
+    kept_by_column e = here
+        ∙ unchanged_first (M r c) (M s t) (M r t) (M s c) (in_column ∙ second_zero (M r cut.corners.one.column) (M cut.corners.two.row t) (M cut.corners.two.row cut.corners.one.column) e)
 
     kept_by_row : M s cut.corners.two.column ≡ pos 0 → E r c ≡ M r c
-    kept_by_row e = here ∙ unchanged_second (M r c) (M s t) (M r t) (M s c) (in_row ∙ none_first (M s cut.corners.two.column) (M cut.corners.one.row c) (M cut.corners.one.row cut.corners.two.column) e)
+    kept_by_row e = here
+        ∙ unchanged_second (M r c) (M s t) (M r t) (M s c) (in_row ∙ first_zero (M s cut.corners.two.column) (M cut.corners.one.row c) (M cut.corners.one.row cut.corners.two.column) e)
 
     -- and otherwise zeros become nonzeros, and nonzeros zeros
     module _ (u : IsSign (M cut.corners.two.row t)) (v : IsSign (M s cut.corners.two.column)) where
@@ -139,11 +142,11 @@ module _ (m : Matrix) (T : Lines) (small : HasTernaryEntries m) (cut : IsCut m T
         where
           column_sign : IsSign (M r cut.corners.one.column *ℤ (M cut.corners.two.row t *ℤ M cut.corners.two.row cut.corners.one.column))
           column_sign = sign-mul (M r cut.corners.one.column) (M cut.corners.two.row t *ℤ M cut.corners.two.row cut.corners.one.column) (far_row_sign m T small cut r er)
-              (sign-mul (M cut.corners.two.row t) (M cut.corners.two.row cut.corners.one.column) u (sign_of_entry (M cut.corners.two.row cut.corners.one.column) (small cut.corners.two.row cut.corners.one.column) cut.lower))
+              (sign-mul (M cut.corners.two.row t) (M cut.corners.two.row cut.corners.one.column) u (lower_corner m T small cut))
 
           row_sign : IsSign (M s cut.corners.two.column *ℤ (M cut.corners.one.row c *ℤ M cut.corners.one.row cut.corners.two.column))
           row_sign = sign-mul (M s cut.corners.two.column) (M cut.corners.one.row c *ℤ M cut.corners.one.row cut.corners.two.column) v
-              (sign-mul (M cut.corners.one.row c) (M cut.corners.one.row cut.corners.two.column) (far_column_sign m T small cut c ec) (sign_of_entry (M cut.corners.one.row cut.corners.two.column) (small cut.corners.one.row cut.corners.two.column) cut.upper))
+              (sign-mul (M cut.corners.one.row c) (M cut.corners.one.row cut.corners.two.column) (far_column_sign m T small cut c ec) (upper_corner m T small cut))
 
       becomes_nonzero : M r c ≡ pos 0 → E r c ≢ pos 0
       becomes_nonzero e f = zero_less (M r c) (M s t *ℤ (M r t *ℤ M s c)) step e (sym here ∙ f)
@@ -152,7 +155,8 @@ module _ (m : Matrix) (T : Lines) (small : HasTernaryEntries m) (cut : IsCut m T
       becomes_zero e = here ∙ sign_less (M r c) (M s t *ℤ (M r t *ℤ M s c)) (sign_of_entry (M r c) (small r c) e) step (subst IsEntry here (ternary r c))
 
   pub fit_after : IsFit m (opposite T) → IsFit n (opposite T)
-  fit_after ((r, c, er, ec, zero), (x, y, ex, ey, nonzero)) = go (zero_or_sign (M cut.corners.two.row t) (small cut.corners.two.row t)) (zero_or_sign (M s cut.corners.two.column) (small s cut.corners.two.column))
+  fit_after ((r, c, er, ec, zero), (x, y, ex, ey, nonzero)) =
+      go (zero_or_sign (M cut.corners.two.row t) (small cut.corners.two.row t)) (zero_or_sign (M s cut.corners.two.column) (small s cut.corners.two.column))
     where
       same : E r c ≡ M r c → E x y ≡ M x y → IsFit n (opposite T)
       same e f = ((r, c, end_row_after r er, end_column_after c ec, e ∙ zero), (x, y, end_row_after x ex, end_column_after y ey, λ h. nonzero (sym f ∙ h)))

@@ -1,12 +1,12 @@
 -- The pivot at the first edge of a shortest path: the next row of the path becomes an end, and the rest of the path stays as it is.
-use Rattle.std.proofs.Common.{◌≡◌, ◌≢◌, ◌<◌, ◌⊎◌, inl, inr, ◌∙◌, ℕ, zero, suc, ℤ, pos, neg_ℤ, ◌*ℤ◌, ◌-ℤ◌, Bool, true, false, not, refl, ap, sym, subst, arith}
+use Rattle.std.proofs.Common.{◌≡◌, ◌≢◌, ◌<◌, ◌⊎◌, inl, inr, ◌∙◌, ℕ, zero, suc, ℤ, pos, neg_ℤ, ◌*ℤ◌, Bool, true, false, not, refl, ap, sym, subst, arith}
 use Rattle.cmr_base.specs.declared.line.Line.TheVariants.{Column, Row}
 use Rattle.cmr_base.specs.Matrix.{Matrix, height, entry, HasTernaryEntries, IsEntry}
 use Rattle.cmr_base.specs.PlacedPivots.{reduced}
 use Rattle.cmr_base.specs.Separations.{Lines, opposite}
 use Rattle.cmr_base.specs.Signing.{IsSign}
 use Rattle.cmr_base.proofs.Booleans.{same_or_not}
-use Rattle.cmr_base.proofs.Integers.{sums, products}
+use Rattle.cmr_base.proofs.Integers.{products}
 use Rattle.cmr_base.proofs.SignEntries.{sign-mul, sign_nonzero, sign_of_entry, zero_or_sign}
 use Rattle.ghouila.specs.PivotLaws.{IsPivotPlace, pivot_at}
 use Rattle.ghouila.proofs.PivotLaws.{entry_after, same_height}
@@ -54,25 +54,21 @@ module _ (m : Matrix) (T : Lines) (s t : ℕ) (small : HasTernaryEntries m) (pla
   elsewhere r c lr lc d e = entry_after m s t at r c lr lc ∙ entry_elsewhere M s t r c d ∙ pivoted_apart M s t r c e
 
   row_after : (r : ℕ) → r < height m → r < height n
-  row_after r l = let e = same_height m s t at in omega arith
+  row_after r l = let heights = same_height m s t at in omega arith
 
   row_before : (r : ℕ) → r < height n → r < height m
-  row_before r l = let e = same_height m s t at in omega arith
+  row_before r l = let heights = same_height m s t at in omega arith
 
-  -- a column that is not in the side is not the column of the pivot, and a row that is not in the side is not its row
+  not_both : (b : Bool) → b ≡ true → not b ≡ true → ⊥
+  not_both true e f = cc
+  not_both false e f = cc
+
+  -- a column of the other side is not the column of the pivot, and a row of the other side is not its row
   column_apart : (c : ℕ) → IsColumnOn m (opposite T) c → c ≢ t
   column_apart c far e = not_both (T (Column t)) inner.0.1 (ap (λ (x : ℕ). not (T (Column x))) (sym e) ∙ far.1)
-    where
-      not_both : (b : Bool) → b ≡ true → not b ≡ true → ⊥
-      not_both true e f = cc
-      not_both false e f = cc
 
   row_apart : (r : ℕ) → IsRowOn m (opposite T) r → r ≢ s
   row_apart r far e = not_both (T (Row s)) start.on.1 (ap (λ (x : ℕ). not (T (Row x))) (sym e) ∙ far.1)
-    where
-      not_both : (b : Bool) → b ≡ true → not b ≡ true → ⊥
-      not_both true e f = cc
-      not_both false e f = cc
 
   inner_row_apart : (r : ℕ) → IsInnerRow m T r → r ≢ s
   inner_row_apart r is e = is.1 (subst (λ (x : ℕ). IsEndRow m T x) (sym e) start)
@@ -166,14 +162,13 @@ module _ (m : Matrix) (T : Lines) (s t : ℕ) (small : HasTernaryEntries m) (pla
   walk_after : (k c : ℕ) → k < place.n → HasWalk m T k c → HasWalk n T k c
   walk_after zero c l walk = end_column_after c walk
   walk_after (suc k) c l (is, r, d, row, here, next, walk) =
-      let z = no_chord r d k l row next walk in
-      (
+      let none = no_chord r d k l row next walk in (
         inner_column_after c is,
         r,
         d,
-        inner_row_after r row z,
-        λ e. here (sym (same_entry r c row z is.0.0) ∙ e),
-        λ e. next (sym (same_entry r d row z (column_in k d walk)) ∙ e),
+        inner_row_after r row none,
+        λ e. here (sym (same_entry r c row none is.0.0) ∙ e),
+        λ e. next (sym (same_entry r d row none (column_in k d walk)) ∙ e),
         walk_after k d (omega arith) walk,
       )
     where
@@ -200,8 +195,14 @@ module _ (m : Matrix) (T : Lines) (s t : ℕ) (small : HasTernaryEntries m) (pla
         (r, c, becomes_end r row before, end_column_after c end, λ e. next (sym (unchanged_second (M r c) (M s t) (M r t) (M s c) z) ∙ sym second ∙ e)),
       )
       go (inr u) = (
-        (r, c, becomes_end r row before, end_column_after c end, second ∙ sign_less (M r c) (M s t *ℤ (M r t *ℤ M s c)) (sign_of_entry (M r c) (small r c) next)
-            (sign-mul (M s t) (M r t *ℤ M s c) sign (sign-mul (M r t) (M s c) (sign_of_entry (M r t) (small r t) before) u)) (subst IsEntry second (ternary r c))),
+        (
+          r,
+          c,
+          becomes_end r row before,
+          end_column_after c end,
+          second ∙ sign_less (M r c) (M s t *ℤ (M r t *ℤ M s c)) (sign_of_entry (M r c) (small r c) next)
+              (sign-mul (M s t) (M r t *ℤ M s c) sign (sign-mul (M r t) (M s c) (sign_of_entry (M r t) (small r t) before) u)) (subst IsEntry second (ternary r c)),
+        ),
         (s, c, start_after, end_column_after c end, λ e. sign_nonzero (M s t *ℤ M s c) (sign-mul (M s t) (M s c) sign u) (sym first ∙ e)),
       )
 

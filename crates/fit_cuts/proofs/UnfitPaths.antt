@@ -7,25 +7,27 @@ use Rattle.cmr_base.specs.declared.line.Line.{Line}
 use Rattle.cmr_base.specs.declared.line.Line.TheVariants.{Column, Row}
 use Rattle.cmr_base.specs.LineSets.{first_lines}
 use Rattle.cmr_base.specs.Matrix.{Matrix, height, entry, HasTernaryEntries}
-use Rattle.cmr_base.specs.Separations.{AreEnough, HasNoTwoSeparation, Lines, TwoSeparates, count_lines_in, opposite}
+use Rattle.cmr_base.specs.Separations.{HasNoTwoSeparation, Lines, TwoSeparates, count_lines_in, opposite}
 use Rattle.cmr_base.specs.Signing.{IsSign}
 use Rattle.cmr_base.specs.Seeds.{IsLine}
 use Rattle.cmr_base.proofs.Booleans.{and_is, at_least_of, false_is, lt_of, not_false, two_cases}
-use Rattle.cmr_base.proofs.Integers.{sums, products, mul-one}
+use Rattle.cmr_base.proofs.Integers.{products, mul-one}
 use Rattle.cmr_base.proofs.ListedLines.{first_lines_contain, has_line_from_line}
 use Rattle.cmr_base.proofs.SeedLemmas.{outside_grows}
 use Rattle.cmr_base.proofs.SignEntries.{sign-mul, sign_nonzero, sign_of_entry, sign_square, zero_or_sign}
 use Rattle.cuts.specs.LineCuts.{IsCut}
+use Rattle.cuts.proofs.WordLemmas.{first_zero, second_zero}
 use Rattle.cuts.proofs.CutLemmas.{other_enough}
-use Rattle.path_places.specs.PathPlaces.{HasNoPath, HasNonzero, HasWalk, HasZero, IsColumnOn, IsEndColumn, IsEndRow, IsFit, IsInnerColumn, IsInnerRow}
+use Rattle.path_places.specs.PathPlaces.{HasNoPath, HasWalk, HasZero, IsColumnOn, IsEndColumn, IsEndRow, IsFit, IsInnerColumn, IsInnerRow}
 use Rattle.fit_cuts.specs.UnfitPaths.{HavePositiveSquares, UnfitSidesHavePaths}
-use Rattle.fit_cuts.proofs.CutEnds.{column_sign, lower_entry, none_first, none_second, row_sign, upper_entry}
+use Rattle.fit_cuts.proofs.CutEnds.{column_sign, lower_entry, row_sign, upper_entry}
 use Rattle.fit_cuts.proofs.DecidedLines.{apart_from, decided_lines, either, lines_of_parts}
 
 -- an entry of a square by the other three
 square_product : (a b z : ℤ) → IsSign b → IsSign z → (a *ℤ b) *ℤ z ≡ pos 1 → a ≡ b *ℤ z
 square_product a b z sb sz h =
-    sym (one (b *ℤ z) ∙ ap (λ (w : ℤ). w *ℤ (b *ℤ z)) (sym h) ∙ gathered a b z ∙ ap (λ (w : ℤ). a *ℤ (w *ℤ (z *ℤ z))) (sign_square b sb) ∙ ap (λ (w : ℤ). a *ℤ (pos 1 *ℤ w)) (sign_square z sz) ∙ mul-one a)
+    sym (one (b *ℤ z) ∙ ap (λ (w : ℤ). w *ℤ (b *ℤ z)) (sym h) ∙ gathered a b z
+    ∙ ap (λ (w : ℤ). a *ℤ (w *ℤ (z *ℤ z))) (sign_square b sb) ∙ ap (λ (w : ℤ). a *ℤ (pos 1 *ℤ w)) (sign_square z sz) ∙ mul-one a)
   where
     one : (w : ℤ) → w ≡ pos 1 *ℤ w
     one w = simp products
@@ -34,7 +36,7 @@ square_product a b z sb sz h =
     gathered a b z = simp products
 
 -- a line of the side from which an end column is reached through inner lines
-abbrev Leads : Matrix → Lines → Line → Type 0
+abbrev Leads : (m : Matrix) (T : Lines) → Line → Type 0
 Leads m T (Row r) = IsInnerRow m T r × (n d : ℕ) × (entry m r d ≢ pos 0) × HasWalk m T n d
 Leads m T (Column c) = (n : ℕ) × HasWalk m T n c
 
@@ -43,7 +45,7 @@ walk_on m T zero c walk = walk.on
 walk_on m T (suc n) c walk = walk.0.0
 
 -- all entries at the ends of a side are zeros, or all are nonzeros
-abbrev AreAlike : Matrix → Lines → Type 0
+abbrev AreAlike : (m : Matrix) (T : Lines) → Type 0
 AreAlike m T =
     ((r c : ℕ) → IsEndRow m T r → IsEndColumn m T c → entry m r c ≡ pos 0)
     ⊎ ((r c : ℕ) → IsEndRow m T r → IsEndColumn m T c → entry m r c ≢ pos 0)
@@ -123,8 +125,8 @@ module _ (m : Matrix) (T : Lines) (small : HasTernaryEntries m) (squares : HaveP
   -- ---- the lines that lead to an end column
 
   in_side : (x : Line) → IsLine (height m) m.width x → S x ≡ true → T x ≡ true
-  in_side (Row r) l e = let h = (is (Row r) l).0 e in h.0.0.1
-  in_side (Column c) l e = let h = (is (Column c) l).0 e in (walk_on m T h.0 c h.1).1
+  in_side (Row r) l e = let leads = (is (Row r) l).0 e in leads.0.0.1
+  in_side (Column c) l e = let leads = (is (Column c) l).0 e in (walk_on m T leads.0 c leads.1).1
 
   end_leads : (c : ℕ) → c < m.width → T (Column c) ≡ true → IsSign (M k c) → S (Column c) ≡ true
   end_leads c l e u = (is (Column c) l).1 (0, column_end c l e u)
@@ -172,8 +174,8 @@ module _ (m : Matrix) (T : Lines) (small : HasTernaryEntries m) (squares : HaveP
         at_p = end_leads p lp cut.cut.column_one lower_corner
 
         go : (M r j ≡ pos 0) ⊎ IsSign (M r j) → (M k c ≡ pos 0) ⊎ IsSign (M k c) → M r c ≡ M r p *ℤ (M k c *ℤ M k p)
-        go (inl z) other = zero_in_inner_row r c lr lc er f ec z ∙ sym (none_first (M r p) (M k c) (M k p) (zero_in_inner_row r p lr lp er f at_p z))
-        go (inr v) (inl z) = zero_in_inner_column r c lr lc er ec v z ∙ sym (none_second (M r p) (M k c) (M k p) z)
+        go (inl z) other = zero_in_inner_row r c lr lc er f ec z ∙ sym (first_zero (M r p) (M k c) (M k p) (zero_in_inner_row r p lr lp er f at_p z))
+        go (inr v) (inl z) = zero_in_inner_column r c lr lc er ec v z ∙ sym (second_zero (M r p) (M k c) (M k p) z)
         go (inr v) (inr u) = both alike
           where
             row : IsEndRow m T r
@@ -186,7 +188,7 @@ module _ (m : Matrix) (T : Lines) (small : HasTernaryEntries m) (squares : HaveP
             corner = column_end p lp cut.cut.column_one lower_corner
 
             both : AreAlike m T → M r c ≡ M r p *ℤ (M k c *ℤ M k p)
-            both (inl zeros) = zeros r c row column ∙ sym (none_first (M r p) (M k c) (M k p) (zeros r p row corner))
+            both (inl zeros) = zeros r c row column ∙ sym (first_zero (M r p) (M k c) (M k p) (zeros r p row corner))
             both (inr nonzeros) = square_product (M r c) (M r p) (M k c *ℤ M k p) (sign_of_entry (M r p) (small r p) (nonzeros r p row corner)) (sign-mul (M k c) (M k p) u lower_corner)
                 (squares r k c p (nonzeros r c row column) (nonzeros r p row corner) (sign_nonzero (M k c) u) cut.lower)
 
@@ -194,8 +196,8 @@ module _ (m : Matrix) (T : Lines) (small : HasTernaryEntries m) (squares : HaveP
     by_end_row = go (zero_or_sign (M r j) (small r j)) (zero_or_sign (M k c) (small k c))
       where
         go : (M r j ≡ pos 0) ⊎ IsSign (M r j) → (M k c ≡ pos 0) ⊎ IsSign (M k c) → M r c ≡ M r j *ℤ (M i c *ℤ M i j)
-        go (inl z) other = zero_in_inner_row r c lr lc er f ec z ∙ sym (none_first (M r j) (M i c) (M i j) z)
-        go (inr v) (inl z) = zero_in_inner_column r c lr lc er ec v z ∙ sym (none_second (M r j) (M i c) (M i j) (zero_in_inner_column i c li lc cut.cut.row_one ec upper_corner z))
+        go (inl z) other = zero_in_inner_row r c lr lc er f ec z ∙ sym (first_zero (M r j) (M i c) (M i j) z)
+        go (inr v) (inl z) = zero_in_inner_column r c lr lc er ec v z ∙ sym (second_zero (M r j) (M i c) (M i j) (zero_in_inner_column i c li lc cut.cut.row_one ec upper_corner z))
         go (inr v) (inr u) = both alike
           where
             row : IsEndRow m T r
@@ -208,7 +210,7 @@ module _ (m : Matrix) (T : Lines) (small : HasTernaryEntries m) (squares : HaveP
             corner = row_end i li cut.cut.row_one upper_corner
 
             both : AreAlike m T → M r c ≡ M r j *ℤ (M i c *ℤ M i j)
-            both (inl zeros) = zeros r c row column ∙ sym (none_second (M r j) (M i c) (M i j) (zeros i c corner column))
+            both (inl zeros) = zeros r c row column ∙ sym (second_zero (M r j) (M i c) (M i j) (zeros i c corner column))
             both (inr nonzeros) = square_product (M r c) (M r j) (M i c *ℤ M i j) v (sign-mul (M i c) (M i j) (sign_of_entry (M i c) (small i c) (nonzeros i c corner column)) upper_corner)
                 (squares r i c j (nonzeros r c row column) (sign_nonzero (M r j) v) (nonzeros i c corner column) cut.upper)
 
@@ -232,19 +234,20 @@ module _ (m : Matrix) (T : Lines) (small : HasTernaryEntries m) (squares : HaveP
       upper = λ r c hr hc er ec. upper r c (first_lines_contain (height m) r hr) (first_lines_contain m.width c hc) er ec (two_cases (T (Column c)));
       lower = λ r c hr hc er ec. lower r c (first_lines_contain (height m) r hr) (first_lines_contain m.width c hc) er ec (two_cases (T (Row r)));
     };
-    enough = record { one = many; two = let a = outside_grows (height m) m.width S T in_side in let b = cut.cut.enough.two in omega arith };
+    enough = record { one = many; two = let outside = outside_grows (height m) m.width S T in_side in let enough = cut.cut.enough.two in omega arith };
   }
     where
       upper : (r c : ℕ) → r < height m → c < m.width → S (Row r) ≡ true → S (Column c) ≡ false → (T (Column c) ≡ true) ⊎ (T (Column c) ≡ false) → M r c ≡ pos 0
       upper r c lr lc er ec (inl e) = no_way_out r c lr lc er e ec
-      upper r c lr lc er ec (inr e) = let h = (is (Row r) lr).0 er in inner_row_zero r c h.0 lc e
+      upper r c lr lc er ec (inr e) = let leads = (is (Row r) lr).0 er in inner_row_zero r c leads.0 lc e
 
-      lower : (r c : ℕ) → r < height m → c < m.width → S (Row r) ≡ false → S (Column c) ≡ true → (T (Row r) ≡ true) ⊎ (T (Row r) ≡ false) → M r c ≡ M r p *ℤ (M k c *ℤ M k p)
+      lower : (r c : ℕ) → r < height m → c < m.width → S (Row r) ≡ false → S (Column c) ≡ true → (T (Row r) ≡ true) ⊎ (T (Row r) ≡ false)
+          → M r c ≡ M r p *ℤ (M k c *ℤ M k p)
       lower r c lr lc er ec (inl e) = by_end_column r c lr lc e er ec
       lower r c lr lc er ec (inr e) = lower_entry m T small cut r c lr lc e (in_side (Column c) lc ec)
 
   in_rest : (x : Line) → rest x ≡ true → (T x ≡ true) × (S x ≡ false)
-  in_rest x e = let h = and_is (T x) (not (S x)) e in (h.0, false_is (S x) (λ f. false≢true (sym (ap not f) ∙ h.1)))
+  in_rest x e = let both = and_is (T x) (not (S x)) e in (both.0, false_is (S x) (λ f. false≢true (sym (ap not f) ∙ both.1)))
 
   -- a line that is not in the rest is in the set or on side two
   off_rest : (x : Line) → opposite rest x ≡ true → T x ≡ true → S x ≡ true
@@ -266,14 +269,18 @@ module _ (m : Matrix) (T : Lines) (small : HasTernaryEntries m) (squares : HaveP
     };
     enough = other_enough m rest 2 (record {
       one = many;
-      two = let a = outside_grows (height m) m.width rest T (λ x l e. (in_rest x e).0) in let b = cut.cut.enough.two in omega arith;
+      two = let outside = outside_grows (height m) m.width rest T (λ x l e. (in_rest x e).0) in let enough = cut.cut.enough.two in omega arith;
     });
   }
     where
-      row_in : opposite rest (Row i) ≡ false
-      row_in = ap not (ap (λ (t : Bool). t && not (S (Row i))) cut.cut.row_one ∙ ap not (false_is (S (Row i)) (λ e. let h = (is (Row i) li).0 e in h.0.1 (row_end i li cut.cut.row_one upper_corner))))
+      end_in : S (Row i) ≡ true → ⊥
+      end_in e = let leads = (is (Row i) li).0 e in leads.0.1 (row_end i li cut.cut.row_one upper_corner)
 
-      upper : (r c : ℕ) → r < height m → c < m.width → opposite rest (Row r) ≡ true → (T (Column c) ≡ true) × (S (Column c) ≡ false) → (T (Row r) ≡ true) ⊎ (T (Row r) ≡ false) → M r c ≡ pos 0
+      row_in : opposite rest (Row i) ≡ false
+      row_in = ap not (ap (λ (t : Bool). t && not (S (Row i))) cut.cut.row_one ∙ ap not (false_is (S (Row i)) end_in))
+
+      upper : (r c : ℕ) → r < height m → c < m.width → opposite rest (Row r) ≡ true → (T (Column c) ≡ true) × (S (Column c) ≡ false)
+          → (T (Row r) ≡ true) ⊎ (T (Row r) ≡ false) → M r c ≡ pos 0
       upper r c lr lc er ec (inl e) = no_way_out r c lr lc (off_rest (Row r) er e) ec.0 ec.1
       upper r c lr lc er ec (inr e) = inner_column_zero r c (inner_if_not c lc ec.0 ec.1) lr e
 
@@ -286,7 +293,7 @@ module _ (m : Matrix) (T : Lines) (small : HasTernaryEntries m) (squares : HaveP
   no_path_separates no_two = go (nat_lt (number S) 2) refl
     where
       many : 4 ≤ number S + number rest
-      many = let a = lines_of_parts (height m) m.width T S in let b = cut.cut.enough.one in omega arith
+      many = let parts = lines_of_parts (height m) m.width T S in let enough = cut.cut.enough.one in omega arith
 
       plain : (a b : ℕ) → 4 ≤ a + b → a < 2 → 2 ≤ b
       plain a b l h = omega arith

@@ -1,8 +1,8 @@
 //! Laws over definitions only. Each is a function that does nothing: its contract is the law.
 ghost use Rattle.fit_cuts.specs.FitForms.{CutsHaveForms, FitCutsSeparate};
 ghost use Rattle.fit_cuts.specs.PivotedSides.{PivotsKeepFitSides};
-ghost use Rattle.fit_cuts.specs.ShorterPaths.{PivotsShortenPaths};
-ghost use Rattle.fit_cuts.specs.UnfitPaths.{UnfitSidesHavePaths};
+ghost use Rattle.fit_cuts.specs.ShorterPaths.{PathsBoundPivots, PivotsShortenPaths};
+ghost use Rattle.fit_cuts.specs.UnfitPaths.{CutsHavePlaces, UnfitSidesHavePaths};
 
 /// A cut has one of the forms delta, Y and mixed, perhaps with its sides exchanged, if and only if both sides are fit. So a matrix that has
 /// no three-separation has no cut with two fit sides.
@@ -21,8 +21,14 @@ pub fn unfit_sides_have_paths()
     ensures { UnfitSidesHavePaths }
 {}
 
+/// If a matrix has no two-separation and no three-separation, then each of its cuts has a position.
+pub fn cuts_have_places()
+    ensures { CutsHavePlaces }
+{}
+
 /// A pivot at the first edge of a shortest path of a side makes the shortest paths shorter by two edges. After a path of three edges the
-/// side is fit.
+/// side is fit. So the side becomes fit by at most as many pivots as a path has inner rows.
 pub fn pivots_shorten_paths()
-    ensures { PivotsShortenPaths }
+    ensures shorter { PivotsShortenPaths }
+    ensures within { PathsBoundPivots }
 {}
