@@ -1,4 +1,4 @@
--- A side with a path has a first shortest one. So a cut has a position, or both sides are fit and the cut has a form.
+-- A side with a path has a first shortest one. So a cut has a position unless both sides are fit.
 use Rattle.std.proofs.Common.{◌<◌, ◌⊎◌, inl, inr, ℕ, zero, suc, [], ◌∷◌, subst, arith}
 use Rattle.cmr_base.specs.Matrix.{Matrix}
 use Rattle.cmr_base.specs.Separations.{Lines, opposite}
@@ -7,7 +7,6 @@ use Rattle.cuts.proofs.CutLemmas.{other_is_cut}
 use Rattle.path_places.specs.PathPlaces.{HasNoPath, IsFirstEdge, IsFit, IsPathPlace}
 use Rattle.fit_cuts.specs.UnfitPaths.{CutsHavePlaces}
 use Rattle.fit_cuts.proofs.DecidedLines.{either}
-use Rattle.fit_cuts.proofs.FitForms.{fit_cuts_separate}
 use Rattle.fit_cuts.proofs.UnfitPaths.{unfit_sides_have_paths}
 
 -- a property that a number has if each smaller number has it
@@ -37,10 +36,10 @@ module _ (m : Matrix) (T : Lines) (none : (row column : ℕ) → ¬ (IsPathPlace
   no_place_no_path = by_smaller (λ n. (i j : ℕ) → ¬ (IsFirstEdge m T n i j)) first_of
 
 pub cuts_have_places : CutsHavePlaces
-cuts_have_places m T small squares no_two no_three cut none = either (IsFit m T) go
+cuts_have_places m T small squares no_two cut not_both none = either (IsFit m T) go
   where
     other : IsFit m T → IsFit m (opposite T) ⊎ (¬ (IsFit m (opposite T))) → ⊥
-    other fit (inl both) = fit_cuts_separate m T small cut (record { one = fit; two = both }) no_three
+    other fit (inl both) = not_both (record { one = fit; two = both })
     other fit (inr unfit) = unfit_sides_have_paths m (opposite T) small squares no_two (other_is_cut m T cut) unfit (no_place_no_path m (opposite T) (λ r c place. none r c (inr (fit, unfit, place))))
 
     go : IsFit m T ⊎ (¬ (IsFit m T)) → ⊥

@@ -21,7 +21,7 @@ pub fn unfit_sides_have_paths()
     ensures { UnfitSidesHavePaths }
 {}
 
-/// If a matrix has no two-separation and no three-separation, then each of its cuts has a position.
+/// If a matrix has no two-separation, then each of its cuts has a position unless both sides are fit.
 pub fn cuts_have_places()
     ensures { CutsHavePlaces }
 {}
