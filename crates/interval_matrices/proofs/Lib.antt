@@ -1,0 +1,2 @@
+pub mod AlternatingSigns
+pub mod IntervalLines
