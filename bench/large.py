@@ -11,7 +11,7 @@ The kinds, each with about the given number of nonzeros:
     transport  the constraints of a transportation problem with as many sources as sinks
     pieces     arcs of digraphs with twelve nodes each
     tree       the arcs of a random tree, all of which are removed
-    intervals  each column has consecutive ones, three on average; the answer is undecided
+    intervals  each column has consecutive ones, three on average
 
 All times are processor times, the least of some runs. Reading is the time of a run on the text with one more word at its end, which ends
 with status 3 after the whole text was read. The time grows with the power P if twice the nonzeros take 2^P times as long; the table has P
@@ -109,7 +109,7 @@ KINDS = {
     "transport": Kind(transport, 0),
     "pieces": Kind(pieces, 0),
     "tree": Kind(tree, 0),
-    "intervals": Kind(intervals, 6),
+    "intervals": Kind(intervals, 0),
 }
 
 

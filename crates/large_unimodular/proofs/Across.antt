@@ -1,4 +1,4 @@
--- Violators in the transposed matrix.
+-- Violators and intervals in the transposed matrix.
 use Rattle.std.proofs.Common.{◌≡◌, ◌∙◌, ℕ, ℤ, List, sym, subst}
 use Rattle.std.proofs.Math.Path.{fun_ext}
 use Rattle.cmr_base.specs.Matrix.{entry}
@@ -8,6 +8,7 @@ use Rattle.cmr_base.proofs.ViolatorLemmas.{violator-transposed}
 use Rattle.sparse_matrix.specs.SparseRows.{SparseRows, AreSparseRows, AreCrossed, matrix_of_runs}
 use Rattle.sparse_matrix.proofs.Matrices.{matrix_entry}
 use Rattle.split_search.specs.Decisions.{AreViolating}
+use Rattle.interval_matrices.specs.Intervals.{HasIntervalColumns, HasIntervalRows, IsInterval}
 use Rattle.core_parts.proofs.MarkedRuns.{height_of_runs}
 
 module _ (m t : SparseRows) (shape : AreSparseRows m) (shape_t : AreSparseRows t) (crossed : AreCrossed m t) where
@@ -33,3 +34,14 @@ module _ (m t : SparseRows) (shape : AreSparseRows m) (shape_t : AreSparseRows t
       columns_have = λ column h. let in_column = v.nonzeros.rows_have column h in (in_column.0, in_column.1, λ e. in_column.2 (entry_across in_column.0 column ∙ e));
     };
   }
+
+  -- ---- intervals
+
+  column_across : (column : ℕ) → entry (matrix_of_runs t) column ≡ (λ row. entry (matrix_of_runs m) row column)
+  column_across column = fun_ext (λ row. entry_across row column)
+
+  pub interval_columns : HasIntervalRows (matrix_of_runs t) → HasIntervalColumns (matrix_of_runs m)
+  interval_columns intervals column = subst IsInterval (column_across column) (intervals column)
+
+  pub interval_rows_across : HasIntervalColumns (matrix_of_runs m) → HasIntervalRows (matrix_of_runs t)
+  interval_rows_across intervals column = subst IsInterval (sym (column_across column)) (intervals column)

@@ -8,6 +8,7 @@ use Rattle.tree_type.specs.Verdicts as verdicts
 use Rattle.tree_laws.specs.Laws.{VerdictMeans}
 use Rattle.tree_laws.proofs.SoundTrees.{verdict_means}
 use Rattle.open_parts.proofs.TriedRoots.{one_tried_verdict, tried_shapes_are_sound, tried_shapes_are_trees}
+use Rattle.interval_matrices.proofs.AlternatingSigns.{intervals_are_unimodular}
 use Rattle.large_unimodular.specs.declared.part_verdicts.PartVerdict.{PartVerdict}
 use Rattle.large_unimodular.specs.declared.part_verdicts.PartVerdict.TheVariants.{Yes, No, Open}
 use Rattle.large_unimodular.specs.PartVerdicts.{own_answer, IsFaultIn, IsPartVerdict, IsRightOn, IsSmallVerdict}
@@ -39,8 +40,9 @@ thin_right m Open right = tt
 
 pub right_verdict : (limit pivots : ℕ) (m : Matrix) (verdict : PartVerdict) → limit ≤ MAX_LINES → IsTernary m → IsPartVerdict limit pivots m verdict → IsRightIfDecided verdict m
 right_verdict limit pivots m verdict few is (inl thin) = thin_right m verdict thin.right
-right_verdict limit pivots m verdict few is (inr (inl small)) = small_right limit pivots m verdict few is small
-right_verdict limit pivots m verdict few is (inr (inr large)) = subst (λ answer. IsRightIfDecided answer m) (sym large.open_is) tt
+right_verdict limit pivots m verdict few is (inr (inl even)) = subst (λ answer. IsRightIfDecided answer m) (sym even.yes_is) (intervals_are_unimodular m is even.intervals).1
+right_verdict limit pivots m verdict few is (inr (inr (inl small))) = small_right limit pivots m verdict few is small
+right_verdict limit pivots m verdict few is (inr (inr (inr large))) = subst (λ answer. IsRightIfDecided answer m) (sym large.open_is) tt
 
 -- ---- one kind
 
@@ -66,15 +68,22 @@ thin_kind m Open other right right' = absurd right
 
 pub one_part_kind : (limit pivots : ℕ) (m : Matrix) (verdict other : PartVerdict) → IsPartVerdict limit pivots m verdict → IsPartVerdict limit pivots m other → AreOfOneKind verdict other
 one_part_kind limit pivots m verdict other (inl thin) (inl thin') = thin_kind m verdict other thin.right thin'.right
-one_part_kind limit pivots m verdict other (inl thin) (inr (inl small)) = absurd (small.thick thin.thin)
-one_part_kind limit pivots m verdict other (inl thin) (inr (inr large)) = absurd (large.thick thin.thin)
-one_part_kind limit pivots m verdict other (inr (inl small)) (inl thin) = absurd (small.thick thin.thin)
-one_part_kind limit pivots m verdict other (inr (inl small)) (inr (inl small')) =
+one_part_kind limit pivots m verdict other (inl thin) (inr (inr (inl small))) = absurd (small.thick thin.thin)
+one_part_kind limit pivots m verdict other (inl thin) (inr (inr (inr large))) = absurd (large.thick thin.thin)
+one_part_kind limit pivots m verdict other (inr (inr (inl small))) (inl thin) = absurd (small.thick thin.thin)
+one_part_kind limit pivots m verdict other (inr (inr (inl small))) (inr (inr (inl small'))) =
     let one = small.decomposed in
     let two = small'.decomposed in
     let same : verdict ≡ other = one.verdict_is ∙ ap own_answer (one_tried_verdict limit pivots m one.tree two.tree one.shape two.shape) ∙ sym two.verdict_is in
     subst (AreOfOneKind verdict) same (own_kind verdict)
-one_part_kind limit pivots m verdict other (inr (inl small)) (inr (inr large)) = absurd (large.large small.small)
-one_part_kind limit pivots m verdict other (inr (inr large)) (inl thin) = absurd (large.thick thin.thin)
-one_part_kind limit pivots m verdict other (inr (inr large)) (inr (inl small)) = absurd (large.large small.small)
-one_part_kind limit pivots m verdict other (inr (inr large)) (inr (inr large')) = subst (AreOfOneKind verdict) (large.open_is ∙ sym large'.open_is) (own_kind verdict)
+one_part_kind limit pivots m verdict other (inr (inr (inl small))) (inr (inr (inr large))) = absurd (large.large small.small)
+one_part_kind limit pivots m verdict other (inr (inr (inr large))) (inl thin) = absurd (large.thick thin.thin)
+one_part_kind limit pivots m verdict other (inr (inr (inr large))) (inr (inr (inl small))) = absurd (large.large small.small)
+one_part_kind limit pivots m verdict other (inr (inr (inr large))) (inr (inr (inr large'))) = subst (AreOfOneKind verdict) (large.open_is ∙ sym large'.open_is) (own_kind verdict)
+one_part_kind limit pivots m verdict other (inl thin) (inr (inl even)) = absurd (even.thick thin.thin)
+one_part_kind limit pivots m verdict other (inr (inl even)) (inl thin) = absurd (even.thick thin.thin)
+one_part_kind limit pivots m verdict other (inr (inl even)) (inr (inl even')) = subst (AreOfOneKind verdict) (even.yes_is ∙ sym even'.yes_is) (own_kind verdict)
+one_part_kind limit pivots m verdict other (inr (inl even)) (inr (inr (inl small))) = absurd (small.uneven even.intervals)
+one_part_kind limit pivots m verdict other (inr (inl even)) (inr (inr (inr large))) = absurd (large.uneven even.intervals)
+one_part_kind limit pivots m verdict other (inr (inr (inl small))) (inr (inl even)) = absurd (small.uneven even.intervals)
+one_part_kind limit pivots m verdict other (inr (inr (inr large))) (inr (inl even)) = absurd (large.uneven even.intervals)

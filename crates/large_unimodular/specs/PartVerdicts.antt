@@ -8,6 +8,7 @@ use Rattle.cmr_base.specs.Violator.{IsViolator, HasNoViolator}
 use Rattle.tree_type.specs.DecompositionTrees.{Tree}
 use Rattle.tree_type.specs.Verdicts.{Verdict, verdict_of}
 use Rattle.tree_type.specs.Verdicts as verdicts
+use Rattle.interval_matrices.specs.Intervals.{IsIntervalMatrix}
 use Rattle.open_parts.specs.TriedShapes.{IsTriedWith}
 use Rattle.large_unimodular.specs.declared.part_verdicts.PartVerdict.{PartVerdict}
 use Rattle.large_unimodular.specs.declared.part_verdicts.PartVerdict.TheVariants.{Yes, No, Open}
@@ -60,16 +61,23 @@ pub record IsThinVerdict (m : Matrix) (verdict : PartVerdict) : Type 0 where
   pub thin : IsThin m
   pub right : IsRightOn m verdict
 
+pub record IsIntervalVerdict (m : Matrix) (verdict : PartVerdict) : Type 0 where
+  pub thick : ¬ (IsThin m)
+  pub intervals : IsIntervalMatrix m
+  pub yes_is : verdict ≡ Yes
+
 pub record IsSmallVerdict (limit pivots : ℕ) (m : Matrix) (verdict : PartVerdict) : Type 0 where
   pub thick : ¬ (IsThin m)
+  pub uneven : ¬ (IsIntervalMatrix m)
   pub small : IsSmall m
   pub decomposed : IsTreeVerdict limit pivots m verdict
 
 pub record IsTooLarge (m : Matrix) (verdict : PartVerdict) : Type 0 where
   pub thick : ¬ (IsThin m)
+  pub uneven : ¬ (IsIntervalMatrix m)
   pub large : ¬ (IsSmall m)
   pub open_is : verdict ≡ Open
 
--- A thin part is a yes or a no. Another part gets the verdict of its decomposition if it is small, and stays open otherwise.
+-- A thin part is a yes or a no, and another part with interval columns, or rows, is a yes. Another part gets the verdict of its decomposition if it is small, and stays open otherwise.
 abbrev pub IsPartVerdict : (limit pivots : ℕ) → Matrix → PartVerdict → Type 0
-IsPartVerdict limit pivots m verdict = IsThinVerdict m verdict ⊎ IsSmallVerdict limit pivots m verdict ⊎ IsTooLarge m verdict
+IsPartVerdict limit pivots m verdict = IsThinVerdict m verdict ⊎ IsIntervalVerdict m verdict ⊎ IsSmallVerdict limit pivots m verdict ⊎ IsTooLarge m verdict

@@ -1,13 +1,15 @@
 // The verdict on a part, by the numbers of its own lines.
-ghost use Rattle.std.specs.Prelude.{◌≤◌, length, IfOk};
+ghost use Rattle.std.specs.Prelude.{◌≤◌, ◌↔◌, length, IfOk, IsTrue};
 ghost use Rattle.cmr_base.specs.declared.limits.TheConstants.{MAX_COLUMNS, MAX_LINES, MAX_ROWS};
 ghost use Rattle.sparse_matrix.specs.SparseRows.{AreCrossed, matrix_of_runs};
 ghost use Rattle.split_search.specs.Decisions.{HaveAtMostTwo};
+ghost use Rattle.interval_matrices.specs.Intervals.{IsIntervalMatrix};
 ghost use Rattle.large_unimodular.specs.PartVerdicts.{IsPartVerdict, IsRightOn, IsTreeVerdict};
 
 use cmr_base::{LineSet, MAX_COLUMNS, MAX_ROWS, Memory};
 use core_parts::dense;
 use first_hit::Workers;
+use interval_matrices::has_interval_rows;
 use open_parts::decompose;
 use sparse_matrix::SparseMatrix;
 use split_search::{Split, decide, have_at_most_two};
@@ -62,6 +64,16 @@ fn verdict_by_rows(
     }
 }
 
+// Whether the columns, or the rows, are intervals.
+fn is_interval_matrix(rows: &SparseMatrix, columns: &SparseMatrix) -> bool
+    requires crossed { AreCrossed rows.now columns.now }
+    ensures { IsTrue result ↔ IsIntervalMatrix (matrix_of_runs rows.now) }
+{
+    let _height = rows.rows();
+    let _width = columns.rows();
+    has_interval_rows(columns) || has_interval_rows(rows)
+}
+
 // The verdict of the decomposition of a small matrix.
 fn verdict_by_tree<R: Threads + Sync>(
     rt: &R,
@@ -104,6 +116,9 @@ pub fn part_verdict<R: Threads + Sync>(
     }
     if have_at_most_two(part) {
         return verdict_by_rows(alloc, part, &columns);
+    }
+    if is_interval_matrix(part, &columns) {
+        return Ok(PartVerdict::Yes);
     }
     if part.rows() > MAX_ROWS || part.columns() > MAX_COLUMNS {
         return Ok(PartVerdict::Open);

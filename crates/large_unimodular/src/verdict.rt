@@ -52,8 +52,8 @@ fn verdict_at<R: Threads + Sync>(
 
 /// Decides whether a matrix is totally unimodular, by the connected parts of its core in the order of their first rows: no by the first
 /// part that is a no, and otherwise open by the first part that stays open. A part is decided if none of its columns, or none of its
-/// rows, has three nonzeros, and otherwise, if it is within the limits of `Matrix`, by its decomposition with this budget and this
-/// number of pivots.
+/// rows, has three nonzeros. Otherwise it is a yes if the nonzeros of each column, or of each row, are consecutive and equal. Any other
+/// part within the limits of `Matrix` is decided by its decomposition with this budget and this number of pivots.
 pub fn decide_large<R: Threads + Sync>(
     rt: &R,
     alloc: Global,

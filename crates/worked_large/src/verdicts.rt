@@ -205,6 +205,42 @@ fn a_no_after_an_open_part_is_a_no(rt: HostRuntime) -> Result<(), Fail> {
     is_no(&rt, &matrix, &[1_005, 1_006], &[0, 1])
 }
 
+// Three consecutive nonzeros in each column. The columns are not in the order of their first rows. Each nonzero is 1, except the middle
+// one of the column whose first row is `turned`.
+fn write_intervals(matrix: &mut SparseMatrix, count: u32, turned: u32) -> Result<(), Fail> {
+    if count >= 1_000_000 {
+        return Err(Fail::from("a line outside"));
+    }
+    for first in 0..count {
+        let column = if first % 2 == 0 { first } else { count - first };
+        let middle = if first == turned { -1 } else { 1 };
+        write(matrix, (first, column, 1))?;
+        write(matrix, (first + 1, column, middle))?;
+        write(matrix, (first + 2, column, 1))?;
+    }
+    Ok(())
+}
+
+#[test]
+fn intervals_above_the_limits_are_a_yes(rt: HostRuntime) -> Result<(), Fail> {
+    let mut matrix = zero(rt.alloc(), 1_202, 1_200)?;
+    write_intervals(&mut matrix, 1_200, 1_200)?;
+    is_yes(&rt, &matrix)?;
+    is_yes(&rt, &matrix.transposed(rt.alloc())?)
+}
+
+#[test]
+fn intervals_above_the_limits_with_two_signs_stay_open(rt: HostRuntime) -> Result<(), Fail> {
+    let mut matrix = zero(rt.alloc(), 1_202, 1_200)?;
+    write_intervals(&mut matrix, 1_200, 600)?;
+    let LargeVerdict::Open(lines) = verdict(&rt, &matrix, 0, 1)? else {
+        return Err(Fail::from("no open part"));
+    };
+    assert_eq!(&rt; lines.rows.len(), 1_200);
+    assert_eq!(&rt; lines.columns.len(), 1_200);
+    Ok(())
+}
+
 fn is_sparse_yes<R: Abort + AllocGlobal + Threads + Sync>(
     rt: &R,
     rows: u32,

@@ -59,7 +59,7 @@ class Reason:
 REASON_OF_LARGE = Reason(
     "sums",
     "Rows of one variable and variables of one row are removed one by one. Each connected part of the rest is a network matrix or the "
-    "transpose of one, with at most two nonzeros in each column, or in each row; or `cmr-large` has decomposed it.",
+    "transpose of one, with at most two, or consecutive equal, nonzeros in each column, or in each row; or `cmr-large` has decomposed it.",
 )
 """Why a matrix is totally unimodular of which only `cmr-large` says so."""
 
