@@ -1,12 +1,11 @@
 -- Alternating signs are a signing of each set of rows of a matrix with interval columns.
-use Rattle.std.proofs.Common.{◌≡◌, ◌≢◌, ◌<◌, ◌≤◌, ◌+◌, ◌⊎◌, ◌∙◌, inl, inr, ℕ, suc, ℤ, pos, negsuc, ◌+ℤ◌, ◌*ℤ◌, ◌-ℤ◌, neg_ℤ, List, [], ◌∷◌, length, refl, ap, sym, subst, arith}
+use Rattle.std.proofs.Common.{◌≡◌, ◌≢◌, ◌<◌, ◌+◌, ◌⊎◌, ◌∙◌, inl, inr, ℕ, suc, ℤ, pos, ◌+ℤ◌, ◌*ℤ◌, ◌-ℤ◌, neg_ℤ, List, [], ◌∷◌, length, refl, ap, sym, subst, arith}
 use Rattle.std.proofs.Math.Path.{fun_ext}
 use Rattle.std.specs.List.{AllByRecursion}
 use Rattle.cmr_base.specs.Matrix.{Matrix, height, entry, transposed, IsEntry, IsTernary}
-use Rattle.cmr_base.specs.LineSets.{IsRowSet}
-use Rattle.cmr_base.specs.Signing.{IsSign, signed_sum, IsSigning, IsTotallyUnimodular}
+use Rattle.cmr_base.specs.Signing.{IsSign, signed_sum, IsTotallyUnimodular}
 use Rattle.cmr_base.specs.Violator.{HasNoViolator}
-use Rattle.cmr_base.proofs.Integers.{sums, products}
+use Rattle.cmr_base.proofs.Integers.{one-mul, products, sums}
 use Rattle.cmr_base.proofs.IncreasingLists.{IncreasesIn, increases_from_lower, row_set_increases}
 use Rattle.cmr_base.proofs.Parts.{entry-transposed_rectangular, is_ternary-transposed}
 use Rattle.cmr_base.proofs.SignEntries.{negative_is_entry, sign_is_entry, sign_nonzero, zero_is_entry, zero_or_sign}
@@ -95,9 +94,6 @@ module _ (v : ℕ → ℤ) (small : (row : ℕ) → IsEntry (v row)) (interval :
         | inr e ↦ subst IsEntry (sym (less_same (v row) (alternating_sum rows v) (v row) refl e)) zero_is_entry
       ]
 
-one_times : (z : ℤ) → pos 1 *ℤ z ≡ z
-one_times z = simp products
-
 interval_columns : (m : Matrix) → IsTernary m → HasIntervalColumns m → IsTotallyUnimodular m × HasNoViolator m
 interval_columns m is intervals = (signings, (camion m is.small).0 signings)
   where
@@ -107,7 +103,7 @@ interval_columns m is intervals = (signings, (camion m is.small).0 signings)
       record {
         one_each = length-alternating (pos 1) rows;
         each = signs-alternating (pos 1) rows (inl refl);
-        sums = λ column l. subst IsEntry (sym (signed_sum-alternating m (pos 1) rows column ∙ one_times (alternating_sum rows (λ row. entry m row column))))
+        sums = λ column l. subst IsEntry (sym (signed_sum-alternating m (pos 1) rows column ∙ one-mul (alternating_sum rows (λ row. entry m row column))))
             (small_sum (λ row. entry m row column) (λ row. is.small row column) (intervals column) 0 (height m) rows (row_set_increases m rows row_set));
       },
     )

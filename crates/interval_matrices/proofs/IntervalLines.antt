@@ -1,5 +1,5 @@
 -- Runs of nonzeros in consecutive lines, by the number of the nonzeros.
-use Rattle.std.proofs.Common.{◌≡◌, ◌≢◌, ◌<◌, ◌≤◌, ◌+◌, ◌⊎◌, ◌∙◌, ◌↔◌, inl, inr, nat_eq, if◌then◌else◌, ℕ, zero, suc, ℤ, pos, Bool, true, false, List, [], ◌∷◌, length, map, get_or, refl, ap, sym, subst, arith}
+use Rattle.std.proofs.Common.{◌≡◌, ◌≢◌, ◌<◌, ◌≤◌, ◌+◌, ◌⊎◌, ◌∙◌, ◌↔◌, inl, inr, nat_eq, if◌then◌else◌, ℕ, zero, suc, ℤ, pos, Bool, false, List, [], ◌∷◌, length, map, refl, ap, sym, subst, arith}
 use Rattle.std.proofs.lemmas.Bool.{cases_eq, cases_lt}
 use Rattle.std.proofs.lemmas.List.{get_or_past, length-map}
 use Rattle.std.proofs.lemmas.List.FromFn.{length-range_with_len}
@@ -18,15 +18,15 @@ use Rattle.sparse_matrix.specs.declared.nonzero.Nonzero.{Nonzero}
 use Rattle.sparse_matrix.specs.SparseRows.{SparseRows, AreInDistinctLines, AreSparseRows, matrix_of_runs, run_of, value_in}
 use Rattle.sparse_matrix.proofs.Matrices.{matrix_entry}
 use Rattle.interval_matrices.specs.Intervals.{HasIntervalRows, IsInterval}
-use Rattle.interval_matrices.specs.IntervalRuns.{AreCountedFrom, IsFirstLine, IsCountedFrom, nonzero_at}
+use Rattle.interval_matrices.specs.IntervalRuns.{AreCountedFrom, IsFirstLine, nonzero_at}
 
 -- ---- numbers from one on
 
-in_range : (first count x : ℕ) → first ≤ x → x < first + count → IsIn x (range_with_len first count)
-in_range first zero x low high = absurd (omega (arith, low, high))
-in_range first (suc count) x low high = elim (cases_eq x first) [
+in_range : (first count x : ℕ) → (first ≤ x) × (x < first + count) → IsIn x (range_with_len first count)
+in_range first zero x within = let low = within.0 in let high = within.1 in absurd (omega (arith, low, high))
+in_range first (suc count) x within = let low = within.0 in let high = within.1 in elim (cases_eq x first) [
   | inl e ↦ inl e
-  | inr n ↦ inr (in_range (first + 1) count x (omega (arith, low, n)) (omega (arith, high)))
+  | inr n ↦ inr (in_range (first + 1) count x (omega (arith, low, n), omega (arith, high)))
 ]
 
 range_in : (first count x : ℕ) → IsIn x (range_with_len first count) → (first ≤ x) × (x < first + count)
@@ -116,8 +116,8 @@ all_there xs first x distinct within low high = elim (among_or_not x xs) [
 ]
   where
     more : (y : ℕ) → IsIn y (x ∷ xs) → IsIn y (range_with_len first (length xs))
-    more y (inl e) = in_range first (length xs) y (omega (arith, e, low)) (omega (arith, e, high))
-    more y (inr h) = let near = within y h in in_range first (length xs) y near.0 near.1
+    more y (inl e) = in_range first (length xs) y (omega (arith, e, low), omega (arith, e, high))
+    more y (inr h) = in_range first (length xs) y (within y h)
 
 module _ (run : List Nonzero) (signs : AllByRecursion (λ x. IsSign x.value) run) (distinct : AreInDistinctLines run) where
   nonzero_there : (line : ℕ) → IsIn line (lines_of run) → value_in run line ≢ pos 0

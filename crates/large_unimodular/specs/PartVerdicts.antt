@@ -78,6 +78,7 @@ pub record IsTooLarge (m : Matrix) (verdict : PartVerdict) : Type 0 where
   pub large : ¬ (IsSmall m)
   pub open_is : verdict ≡ Open
 
--- A thin part is a yes or a no, and another part with interval columns, or rows, is a yes. Another part gets the verdict of its decomposition if it is small, and stays open otherwise.
+-- A thin part is a yes or a no. Another part with interval columns, or rows, is a yes. Any other part gets the verdict of its decomposition
+-- if it is small, and stays open otherwise.
 abbrev pub IsPartVerdict : (limit pivots : ℕ) → Matrix → PartVerdict → Type 0
 IsPartVerdict limit pivots m verdict = IsThinVerdict m verdict ⊎ IsIntervalVerdict m verdict ⊎ IsSmallVerdict limit pivots m verdict ⊎ IsTooLarge m verdict

@@ -1,4 +1,4 @@
-use Rattle.std.proofs.Common.{rules, ◌≡◌, ◌<◌, ℕ, IsTrue, List, length, refl, sym, subst, arith}
+use Rattle.std.proofs.Common.{rules, IsTrue, List, refl, sym, subst, arith}
 use Rattle.cmr_base.proofs.Booleans.{true_is_false}
 use Rattle.cmr_base.proofs.Places.{each_more}
 use Rattle.sparse_matrix.specs.declared.nonzero.Nonzero.{Nonzero}
