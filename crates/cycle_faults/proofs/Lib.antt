@@ -1,0 +1,2 @@
+pub mod PartsOfCycles
+pub mod CycleFaultLaws

@@ -1,0 +1,4 @@
+//! Laws of cycle faults.
+#![tactic(auto)]
+
+pub mod laws;
