@@ -9,10 +9,10 @@ use std::test::Fail;
 use std::thread::Threads;
 
 /// A row, a column and the entry there.
-type Triple = (u32, u32, i8);
+pub type Triple = (u32, u32, i8);
 
 // Writes an entry where the matrix has a zero.
-fn write(matrix: &mut SparseMatrix, triple: Triple) -> Result<(), Fail> {
+pub fn write(matrix: &mut SparseMatrix, triple: Triple) -> Result<(), Fail> {
     let (row, column, value) = triple;
     if row >= matrix.rows() || column >= matrix.columns() {
         return Err(Fail::from("a line outside"));
@@ -27,7 +27,7 @@ fn write(matrix: &mut SparseMatrix, triple: Triple) -> Result<(), Fail> {
     Ok(())
 }
 
-fn zero(alloc: Global, rows: u32, columns: u32) -> Result<SparseMatrix, Fail> {
+pub fn zero(alloc: Global, rows: u32, columns: u32) -> Result<SparseMatrix, Fail> {
     if rows > MAX_SPARSE_LINES || columns > MAX_SPARSE_LINES {
         return Err(Fail::from("too many lines"));
     }
@@ -52,7 +52,12 @@ fn write_block(
 }
 
 // The incidences of a directed cycle with as many nodes as arcs.
-fn write_cycle(matrix: &mut SparseMatrix, row: u32, column: u32, size: u32) -> Result<(), Fail> {
+pub fn write_cycle(
+    matrix: &mut SparseMatrix,
+    row: u32,
+    column: u32,
+    size: u32,
+) -> Result<(), Fail> {
     if row >= 1_000_000 || column >= 1_000_000 || size >= 1_000_000 {
         return Err(Fail::from("a line outside"));
     }

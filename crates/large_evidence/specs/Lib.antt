@@ -1,0 +1,4 @@
+pub mod RemovedMarks
+pub mod LineDivisions
+pub mod LargeEvidence
+pub mod EvidenceLaws
