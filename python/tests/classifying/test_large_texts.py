@@ -15,6 +15,9 @@ from tests.support import R10, TRIANGLE, needs_command, needs_large, needs_modul
 
 SIGNED_R10 = [[1, 0, 0, 1, -1], [-1, 1, 0, 0, 1], [1, -1, 1, 0, 0], [0, 1, -1, 1, 0], [0, 0, 1, -1, 1]]
 
+FOUR = [[1, 1, 0, 0], [1, 0, 1, 0], [1, 0, 0, 1], [1, 1, 1, 1]]
+"""A violator, which the program leaves undecided if it may search three lines."""
+
 
 def text(rows: list[list[int]], count: int) -> str:
     """The sparse text of a matrix, with as many rows as given."""
@@ -52,9 +55,11 @@ class LargeTexts(unittest.TestCase):
         self.assertEqual(rows[0].evidence, {"tu/violator": b"2000 3 3 3\n1 2 3\n1 2 3\n"})
 
     def test_what_is_not_asked_again_stays_undecided(self) -> None:
-        (row,) = self.rows(text(SIGNED_R10, 1001), self.settings("tu"))
+        (row,) = self.rows(text(FOUR, 1001), self.settings("tu"))
+        self.assertEqual((row.verdicts, row.fault), ({"tu": "no"}, None))
+        (row,) = self.rows(text(FOUR, 1001), self.settings("tu", lines=3))
         self.assertEqual((row.verdicts, row.fault), ({"tu": "undecided"}, None))
-        (row,) = self.rows(text(SIGNED_R10, 1001), self.settings("tu", time_limit=0))
+        (row,) = self.rows(text(FOUR, 1001), self.settings("tu", lines=3, time_limit=0))
         self.assertEqual((row.verdicts, row.fault), ({"tu": "undecided"}, "TimeLimitReached"))
 
     def test_faults(self) -> None:
