@@ -111,16 +111,27 @@ class Scale(ReportTest):
         self.assertIn("Each connected part of the rest is a network matrix or the transpose of one", report.to_text())
         self.assertNotIn("Not proved", report.to_text())
 
-    def test_intervals_in_rows_or_columns(self) -> None:
+    def week(self, *, is_turned: bool) -> ModelReport:
+        """The report of shifts of consecutive hours, of which each is a variable, or a row."""
         places = [(f"x{at:04}", range(at % 160, at % 160 + 3 + at // 160)) for at in range(1100)]
-        intervals = [(f"h{hour:04}", column, 1) for column, hours in places for hour in hours]
-        report = model_report(self.write("week.mps", mps_text(sorted(intervals))))
-        self.by_arithmetic(report, "166x1099")
-        self.assertIn("the rows of each variable are consecutive", report.to_text())
-        turned = [(column, row, entry) for row, column, entry in sorted(intervals)]
-        report = model_report(self.write("turned.mps", mps_text(turned)))
-        self.by_arithmetic(report, "1099x166")
-        self.assertIn("the variables of each row are consecutive", report.to_text())
+        intervals = sorted((f"h{hour:04}", column, 1) for column, hours in places for hour in hours)
+        entries = [(column, row, entry) for row, column, entry in intervals] if is_turned else intervals
+        report = model_report(self.write("week.mps", mps_text(entries)))
+        said = "the variables of each row are consecutive" if is_turned else "the rows of each variable are consecutive"
+        self.assertIn(said, report.to_text())
+        return report
+
+    def test_intervals_in_rows_or_columns(self) -> None:
+        with without_large:
+            self.by_arithmetic(self.week(is_turned=False), "166x1099")
+            self.by_arithmetic(self.week(is_turned=True), "1099x166")
+
+    @needs_large
+    def test_intervals_are_proved(self) -> None:
+        for is_turned in (False, True):
+            report = self.week(is_turned=is_turned)
+            self.assertEqual((report.verdict, report.whole.arithmetic), ("yes", ()))
+            self.assertNotIn("Not proved", report.to_text())
 
     def test_an_odd_cycle_of_a_large_model(self) -> None:
         rows = [(f"w{at // 32}", f"x{at}", 1) for at in range(1024)] + [(f"j{at % 32}", f"x{at}", 1) for at in range(1024)]
